@@ -1,0 +1,7 @@
+pub mod IdLemmas
+pub mod TreeLemmas
+pub mod Counts
+pub mod VoteLemmas
+pub mod CommitLemmas
+pub mod SortedLemmas
+pub mod Rows

@@ -1,0 +1,12 @@
+use Rattle.quorum_sets.proofs.IdLemmas.{has-no_ids, has-with_id, has-without_id, has-ascending, ascending-is_sorted, same_ids}
+use Rattle.quorum_sets.proofs.laws.sets_by_member.Goals as goal
+
+pub returns : goal.returns
+returns c = record {
+  empty = has-no_ids;
+  with_one = has-with_id;
+  without_one = has-without_id;
+  listed = has-ascending;
+  rises = ascending-is_sorted;
+  equal = same_ids;
+}

@@ -1,0 +1,10 @@
+use Rattle.std.proofs.Common.{sym, ◌∙◌}
+use Rattle.quorum_sets.specs.Votes.{both, votes_in}
+use Rattle.quorum_sets.proofs.VoteLemmas.{joint_vote_result-both}
+use Rattle.quorum_sets.proofs.voting.joint_vote.Goals as goal
+
+pub returns : goal.returns
+returns g c =
+    c.both.ensures
+    ∙ (λ i. both (c.vote.ensures i) (c.vote-2.ensures i))
+    ∙ sym (joint_vote_result-both (g.S.MemberSet.ids c.args.incoming.now) (g.S.MemberSet.ids c.args.outgoing.now) (votes_in c.args.votes.now))

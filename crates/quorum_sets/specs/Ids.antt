@@ -1,0 +1,58 @@
+-- A finite set of ids, as a value: `FinSet nat_cmp`, which is `FinMap` with nothing at each key.
+-- The words of `FinSet` say nothing of the order of its items, so these stand on those of `FinMap`.
+use Rattle.std.specs.Prelude.{ℕ, ◌+◌, ◌*◌, Bool, not, List, map, length, is_some, nat_eq, nat_lt, count_by, filter}
+use Rattle.std.specs.Ordering.{nat_cmp}
+use Rattle.std.specs.FinSet.{FinSet}
+use Rattle.std.specs.FinMap as finite
+
+-- a finite set of ids; two with the same members are equal
+abbrev pub Ids : Type 0
+Ids = FinSet nat_cmp
+
+-- the set without ids
+abbrev pub no_ids : Ids
+no_ids = finite.empty
+
+-- whether the set has the id
+abbrev pub has : Ids → ℕ → Bool
+has ids id = is_some (finite.get ids id)
+
+-- the set and this id
+abbrev pub with_id : Ids → ℕ → Ids
+with_id ids id = finite.insert ids id tt
+
+-- the set without this id
+abbrev pub without_id : Ids → ℕ → Ids
+without_id ids id = finite.remove ids id
+
+-- the ids in ascending order
+abbrev pub ascending : Ids → List ℕ
+ascending ids = finite.keys ids
+
+-- how many ids the set has
+abbrev pub size : Ids → ℕ
+size ids = length (ascending ids)
+
+-- the set of the ids that a list has
+abbrev pub ids_of : List ℕ → Ids
+ids_of list = finite.from_entries (map (λ id. (id, tt)) list)
+
+-- those ids of a list that pass a test
+abbrev pub ids_where : (ℕ → Bool) → List ℕ → Ids
+ids_where test list = ids_of (filter test list)
+
+-- how many ids of the set pass a test
+abbrev pub count_of : (ℕ → Bool) → Ids → ℕ
+count_of test ids = count_by test (ascending ids)
+
+-- the test passes on more than half of the ids
+abbrev pub on_most : (ℕ → Bool) → Ids → Bool
+on_most test ids = nat_lt (size ids) (2 * count_of test ids)
+
+-- whether the set has no id
+abbrev pub is_empty : Ids → Bool
+is_empty ids = nat_eq (size ids) 0
+
+-- how many ids are in just one of the sets
+abbrev pub difference_count : Ids → Ids → ℕ
+difference_count a b = count_of (λ id. not (has b id)) a + count_of (λ id. not (has a id)) b

@@ -1,0 +1,5 @@
+pub mod Ids
+pub mod Voters
+pub mod Counting
+pub mod Committed
+pub mod Votes

@@ -1,0 +1,52 @@
+-- The result of a vote.
+use Rattle.std.specs.Prelude.{ℕ, Bool, true, false, not, ◌&&◌, ◌||◌, unwrap_or, if◌then◌else◌}
+use Rattle.std.specs.Ordering.{nat_cmp}
+use Rattle.std.specs.BTreeMap.{BTreeMap}
+use Rattle.std.specs.FinMap as finite
+use Rattle.quorum_sets.specs.Ids.{Ids, on_most, is_empty}
+use Rattle.quorum_sets.specs.Voters.{Voters}
+use Rattle.quorum_sets.specs.declared.voting.VoteResult.{VoteResult}
+use Rattle.quorum_sets.specs.declared.voting.VoteResult.TheVariants.{VotePending, VoteLost, VoteWon}
+
+-- what each id said, if it voted
+abbrev pub Votes : Type 0
+Votes = finite.FinMap nat_cmp Bool
+
+-- what a map of votes says
+abbrev pub votes_in : BTreeMap ℕ Bool → Votes
+votes_in map = finite.from_entries map.entries
+
+-- the id voted yes
+abbrev pub is_yes : Votes → ℕ → Bool
+is_yes votes id = unwrap_or (finite.get votes id) false
+
+-- the id voted yes, or has not voted
+abbrev pub may_be_yes : Votes → ℕ → Bool
+may_be_yes votes id = unwrap_or (finite.get votes id) true
+
+-- the set is empty, or more than half said yes
+abbrev pub is_won : Ids → Votes → Bool
+is_won ids votes = is_empty ids || on_most (is_yes votes) ids
+
+-- the set has ids, and not more than half can still be yes
+abbrev pub is_lost : Ids → Votes → Bool
+is_lost ids votes = not (is_empty ids || on_most (may_be_yes votes) ids)
+
+-- the result of the vote of one set
+abbrev pub vote_result : Ids → Votes → VoteResult
+vote_result ids votes =
+    if is_won ids votes then VoteWon else (if is_lost ids votes then VoteLost else VotePending)
+
+-- won where both sets are won, lost where one is lost, and else pending
+abbrev pub joint_vote_result : Voters → Votes → VoteResult
+joint_vote_result voters votes =
+    if is_won voters.incoming votes && is_won voters.outgoing votes then VoteWon
+    else (if is_lost voters.incoming votes || is_lost voters.outgoing votes then VoteLost else VotePending)
+
+-- the result of two votes that have both to be won
+abbrev pub both : VoteResult → VoteResult → VoteResult
+both VoteWon other = other
+both VoteLost other = VoteLost
+both VotePending VoteLost = VoteLost
+both VotePending VoteWon = VotePending
+both VotePending VotePending = VotePending

@@ -1,0 +1,25 @@
+//! Which index of the log each server has acknowledged.
+ghost use Rattle.std.specs.Prelude.{◌≡◌};
+ghost use Rattle.std.specs.FinMap as finite;
+ghost use Rattle.quorum_sets.specs.Committed.{Acks};
+
+use std::collections::BTreeMap;
+
+/// Who has acknowledged which index: a finite map from ids to indexes, however it is kept. It is
+/// `AckedIndexer` of etcd's package `quorum`.
+pub trait AckSource {
+    /// The acknowledged indexes, by id.
+    ghost acks: { Self → Acks };
+
+    /// The index that the id acknowledged, or `None` where it is not known.
+    fn acked(&self, id: u64) -> Option<u64>
+        ensures { result ≡ finite.get (acks self.now) id };
+}
+
+impl AckSource for BTreeMap<u64, u64> {
+    ghost acks = { λ map. finite.from_entries map.entries };
+
+    fn acked(&self, id: u64) -> Option<u64> {
+        self.get(&id).copied()
+    }
+}

@@ -1,0 +1,79 @@
+//! The committed index: how far a majority has acknowledged the log.
+ghost use Rattle.std.specs.Prelude.{◌≡◌, ◌+◌, ◌*◌, ◌<◌, ◌≤◌, length, nat_le, nat_lt, count_by, IfOk, IsOk};
+ghost use Rattle.quorum_sets.specs.Ids.{size};
+ghost use Rattle.quorum_sets.specs.Voters.{pair};
+ghost use Rattle.quorum_sets.specs.Committed.{acked_indexes, greatest_index, IsCommitted, IsJointCommitted, committed_index, joint_committed_index};
+
+use crate::acknowledgement::AckSource;
+use crate::majority::quorum;
+use crate::member_set::MemberSet;
+use crate::no_memory::NoMemory;
+use smallvec::SmallVec;
+use std::alloc::Global;
+
+/// The committed index of a set: the greatest index that more than half of its ids have
+/// acknowledged, where an unknown index counts as 0. The empty set commits the greatest `u64`. It is
+/// `CommittedIndex` of etcd's package `quorum`, and takes memory only above 8 ids.
+pub fn committed<S: MemberSet, A: AckSource>(
+    alloc: Global,
+    set: &S,
+    acks: &A,
+) -> Result<u64, NoMemory>
+    ensures counted { IfOk result (IsCommitted (S.ids set.now) (A.acks acks.now)) }
+    ensures index { IfOk result (λ k. k ≡ committed_index (S.ids set.now) (A.acks acks.now)) }
+    ensures no_memory { size (S.ids set.now) ≤ 8 → IsOk result }
+{
+    let mut indexes = gathered(alloc, set, acks)?;
+    Ok(majority_index(indexes.as_mut_slice()))
+}
+
+/// The smaller of the committed indexes of a pair of sets. It takes memory only where one of them
+/// has more than 8 ids.
+pub fn joint_committed<S: MemberSet, A: AckSource>(
+    alloc: Global,
+    incoming: &S,
+    outgoing: &S,
+    acks: &A,
+) -> Result<u64, NoMemory>
+    ensures counted { IfOk result (IsJointCommitted (pair (S.ids incoming.now) (S.ids outgoing.now)) (A.acks acks.now)) }
+    ensures index { IfOk result (λ k.
+        k ≡ joint_committed_index (pair (S.ids incoming.now) (S.ids outgoing.now)) (A.acks acks.now)) }
+    ensures no_memory { size (S.ids incoming.now) ≤ 8 → size (S.ids outgoing.now) ≤ 8 → IsOk result }
+{
+    let first = committed(alloc, incoming, acks)?;
+    let second = committed(alloc, outgoing, acks)?;
+    Ok(first.min(second))
+}
+
+// The acknowledged index of each id of the set. Its memory is taken before the walk.
+fn gathered<S: MemberSet, A: AckSource>(
+    alloc: Global,
+    set: &S,
+    acks: &A,
+) -> Result<SmallVec<u64, 8>, NoMemory>
+    ensures items { IfOk result (λ indexes. indexes.items ≡ acked_indexes (S.ids set.now) (A.acks acks.now)) }
+    ensures no_memory { size (S.ids set.now) ≤ 8 → IsOk result }
+{
+    let mut indexes = SmallVec::with_capacity(alloc, set.len())?;
+    for place in 0..set.len() {
+        if let Some(id) = set.at(place) {
+            indexes.push_reserved(acks.acked(id).unwrap_or(0));
+        }
+    }
+    Ok(indexes)
+}
+
+// The index at the place of the majority, counted from the top. It leaves the indexes sorted.
+fn majority_index(indexes: &mut [u64]) -> u64
+    ensures of_none { length indexes.old ≡ 0 → result ≡ greatest_index }
+    ensures reached { 0 < length indexes.old → length indexes.old < 2 * count_by (nat_le result) indexes.old }
+    ensures not_passed { 0 < length indexes.old → 2 * count_by (nat_lt result) indexes.old ≤ length indexes.old }
+{
+    indexes.sort_unstable();
+    let n = indexes.len();
+    if n == 0 {
+        u64::MAX
+    } else {
+        indexes[n - quorum(n)]
+    }
+}

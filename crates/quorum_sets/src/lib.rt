@@ -1,0 +1,27 @@
+//! Finite sets of server ids and what raft decides by them: majorities and quorums, the committed
+//! index, the result of a vote. The rules are those of etcd's package `quorum`; a pair of sets is
+//! a joint configuration as in section 4.3 of Ongaro's dissertation. Each call works over any
+//! [`MemberSet`].
+#![tactic(auto)]
+
+mod acknowledgement;
+mod commit;
+mod counting;
+mod difference;
+pub mod laws;
+mod majority;
+mod member_set;
+mod no_memory;
+#[cfg(test)]
+mod tests;
+mod tree_ids;
+mod voting;
+
+pub use acknowledgement::AckSource;
+pub use commit::{committed, joint_committed};
+pub use difference::symdiff;
+pub use majority::{is_quorum, quorum};
+pub use member_set::MemberSet;
+pub use no_memory::NoMemory;
+pub use tree_ids::TreeIds;
+pub use voting::{VoteResult, joint_vote, vote};

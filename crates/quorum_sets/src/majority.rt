@@ -1,0 +1,23 @@
+//! Majorities of a set, and quorums of a pair of sets.
+ghost use Rattle.std.specs.Prelude.{◌≡◌};
+ghost use Rattle.quorum_sets.specs.Voters.{majority, pair, is_quorum};
+
+use crate::counting::most_pass;
+use crate::member_set::MemberSet;
+
+/// How many of `n` voters are a majority: more than half of them, and at least one.
+pub fn quorum(n: usize) -> usize
+    ensures { result ≡ majority n }
+{
+    n / 2 + 1
+}
+
+/// Whether the ids are a quorum of a pair of incoming and outgoing voters (Ongaro's dissertation,
+/// 4.3): more than half of the first and, where there are outgoing voters, more than half of these.
+pub fn is_quorum<S: MemberSet>(voters: (&S, &S), ids: &S) -> bool
+    ensures { result ≡ is_quorum (pair (S.ids voters.entry.0.now) (S.ids voters.entry.1.now)) (S.ids ids.now) }
+{
+    let (incoming, outgoing) = voters;
+    most_pass(incoming, |id| ids.contains(id))
+        && (outgoing.len() == 0 || most_pass(outgoing, |id| ids.contains(id)))
+}

@@ -1,0 +1,44 @@
+//! A set of ids, as the rest of the product uses it.
+ghost use Rattle.std.specs.Prelude.{◌≡◌, not, IfOk, OnOk, OnErr, slice_get};
+ghost use Rattle.quorum_sets.specs.Ids.{Ids, no_ids, has, with_id, without_id, ascending, size};
+
+use crate::no_memory::NoMemory;
+use std::alloc::Global;
+
+/// A finite set of ids, however it is kept. Only `try_clone` and `insert` take memory.
+pub trait MemberSet: Drop {
+    /// The ids that the set has.
+    ghost ids: { Self → Ids };
+
+    /// The set without ids.
+    fn empty(alloc: Global) -> Self
+        ensures { ids result ≡ no_ids };
+
+    /// The same set once more.
+    fn try_clone(&self) -> Result<Self, NoMemory>
+        ensures { IfOk result (λ copy. ids copy ≡ ids self.now) };
+
+    /// Puts the id into the set, and tells whether the set changed. After `NoMemory` the set is as
+    /// before.
+    fn insert(&mut self, id: u64) -> Result<bool, NoMemory>
+        ensures changed { IfOk result (λ changed. changed ≡ not (has (ids self.old) id)) }
+        ensures ok { OnOk result (ids self.new ≡ with_id (ids self.old) id) }
+        ensures err { OnErr result (ids self.new ≡ ids self.old) };
+
+    /// Takes the id out of the set, and tells whether the set changed.
+    fn remove(&mut self, id: u64) -> bool
+        ensures changed { result ≡ has (ids self.old) id }
+        ensures after { ids self.new ≡ without_id (ids self.old) id };
+
+    /// Whether the set has the id.
+    fn contains(&self, id: u64) -> bool
+        ensures { result ≡ has (ids self.now) id };
+
+    /// How many ids the set has.
+    fn len(&self) -> usize
+        ensures { result ≡ size (ids self.now) };
+
+    /// The id at a place, counted from 0 in ascending order, or `None` from the length on.
+    fn at(&self, place: usize) -> Option<u64>
+        ensures { result ≡ slice_get (ascending (ids self.now)) place };
+}

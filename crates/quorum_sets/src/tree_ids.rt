@@ -1,0 +1,71 @@
+//! A set of ids over a tree of the standard library.
+ghost use Rattle.std.specs.Prelude.{◌≡◌, slice_get};
+ghost use Rattle.std.specs.Ordering.{nat_cmp};
+ghost use Rattle.std.specs.BTreeSet.{IsOrdered};
+
+use crate::member_set::MemberSet;
+use crate::no_memory::NoMemory;
+use std::alloc::Global;
+use std::collections::BTreeSet;
+use std::marker::Model;
+
+/// A set of ids over a `BTreeSet`. Its `at` walks the tree up to the place.
+#[derive(Drop)]
+pub struct TreeIds {
+    tree: BTreeSet<u64>,
+}
+
+impl Model for TreeIds {
+    ghost use Rattle.std.specs.Coded.{coded_ℕ};
+    ghost use Rattle.std.specs.FinSet as set;
+    ghost use Rattle.quorum_sets.specs.Ids.{Ids, ids_of};
+
+    ghost Value = { Ids };
+
+    ghost coded = { set.code coded_ℕ };
+
+    ghost view = { λ inner. ids_of inner.tree.keys };
+}
+
+impl MemberSet for TreeIds {
+    ghost ids = { λ set. set };
+
+    fn empty(alloc: Global) -> TreeIds {
+        TreeIds {
+            tree: BTreeSet::new(alloc),
+        }
+    }
+
+    fn try_clone(&self) -> Result<TreeIds, NoMemory> {
+        let tree = self.tree.clone()?;
+        Ok(TreeIds { tree })
+    }
+
+    fn insert(&mut self, id: u64) -> Result<bool, NoMemory> {
+        Ok(self.tree.insert(id)?)
+    }
+
+    fn remove(&mut self, id: u64) -> bool {
+        self.tree.remove(&id)
+    }
+
+    fn contains(&self, id: u64) -> bool {
+        self.tree.contains(&id)
+    }
+
+    fn len(&self) -> usize {
+        self.tree.len()
+    }
+
+    fn at(&self, place: usize) -> Option<u64> {
+        key_at(&self.tree, place)
+    }
+}
+
+// The key at a place, in ascending order.
+fn key_at(tree: &BTreeSet<u64>, place: usize) -> Option<u64>
+    ensures key { result ≡ slice_get tree.now.keys place }
+    ensures ordered { IsOrdered nat_cmp tree.now }
+{
+    tree.iter().copied().nth(place)
+}
