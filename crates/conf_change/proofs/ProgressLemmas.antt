@@ -1,0 +1,42 @@
+-- What progress each id has.
+use Rattle.std.proofs.Common.{◌≡◌, ℕ, Bool, true, false, cond, ◌||◌, ◌==◌, List, [], ◌∷◌, ◌++◌, map, refl, sym, ap, subst, ◌∙◌, T, eqb→eq}
+use Rattle.std.specs.Prelude.{Some, None, if◌then◌else◌}
+use Rattle.std.specs.Ordering.{nat_cmp}
+use Rattle.std.specs.Cmp.{nat_cmp_total, unsigned_tied}
+use Rattle.std.specs.FinMap as finite
+use Rattle.std.specs.FinMap.{find}
+use Rattle.std.specs.List.{list_any}
+use Rattle.std.proofs.lemmas.List.Folds.{list_any-append}
+use Rattle.quorum_sets.specs.Ids.{ascending}
+use Rattle.quorum_sets.proofs.IdLemmas.{has-ascending}
+use Rattle.conf_change.specs.Configuration.{Configuration, is_member, members}
+use Rattle.conf_change.specs.Progress.{progress_by}
+use Rattle.conf_change.specs.declared.progress.Progress.{Progress}
+
+same_value : (of : ℕ → Progress) (q x : ℕ) (b rest : Bool) → (q == x) ≡ b
+    → cond b (Some (of x)) (cond rest (Some (of q)) None) ≡ cond (b || rest) (Some (of q)) None
+same_value of q x true rest e = ap (λ n. Some (of n)) (sym (eqb→eq q x (subst T (sym e) tt)))
+same_value of q x false rest e = refl
+
+-- in a list of ids, each with its own, an id of the list has its own
+find-of_each : (of : ℕ → Progress) (q : ℕ) (xs : List ℕ)
+    → find nat_cmp q (map (λ id. (id, of id)) xs) ≡ cond (list_any (λ x. q == x) xs) (Some (of q)) None
+find-of_each of q [] = refl
+find-of_each of q (x ∷ xs) =
+    (λ i. cond (unsigned_tied q x i) (Some (of x)) (find-of_each of q xs i))
+    ∙ same_value of q x (q == x) (list_any (λ y. q == y) xs) refl
+
+-- the list of the members has the members
+any-members : (c : Configuration) (q : ℕ) → list_any (λ x. q == x) (members c) ≡ is_member c q
+any-members c q =
+    list_any-append _ (ascending c.incoming ++ ascending c.outgoing) (ascending c.learners)
+    ∙ ap (λ b. b || list_any (λ x. q == x) (ascending c.learners)) (list_any-append _ (ascending c.incoming) (ascending c.outgoing))
+    ∙ sym (λ i. has-ascending c.incoming q i || has-ascending c.outgoing q i || has-ascending c.learners q i)
+
+-- each member has its own, and nobody else has any
+pub get-progress_by : (c : Configuration) (of : ℕ → Progress) (id : ℕ)
+    → finite.get (progress_by c of) id ≡ (if is_member c id then Some (of id) else None)
+get-progress_by c of id =
+    finite.get-from_entries nat_cmp_total (map (λ m. (m, of m)) (members c)) id
+    ∙ find-of_each of id (members c)
+    ∙ ap (λ b. cond b (Some (of id)) None) (any-members c id)

@@ -1,0 +1,13 @@
+use Rattle.std.proofs.Common.{sym, arith}
+use Rattle.conf_change.proofs.Making.{seen_as, simple_made}
+use Rattle.conf_change.proofs.changer.Changer.simple.Goals as goal
+
+pub returns : goal.returns
+returns g c =
+    seen_as _ _ _ _ c.self.view_is
+    (simple_made (record { tracker = c.self.inside.tracker; last_index = c.self.inside.last_index }) c.args.changes.now c.in_ok-after.after c.apply_list.new.self
+    c.self.invariant c.in_ok-after.ensures (sym c.if-is_joint.ensures) c.in_ok-apply_list.ensures (sym c.if-not-has_voter.ensures)
+    (omega (arith, c.changed_voters.ensures)))
+
+pub invariant_of-self : goal.invariant_of-self
+invariant_of-self g c = (returns g c).sound

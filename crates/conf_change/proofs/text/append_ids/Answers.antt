@@ -1,0 +1,16 @@
+use Rattle.std.proofs.Common.{arith}
+use Rattle.std.proofs.lemmas.Grind.{common_steps}
+use Rattle.std.proofs.lemmas.Option.{gets}
+use Rattle.conf_change.proofs.TextLemmas.{Extends-append, spaced_numbers_more}
+use Rattle.conf_change.proofs.text.append_ids.Goals as goal
+use Rattle.conf_change.proofs.text.append_ids.Goals.{in-Some+in_ok-append_number_at, in_default}
+
+pub returns-in_err-append_number_at-clause-extends : goal.returns-in_err-append_number_at-clause-extends
+returns-in_err-append_number_at-clause-extends g c =
+    Extends-append _ _ _ (rw c.loop-place.invariant at c.append_number_at.ensures.extends)
+
+pub loop-place-preserved : goal.loop-place-preserved
+loop-place-preserved g c = elim c.match-at.branch [
+  | in-Some+in_ok-append_number_at w ↦ grind (arith, common_steps, gets, spaced_numbers_more)
+  | in_default w ↦ grind (arith, gets)
+]

@@ -1,0 +1,9 @@
+use Rattle.std.proofs.Common.{ap, sym, ◌∙◌, length}
+use Rattle.std.specs.FinMap.{entries}
+use Rattle.conf_change.proofs.MemberLemmas.{entries-from_entries}
+use Rattle.conf_change.proofs.tracker.Tracker.member_count.Goals as goal
+
+pub returns : goal.returns
+returns g c =
+    c.count.ensures.count
+    ∙ ap length (sym (entries-from_entries _ c.count.ensures.ordered) ∙ ap (λ t. entries t.progress) c.self.view_is)

@@ -1,0 +1,93 @@
+-- Change lists: which texts stand for which changes, and what is wrong with the others.
+use Rattle.std.specs.Prelude.{◌≡◌, ◌≢◌, ℕ, ◌<◌, ◌==◌, List, [], ◌∷◌, ◌++◌, length, slice_index, Option, Some, None, Result, Ok, Err, if◌then◌else◌}
+use Rattle.std.specs.List.{AllZip}
+use Rattle.conf_change.specs.Words.{words}
+use Rattle.conf_change.specs.Number.{SpellsNumber, number_in}
+use Rattle.conf_change.specs.declared.change.Change.{Change}
+use Rattle.conf_change.specs.declared.change.Kind.{Kind}
+use Rattle.conf_change.specs.declared.change.Kind.TheVariants.{Voter, Learner, Remove, Update}
+use Rattle.conf_change.specs.declared.change_list.TokenFault.{TokenFault}
+use Rattle.conf_change.specs.declared.change_list.TokenFault.TheVariants.{UnknownToken, UnknownInput, BadNumber, NoMemory}
+
+-- v, l, r and u
+abbrev pub letter_of : Kind → ℕ
+letter_of Voter = 118
+letter_of Learner = 108
+letter_of Remove = 114
+letter_of Update = 117
+
+-- the token is the letter of the change's kind and a number that is its id
+pub record Spells (token : List ℕ) (change : Change) : Type 0 where
+  pub number : List ℕ
+  pub letter_first : token ≡ letter_of change.kind ∷ number
+  pub id_behind : SpellsNumber number change.id
+
+-- the words of the text spell the changes, one word a change
+abbrev pub StandsFor : List ℕ → List Change → Type 0
+StandsFor text changes = AllZip Spells (words text) changes
+
+-- a token that spells no change, with the reason
+pub data BadToken : Type 0 where
+  unknown_token : List ℕ → BadToken
+  unknown_input : List ℕ → BadToken
+  bad_number : List ℕ → BadToken
+
+abbrev pub token_of : BadToken → List ℕ
+token_of (unknown_token token) = token
+token_of (unknown_input token) = token
+token_of (bad_number token) = token
+
+-- the reason is true of the token: it has fewer than two bytes; or it has two and begins with no kind's letter; or with one, and the rest is no number
+abbrev pub HasReason : BadToken → Type 0
+HasReason (unknown_token token) = length token < 2
+HasReason (unknown_input token) = (1 < length token) × ((kind : Kind) → slice_index token 0 ≢ letter_of kind)
+HasReason (bad_number token) = (kind : Kind) × (rest : List ℕ) × (1 < length token) × (token ≡ letter_of kind ∷ rest) × ((number : ℕ) → ¬ (SpellsNumber rest number))
+
+-- the first of the tokens that spells no change: those before it all spell changes
+pub record IsFirstBad (tokens : List (List ℕ)) (bad : BadToken) : Type 0 where
+  pub before : List (List ℕ)
+  pub after : List (List ℕ)
+  pub changes : List Change
+  pub place : tokens ≡ before ++ token_of bad ∷ after
+  pub spelled : AllZip Spells before changes
+  pub reason : HasReason bad
+
+-- the bad token that was told
+abbrev pub bad_token : TokenFault → Option BadToken
+bad_token (UnknownToken token) = Some (unknown_token token.now)
+bad_token (UnknownInput token) = Some (unknown_input token.now)
+bad_token (BadNumber token) = Some (bad_number token.now)
+bad_token NoMemory = None
+
+-- the same as functions: the kind of a letter
+abbrev pub kind_in : ℕ → Option Kind
+kind_in byte =
+    if byte == 118 then Some Voter else (if byte == 108 then Some Learner
+    else (if byte == 114 then Some Remove else (if byte == 117 then Some Update else None)))
+
+abbrev pub with_number : List ℕ → Kind → Option ℕ → Result Change BadToken
+with_number token kind None = Err (bad_number token)
+with_number token kind (Some id) = Ok (record { kind = kind; id = id })
+
+abbrev pub with_kind : List ℕ → Option Kind → List ℕ → Result Change BadToken
+with_kind token None rest = Err (unknown_input token)
+with_kind token (Some kind) rest = with_number token kind (number_in rest)
+
+-- the change that a token spells, or what is wrong with it
+abbrev pub change_in : List ℕ → Result Change BadToken
+change_in [] = Err (unknown_token [])
+change_in (letter ∷ []) = Err (unknown_token (letter ∷ []))
+change_in (letter ∷ digit ∷ rest) = with_kind (letter ∷ digit ∷ rest) (kind_in letter) (digit ∷ rest)
+
+abbrev pub and_more : Result Change BadToken → Result (List Change) BadToken → Result (List Change) BadToken
+and_more (Err bad) others = Err bad
+and_more (Ok change) (Err bad) = Err bad
+and_more (Ok change) (Ok changes) = Ok (change ∷ changes)
+
+abbrev pub changes_in_words : List (List ℕ) → Result (List Change) BadToken
+changes_in_words [] = Ok []
+changes_in_words (token ∷ tokens) = and_more (change_in token) (changes_in_words tokens)
+
+-- the changes that a text stands for, or its first bad token
+abbrev pub changes_in : List ℕ → Result (List Change) BadToken
+changes_in text = changes_in_words (words text)

@@ -1,0 +1,73 @@
+-- What a changer's calls do to its configuration and progress.
+use Rattle.std.specs.Prelude.{◌≡◌, ◌≢◌, ℕ, ◌<◌, true, is_some, IfSome, IfErr, OnOk, OnErr, Result, Ok, Err}
+use Rattle.std.specs.FinMap as finite
+use Rattle.quorum_sets.specs.Ids.{has}
+use Rattle.quorum_sets.specs.Voters.{AreNeighbours}
+use Rattle.conf_change.specs.Configuration.{Configuration, empty_configuration, voters_of, is_member, has_voter, is_restorable}
+use Rattle.conf_change.specs.Outcome.{outcome}
+use Rattle.conf_change.specs.Progress.{progress_after, all_fresh}
+pub use Rattle.conf_change.specs.TrackerState.{TrackerState, ProgressMap}
+pub use Rattle.conf_change.specs.ChangerState.{ChangerState}
+use Rattle.conf_change.specs.declared.refused.Refused.{Refused}
+use Rattle.conf_change.specs.declared.refused.Refused.TheVariants.{NoMemory}
+use Rattle.conf_change.specs.declared.step.Step.{Step}
+
+-- nobody is in it
+abbrev pub nobody : TrackerState
+nobody = record { config = empty_configuration; progress = finite.empty }
+
+-- the tracker of a configuration and of progress
+abbrev pub tracker_of : Configuration → ProgressMap → TrackerState
+tracker_of c progress = record { config = c; progress = progress }
+
+-- the changer of a tracker
+abbrev pub changer_of : TrackerState → ℕ → ChangerState
+changer_of tracker last_index = record { tracker = tracker; last_index = last_index }
+
+-- the changer that nobody is in yet
+abbrev pub new_changer : ℕ → ChangerState
+new_changer last_index = record { tracker = nobody; last_index = last_index }
+
+-- a changer that begins with a configuration whose progress is all fresh
+abbrev pub begun_with : ℕ → Configuration → ChangerState
+begun_with last_index c = changer_of (tracker_of c (all_fresh last_index c)) last_index
+
+-- the changer with this last index
+abbrev pub with_last_index : ChangerState → ℕ → ChangerState
+with_last_index changer last_index = record { tracker = changer.tracker; last_index = last_index }
+
+-- the changer after a step to a configuration, where the last index stays
+abbrev pub moved_to : ChangerState → Step → Configuration → ChangerState
+moved_to changer step after = record {
+  tracker = record { config = after; progress = progress_after changer step after };
+  last_index = changer.last_index;
+}
+
+-- what holds of every tracker: its configuration is valid, and has a voter unless nobody is in it; its members and nobody else have progress; the learners are marked; and match is below next
+pub record IsSound (tracker : TrackerState) : Type 0 where
+  pub restorable : is_restorable tracker.config ≡ true
+  pub of_members : (id : ℕ) → is_some (finite.get tracker.progress id) ≡ is_member tracker.config id
+  pub marked : (id : ℕ) → IfSome (finite.get tracker.progress id) (λ p. p.learner ≡ has tracker.config.learners id)
+  pub ahead : (id : ℕ) → IfSome (finite.get tracker.progress id) (λ p. p.matched < p.next)
+
+-- the step is accepted: its configuration is the defined one, and so is the progress
+pub record Accepts (before : ChangerState) (step : Step) (after : ChangerState) : Type 0 where
+  pub configuration : outcome before.tracker.config step ≡ Ok after.tracker.config
+  pub whole : after ≡ moved_to before step after.tracker.config
+
+-- the step is refused for this reason, want of memory aside
+abbrev pub Refuses : ChangerState → Step → Refused → Type 0
+Refuses before step why = why ≢ NoMemory → outcome before.tracker.config step ≡ Err why
+
+-- the voters before and after are neighbours
+abbrev pub NeighboursAcross : ChangerState → ChangerState → Type 0
+NeighboursAcross before after = AreNeighbours (voters_of before.tracker.config) (voters_of after.tracker.config)
+
+-- What a call that makes a step answers and leaves: the defined configuration and progress, or the defined refusal (or want of memory) with nothing altered. The tracker is sound in either case, the voters of before and after are neighbours, and where there was a voter there still is one.
+pub record Makes (before : ChangerState) (step : Step) (result : Result (Unit {0}) Refused) (after : ChangerState) : Type 0 where
+  pub accepted : OnOk result (Accepts before step after)
+  pub refused : IfErr result (Refuses before step)
+  pub unchanged : OnErr result (after ≡ before)
+  pub sound : IsSound after.tracker
+  pub neighbours : OnOk result (NeighboursAcross before after)
+  pub voter : has_voter before.tracker.config ≡ true → has_voter after.tracker.config ≡ true

@@ -1,0 +1,71 @@
+-- A saved configuration, as four lists and a flag.
+use Rattle.std.specs.Prelude.{◌≡◌, ℕ, Bool, ◌&&◌, List, length, Option, Some, None, nat_eq, if◌then◌else◌}
+use Rattle.std.specs.Bool.{beq}
+use Rattle.std.specs.Cmp.{IsPartialEquivalence, partial_equiv_from_equiv, and_per, on_per, nat_eq_equiv, bool_eq_equiv}
+use Rattle.std.specs.Cmp.Lexicographic.{pointwise, lists_per}
+use Rattle.quorum_sets.specs.Ids.{Ids, ascending, size, ids_of}
+use Rattle.conf_change.specs.Configuration.{Configuration, is_restorable}
+
+-- the lists of a saved configuration, in the order in which they stand
+pub record ConfStateLists : Type 0 where
+  pub voters : List ℕ
+  pub voters_outgoing : List ℕ
+  pub learners : List ℕ
+  pub learners_next : List ℕ
+  pub auto_leave : Bool
+
+-- whether two saved forms have the same lists, in the same order, and the same flag
+abbrev pub is_same_form : ConfStateLists → ConfStateLists → Bool
+is_same_form a b =
+    pointwise nat_eq a.voters b.voters && pointwise nat_eq a.voters_outgoing b.voters_outgoing
+    && pointwise nat_eq a.learners b.learners && pointwise nat_eq a.learners_next b.learners_next && beq a.auto_leave b.auto_leave
+
+pub is_same_form-laws : IsPartialEquivalence is_same_form
+is_same_form-laws =
+    let lists = lists_per (partial_equiv_from_equiv nat_eq_equiv) in
+    and_per (and_per (and_per (and_per
+    (on_per (λ s. s.voters) lists) (on_per (λ s. s.voters_outgoing) lists)) (on_per (λ s. s.learners) lists)) (on_per (λ s. s.learners_next) lists))
+    (on_per (λ s. s.auto_leave) (partial_equiv_from_equiv bool_eq_equiv))
+
+-- the list names the ids of the set, each once
+pub record Lists (list : List ℕ) (ids : Ids) : Type 0 where
+  pub same : ids_of list ≡ ids
+  pub once : length list ≡ size ids
+
+-- the saved lists name the sets of the configuration, each id once, in any order
+pub record Describes (saved : ConfStateLists) (c : Configuration) : Type 0 where
+  pub incoming : Lists saved.voters c.incoming
+  pub outgoing : Lists saved.voters_outgoing c.outgoing
+  pub learners : Lists saved.learners c.learners
+  pub learners_next : Lists saved.learners_next c.learners_next
+  pub auto_leave : saved.auto_leave ≡ c.auto_leave
+
+-- the saved form whose lists ascend
+abbrev pub lists_of : Configuration → ConfStateLists
+lists_of c = record {
+  voters = ascending c.incoming;
+  voters_outgoing = ascending c.outgoing;
+  learners = ascending c.learners;
+  learners_next = ascending c.learners_next;
+  auto_leave = c.auto_leave;
+}
+
+-- no id stands twice
+abbrev pub names_once : List ℕ → Bool
+names_once list = nat_eq (length list) (size (ids_of list))
+
+-- the configuration that the lists name
+abbrev pub named_by : ConfStateLists → Configuration
+named_by saved = record {
+  incoming = ids_of saved.voters;
+  outgoing = ids_of saved.voters_outgoing;
+  learners = ids_of saved.learners;
+  learners_next = ids_of saved.learners_next;
+  auto_leave = saved.auto_leave;
+}
+
+-- the configuration to which the saved form is restored, if it can be
+abbrev pub restored : ConfStateLists → Option Configuration
+restored saved =
+    if names_once saved.voters && names_once saved.voters_outgoing && names_once saved.learners && names_once saved.learners_next && is_restorable (named_by saved)
+    then Some (named_by saved) else None

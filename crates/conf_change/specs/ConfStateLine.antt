@@ -1,0 +1,91 @@
+-- The line of a saved configuration: as it is printed, and which texts stand for one.
+use Rattle.std.specs.Prelude.{◌≡◌, ℕ, Bool, true, false, ◌==◌, List, [], ◌∷◌, ◌++◌, length, take, drop, codes, Option, Some, None, option_map, option_and_then, bytes_eq, if◌then◌else◌}
+use Rattle.std.specs.List.{AllZip, join_with_byte, slice_split, position_or_len, before_first}
+use Rattle.conf_change.specs.Words.{has_bytes, trimmed}
+use Rattle.conf_change.specs.Number.{SpellsNumber, number_in}
+use Rattle.conf_change.specs.Text.{spaced_numbers}
+use Rattle.conf_change.specs.ConfState.{ConfStateLists}
+
+abbrev pub truth_text : Bool → List ℕ
+truth_text truth = if truth then codes "true" else codes "false"
+
+-- the line with these texts in its brackets
+abbrev pub line_text : List ℕ → List ℕ → List ℕ → List ℕ → Bool → List ℕ
+line_text voters voters_outgoing learners learners_next auto_leave =
+    codes "Voters:[" ++ voters ++ codes "] VotersOutgoing:[" ++ voters_outgoing ++ codes "] Learners:[" ++ learners
+    ++ codes "] LearnersNext:[" ++ learners_next ++ codes "] AutoLeave:" ++ truth_text auto_leave
+
+-- the line as it is printed
+abbrev pub conf_state_text : ConfStateLists → List ℕ
+conf_state_text saved =
+    line_text (spaced_numbers saved.voters) (spaced_numbers saved.voters_outgoing) (spaced_numbers saved.learners) (spaced_numbers saved.learners_next) saved.auto_leave
+
+-- the text is numbers with one space between, and these are the numbers
+pub record SpellsNumbers (text : List ℕ) (numbers : List ℕ) : Type 0 where
+  pub pieces : List (List ℕ)
+  pub spaced : text ≡ join_with_byte 32 pieces
+  pub spelled : AllZip SpellsNumber pieces numbers
+
+-- the text is the line of the saved configuration, with any white space at its ends and any zeros before its numbers
+pub record StandsForConfState (text : List ℕ) (saved : ConfStateLists) : Type 0 where
+  pub voters : List ℕ
+  pub voters_outgoing : List ℕ
+  pub learners : List ℕ
+  pub learners_next : List ℕ
+  pub line : trimmed text ≡ line_text voters voters_outgoing learners learners_next saved.auto_leave
+  pub spells_voters : SpellsNumbers voters saved.voters
+  pub spells_voters_outgoing : SpellsNumbers voters_outgoing saved.voters_outgoing
+  pub spells_learners : SpellsNumbers learners saved.learners
+  pub spells_learners_next : SpellsNumbers learners_next saved.learners_next
+
+-- the same as functions: what follows a prefix
+abbrev pub after_prefix : List ℕ → List ℕ → Option (List ℕ)
+after_prefix prefix text = if bytes_eq (take (length prefix) text) prefix then Some (drop (length prefix) text) else None
+
+abbrev pub and_number : Option ℕ → Option (List ℕ) → Option (List ℕ)
+and_number None others = None
+and_number (Some number) None = None
+and_number (Some number) (Some numbers) = Some (number ∷ numbers)
+
+abbrev pub numbers_in_pieces : List (List ℕ) → Option (List ℕ)
+numbers_in_pieces [] = Some []
+numbers_in_pieces (piece ∷ pieces) = and_number (number_in piece) (numbers_in_pieces pieces)
+
+abbrev pub is_space : ℕ → Bool
+is_space byte = byte == 32
+
+-- the numbers that a text has with one space between; the empty text has none
+abbrev pub numbers_in : List ℕ → Option (List ℕ)
+numbers_in text = if has_bytes text then numbers_in_pieces (slice_split is_space text) else Some []
+
+abbrev pub is_close : ℕ → Bool
+is_close byte = byte == 93
+
+-- the numbers between a prefix and the next closing bracket, and the text from that bracket on
+abbrev pub field_in : List ℕ → List ℕ → Option (List ℕ × List ℕ)
+field_in prefix text =
+    option_and_then (λ rest. option_map (λ numbers. (numbers, drop (position_or_len is_close rest) rest)) (numbers_in (before_first is_close rest))) (after_prefix prefix text)
+
+-- the truth value behind the last field
+abbrev pub flag_in : List ℕ → Option Bool
+flag_in text =
+    if bytes_eq text (codes "] AutoLeave:true") then Some true
+    else (if bytes_eq text (codes "] AutoLeave:false") then Some false else None)
+
+infixl 10 ◌>>=◌
+abbrev pub ◌>>=◌ : {A B : Type 0} → Option A → (A → Option B) → Option B
+found >>= more = option_and_then more found
+
+-- the saved configuration of a line without white space at its ends
+abbrev pub line_in : List ℕ → Option ConfStateLists
+line_in line = do
+  voters ← field_in (codes "Voters:[") line
+  voters_outgoing ← field_in (codes "] VotersOutgoing:[") voters.1
+  learners ← field_in (codes "] Learners:[") voters_outgoing.1
+  learners_next ← field_in (codes "] LearnersNext:[") learners.1
+  auto_leave ← flag_in learners_next.1
+  Some (record { voters = voters.0; voters_outgoing = voters_outgoing.0; learners = learners.0; learners_next = learners_next.0; auto_leave = auto_leave })
+
+-- the saved configuration that a text stands for
+abbrev pub conf_state_in : List ℕ → Option ConfStateLists
+conf_state_in text = line_in (trimmed text)

@@ -1,0 +1,76 @@
+-- A configuration: who votes, who learns, and what is wrong with one that is not valid.
+use Rattle.std.specs.Prelude.{ℕ, Bool, false, not, ◌&&◌, ◌||◌, List, [], ◌∷◌, ◌++◌, Option, find}
+use Rattle.std.specs.List.{list_all}
+use Rattle.quorum_sets.specs.Ids.{Ids, no_ids, has, ascending, is_empty}
+use Rattle.quorum_sets.specs.Voters.{Voters}
+use Rattle.conf_change.specs.declared.config.Invariant.{Invariant}
+use Rattle.conf_change.specs.declared.config.Invariant.TheVariants.{ZeroId, NextNotOutgoing, NextAndIncoming, LearnerAndVoter, NotJointButNext, NotJointButAutoLeave}
+
+-- the incoming and the outgoing voters, the learners, those who become learners when the joint configuration is after_leave, and whether it is after_leave by itself
+pub record Configuration : Type 0 where
+  pub incoming : Ids
+  pub outgoing : Ids
+  pub learners : Ids
+  pub learners_next : Ids
+  pub auto_leave : Bool
+
+-- nobody is in it
+abbrev pub empty_configuration : Configuration
+empty_configuration = record { incoming = no_ids; outgoing = no_ids; learners = no_ids; learners_next = no_ids; auto_leave = false }
+
+-- both voter sets
+abbrev pub voters_of : Configuration → Voters
+voters_of c = record { incoming = c.incoming; outgoing = c.outgoing }
+
+-- it has outgoing voters
+abbrev pub is_joint : Configuration → Bool
+is_joint c = not (is_empty c.outgoing)
+
+-- it has an incoming voter
+abbrev pub has_voter : Configuration → Bool
+has_voter c = not (is_empty c.incoming)
+
+-- the members: voters of either kind, and learners
+abbrev pub members : Configuration → List ℕ
+members c = ascending c.incoming ++ ascending c.outgoing ++ ascending c.learners
+
+-- the id is a voter of either kind, or a learner
+abbrev pub is_member : Configuration → ℕ → Bool
+is_member c id = has c.incoming id || has c.outgoing id || has c.learners id
+
+-- each id of the first set is in the second
+abbrev pub is_within : Ids → Ids → Bool
+is_within a b = list_all (has b) (ascending a)
+
+-- no id of the first set is in the second
+abbrev pub is_apart : Ids → Ids → Bool
+is_apart a b = list_all (λ id. not (has b id)) (ascending a)
+
+-- whether the configuration keeps the invariant
+abbrev pub keeps : Configuration → Invariant → Bool
+keeps c ZeroId = not (has c.incoming 0 || has c.outgoing 0 || has c.learners 0 || has c.learners_next 0)
+keeps c NextNotOutgoing = is_within c.learners_next c.outgoing
+keeps c NextAndIncoming = is_apart c.learners_next c.incoming
+keeps c LearnerAndVoter = is_apart c.learners c.incoming && is_apart c.learners c.outgoing
+keeps c NotJointButNext = is_joint c || is_empty c.learners_next
+keeps c NotJointButAutoLeave = is_joint c || not c.auto_leave
+
+-- the invariants, in the order in which they are looked at
+abbrev pub invariants : List Invariant
+invariants = ZeroId ∷ NextNotOutgoing ∷ NextAndIncoming ∷ LearnerAndVoter ∷ NotJointButNext ∷ NotJointButAutoLeave ∷ []
+
+-- the first invariant that is broken
+abbrev pub first_broken : Configuration → Option Invariant
+first_broken c = find (λ invariant. not (keeps c invariant)) invariants
+
+-- no invariant is broken
+abbrev pub is_valid : Configuration → Bool
+is_valid c = list_all (keeps c) invariants
+
+-- it has an incoming voter, or nobody is in it
+abbrev pub has_voter_or_nobody : Configuration → Bool
+has_voter_or_nobody c = has_voter c || (is_empty c.incoming && is_empty c.outgoing && is_empty c.learners && is_empty c.learners_next)
+
+-- it is valid, and has an incoming voter or nobody at all
+abbrev pub is_restorable : Configuration → Bool
+is_restorable c = is_valid c && has_voter_or_nobody c

@@ -1,0 +1,15 @@
+pub mod Configuration
+pub mod ConfigurationCode
+pub mod Change
+pub mod Outcome
+pub mod TrackerState
+pub mod ChangerState
+pub mod Progress
+pub mod TrackerEdits
+pub mod Changer
+pub mod ConfState
+pub mod Text
+pub mod Words
+pub mod Number
+pub mod ChangeList
+pub mod ConfStateLine

@@ -1,0 +1,53 @@
+-- The printed texts of configurations, progress and refusals.
+use Rattle.std.specs.Prelude.{◌≡◌, ℕ, Bool, not, List, [], ◌++◌, map, length, take, codes, decimal, nat_lt, if◌then◌else◌}
+use Rattle.std.specs.List.{join_with_byte}
+use Rattle.quorum_sets.specs.Ids.{Ids, ascending, is_empty}
+use Rattle.conf_change.specs.Configuration.{Configuration, is_joint}
+use Rattle.conf_change.specs.declared.progress.Progress.{Progress}
+use Rattle.conf_change.specs.declared.refused.Refused.{Refused}
+use Rattle.conf_change.specs.declared.refused.Refused.TheVariants.{AlreadyJoint, ZeroVoterJoint, NotJoint, SimpleInJoint, RemovedAllVoters, MoreThanOneVoter, NoMemory}
+
+-- a text that begins with what it was
+pub record Extends (old new : List ℕ) : Type 0 where
+  pub begins : take (length old) new ≡ old
+
+-- a part that is there or left out
+abbrev pub where_there : Bool → List ℕ → List ℕ
+where_there there text = if there then text else []
+
+-- numbers with one space between
+abbrev pub spaced_numbers : List ℕ → List ℕ
+spaced_numbers numbers = join_with_byte 32 (map decimal numbers)
+
+-- the number at a place of them: a space comes before it unless it is the first
+abbrev pub spaced_number : ℕ → ℕ → List ℕ
+spaced_number place number = where_there (nat_lt 0 place) (codes " ") ++ decimal number
+
+-- a set, as (1 2 3)
+abbrev pub set_text : Ids → List ℕ
+set_text ids = codes "(" ++ spaced_numbers (ascending ids) ++ codes ")"
+
+-- a configuration, in one line
+abbrev pub config_text : Configuration → List ℕ
+config_text c =
+    codes "voters=" ++ set_text c.incoming
+    ++ where_there (is_joint c) (codes "&&" ++ set_text c.outgoing)
+    ++ where_there (not (is_empty c.learners)) (codes " learners=" ++ set_text c.learners)
+    ++ where_there (not (is_empty c.learners_next)) (codes " learners_next=" ++ set_text c.learners_next)
+    ++ where_there c.auto_leave (codes " autoleave")
+
+-- a member and its progress, in one line
+abbrev pub progress_text : ℕ → Progress → List ℕ
+progress_text id p =
+    decimal id ++ codes ": StateProbe match=" ++ decimal p.matched ++ codes " next=" ++ decimal p.next
+    ++ where_there p.learner (codes " learner")
+
+-- why a change was refused
+abbrev pub refused_text : Refused → List ℕ
+refused_text AlreadyJoint = codes "config is already joint"
+refused_text ZeroVoterJoint = codes "can't make a zero-voter config joint"
+refused_text NotJoint = codes "can't leave a non-joint config"
+refused_text SimpleInJoint = codes "can't apply simple config change in joint config"
+refused_text RemovedAllVoters = codes "removed all voters"
+refused_text MoreThanOneVoter = codes "more than one voter changed without entering joint config"
+refused_text NoMemory = codes "out of memory"

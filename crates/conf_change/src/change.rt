@@ -1,0 +1,94 @@
+//! Changes of a configuration, and lists of them.
+ghost use Rattle.std.specs.Prelude.{◌≡◌, IfOk};
+
+use quorum_sets::NoMemory;
+use std::marker::Model;
+
+/// What a change does to the id that it names (etcd's `raftpb.ConfChangeType`).
+#[derive(Clone, Copy, Debug, PartialEq, Eq)]
+pub enum Kind {
+    /// Makes it a voter, written `v`.
+    Voter,
+    /// Makes it a learner, written `l`.
+    Learner,
+    /// Takes it out of the configuration, written `r`.
+    Remove,
+    /// Says that its address changed, written `u`; the configuration stays as it is.
+    Update,
+}
+
+/// One change of one id. A change of the id 0 says nothing.
+#[derive(Clone, Copy, Debug, PartialEq, Eq)]
+pub struct Change {
+    pub kind: Kind,
+    pub id: u64,
+}
+
+/// Changes that are made together, in order.
+#[derive(Debug, Drop)]
+pub struct Changes {
+    list: Vec<Change>,
+}
+
+impl Model for Changes {
+    ghost use Rattle.std.specs.Prelude.{List};
+    ghost use Rattle.conf_change.specs.declared.change.Change.{Change};
+
+    ghost Value = { List Change };
+
+    ghost view = { λ inner. inner.list.items };
+}
+
+impl From<Vec<Change>> for Changes {
+    ghost from_gives = { λ list changes. changes ≡ list.items };
+
+    fn from(list: Vec<Change>) -> Changes {
+        Changes { list }
+    }
+}
+
+impl From<Changes> for Vec<Change> {
+    ghost from_gives = { λ changes list. list.items ≡ changes };
+
+    fn from(changes: Changes) -> Vec<Change> {
+        let Changes { list } = changes;
+        list
+    }
+}
+
+impl Changes {
+    /// The changes in order.
+    pub fn as_slice(&self) -> &[Change]
+        ensures { result.now ≡ self.now }
+    {
+        self.list.as_slice()
+    }
+
+    /// The same list once more.
+    pub fn try_clone(&self) -> Result<Changes, NoMemory>
+        ensures { IfOk result (λ copy. copy ≡ self.now) }
+    {
+        let list = self.list.clone()?;
+        Ok(Changes { list })
+    }
+}
+
+#[cfg(test)]
+mod tests {
+    use super::*;
+    use std::test::Fail;
+
+    #[test]
+    fn gives_its_vector_back(rt: HostRuntime) -> Result<(), Fail> {
+        let change = Change {
+            kind: Kind::Learner,
+            id: 5,
+        };
+        let changes = Changes::from(vec![in rt.alloc(); change]?);
+        let copy = changes.try_clone()?;
+        assert_eq!(rt; changes.as_slice(), copy.as_slice());
+        let list: Vec<Change> = copy.into();
+        assert_eq!(rt; list.as_slice(), [change].as_slice());
+        Ok(())
+    }
+}

@@ -1,0 +1,201 @@
+//! Configurations: who votes, who learns, and what is wrong with one that is not valid.
+ghost use Rattle.std.specs.Prelude.{◌≡◌, ◌↔◌, Some, true, false, not, ◌&&◌, IfOk, IfErr, OnOk, OnErr, IsOk, IsTrue, if◌then◌else◌};
+ghost use Rattle.conf_change.specs.Configuration.{first_broken, is_valid, keeps, is_within, is_apart};
+ghost use Rattle.conf_change.specs.declared.config.Invariant.{Invariant};
+
+use quorum_sets::{MemberSet, NoMemory};
+use std::marker::Model;
+use thiserror::Error;
+
+/// A configuration, over sets of any kind (etcd's `tracker.Config`). Ids are 1 to 2^64-1.
+#[derive(Drop)]
+pub struct Config<S: MemberSet> {
+    /// The voters, or in a joint configuration the incoming ones.
+    pub incoming: S,
+    /// The voters that go out; there are some exactly in a joint configuration.
+    pub outgoing: S,
+    /// The members that take the log and do not vote.
+    pub learners: S,
+    /// The outgoing voters that become learners when the joint configuration is left.
+    pub learners_next: S,
+    /// Whether the joint configuration is left without being asked.
+    pub auto_leave: bool,
+}
+
+impl<S: MemberSet> Model for Config<S> {
+    ghost use Rattle.conf_change.specs.Configuration.{Configuration};
+    ghost use Rattle.conf_change.specs.ConfigurationCode.{configuration_code};
+
+    ghost Value = { Configuration };
+
+    ghost coded = { configuration_code };
+
+    ghost view = { λ c. record {
+      incoming = S.ids c.incoming;
+      outgoing = S.ids c.outgoing;
+      learners = S.ids c.learners;
+      learners_next = S.ids c.learners_next;
+      auto_leave = c.auto_leave;
+    } };
+}
+
+/// What holds of a valid configuration, in the order in which it is looked at (etcd's `confchange` package; `ZeroId` and
+/// `NextAndIncoming` are own). As an error it tells what is broken.
+#[derive(Clone, Copy, Debug, PartialEq, Eq, Error)]
+pub enum Invariant {
+    #[error("a set holds the id 0")]
+    ZeroId,
+    #[error("a next learner is not an outgoing voter")]
+    NextNotOutgoing,
+    #[error("a next learner is an incoming voter")]
+    NextAndIncoming,
+    #[error("a learner is a voter")]
+    LearnerAndVoter,
+    #[error("next learners without outgoing voters")]
+    NotJointButNext,
+    #[error("auto-leave without outgoing voters")]
+    NotJointButAutoLeave,
+}
+
+impl<S: MemberSet> Config<S> {
+    /// The same configuration once more.
+    pub fn try_clone(&self) -> Result<Config<S>, NoMemory>
+        ensures { IfOk result (λ copy. copy ≡ self.now) }
+    {
+        Ok(Config {
+            incoming: self.incoming.try_clone()?,
+            outgoing: self.outgoing.try_clone()?,
+            learners: self.learners.try_clone()?,
+            learners_next: self.learners_next.try_clone()?,
+            auto_leave: self.auto_leave,
+        })
+    }
+}
+
+/// Answers the first invariant that the configuration breaks; one that breaks none is valid. It takes no memory.
+pub fn check<S: MemberSet>(config: &Config<S>) -> Result<(), Invariant>
+    ensures valid { IsOk result ↔ IsTrue (is_valid config.now) }
+    ensures first { (broken : Invariant) → ((result ≡ Err broken) ↔ (first_broken config.now ≡ Some broken)) }
+{
+    if holds_zero(config) {
+        return Err(Invariant::ZeroId);
+    }
+    check_next(&config.learners_next, &config.incoming, &config.outgoing)?;
+    if !is_apart_from_both(&config.learners, &config.incoming, &config.outgoing) {
+        return Err(Invariant::LearnerAndVoter);
+    }
+    let joint = config.outgoing.len() != 0;
+    if !joint && config.learners_next.len() != 0 {
+        return Err(Invariant::NotJointButNext);
+    }
+    if !joint && config.auto_leave {
+        return Err(Invariant::NotJointButAutoLeave);
+    }
+    Ok(())
+}
+
+// Whether one of the four sets holds 0.
+fn holds_zero<S: MemberSet>(config: &Config<S>) -> bool
+    ensures { result ≡ not (keeps config.now Invariant.ZeroId) }
+{
+    config.incoming.contains(0)
+        || config.outgoing.contains(0)
+        || config.learners.contains(0)
+        || config.learners_next.contains(0)
+}
+
+// Answers the first invariant of the next learners that is broken. One walk sees to both.
+fn check_next<S: MemberSet>(next: &S, incoming: &S, outgoing: &S) -> Result<(), Invariant>
+    ensures kept { OnOk result ((is_within (S.ids next.now) (S.ids outgoing.now) && is_apart (S.ids next.now) (S.ids incoming.now)) ≡ true) }
+    ensures not_kept { OnErr result ((is_within (S.ids next.now) (S.ids outgoing.now) && is_apart (S.ids next.now) (S.ids incoming.now)) ≡ false) }
+    ensures broken { IfErr result (λ broken. broken ≡ (if is_within (S.ids next.now) (S.ids outgoing.now) then Invariant.NextAndIncoming else Invariant.NextNotOutgoing)) }
+{
+    let mut apart = true;
+    for place in 0..next.len() {
+        if let Some(id) = next.at(place) {
+            if !outgoing.contains(id) {
+                return Err(Invariant::NextNotOutgoing);
+            }
+            if incoming.contains(id) {
+                apart = false;
+            }
+        }
+    }
+    if apart {
+        Ok(())
+    } else {
+        Err(Invariant::NextAndIncoming)
+    }
+}
+
+// Whether no id of the set is in one of the other two.
+fn is_apart_from_both<S: MemberSet>(ids: &S, first: &S, second: &S) -> bool
+    ensures { result ≡ (is_apart (S.ids ids.now) (S.ids first.now) && is_apart (S.ids ids.now) (S.ids second.now)) }
+{
+    for place in 0..ids.len() {
+        if let Some(id) = ids.at(place) {
+            if first.contains(id) || second.contains(id) {
+                return false;
+            }
+        }
+    }
+    true
+}
+
+#[cfg(test)]
+mod tests {
+    use super::*;
+    use quorum_sets::TreeIds;
+    use std::alloc::Global;
+    use std::test::Fail;
+
+    fn set(alloc: Global, ids: &[u64]) -> Result<TreeIds, NoMemory> {
+        let mut set = TreeIds::empty(alloc);
+        for id in ids {
+            set.insert(*id)?;
+        }
+        Ok(set)
+    }
+
+    #[test]
+    fn tells_what_is_broken(rt: HostRuntime) -> Result<(), Fail> {
+        let rows: [(
+            [u64; 1],
+            &[u64],
+            &[u64],
+            &[u64],
+            bool,
+            Result<(), Invariant>,
+        ); 7] = [
+            ([1], &[2], &[], &[1], false, Err(Invariant::NextNotOutgoing)),
+            ([1], &[1], &[], &[1], false, Err(Invariant::NextAndIncoming)),
+            ([0], &[], &[0], &[], false, Err(Invariant::ZeroId)),
+            ([1], &[2], &[2], &[], false, Err(Invariant::LearnerAndVoter)),
+            (
+                [1],
+                &[],
+                &[],
+                &[],
+                true,
+                Err(Invariant::NotJointButAutoLeave),
+            ),
+            ([1], &[], &[2], &[], false, Ok(())),
+            ([3], &[1], &[2], &[1], true, Ok(())),
+        ];
+        for (row, (incoming, outgoing, learners, next, auto_leave, want)) in rows
+            .iter()
+            .enumerate()
+        {
+            let config = Config {
+                incoming: set(rt.alloc(), incoming)?,
+                outgoing: set(rt.alloc(), outgoing)?,
+                learners: set(rt.alloc(), learners)?,
+                learners_next: set(rt.alloc(), next)?,
+                auto_leave: *auto_leave,
+            };
+            assert_eq!(rt; check(&config), *want, "row {row}");
+            assert_eq!(rt; check(&config.try_clone()?), *want, "copy of row {row}");
+        }
+        Ok(())
+    }
+}

@@ -1,0 +1,35 @@
+//! Laws of this crate's definitions, each the contract of a function that does nothing.
+ghost use Rattle.std.specs.Prelude.{◌≡◌, ◌↔◌, ℕ, List, Ok, Err, Some, true};
+ghost use Rattle.conf_change.specs.declared.change.Change.{Change};
+ghost use Rattle.conf_change.specs.Words.{words};
+ghost use Rattle.conf_change.specs.ChangeList.{StandsFor, BadToken, IsFirstBad, changes_in};
+ghost use Rattle.conf_change.specs.Configuration.{Configuration, is_restorable};
+ghost use Rattle.conf_change.specs.ConfState.{ConfStateLists, Describes, lists_of, restored};
+ghost use Rattle.conf_change.specs.ConfStateLine.{StandsForConfState, conf_state_in};
+
+/// A text stands for one list of changes at most, and it is the one that the function gives; where it stands for none,
+/// the function gives the first token that spells no change.
+pub fn one_list_per_text()
+    ensures ok { (text : List ℕ) (changes : List Change) → (StandsFor text changes) ↔ (changes_in text ≡ Ok changes) }
+    ensures err { (text : List ℕ) (bad : BadToken) → (IsFirstBad (words text) bad) ↔ (changes_in text ≡ Err bad) }
+    ensures one { (text : List ℕ) (a b : List Change) → StandsFor text a → StandsFor text b → a ≡ b }
+{}
+
+/// A text is the line of one saved configuration at most, and it is the one that the function gives.
+pub fn one_conf_state_per_text()
+    ensures some { (text : List ℕ) (saved : ConfStateLists) → (StandsForConfState text saved) ↔ (conf_state_in text ≡ Some saved) }
+    ensures one { (text : List ℕ) (a b : ConfStateLists) → StandsForConfState text a → StandsForConfState text b → a ≡ b }
+{}
+
+/// What a saved form is restored to: the configuration that it describes, where that one can be restored, and nothing
+/// else.
+pub fn restored_is_described()
+    ensures { (saved : ConfStateLists) (c : Configuration) → ((restored saved ≡ Some c) ↔ (Describes saved c × (is_restorable c ≡ true))) }
+{}
+
+/// The saved form of a configuration, its lists in ascending order, describes it, and no two configurations are
+/// described by one saved form.
+pub fn saved_form_describes()
+    ensures own { (c : Configuration) → Describes (lists_of c) c }
+    ensures one { (saved : ConfStateLists) (c d : Configuration) → Describes saved c → Describes saved d → c ≡ d }
+{}

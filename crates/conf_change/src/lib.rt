@@ -1,0 +1,34 @@
+//! Configurations of a replicated log's members, the changes of them, and the progress of the members.
+#![tactic(auto)]
+
+mod append;
+pub mod change;
+pub mod change_list;
+pub mod changer;
+pub mod config;
+mod edits;
+pub mod laws;
+mod number;
+pub mod progress;
+pub mod refused;
+pub mod restore;
+pub mod saved;
+pub mod saved_line;
+pub mod step;
+pub mod text;
+pub mod tracker;
+pub mod words;
+
+pub use change::{Change, Changes, Kind};
+pub use change_list::{TokenFault, read_changes};
+pub use changer::Changer;
+pub use config::{Config, Invariant, check};
+pub use progress::Progress;
+pub use refused::Refused;
+pub use restore::RestoreFault;
+pub use saved::{ConfState, ConfStateFault, conf_state};
+pub use saved_line::{read_conf_state, write_conf_state};
+pub use step::Step;
+pub use text::{write_config, write_progress, write_refused};
+pub use tracker::Tracker;
+pub use words::next_token;

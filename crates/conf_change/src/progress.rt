@@ -1,0 +1,27 @@
+//! Progress of a member.
+ghost use Rattle.std.specs.Prelude.{◌≡◌, false};
+ghost use Rattle.conf_change.specs.Progress.{fresh_progress};
+
+/// How far a member has come in taking over the log (etcd's `tracker.Progress`). Match is below next.
+#[derive(Clone, Copy, Debug, PartialEq, Eq)]
+pub struct Progress {
+    /// Match: the greatest index that the member is known to have, 0 where nothing is known.
+    pub matched: u64,
+    /// The index that the member is sent next, at least 1.
+    pub next: u64,
+    /// Whether the member is a learner.
+    pub learner: bool,
+}
+
+impl Progress {
+    // The progress of a new voter: nothing is known of it, and it is sent the last index, or 1 where the log is empty.
+    pub(crate) fn fresh(last_index: u64) -> Progress
+        ensures { result ≡ fresh_progress last_index false }
+    {
+        Progress {
+            matched: 0,
+            next: last_index.max(1),
+            learner: false,
+        }
+    }
+}

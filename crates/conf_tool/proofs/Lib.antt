@@ -1,0 +1,4 @@
+pub mod Replies
+pub mod Listing
+pub mod Parts
+pub mod Between

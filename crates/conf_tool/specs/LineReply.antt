@@ -1,0 +1,48 @@
+-- What the mode `lines` answers to each line of its input.
+use Rattle.std.specs.Prelude.{ℕ, Bool, ◌==◌, List, [], ◌∷◌, ◌++◌, length, Result, Ok, Err, codes, if◌then◌else◌}
+use Rattle.dd_file.specs.Bytes.{newline}
+use Rattle.conf_change.specs.Configuration.{Configuration}
+use Rattle.conf_change.specs.Outcome.{Outcome, outcome}
+use Rattle.conf_change.specs.ChangeList.{BadToken, unknown_token, unknown_input, bad_number, changes_in}
+use Rattle.conf_change.specs.Words.{words}
+use Rattle.conf_change.specs.Text.{config_text, refused_text}
+use Rattle.conf_change.specs.declared.change.Change.{Change}
+use Rattle.conf_change.specs.declared.step.Step.TheVariants.{Simple}
+
+-- what a line makes of a configuration: a text, and the configuration afterwards
+pub record LineReply : Type 0 where
+  pub text : List ℕ
+  pub after : Configuration
+
+-- a text alone: the configuration stays
+abbrev pub told : Configuration → List ℕ → LineReply
+told c text = record { text = text; after = c }
+
+-- a word that spells no change
+abbrev pub bad_token_text : BadToken → List ℕ
+bad_token_text (unknown_token token) = codes "unknown token " ++ token
+bad_token_text (unknown_input token) = codes "unknown input: " ++ token
+bad_token_text (bad_number token) = codes "bad number: " ++ token
+
+-- a change that is made, or refused
+abbrev pub reply_to_outcome : Configuration → Outcome → LineReply
+reply_to_outcome c (Ok after) = record { text = config_text after; after = after }
+reply_to_outcome c (Err refused) = told c (refused_text refused)
+
+-- the changes that a line spells, or its first bad word
+abbrev pub reply_to_changes : Configuration → Result (List Change) BadToken → LineReply
+reply_to_changes c (Ok changes) = reply_to_outcome c (outcome c (Simple changes))
+reply_to_changes c (Err bad) = told c (bad_token_text bad)
+
+-- the line has one word
+abbrev pub has_one_word : List ℕ → Bool
+has_one_word line = length (words line) == 1
+
+-- a line of one word is its change, and any other is none
+abbrev pub line_reply : Configuration → List ℕ → LineReply
+line_reply c line = if has_one_word line then reply_to_changes c (changes_in line) else told c (codes "one change expected")
+
+-- the answers to lines in turn, each with a newline
+abbrev pub line_replies : Configuration → List (List ℕ) → List ℕ
+line_replies c [] = []
+line_replies c (line ∷ lines) = let reply = line_reply c line in (reply.text ++ newline) ++ line_replies reply.after lines

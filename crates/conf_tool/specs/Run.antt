@@ -1,0 +1,69 @@
+-- What the answer of a run says of its input and of what was written.
+use Rattle.std.specs.Prelude.{◌≡◌, ℕ, Bool, true, false, List, Option, Result, Ok, Err, ⊤}
+use Rattle.std.specs.Io.KnownBytes.{Appends}
+use Rattle.dd_file.specs.Device.{AppendsPart}
+use Rattle.dd_file.specs.ReaderState.{fresh}
+use Rattle.dd_file.specs.Answer.{Agrees}
+use Rattle.dd_file.specs.declared.fault.FileFault.{FileFault}
+use Rattle.dd_file.specs.declared.fault.FileFault.TheVariants.{InputTooLong, BadDirective, AfterDouble, UnclosedDouble, Read as ReadOfScript, NoMemory as NoMemoryForScript}
+use Rattle.conf_tool.specs.Outputs.{Output}
+use Rattle.conf_tool.specs.declared.mode.Mode.{Mode}
+use Rattle.conf_tool.specs.declared.mode.Mode.TheVariants.{Lines}
+use Rattle.conf_tool.specs.declared.status.Status.{Status}
+use Rattle.conf_tool.specs.declared.status.Status.TheVariants.{Clean, Different}
+use Rattle.conf_tool.specs.declared.tool_fault.ToolFault.{ToolFault}
+use Rattle.conf_tool.specs.declared.tool_fault.ToolFault.TheVariants.{Script, Read, Write, NoMemory}
+
+-- the whole output was written, and it ends so
+abbrev pub Wrote : Output → Result Status FileFault → Option (List ℕ) → Option (List ℕ) → Type 0
+Wrote output outcome before after = (output.outcome ≡ outcome) × Appends before after output.text
+
+-- what an answer says of an output, and of the bytes that the writer held before and holds after
+abbrev pub Means : Output → Result Status ToolFault → Option (List ℕ) → Option (List ℕ) → Type 0
+Means output (Ok status) before after = Wrote output (Ok status) before after
+Means output (Err (Script fault)) before after = Wrote output (Err fault) before after
+Means output (Err Read) before after = AppendsPart before after output.text
+Means output (Err Write) before after = AppendsPart before after output.text
+Means output (Err NoMemory) before after = AppendsPart before after output.text
+
+-- So it is for each input that agrees with what the reader gave. Where the reader or the writer does not tell its
+-- bytes, nothing is said.
+abbrev pub Answers : (List ℕ → Output) → Option (List ℕ) → Option (List ℕ) → Option (List ℕ) → Option (List ℕ) → Result Status ToolFault → Type 0
+Answers output left_before left_after before after result =
+    (input more : List ℕ) → Agrees fresh left_before left_after input more → Means (output input) result before after
+
+-- the faults of an input that a mode tells
+abbrev pub CanBeFaulty : Mode → FileFault → Type 0
+CanBeFaulty Lines (BadDirective line) = ⊥
+CanBeFaulty Lines (AfterDouble line) = ⊥
+CanBeFaulty Lines (UnclosedDouble line) = ⊥
+CanBeFaulty Lines (InputTooLong line) = ⊤
+CanBeFaulty Lines ReadOfScript = ⊥
+CanBeFaulty Lines NoMemoryForScript = ⊥
+
+abbrev pub CanBe : Mode → Status → Type 0
+CanBe Lines Clean = ⊤
+CanBe Lines Different = ⊥
+
+-- the answers that a mode has, whatever the reader and the writer are
+abbrev pub CanAnswer : Mode → Result Status ToolFault → Type 0
+CanAnswer mode (Ok status) = CanBe mode status
+CanAnswer mode (Err (Script fault)) = CanBeFaulty mode fault
+CanAnswer mode (Err Read) = ⊤
+CanAnswer mode (Err Write) = ⊤
+CanAnswer mode (Err NoMemory) = ⊤
+
+-- a read, or a write, failed in the run
+abbrev pub is_read_fault : Result Status ToolFault → Bool
+is_read_fault (Ok status) = false
+is_read_fault (Err (Script fault)) = false
+is_read_fault (Err Read) = true
+is_read_fault (Err Write) = false
+is_read_fault (Err NoMemory) = false
+
+abbrev pub is_write_fault : Result Status ToolFault → Bool
+is_write_fault (Ok status) = false
+is_write_fault (Err (Script fault)) = false
+is_write_fault (Err Read) = false
+is_write_fault (Err Write) = true
+is_write_fault (Err NoMemory) = false

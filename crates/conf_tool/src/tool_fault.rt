@@ -1,0 +1,45 @@
+//! What can stop a run.
+ghost use Rattle.std.specs.Prelude.{◌≡◌};
+ghost use Rattle.conf_tool.specs.declared.tool_fault.ToolFault.TheVariants.{Write, NoMemory};
+
+use dd_file::fault::{FileFault, WriteFault};
+use quorum_sets::NoMemory;
+use std::alloc::AllocError;
+use thiserror::Error;
+
+/// Why a run stopped before its end.
+#[derive(Clone, Copy, Debug, PartialEq, Eq, Error)]
+pub enum ToolFault {
+    #[error("{0}")]
+    Script(FileFault),
+    #[error("cannot read")]
+    Read,
+    #[error("cannot write")]
+    Write,
+    #[error("out of memory")]
+    NoMemory,
+}
+
+impl From<WriteFault> for ToolFault {
+    ghost from_gives = { λ _ fault. fault ≡ Write };
+
+    fn from(_fault: WriteFault) -> ToolFault {
+        ToolFault::Write
+    }
+}
+
+impl From<AllocError> for ToolFault {
+    ghost from_gives = { λ _ fault. fault ≡ NoMemory };
+
+    fn from(_fault: AllocError) -> ToolFault {
+        ToolFault::NoMemory
+    }
+}
+
+impl From<NoMemory> for ToolFault {
+    ghost from_gives = { λ _ fault. fault ≡ NoMemory };
+
+    fn from(_fault: NoMemory) -> ToolFault {
+        ToolFault::NoMemory
+    }
+}

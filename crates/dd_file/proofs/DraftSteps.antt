@@ -1,0 +1,129 @@
+-- What an item takes in with one more line, phase by phase.
+use Rattle.std.proofs.Common.{◌≡◌, ℕ, ◌+◌, ◌-◌, Bool, true, false, cond, ◌&&◌, List, [], ◌∷◌, ◌++◌, length, map, ◌<◌, refl, sym, ◌∙◌, ap, arith}
+use Rattle.std.specs.Prelude.{Option, Some, None, is_some, IsSome, option_to_list, Ok, Err}
+use Rattle.std.specs.List.{list_all, list_any}
+use Rattle.std.proofs.lemmas.List.{append_assoc, length-append, map-append}
+use Rattle.dd_file.specs.Bytes.{is_blank}
+use Rattle.dd_file.specs.Words.{CommandText, command_of}
+use Rattle.dd_file.specs.Script.{Front, front, first_of, joined, is_continued, is_separator, is_dashes, has_pair, in_double, body, directive, after_pair, at_command}
+use Rattle.dd_file.specs.Draft.{DraftText, AddsIn, FitsIn, drafted, with_command, begins_directive, ends_in_dashes}
+use Rattle.dd_file.specs.declared.item.Item.TheVariants.{Blank}
+use Rattle.dd_file.specs.declared.fault.FileFault.TheVariants.{AfterDouble, BadDirective}
+use Rattle.dd_file.specs.declared.phase.Phase.{Phase}
+use Rattle.dd_file.specs.declared.phase.Phase.TheVariants.{Head, BlankLines, NoCommand, Input, Separator, Single, Double, Pair, Complete, AfterPair}
+use Rattle.dd_file.proofs.Drafting.{with_command-same, with_command-some, body-separator, single-blank, double-pair, has_pair-push, ends_in_dashes-push, first_of-head}
+
+pub adds-separator : (old new : DraftText) (line : List ℕ) → FitsIn Input old → is_separator line ≡ true → new ≡ record old { count = old.count + 1; phase = Separator } → AddsIn Input old new line
+adds-separator old new line fits is e = rw e (record {
+  fits = (fits.0, fits.2, let h = fits.3 in omega (arith, h));
+  front = λ more. with_command-same _ _ old.command (λ command. sym (body-separator old.line command old.head old.input line more fits.1 is));
+  count = refl;
+  first = refl;
+})
+
+pub adds-blank : (old new : DraftText) (line : List ℕ) → FitsIn Single old → is_blank line ≡ true → new ≡ record old { count = old.count + 1; phase = Complete } → AddsIn Single old new line
+adds-blank old new line fits is e = rw e (record {
+  fits = fits.0;
+  front = λ more. with_command-same _ _ old.command (λ command. at command ∙ sym (single-blank old.line command old.head old.input old.expected line more fits.1 is));
+  count = refl;
+  first = refl;
+}) where
+  at : (command : CommandText) → front (Ok (drafted old command)) (old.count + 1) true ≡ front (Ok (drafted old command)) (length old.head + length old.input + 1 + length old.expected + 1) true
+  at command = ap (λ n. front (Ok (drafted old command)) (n + 1) true) fits.2
+
+pub adds-pair : (old new : DraftText) (expected : List (List ℕ)) (x line : List ℕ) → FitsIn Double old → old.expected ≡ expected ++ x ∷ [] → ends_in_dashes old.expected ≡ true → is_dashes line ≡ true →
+    new ≡ record old { expected = expected; count = old.count + 1; phase = Pair } → AddsIn Double old new line
+adds-pair old new expected x line fits was ends is e = rw e (record {
+  fits = (fits.0, count);
+  front = λ more. with_command-same _ _ old.command (λ command.
+      ap (λ n. after_pair old.line n (directive old.line command old.head old.input expected) more) count
+      ∙ sym (ap (λ xs. in_double old.line command old.head old.input (xs ++ line ∷ more)) was ∙ double-pair old.line command old.head old.input expected x line more none hx is));
+  count = refl;
+  first = refl;
+}) where
+  len : length old.expected ≡ length expected + 1
+  len = ap length was ∙ length-append expected (x ∷ [])
+
+  count : old.count + 1 ≡ length old.head + length old.input + length expected + 4
+  count = let h = fits.2 in omega (arith, h, len)
+
+  none : has_pair (expected ++ x ∷ []) ≡ false
+  none = ap has_pair (sym was) ∙ fits.1
+
+  hx : is_dashes x ≡ true
+  hx = sym (ends_in_dashes-push expected x) ∙ ap ends_in_dashes (sym was) ∙ ends
+
+pub adds-expected : (old new : DraftText) (line : List ℕ) → FitsIn Double old → (ends_in_dashes old.expected && is_dashes line) ≡ false →
+    new ≡ record old { expected = old.expected ++ line ∷ []; count = old.count + 1; phase = Double } → AddsIn Double old new line
+adds-expected old new line fits other e = rw e (record {
+  fits = (fits.0, has_pair-push old.expected line fits.1 other, let h = fits.2 in let len = length-append old.expected (line ∷ []) in omega (arith, h, len));
+  front = λ more. with_command-same _ _ old.command (λ command. ap (in_double old.line command old.head old.input) (append_assoc old.expected (line ∷ []) more));
+  count = refl;
+  first = refl;
+})
+
+pub adds-behind : (old new : DraftText) (line : List ℕ) (is : Bool) → FitsIn Pair old → is_blank line ≡ is → new ≡ record old { count = old.count + 1; phase = cond is Complete AfterPair } → AddsIn Pair old new line
+adds-behind old new line true fits is e = rw e (record {
+  fits = fits.0;
+  front = λ more. with_command-same _ _ old.command (λ command. sym (rw is refl));
+  count = refl;
+  first = refl;
+})
+adds-behind old new line false fits is e = rw e (record {
+  fits = let h = fits.1 in omega (arith, h);
+  front = λ more. sym (with_command-some _ _ old.command fits.0 (λ command. rw is (ap (λ n. front (Err (AfterDouble (old.line + n))) (old.count + 1) true) minus)));
+  count = refl;
+  first = refl;
+}) where
+  minus : old.count ≡ old.count + 1 - 1
+  minus = omega arith
+
+-- the lines of a head and one more that is not continued
+head-front : (old : DraftText) (line : List ℕ) (more : List (List ℕ)) → begins_directive (old.head ++ line ∷ []) ≡ true → list_all is_continued old.head ≡ true → is_continued line ≡ false →
+    first_of old.line (old.head ++ line ∷ more) ≡ Some (cond (is_blank (joined (old.head ++ line ∷ []))) (front (Ok (Blank (old.head ++ line ∷ []))) (length (old.head ++ line ∷ [])) true)
+    (at_command old.line (command_of (joined (old.head ++ line ∷ []))) (old.head ++ line ∷ []) more))
+head-front old line more starts all last = ap (first_of old.line) (sym (append_assoc old.head (line ∷ []) more)) ∙ first_of-head old.line old.head line more starts all last
+
+pub adds-blank-head : (old new : DraftText) (line : List ℕ) → begins_directive (old.head ++ line ∷ []) ≡ true → list_all is_continued old.head ≡ true → old.count ≡ length old.head → is_continued line ≡ false →
+    is_blank (joined (old.head ++ line ∷ [])) ≡ true → new ≡ record old { head = old.head ++ line ∷ []; count = old.count + 1; phase = BlankLines } → AddsIn Head old new line
+adds-blank-head old new line starts all counted last blank e = rw e (record {
+  fits = tt;
+  front = λ more. ap (λ n. Some (front (Ok (Blank (old.head ++ line ∷ []))) n true)) count ∙ sym (head-front old line more starts all last ∙ rw blank refl);
+  count = refl;
+  first = refl;
+}) where
+  count : old.count + 1 ≡ length (old.head ++ line ∷ [])
+  count = let len = length-append old.head (line ∷ []) in omega (arith, counted, len)
+
+pub adds-no-command : (old new : DraftText) (line : List ℕ) → begins_directive (old.head ++ line ∷ []) ≡ true → list_all is_continued old.head ≡ true → old.count ≡ length old.head → is_continued line ≡ false →
+    is_blank (joined (old.head ++ line ∷ [])) ≡ false → None ≡ command_of (joined (old.head ++ line ∷ [])) →
+    new ≡ record old { head = old.head ++ line ∷ []; count = old.count + 1; phase = NoCommand } → AddsIn Head old new line
+adds-no-command old new line starts all counted last blank is e = rw e (record {
+  fits = tt;
+  front = λ more. ap (λ n. Some (front (Err (BadDirective old.line)) n true)) count
+      ∙ sym (head-front old line more starts all last ∙ rw blank (ap (λ c. Some (at_command old.line c (old.head ++ line ∷ []) more)) (sym is)));
+  count = refl;
+  first = refl;
+}) where
+  count : old.count + 1 ≡ length (old.head ++ line ∷ [])
+  count = let len = length-append old.head (line ∷ []) in omega (arith, counted, len)
+
+pub adds-command : (old new : DraftText) (line : List ℕ) (command : CommandText) → begins_directive (old.head ++ line ∷ []) ≡ true → list_all is_continued old.head ≡ true → (old.input ≡ []) × (old.expected ≡ []) →
+    old.count ≡ length old.head → is_continued line ≡ false → is_blank (joined (old.head ++ line ∷ [])) ≡ false → Some command ≡ command_of (joined (old.head ++ line ∷ [])) →
+    new ≡ record old { head = old.head ++ line ∷ []; command = Some command; count = old.count + 1; phase = Input } → AddsIn Head old new line
+adds-command old new line command starts all empty counted last blank is e = rw e (record {
+  fits = (refl, ap (list_any is_separator) (empty.0), empty.1, count);
+  front = λ more. ap (λ i. Some (body old.line command (old.head ++ line ∷ []) (i ++ more))) (empty.0)
+      ∙ sym (head-front old line more starts all last ∙ rw blank (ap (λ c. Some (at_command old.line c (old.head ++ line ∷ []) more)) (sym is)));
+  count = refl;
+  first = refl;
+}) where
+  count : old.count + 1 ≡ length (old.head ++ line ∷ []) + length old.input
+  count = let len = length-append old.head (line ∷ []) in let none = ap length (empty.0) in omega (arith, counted, len, none)
+
+-- the last line that was taken off
+pub popped : {V : Type 0} (f : V → List ℕ) (old new : List V) (last : Option V) → old ≡ new ++ option_to_list last → ends_in_dashes (map f old) ≡ true → (0 < length old → IsSome last) →
+    (x : List ℕ) × (map f old ≡ map f new ++ x ∷ [])
+popped f [] new last e ends some = cc
+popped f (v ∷ old) new None e ends some = let bad : false ≡ true = some (omega arith) in cc
+popped f (v ∷ old) new (Some x) e ends some = (f x, ap (map f) e ∙ map-append f new (x ∷ []))

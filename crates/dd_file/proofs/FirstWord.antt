@@ -1,0 +1,108 @@
+-- The first word of a text, and the words behind it.
+use Rattle.std.proofs.Common.{◌≡◌, ℕ, ◌≤◌, ◌<◌, suc, Bool, true, false, not, cond, ◌&&◌, ◌||◌, List, [], ◌∷◌, length, take, drop, refl, sym, ◌∙◌, ap, subst, arith, rules}
+use Rattle.std.specs.Prelude.{◌==◌, filter}
+use Rattle.dd_file.specs.Bytes.{is_space, without_leading_space}
+use Rattle.dd_file.specs.Words.{inside_after, placed, cut_at_spaces, word_len, words_of}
+
+-- white space opens no parentheses
+opening-space : (b : ℕ) (c : Bool) → (b == 40) ≡ c → is_space b ≡ true → c ≡ false
+opening-space b true e h = let is : b ≡ 40 = search rules in let at : is_space 40 ≡ true = ap is_space (sym is) ∙ h in cc
+opening-space b false e h = refl
+
+inside_after-space : (b : ℕ) → is_space b ≡ true → inside_after false b ≡ false
+inside_after-space b h = ap (λ c. c || false) (opening-space b (b == 40) refl h)
+
+-- the words of what a text was cut into
+abbrev words : List (List ℕ) → List (List ℕ)
+words cut = filter (λ word. not (length word == 0)) cut
+
+-- white space before the first word
+words_of-space : (b : ℕ) (bs : List ℕ) → is_space b ≡ true → words_of bs ≡ words_of (b ∷ bs)
+words_of-space b bs h =
+    sym (ap (λ c. words (placed (c && true) b (cut_at_spaces (inside_after false b) bs))) h
+    ∙ ap (λ i. words (cut_at_spaces i bs)) (inside_after-space b h))
+
+pub words_of-without_leading_space : (text : List ℕ) → words_of (without_leading_space text) ≡ words_of text
+words_of-without_leading_space [] = refl
+words_of-without_leading_space (b ∷ bs) = at (is_space b) refl (words_of-without_leading_space bs) where
+  at : (c : Bool) → is_space b ≡ c → words_of (without_leading_space bs) ≡ words_of bs →
+      words_of (cond c (without_leading_space bs) (b ∷ bs)) ≡ words_of (b ∷ bs)
+  at true e h = h ∙ words_of-space b bs e
+  at false e h = refl
+
+-- the first of the words and spaces, and what follows it: behind it stands white space or nothing
+abbrev FirstCut : Bool → List ℕ → ℕ → Type 0
+FirstCut inside bytes n =
+    (others : List (List ℕ)) × (cut_at_spaces inside bytes ≡ take n bytes ∷ others) × (cut_at_spaces false (drop n bytes) ≡ [] ∷ others)
+
+first_cut : (inside : Bool) (bytes : List ℕ) → FirstCut inside bytes (word_len inside bytes)
+first_cut inside [] = ([], refl, refl)
+first_cut inside (b ∷ bs) = at inside (is_space b) refl (first_cut (inside_after inside b) bs) where
+  at : (i c : Bool) → is_space b ≡ c → FirstCut (inside_after i b) bs (word_len (inside_after i b) bs) →
+      (others : List (List ℕ))
+      × (placed (c && not i) b (cut_at_spaces (inside_after i b) bs) ≡ take (cond (c && not i) 0 (suc (word_len (inside_after i b) bs))) (b ∷ bs) ∷ others)
+      × (cut_at_spaces false (drop (cond (c && not i) 0 (suc (word_len (inside_after i b) bs))) (b ∷ bs)) ≡ [] ∷ others)
+  at false true e h = (cut_at_spaces (inside_after false b) bs, refl, ap (λ c. placed (c && true) b (cut_at_spaces (inside_after false b) bs)) e)
+  at true true e h = (h.0, ap (placed false b) h.1, h.2)
+  at i false e h = (h.0, ap (placed false b) h.1, h.2)
+
+-- a text that begins with no white space: its first word, and the words behind it
+words_of-begun : (b : ℕ) (bs : List ℕ) → is_space b ≡ false →
+    words_of (b ∷ bs) ≡ take (word_len false (b ∷ bs)) (b ∷ bs) ∷ words_of (drop (word_len false (b ∷ bs)) (b ∷ bs))
+words_of-begun b bs h =
+    let cut = first_cut (inside_after false b) bs in
+    let n = word_len (inside_after false b) bs in
+    let len : word_len false (b ∷ bs) ≡ suc n = ap (λ c. cond (c && true) 0 (suc n)) h in
+    let some : (suc (length (take n bs)) == 0) ≡ false = search rules in
+    let first : words_of (b ∷ bs) ≡ (b ∷ take n bs) ∷ words cut.0 =
+    ap (λ c. words (placed (c && true) b (cut_at_spaces (inside_after false b) bs))) h
+    ∙ ap (λ ws. words (placed false b ws)) cut.1
+    ∙ ap (λ c. cond (not c) ((b ∷ take n bs) ∷ words cut.0) (words cut.0)) some in
+    let others : words_of (drop n bs) ≡ words cut.0 = ap words cut.2 in
+    first ∙ ap (λ ws. (b ∷ take n bs) ∷ ws) (sym others) ∙ sym (ap (λ k. take k (b ∷ bs) ∷ words_of (drop k (b ∷ bs))) len)
+
+-- the first word of a text and the words behind it, if it is not empty
+abbrev BeginsWithWord : List ℕ → Type 0
+BeginsWithWord begun = (length begun == 0) ≡ false → words_of begun ≡ take (word_len false begun) begun ∷ words_of (drop (word_len false begun) begun)
+
+begins_with_word : (text : List ℕ) → BeginsWithWord (without_leading_space text)
+begins_with_word [] = λ some. cc
+begins_with_word (b ∷ bs) = at (is_space b) refl (begins_with_word bs) where
+  at : (c : Bool) → is_space b ≡ c → BeginsWithWord (without_leading_space bs) → BeginsWithWord (cond c (without_leading_space bs) (b ∷ bs))
+  at true e h = h
+  at false e h = λ some. words_of-begun b bs e
+
+pub words_of-first : (text begun : List ℕ) → begun ≡ without_leading_space text → (length begun == 0) ≡ false →
+    words_of text ≡ take (word_len false begun) begun ∷ words_of (drop (word_len false begun) begun)
+words_of-first text begun e some =
+    sym (words_of-without_leading_space text) ∙ ap words_of (sym e)
+    ∙ subst BeginsWithWord (sym e) (begins_with_word text) some
+
+pub length-without_leading_space : (text : List ℕ) → length (without_leading_space text) ≤ length text
+length-without_leading_space [] = omega arith
+length-without_leading_space (b ∷ bs) = at (is_space b) (length-without_leading_space bs) where
+  at : (c : Bool) → length (without_leading_space bs) ≤ length bs → length (cond c (without_leading_space bs) (b ∷ bs)) ≤ suc (length bs)
+  at true h = omega (arith, h)
+  at false h = omega arith
+
+pub word_len-bound : (inside : Bool) (bytes : List ℕ) → word_len inside bytes ≤ length bytes
+word_len-bound inside [] = omega arith
+word_len-bound inside (b ∷ bs) = at (is_space b && not inside) (word_len-bound (inside_after inside b) bs) where
+  at : (c : Bool) → word_len (inside_after inside b) bs ≤ length bs → cond c 0 (suc (word_len (inside_after inside b) bs)) ≤ suc (length bs)
+  at true h = omega arith
+  at false h = omega (arith, h)
+
+-- a text that is not empty once white space before it is gone has a word
+abbrev HasWord : List ℕ → Type 0
+HasWord begun = (length begun == 0) ≡ false → 0 < word_len false begun
+
+has_word : (text : List ℕ) → HasWord (without_leading_space text)
+has_word [] = λ some. cc
+has_word (b ∷ bs) = at (is_space b) refl (has_word bs) where
+  at : (c : Bool) → is_space b ≡ c → HasWord (without_leading_space bs) → HasWord (cond c (without_leading_space bs) (b ∷ bs))
+  at true e h = h
+  at false e h = λ some. let len : word_len false (b ∷ bs) ≡ suc (word_len (inside_after false b) bs) = ap (λ c. cond (c && true) 0 (suc (word_len (inside_after false b) bs))) e in
+      omega (arith, len)
+
+pub word_len-some : (text begun : List ℕ) → begun ≡ without_leading_space text → (length begun == 0) ≡ false → 0 < word_len false begun
+word_len-some text begun e = subst HasWord (sym e) (has_word text)

@@ -1,0 +1,141 @@
+-- The newlines at the end of a text, and what is left without the last.
+use Rattle.std.proofs.Common.{◌≡◌, ℕ, ◌-◌, Bool, true, false, not, cond, ◌&&◌, ◌⊎◌, inl, inr, List, [], ◌∷◌, ◌++◌, length, drop, refl, sym, ◌∙◌, ap, eq-eqb, length-append, arith, rules}
+use Rattle.std.specs.Prelude.{◌==◌, nat_eq, if◌then◌else◌}
+use Rattle.std.specs.List.{ends_with}
+use Rattle.std.proofs.Math.Seq.{drop-append_seam}
+use Rattle.std.proofs.lemmas.List.{append_assoc, append-nil}
+use lib.Pointwise.{pointwise}
+use Rattle.dd_file.specs.Bytes.{newline}
+use Rattle.dd_file.specs.Lines.{without_last}
+use Rattle.dd_file.specs.Rewritten.{newlines_at_end, without_double_end}
+
+-- a list has no element, or a last one
+pub split_last : {A : Type 0} (xs : List A) → (xs ≡ []) ⊎ ((front : List A) × (x : A) × (xs ≡ front ++ x ∷ []))
+split_last [] = inl refl
+split_last (x ∷ xs) = elim (split_last xs) [ inl e ↦ inr ([], x, ap (λ t. x ∷ t) e) | inr p ↦ inr (x ∷ p.0, p.1, ap (λ t. x ∷ t) p.2) ]
+
+-- bytes with one more at their end
+pub without_last-push : (b x : ℕ) (xs : List ℕ) → without_last b (xs ++ x ∷ []) ≡ cond (x == b) xs (xs ++ x ∷ [])
+without_last-push b x [] = refl
+without_last-push b x (y ∷ []) = at (x == b) where
+  at : (c : Bool) → y ∷ cond c [] (x ∷ []) ≡ cond c (y ∷ []) (y ∷ x ∷ [])
+  at true = refl
+  at false = refl
+without_last-push b x (y ∷ z ∷ xs) = ap (λ t. y ∷ t) (without_last-push b x (z ∷ xs)) ∙ at (x == b) where
+  at : (c : Bool) → y ∷ cond c (z ∷ xs) (z ∷ xs ++ x ∷ []) ≡ cond c (y ∷ z ∷ xs) (y ∷ z ∷ xs ++ x ∷ [])
+  at true = refl
+  at false = refl
+
+-- bytes that end in a newline, that end in another byte, and none
+pub without_last-same : (b x : ℕ) (front bytes : List ℕ) → bytes ≡ front ++ x ∷ [] → x ≡ b → front ≡ without_last b bytes
+without_last-same b x front bytes e h =
+    sym (ap (without_last b) e ∙ without_last-push b x front ∙ ap (λ c. cond c front (front ++ x ∷ [])) (eq-eqb x b h))
+
+pub without_last-other : (b x : ℕ) (front bytes : List ℕ) → bytes ≡ front ++ x ∷ [] → (x ≡ b → ⊥) → bytes ≡ without_last b bytes
+without_last-other b x front bytes e ne =
+    let h : (x == b) ≡ false = search rules in
+    e ∙ sym (ap (without_last b) e ∙ without_last-push b x front ∙ ap (λ c. cond c front (front ++ x ∷ [])) h)
+
+-- bytes with more behind them
+pub without_last-append : (b : ℕ) (xs : List ℕ) (y : ℕ) (ys : List ℕ) → without_last b (xs ++ y ∷ ys) ≡ xs ++ without_last b (y ∷ ys)
+without_last-append b [] y ys = refl
+without_last-append b (x ∷ []) y ys = refl
+without_last-append b (x ∷ z ∷ xs) y ys = ap (λ t. x ∷ t) (without_last-append b (z ∷ xs) y ys)
+
+-- what a text ends in is told by its last bytes
+pub ends_with-append : (xs ys needle : List ℕ) → length ys ≡ length needle → ends_with nat_eq (xs ++ ys) needle ≡ pointwise nat_eq needle ys
+ends_with-append xs ys needle e =
+    let k : length (xs ++ ys) - length needle ≡ length xs = rw (length-append xs ys) (omega arith) in
+    ap (λ n. pointwise nat_eq needle (drop n (xs ++ ys))) k ∙ ap (pointwise nat_eq needle) (drop-append_seam xs ys)
+
+-- the count where the last byte is a newline or not, and the one before it
+abbrev counted : Bool → Bool → ℕ
+counted false before = 0
+counted true false = 1
+counted true true = 2
+
+newlines_at_end-one : (b : ℕ) → newlines_at_end (b ∷ []) ≡ counted (nat_eq 10 b) false
+newlines_at_end-one b = at (nat_eq 10 b) where
+  at : (q : Bool) → (if q && false then 2 else (if q && true then 1 else 0)) ≡ counted q false
+  at true = refl
+  at false = refl
+
+newlines_at_end-two : (xs : List ℕ) (a b : ℕ) → newlines_at_end ((xs ++ a ∷ []) ++ b ∷ []) ≡ counted (nat_eq 10 b) (nat_eq 10 a)
+newlines_at_end-two xs a b =
+    let two : ends_with nat_eq ((xs ++ a ∷ []) ++ b ∷ []) (newline ++ newline) ≡ (nat_eq 10 a && (nat_eq 10 b && true)) =
+    ap (λ t. ends_with nat_eq t (newline ++ newline)) (append_assoc xs (a ∷ []) (b ∷ [])) ∙ ends_with-append xs (a ∷ b ∷ []) (newline ++ newline) refl in
+    let one : ends_with nat_eq ((xs ++ a ∷ []) ++ b ∷ []) newline ≡ (nat_eq 10 b && true) = ends_with-append (xs ++ a ∷ []) (b ∷ []) newline refl in
+    ap (λ p. if p then 2 else (if ends_with nat_eq ((xs ++ a ∷ []) ++ b ∷ []) newline then 1 else 0)) two
+    ∙ ap (λ q. if nat_eq 10 a && (nat_eq 10 b && true) then 2 else (if q then 1 else 0)) one ∙ at (nat_eq 10 a) (nat_eq 10 b) where
+      at : (p q : Bool) → (if p && (q && true) then 2 else (if q && true then 1 else 0)) ≡ counted q p
+      at true true = refl
+      at true false = refl
+      at false true = refl
+      at false false = refl
+
+counted-zero : (q p : Bool) → (counted q p == 0) ≡ not q
+counted-zero false p = refl
+counted-zero true false = refl
+counted-zero true true = refl
+
+-- the last byte tells whether a newline ends the text
+newlines_at_end-zero : (text : List ℕ) (b : ℕ) → (newlines_at_end (text ++ b ∷ []) == 0) ≡ not (nat_eq 10 b)
+newlines_at_end-zero text b = elim (split_last text) [
+  | inl e ↦ ap (λ t. newlines_at_end (t ++ b ∷ []) == 0) e ∙ ap (λ n. n == 0) (newlines_at_end-one b) ∙ counted-zero (nat_eq 10 b) false
+  | inr p ↦ ap (λ t. newlines_at_end (t ++ b ∷ []) == 0) p.2 ∙ ap (λ n. n == 0) (newlines_at_end-two p.0 p.1 b) ∙ counted-zero (nat_eq 10 b) (nat_eq 10 p.1)
+]
+
+-- one byte more
+pub newlines_at_end-push : (text : List ℕ) (b : ℕ) → newlines_at_end (text ++ b ∷ []) ≡ counted (nat_eq 10 b) (not (newlines_at_end text == 0))
+newlines_at_end-push text b = elim (split_last text) [
+  | inl e ↦ ap (λ t. newlines_at_end (t ++ b ∷ [])) e ∙ newlines_at_end-one b ∙ ap (λ t. counted (nat_eq 10 b) (not (newlines_at_end t == 0))) (sym e)
+  | inr p ↦ ap (λ t. newlines_at_end (t ++ b ∷ [])) p.2 ∙ newlines_at_end-two p.0 p.1 b ∙ ap (counted (nat_eq 10 b)) (sym (not_not (nat_eq 10 p.1)))
+      ∙ ap (λ z. counted (nat_eq 10 b) (not z)) (sym (newlines_at_end-zero p.0 p.1)) ∙ ap (λ t. counted (nat_eq 10 b) (not (newlines_at_end t == 0))) (sym p.2)
+] where
+  not_not : (q : Bool) → not (not q) ≡ q
+  not_not true = refl
+  not_not false = refl
+
+pub newlines_at_end-first : (b n : ℕ) (text : List ℕ) → b ≡ 10 → n ≡ 0 → n ≡ newlines_at_end text → 1 ≡ newlines_at_end (text ++ b ∷ [])
+newlines_at_end-first b n text newline none e = sym (newlines_at_end-push text b ∙ ap (λ x. counted (nat_eq 10 x) (not (newlines_at_end text == 0))) newline ∙ ap (λ m. counted true (not (m == 0))) (sym e ∙ none))
+
+pub newlines_at_end-second : (b n : ℕ) (text : List ℕ) → b ≡ 10 → (n ≡ 0 → ⊥) → n ≡ newlines_at_end text → 2 ≡ newlines_at_end (text ++ b ∷ [])
+newlines_at_end-second b n text newline some e =
+    let more : (n == 0) ≡ false = search rules in
+    sym (newlines_at_end-push text b ∙ ap (λ x. counted (nat_eq 10 x) (not (newlines_at_end text == 0))) newline ∙ ap (λ m. counted true (not (m == 0))) (sym e) ∙ ap (λ z. counted true (not z)) more)
+
+pub newlines_at_end-other : (b : ℕ) (text : List ℕ) → (b ≡ 10 → ⊥) → 0 ≡ newlines_at_end (text ++ b ∷ [])
+newlines_at_end-other b text other =
+    let none : nat_eq 10 b ≡ false = search rules in
+    sym (newlines_at_end-push text b ∙ ap (λ q. counted q (not (newlines_at_end text == 0))) none)
+
+-- a text is what is left without a newline at its end, and that newline
+pub text-held : (text : List ℕ) → without_last 10 text ++ (if newlines_at_end text == 0 then [] else newline) ≡ text
+text-held text = elim (split_last text) [
+  | inl e ↦ rw e refl
+  | inr p ↦ let whole = λ (t : List ℕ). without_last 10 t ++ (if newlines_at_end t == 0 then [] else newline) in
+      ap whole p.2 ∙ ap (λ z. without_last 10 (p.0 ++ p.1 ∷ []) ++ (if z then [] else newline)) (newlines_at_end-zero p.0 p.1)
+      ∙ ap (λ t. t ++ (if not (nat_eq 10 p.1) then [] else newline)) (without_last-push 10 p.1 p.0) ∙ at p.0 p.1 (nat_eq 10 p.1) (p.1 == 10) refl refl ∙ sym p.2
+] where
+  at : (xs : List ℕ) (b : ℕ) (p q : Bool) → nat_eq 10 b ≡ p → (b == 10) ≡ q → cond q xs (xs ++ b ∷ []) ++ (if not p then [] else newline) ≡ xs ++ b ∷ []
+  at xs b true true h k = let is : b ≡ 10 = search rules in ap (λ y. xs ++ y ∷ []) (sym is)
+  at xs b false false h k = append-nil (xs ++ b ∷ [])
+  at xs b true false h k = absurd (search rules)
+  at xs b false true h k = absurd (search rules)
+
+-- the script that ends here is what is left without a newline at its end, and that newline where it is the only one
+pub text-ended : (text : List ℕ) → without_last 10 text ++ (if newlines_at_end text == 1 then newline else []) ≡ without_double_end text
+text-ended text = at (ends_with nat_eq text (newline ++ newline)) (ends_with nat_eq text newline) (without_last 10 text) (text-held text) where
+  at : (p q : Bool) (front : List ℕ) → front ++ (if (if p then 2 else (if q then 1 else 0)) == 0 then [] else newline) ≡ text →
+      front ++ (if (if p then 2 else (if q then 1 else 0)) == 1 then newline else []) ≡ (if p then front else text)
+  at true q front h = append-nil front
+  at false true front h = h
+  at false false front h = h
+
+-- without its last newline the text is a front part of itself with more behind it
+pub without_last-front : (xs ys : List ℕ) → (part : List ℕ) × (without_last 10 (xs ++ ys) ≡ without_last 10 xs ++ part)
+without_last-front xs [] = ([], ap (without_last 10) (append-nil xs) ∙ sym (append-nil (without_last 10 xs)))
+without_last-front xs (y ∷ ys) = let held = if newlines_at_end xs == 0 then [] else newline in (
+  held ++ without_last 10 (y ∷ ys),
+  without_last-append 10 xs y ys ∙ ap (λ t. t ++ without_last 10 (y ∷ ys)) (sym (text-held xs)) ∙ append_assoc (without_last 10 xs) held (without_last 10 (y ∷ ys)),
+)

@@ -1,0 +1,113 @@
+-- A piece that is read part by part.
+use Rattle.std.proofs.Common.{◌≡◌, ℕ, suc, ◌+◌, ◌-◌, ◌≤◌, ◌<◌, Bool, true, false, cond, List, [], ◌∷◌, ◌++◌, length, take, drop, refl, sym, ◌∙◌, ap, arith, rules}
+use Rattle.std.specs.Prelude.{◌==◌, Option, Some, None}
+use Rattle.std.proofs.lemmas.List.{append_assoc, append-nil, take-append-drop, length-append, length-take, length-drop}
+use Rattle.std.specs.Io.KnownBytes.{Consumes}
+use Rattle.dd_file.specs.FirstPiece.{first_len}
+use Rattle.dd_file.specs.Lines.{is_whole}
+use Rattle.dd_file.specs.PieceRead.{PartRead}
+use Rattle.dd_file.proofs.Pieces.{first_len-bound}
+
+-- bytes with one more at their end
+pub is_whole-append : (x : ℕ) (xs : List ℕ) → is_whole (xs ++ x ∷ []) ≡ (x == 10)
+is_whole-append x [] = refl
+is_whole-append x (y ∷ []) = refl
+is_whole-append x (y ∷ z ∷ xs) = is_whole-append x (z ∷ xs)
+
+-- one part of a piece, and more behind it
+one-more : (c : Bool) (n : ℕ) → c ≡ false → cond c 1 (suc n) ≡ 1 + n
+one-more true n e = cc
+one-more false n e = omega arith
+
+pub longer : (c : Bool) (n k : ℕ) → cond c 1 (suc n) ≡ suc (suc k) → c ≡ false
+longer true n k e = absurd (omega (arith, e))
+longer false n k e = refl
+
+pub shorter : (c : Bool) (n k : ℕ) → c ≡ false → cond c 1 (suc n) ≡ suc k → n ≡ k
+shorter true n k f e = cc
+shorter false n k f e = omega (arith, e)
+
+pub first_len-append : (xs ys : List ℕ) → first_len xs ≡ length xs → is_whole xs ≡ false → first_len (xs ++ ys) ≡ length xs + first_len ys
+first_len-append [] ys e h = omega arith
+first_len-append (b ∷ []) ys e h = one-more (b == 10) (first_len ys) h
+first_len-append (b ∷ c ∷ xs) ys e h =
+    let other : (b == 10) ≡ false = longer (b == 10) (first_len (c ∷ xs)) (length xs) e in
+    let ih = first_len-append (c ∷ xs) ys (shorter (b == 10) (first_len (c ∷ xs)) (suc (length xs)) other e) h in
+    one-more (b == 10) (first_len (c ∷ xs ++ ys)) other ∙ omega (arith, ih)
+
+-- a first piece is one piece
+first-step : (c : Bool) (b : ℕ) (bytes : List ℕ) → (b == 10) ≡ c → first_len (take (first_len bytes) bytes) ≡ first_len bytes →
+    first_len (take (cond c 1 (suc (first_len bytes))) (b ∷ bytes)) ≡ cond c 1 (suc (first_len bytes))
+first-step true b bytes e ih = rw e refl
+first-step false b bytes e ih = rw e (ap suc ih)
+
+pub first_len-take : (bytes : List ℕ) → first_len (take (first_len bytes) bytes) ≡ first_len bytes
+first_len-take [] = refl
+first_len-take (b ∷ bytes) = first-step (b == 10) b bytes refl (first_len-take bytes)
+
+pub length-first : (bytes : List ℕ) → length (take (first_len bytes) bytes) ≡ first_len bytes
+length-first bytes = let h = first_len-bound bytes in simp length-take (omega (arith, h))
+
+-- bytes that go on without a newline have no byte behind them
+rest-step : (c : Bool) (b : ℕ) (part bytes : List ℕ) → (b == 10) ≡ c → (is_whole ((part ++ b ∷ []) ++ take (first_len bytes) bytes) ≡ false → drop (first_len bytes) bytes ≡ []) →
+    is_whole (part ++ take (cond c 1 (suc (first_len bytes))) (b ∷ bytes)) ≡ false → drop (cond c 1 (suc (first_len bytes))) (b ∷ bytes) ≡ []
+rest-step true b part bytes e ih h = let bad : true ≡ false = sym e ∙ sym (is_whole-append b part) ∙ h in cc
+rest-step false b part bytes e ih h = ih (ap is_whole (append_assoc part (b ∷ []) (take (first_len bytes) bytes)) ∙ h)
+
+pub unfinished-rest : (part rest : List ℕ) → is_whole (part ++ take (first_len rest) rest) ≡ false → drop (first_len rest) rest ≡ []
+unfinished-rest part [] h = refl
+unfinished-rest part (b ∷ bytes) h = rest-step (b == 10) b part bytes refl (unfinished-rest (part ++ b ∷ []) bytes) h
+
+-- the first piece of what is held, behind a part without newline
+pub part-moved : (held rest behind : List ℕ) (before after : Option (List ℕ)) (part piece : List ℕ) → PartRead held rest before after part → is_whole part ≡ false →
+    piece ≡ part ++ take (first_len rest) rest → behind ≡ drop (first_len rest) rest → PartRead held behind before after piece
+part-moved held rest behind before after part piece read unfinished is left =
+    let k = first_len rest in
+    record {
+      given = read.given;
+      told = read.told;
+      whole = read.whole ∙ ap (λ t. part ++ t) (sym (take-append-drop k rest)) ∙ sym (append_assoc part (take k rest) (drop k rest)) ∙ ap (λ t. t ++ drop k rest) (sym is) ∙ ap (λ t. piece ++ t) (sym left);
+      piece = ap first_len is ∙ first_len-append part (take k rest) read.piece unfinished ∙ ap (λ n. length part + n) (first_len-take rest ∙ sym (length-first rest)) ∙ sym (length-append part (take k rest)) ∙ ap length (sym is);
+    }
+
+-- what is consumed in two steps
+pub consumes-append : (old mid new : Option (List ℕ)) (xs ys : List ℕ) → Consumes old mid xs → Consumes mid new ys → Consumes old new (xs ++ ys)
+consumes-append None mid new xs ys a b = tt
+consumes-append (Some o) None new xs ys a b = absurd a
+consumes-append (Some o) (Some m) None xs ys a b = absurd b
+consumes-append (Some o) (Some m) (Some n) xs ys a b = a ∙ ap (λ t. xs ++ t) b ∙ sym (append_assoc xs ys n)
+
+-- one more read, where nothing was held
+pub part-filled : (held rest bytes : List ℕ) (before mid after : Option (List ℕ)) (part : List ℕ) → PartRead held rest before mid part → rest ≡ [] →
+    Consumes mid after bytes → PartRead held bytes before after part
+part-filled held rest bytes before mid after part read none more = record {
+  given = read.given ++ bytes;
+  told = consumes-append before mid after read.given bytes read.told more;
+  whole = sym (append_assoc held read.given bytes) ∙ ap (λ t. t ++ bytes) (read.whole ∙ ap (λ t. part ++ t) none ∙ append-nil part);
+  piece = read.piece;
+}
+
+-- bytes of no length
+pub no-bytes : (bytes : List ℕ) → (length bytes == 0) ≡ true → bytes ≡ []
+no-bytes [] h = refl
+no-bytes (b ∷ bytes) h = let none : suc (length bytes) ≡ 0 = search rules in absurd (omega (arith, none))
+
+pub some-bytes : (bytes : List ℕ) → (length bytes == 0) ≡ false → 0 < length bytes
+some-bytes [] h = cc
+some-bytes (b ∷ bytes) h = omega arith
+
+-- how long the part is when all that was held was moved behind it
+pub length-moved : (part rest piece behind : List ℕ) → piece ≡ part ++ take (first_len rest) rest → behind ≡ drop (first_len rest) rest → behind ≡ [] →
+    length piece ≡ length part + length rest
+length-moved part rest piece behind is left none =
+    let bound = first_len-bound rest in
+    let all : length (drop (first_len rest) rest) ≡ 0 = ap length (sym left ∙ none) in
+    let first = length-first rest in
+    ap length is ∙ length-append part (take (first_len rest) rest) ∙ omega (arith, bound, first, simp length-drop at all)
+
+-- fewer bytes are left up to the limit, or the end was met
+pub left-falls : (ended now_ended : Bool) (limit count part held more : ℕ) → ended ≡ false → (now_ended ≡ false → 0 < more) → count + (part + held) ≤ limit →
+    cond now_ended 0 (suc (suc limit - (count + ((part + held) + more)))) < cond ended 0 (suc (suc limit - (count + (part + held))))
+left-falls true now_ended limit count part held more e some fits = cc
+left-falls false true limit count part held more e some fits = omega arith
+left-falls false false limit count part held more e some fits = let h = some refl in omega (arith, h, fits)

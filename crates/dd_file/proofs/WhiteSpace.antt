@@ -1,0 +1,36 @@
+-- White space at the ends of bytes.
+use Rattle.std.proofs.Common.{◌≡◌, ℕ, Bool, true, false, cond, ◌&&◌, List, [], ◌∷◌, ◌++◌, refl, sym, ◌∙◌, ap}
+use Rattle.std.proofs.lemmas.List.Folds.{list_all-append}
+use Rattle.dd_file.specs.Bytes.{is_space, is_blank, without_trailing_space}
+
+-- bytes with one more at their end
+pub without_trailing_space-append : (x : ℕ) (xs : List ℕ) →
+    without_trailing_space (xs ++ x ∷ []) ≡ cond (is_space x) (without_trailing_space xs) (xs ++ x ∷ [])
+without_trailing_space-append x [] = at (is_space x) where
+  at : (c : Bool) → cond (c && true) [] (x ∷ []) ≡ cond c [] (x ∷ [])
+  at true = refl
+  at false = refl
+without_trailing_space-append x (y ∷ xs) =
+    ap (λ b. cond (is_space y && b) [] (y ∷ without_trailing_space (xs ++ x ∷ []))) (list_all-append is_space xs (x ∷ []))
+    ∙ ap (λ t. cond (is_space y && (is_blank xs && (is_space x && true))) [] (y ∷ t)) (without_trailing_space-append x xs)
+    ∙ at (is_space y) (is_blank xs) (is_space x) where
+      at : (a b c : Bool) →
+          cond (a && (b && (c && true))) [] (y ∷ cond c (without_trailing_space xs) (xs ++ x ∷ []))
+          ≡ cond c (cond (a && b) [] (y ∷ without_trailing_space xs)) (y ∷ xs ++ x ∷ [])
+      at true true true = refl
+      at true true false = refl
+      at true false true = refl
+      at true false false = refl
+      at false b true = refl
+      at false b false = refl
+
+-- bytes that end in white space, and bytes that end in another byte
+pub without_trailing_space-space : (x : ℕ) (front bytes : List ℕ) → bytes ≡ front ++ x ∷ [] → is_space x ≡ true →
+    without_trailing_space front ≡ without_trailing_space bytes
+without_trailing_space-space x front bytes e h =
+    sym (ap without_trailing_space e ∙ without_trailing_space-append x front ∙ ap (λ c. cond c (without_trailing_space front) (front ++ x ∷ [])) h)
+
+pub without_trailing_space-other : (x : ℕ) (front bytes : List ℕ) → bytes ≡ front ++ x ∷ [] → is_space x ≡ false →
+    bytes ≡ without_trailing_space bytes
+without_trailing_space-other x front bytes e h =
+    e ∙ sym (ap without_trailing_space e ∙ without_trailing_space-append x front ∙ ap (λ c. cond c (without_trailing_space front) (front ++ x ∷ [])) h)

@@ -1,0 +1,24 @@
+use Rattle.std.proofs.Common.{◌≡◌, ap, inl, inr, sym, ◌∙◌, true, rules}
+use Rattle.dd_file.specs.Draft.{DraftText}
+use Rattle.dd_file.specs.declared.phase.Phase.{Phase}
+use Rattle.dd_file.specs.declared.phase.Phase.TheVariants.{Head, Double}
+use Rattle.dd_file.proofs.DraftEnd.{found-bad-at, found-unclosed-at, found-parts, directive-phase, is_directive_phase}
+use Rattle.dd_file.proofs.draft.Draft.finish.Goals as goal
+
+pub returns-in-Head-clause-found : goal.returns-in-Head-clause-found
+returns-in-Head-clause-found c =
+    let phase : c.args.self.phase ≡ Head = search rules in
+    inl (found-bad-at c.args.self c.self.inside.line phase c.requires.fits (ap (λ (d : DraftText). d.line) c.self.view_is))
+
+pub returns-in-Double-clause-found : goal.returns-in-Double-clause-found
+returns-in-Double-clause-found c =
+    let phase : c.args.self.phase ≡ Double = search rules in
+    inl (found-unclosed-at c.args.self c.self.inside.line phase c.requires.fits (ap (λ (d : DraftText). d.line) c.self.view_is))
+
+pub returns-in_default-clause-found : goal.returns-in_default-clause-found
+returns-in_default-clause-found c =
+    let not = c.in_default in
+    let inside : is_directive_phase c.self.inside.phase ≡ true = directive-phase c.self.inside.phase not.not-Begin not.not-CommentLine not.not-BlankLines not.not-Head not.not-NoCommand not.not-Double not.not-AfterPair in
+    let phase : is_directive_phase c.args.self.phase ≡ true = ap (λ (d : DraftText). is_directive_phase d.phase) (sym c.self.view_is) ∙ inside in
+    let parts = found-parts c.args.self.phase c.args.self c.requires.fits phase in
+    elim c.into_directive.ensures.found [ inl e ↦ inl (e ∙ parts) | inr e ↦ inr e ]

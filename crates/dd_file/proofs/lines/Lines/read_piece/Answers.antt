@@ -1,0 +1,77 @@
+use Rattle.std.proofs.Common.{◌≡◌, ◌++◌, ◌+◌, ◌≤◌, length, vec_len, take, drop, true, false, [], sym, ap, ◌∙◌, subst, inl, inr, arith, rules}
+use Rattle.std.proofs.lemmas.List.{length-drop}
+use Rattle.std.specs.Io.KnownBytes.{Consumes, IsAtEnd}
+use Rattle.dd_file.specs.FirstPiece.{first_len}
+use Rattle.dd_file.specs.Lines.{is_whole}
+use Rattle.dd_file.specs.Place.{longest_input}
+use Rattle.dd_file.proofs.PieceParts.{part-moved, part-filled, unfinished-rest, no-bytes, some-bytes, length-moved, left-falls}
+use Rattle.dd_file.proofs.lines.Lines.read_piece.Goals as goal
+use Rattle.dd_file.proofs.lines.Lines.read_piece.Goals.{then-self-via-then-self, then-self-via-else-self+then-ends_line}
+
+pub returns-then-len-self-clause-fault : goal.returns-then-len-self-clause-fault
+returns-then-len-self-clause-fault g c =
+    let loop = c.loop-piece.invariant in
+    let held = c.loop-piece.self-inside.buffer in
+    let line : c.move_piece.new.line.items ≡ c.loop-piece.piece.items ++ take (first_len held) held = search rules in
+    let rest : c.move_piece.new.self ≡ drop (first_len held) held = search rules in
+    record {
+      piece = c.move_piece.new.line.items;
+      part = part-moved _ _ _ _ _ _ _ loop.part loop.unfinished line rest;
+      passes = omega (arith, c.move_piece.new.line.ok.0);
+      number = ap (λ n. n + 1) loop.lines;
+    }
+
+pub returns-then-self-clause-piece : goal.returns-then-self-clause-piece
+returns-then-self-clause-piece g c =
+    let loop = c.loop-piece.invariant in
+    let held = c.loop-piece.self-inside.buffer in
+    let line : c.move_piece.new.line.items ≡ c.loop-piece.piece.items ++ take (first_len held) held = search rules in
+    let rest : c.move_piece.new.self ≡ drop (first_len held) held = search rules in
+    record {
+      part = part-moved _ _ _ _ _ _ _ loop.part loop.unfinished line rest;
+      ahead = rw rest (simp length-drop (omega (arith, loop.within.ahead)));
+      counted = omega (arith, loop.within.counted, loop.within.limit);
+      fits = omega (arith, c.move_piece.new.line.ok.0);
+      done = elim c.then-self.branch [
+        | then-self-via-then-self w ↦ inr (w.if-self.true, rest ∙ ap (λ bytes. drop (first_len bytes) bytes) (loop.within.ended w.if-self.true))
+        | then-self-via-else-self+then-ends_line w ↦ inl (ap is_whole (sym w.as_slice.ensures.value) ∙ sym w.if-ends_line.ensures)
+      ];
+    }
+
+pub loop-piece-preserved : goal.loop-piece-preserved
+loop-piece-preserved g c =
+    let loop = c.loop-piece.invariant in
+    let held = c.loop-piece.self-inside.buffer in
+    let line : c.move_piece.new.line.items ≡ c.loop-piece.piece.items ++ take (first_len held) held = search rules in
+    let rest : c.move_piece.new.self ≡ drop (first_len held) held = search rules in
+    let unfinished : is_whole c.move_piece.new.line.items ≡ false = ap is_whole (sym c.as_slice.ensures.value) ∙ sym c.if-ends_line.ensures in
+    let none : c.move_piece.new.self ≡ [] = rest ∙ unfinished-rest c.loop-piece.piece.items held (ap is_whole (sym line) ∙ unfinished) in
+    let moved = part-moved _ _ _ _ _ _ _ loop.part loop.unfinished line rest in
+    let remaining = g.R.Source.remaining in
+    let told : Consumes (remaining c.loop-piece.reader) (remaining c.fill.new.reader) c.fill.new.self × (c.fill.new.self ≡ [] → IsAtEnd (remaining c.fill.new.reader)) = search rules in
+    let empty = λ (ended : c.is_empty-self-inside.result ≡ true). no-bytes c.fill.new.self (sym c.is_empty-self-inside.ensures ∙ ended) in
+    record {
+      part = part-filled _ _ _ _ _ _ _ moved none told.0;
+      unfinished = unfinished;
+      lines = loop.lines;
+      bytes = loop.bytes;
+      faultless = loop.faultless;
+      within = record { ahead = search rules; ended = empty; counted = loop.within.counted; limit = loop.within.limit };
+      met = λ ended. told.1 (empty ended);
+      sound = search rules;
+    }
+
+pub loop-piece-smaller : goal.loop-piece-smaller
+loop-piece-smaller g c =
+    let loop = c.loop-piece.invariant in
+    let inside = c.loop-piece.self-inside in
+    let held = inside.buffer in
+    let line : c.move_piece.new.line.items ≡ c.loop-piece.piece.items ++ take (first_len held) held = search rules in
+    let rest : c.move_piece.new.self ≡ drop (first_len held) held = search rules in
+    let unfinished : is_whole c.move_piece.new.line.items ≡ false = ap is_whole (sym c.as_slice.ensures.value) ∙ sym c.if-ends_line.ensures in
+    let none : c.move_piece.new.self ≡ [] = rest ∙ unfinished-rest c.loop-piece.piece.items held (ap is_whole (sym line) ∙ unfinished) in
+    let all = length-moved c.loop-piece.piece.items held c.move_piece.new.line.items c.move_piece.new.self line rest none in
+    let len : vec_len c.move_piece.new.line ≡ vec_len c.loop-piece.piece + length held = omega (arith, all, c.move_piece.new.line.ok.0, c.loop-piece.piece.ok.0) in
+    let some = λ (ended : c.is_empty-self-inside.result ≡ false). some-bytes c.fill.new.self (sym c.is_empty-self-inside.ensures ∙ ended) in
+    let fits : inside.bytes + (vec_len c.loop-piece.piece + length held) ≤ longest_input = omega arith in
+    rw len (left-falls inside.is_ended c.is_empty-self-inside.result longest_input inside.bytes (vec_len c.loop-piece.piece) (length held) (length c.fill.new.self) c.if-self.false some fits)

@@ -1,0 +1,32 @@
+use Rattle.std.proofs.Common.{◌≡◌, ◌+◌, ◌-◌, true, false, suc, cond, length, vec_len}
+use Rattle.std.specs.Prelude.{None}
+use Rattle.std.specs.Io.KnownBytes.{IsAtEnd}
+use Rattle.dd_file.specs.Lines.{is_whole}
+use Rattle.dd_file.specs.Place.{longest_input}
+use Rattle.dd_file.specs.ReaderState.{IsWithin}
+use Rattle.dd_file.specs.PieceRead.{PartRead}
+use Rattle.dd_file.proofs.lines.Lines.read_piece.Given as goal
+
+-- a part of the line without its newline was read, and nothing else has changed
+abbrev pub invariant-loop-piece : goal.invariant-loop-piece
+invariant-loop-piece g l =
+    let remaining = g.R.Source.remaining in
+    let has_failed = g.R.Source.has_failed in
+    let old = l.fn.self in
+    let now = l.self-inside in
+    record {
+      part : PartRead old.held now.buffer (remaining l.fn.reader) (remaining l.reader) l.piece.items;
+      unfinished : is_whole l.piece.items ≡ false;
+      lines : now.lines ≡ old.place.lines;
+      bytes : now.bytes ≡ old.place.bytes;
+      faultless : now.fault ≡ None;
+      within : IsWithin now.buffer now.is_ended now.lines now.bytes;
+      met : now.is_ended ≡ true → IsAtEnd (remaining l.reader);
+      sound : has_failed l.reader ≡ has_failed l.fn.reader;
+    }
+
+-- the bytes that are left up to the limit, and the end
+abbrev pub decreases-loop-piece : goal.decreases-loop-piece
+decreases-loop-piece g l =
+    let now = l.self-inside in
+    cond now.is_ended 0 (suc (suc longest_input - (now.bytes + (vec_len l.piece + length now.buffer))))

@@ -1,0 +1,135 @@
+-- An item of a script while its lines are read.
+use Rattle.std.specs.Prelude.{◌≡◌, ◌<◌, ◌+◌, ◌-◌, ℕ, Bool, true, false, not, ◌&&◌, List, [], ◌∷◌, ◌++◌, length, drop, Option, Some, None, is_some, Result, Ok, Err, ⊤, if◌then◌else◌}
+use Rattle.std.specs.List.{list_all, list_any}
+use Rattle.dd_file.specs.Bytes.{is_blank}
+use Rattle.dd_file.specs.Words.{CommandText}
+use Rattle.dd_file.specs.Script.{Front, front, first_of, is_comment, is_continued, is_separator, is_dashes, begins_with_dashes, has_pair, directive, after_pair, in_double, in_single, body}
+use Rattle.dd_file.specs.declared.phase.Phase.{Phase}
+use Rattle.dd_file.specs.declared.phase.Phase.TheVariants.{Begin, CommentLine, BlankLines, Head, NoCommand, Input, Separator, Single, Double, Pair, Complete, AfterPair}
+use Rattle.dd_file.specs.declared.item.Item.{Item}
+use Rattle.dd_file.specs.declared.item.Item.TheVariants.{Comment, Blank}
+use Rattle.dd_file.specs.declared.fault.FileFault.{FileFault}
+use Rattle.dd_file.specs.declared.fault.FileFault.TheVariants.{Read, NoMemory, BadDirective, AfterDouble, UnclosedDouble, InputTooLong}
+
+-- The number of its first line, its parts so far, how many lines it has, and what the next line may be.
+pub record DraftText : Type 0 where
+  pub line : ℕ
+  pub head : List (List ℕ)
+  pub command : Option CommandText
+  pub input : List (List ℕ)
+  pub expected : List (List ℕ)
+  pub count : ℕ
+  pub phase : Phase
+
+-- no line was read yet
+abbrev pub blank_draft : ℕ → DraftText
+blank_draft line = record { line = line; head = []; command = None; input = []; expected = []; count = 0; phase = Begin }
+
+-- whether no further line belongs to the item
+abbrev pub is_done : Phase → Bool
+is_done Begin = false
+is_done CommentLine = true
+is_done BlankLines = true
+is_done Head = false
+is_done NoCommand = true
+is_done Input = false
+is_done Separator = false
+is_done Single = false
+is_done Double = false
+is_done Pair = false
+is_done Complete = true
+is_done AfterPair = true
+
+-- the front of a command, if there is one
+abbrev pub with_command : (CommandText → Front) → Option CommandText → Option Front
+with_command front_with None = None
+with_command front_with (Some command) = Some (front_with command)
+
+-- the directive of what was read, or another front where there is a pair or a blank line
+abbrev pub behind_separator : DraftText → List (List ℕ) → CommandText → Front
+behind_separator draft more command =
+    if begins_with_dashes more then in_double draft.line command draft.head draft.input (drop 1 more) else in_single draft.line command draft.head draft.input more
+
+abbrev pub drafted : DraftText → CommandText → Item
+drafted draft command = directive draft.line command draft.head draft.input draft.expected
+
+-- what the lines so far begin with, if these lines follow
+abbrev pub front_in : Phase → DraftText → List (List ℕ) → Option Front
+front_in Begin draft more = first_of draft.line more
+front_in CommentLine draft more = Some (front (Ok (Comment draft.head)) draft.count true)
+front_in BlankLines draft more = Some (front (Ok (Blank draft.head)) draft.count true)
+front_in Head draft more = first_of draft.line (draft.head ++ more)
+front_in NoCommand draft more = Some (front (Err (BadDirective draft.line)) draft.count true)
+front_in Input draft more = with_command (λ command. body draft.line command draft.head (draft.input ++ more)) draft.command
+front_in Separator draft more = with_command (behind_separator draft more) draft.command
+front_in Single draft more = with_command (λ command. in_single draft.line command draft.head draft.input (draft.expected ++ more)) draft.command
+front_in Double draft more = with_command (λ command. in_double draft.line command draft.head draft.input (draft.expected ++ more)) draft.command
+front_in Pair draft more = with_command (λ command. after_pair draft.line draft.count (drafted draft command) more) draft.command
+front_in Complete draft more = with_command (λ command. front (Ok (drafted draft command)) draft.count true) draft.command
+front_in AfterPair draft more = Some (front (Err (AfterDouble (draft.line + (draft.count - 1)))) draft.count true)
+
+abbrev pub front_of : DraftText → List (List ℕ) → Option Front
+front_of draft more = front_in draft.phase draft more
+
+-- the first line begins a directive
+abbrev pub begins_directive : List (List ℕ) → Bool
+begins_directive [] = false
+begins_directive (line ∷ lines) = not (is_comment line) && not (is_blank line)
+
+-- the last line is four dashes
+abbrev pub ends_in_dashes : List (List ℕ) → Bool
+ends_in_dashes [] = false
+ends_in_dashes (line ∷ []) = is_dashes line
+ends_in_dashes (line ∷ next ∷ lines) = ends_in_dashes (next ∷ lines)
+
+-- nothing in the parts so far ends them, and each line is counted
+abbrev pub FitsIn : Phase → DraftText → Type 0
+FitsIn Begin draft = (draft.head ≡ []) × (draft.input ≡ []) × (draft.expected ≡ []) × (draft.count ≡ 0)
+FitsIn CommentLine draft = ⊤
+FitsIn BlankLines draft = ⊤
+FitsIn Head draft = (begins_directive draft.head ≡ true) × (list_all is_continued draft.head ≡ true) × (draft.input ≡ []) × (draft.expected ≡ []) × (draft.count ≡ length draft.head)
+FitsIn NoCommand draft = ⊤
+FitsIn Input draft = (is_some draft.command ≡ true) × (list_any is_separator draft.input ≡ false) × (draft.expected ≡ []) × (draft.count ≡ length draft.head + length draft.input)
+FitsIn Separator draft = (is_some draft.command ≡ true) × (draft.expected ≡ []) × (draft.count ≡ length draft.head + length draft.input + 1)
+FitsIn Single draft = (is_some draft.command ≡ true) × (list_any is_blank draft.expected ≡ false) × (draft.count ≡ length draft.head + length draft.input + 1 + length draft.expected)
+FitsIn Double draft = (is_some draft.command ≡ true) × (has_pair draft.expected ≡ false) × (draft.count ≡ length draft.head + length draft.input + length draft.expected + 2)
+FitsIn Pair draft = (is_some draft.command ≡ true) × (draft.count ≡ length draft.head + length draft.input + length draft.expected + 4)
+FitsIn Complete draft = is_some draft.command ≡ true
+FitsIn AfterPair draft = 1 < draft.count
+
+abbrev pub Fits : DraftText → Type 0
+Fits draft = FitsIn draft.phase draft
+
+-- One more line was taken in, from this phase on: with it the lines begin with what they began with before.
+pub record AddsIn (phase : Phase) (old new : DraftText) (line : List ℕ) : Type 0 where
+  pub fits : Fits new
+  pub front : (more : List (List ℕ)) → front_of new more ≡ front_in phase old (line ∷ more)
+  pub count : new.count ≡ old.count + 1
+  pub first : new.line ≡ old.line
+
+-- what was found, if there is something
+abbrev pub found_in_front : Result Item FileFault → Result (Option Item) FileFault
+found_in_front (Ok item) = Ok (Some item)
+found_in_front (Err fault) = Err fault
+
+abbrev pub found_of : Option Front → Result (Option Item) FileFault
+found_of None = Ok None
+found_of (Some front) = found_in_front front.found
+
+-- a fault that the lines from number n on may have
+abbrev pub IsDraftFault : ℕ → FileFault → Type 0
+IsDraftFault n Read = ⊥
+IsDraftFault n NoMemory = ⊤
+IsDraftFault n (InputTooLong line) = ⊥
+IsDraftFault n (BadDirective line) = line ≡ n
+IsDraftFault n (AfterDouble line) = n < line
+IsDraftFault n (UnclosedDouble line) = line ≡ n
+
+-- the fault of a line as that of the item that begins at number n
+abbrev pub at_line : ℕ → FileFault → FileFault
+at_line n Read = Read
+at_line n NoMemory = NoMemory
+at_line n (InputTooLong line) = InputTooLong n
+at_line n (BadDirective line) = BadDirective line
+at_line n (AfterDouble line) = AfterDouble line
+at_line n (UnclosedDouble line) = UnclosedDouble line

@@ -1,0 +1,88 @@
+-- Laws of scripts that are written again and of scripts that are joined.
+use Rattle.std.specs.Prelude.{◌≡◌, ℕ, ◌+◌, ◌≤◌, Bool, true, false, not, ◌==◌, nat_lt, List, [], ◌∷◌, ◌++◌, length, drop, map, flat_map, Some, option_map, Result, Ok, Err, if◌then◌else◌}
+use Rattle.std.specs.List.{list_all}
+use Rattle.dd_file.specs.Bytes.{newline, without_trailing_space}
+use Rattle.dd_file.specs.Lines.{lines_of}
+use Rattle.dd_file.specs.DirectiveText.{DirectiveText}
+use Rattle.dd_file.specs.Script.{Front, front, first_of}
+use Rattle.dd_file.specs.Place.{longest_input}
+use Rattle.dd_file.specs.Reading.{script_of}
+use Rattle.dd_file.specs.Rewritten.{entry_text, is_output, is_directive, raw_lines_of}
+use Rattle.dd_file.specs.declared.item.Item.{Item}
+use Rattle.dd_file.specs.declared.item.Item.TheVariants.{Comment, Blank, Directive}
+use Rattle.dd_file.specs.declared.fault.FileFault.{FileFault}
+use Rattle.dd_file.specs.declared.fault.FileFault.TheVariants.{Read, NoMemory, BadDirective, AfterDouble, UnclosedDouble, InputTooLong}
+
+-- bytes without a newline
+abbrev pub is_line : List ℕ → Bool
+is_line bytes = list_all (λ b. not (b == 10)) bytes
+
+-- the same lines but for white space at their ends
+abbrev pub SameButEnds : List (List ℕ) → List (List ℕ) → Type 0
+SameButEnds lines others = map without_trailing_space lines ≡ map without_trailing_space others
+
+-- the directive again, from line n on and with this output expected
+pub record IsSameDirective (n : ℕ) (found : List ℕ) (directive again : DirectiveText) : Type 0 where
+  pub line : again.line ≡ n
+  pub command : again.command ≡ directive.command
+  pub arguments : again.arguments ≡ directive.arguments
+  pub input : SameButEnds (lines_of again.input) (lines_of directive.input)
+  pub expected : again.expected ≡ found
+  pub raw_lines : SameButEnds again.raw_lines directive.raw_lines
+
+-- the item again, from line n on, a directive with this output expected
+abbrev pub IsSameItem : ℕ → List ℕ → Item → Item → Type 0
+IsSameItem n found (Comment lines) again = (others : List (List ℕ)) × (again ≡ Comment others) × SameButEnds others lines
+IsSameItem n found (Blank lines) again = (others : List (List ℕ)) × (again ≡ Blank others) × SameButEnds others lines
+IsSameItem n found (Directive directive) again = (other : DirectiveText) × (again ≡ Directive other) × IsSameDirective n found directive other
+
+-- An item of a script, written with an output that was found, is read again as that item, whatever lines follow, and
+-- leaves those lines.
+abbrev pub WrittenItem : Type 0
+WrittenItem =
+    (n m count : ℕ) (is_ended : Bool) (lines more : List (List ℕ)) (item : Item) (found : List ℕ) →
+    list_all is_line lines ≡ true → is_output found ≡ true → first_of n lines ≡ Some (front (Ok item) count is_ended) →
+    (again : Item) × (first_of m (lines_of (entry_text item found) ++ more) ≡ Some (front (Ok again) (length (lines_of (entry_text item found))) true)) × IsSameItem m found item again
+
+-- an item that is no directive, or a directive with its separator
+abbrev pub has_separator : ℕ → Result Item FileFault → Bool
+has_separator count (Ok item) = if is_directive item then nat_lt (length (raw_lines_of item)) count else true
+has_separator count (Err fault) = false
+
+-- The lines from number n on are complete: they are items without fault, and each directive has its separator.
+pub data IsComplete : ℕ → List (List ℕ) → Type 0 where
+  Done : (n : ℕ) → IsComplete n []
+  More : (n : ℕ) (lines : List (List ℕ)) (item : Front) → first_of n lines ≡ Some item → has_separator item.count item.found ≡ true →
+      IsComplete (n + item.count) (drop item.count lines) → IsComplete n lines
+
+-- the directive so many lines further down
+abbrev pub moved : ℕ → DirectiveText → DirectiveText
+moved lines directive = record directive { line = lines + directive.line }
+
+-- the directives of some items
+abbrev pub directive_in : Item → List DirectiveText
+directive_in (Comment lines) = []
+directive_in (Blank lines) = []
+directive_in (Directive directive) = directive ∷ []
+
+abbrev pub directives_of : List Item → List DirectiveText
+directives_of items = flat_map directive_in items
+
+-- the fault so many lines further down
+abbrev pub moved_fault : ℕ → FileFault → FileFault
+moved_fault lines Read = Read
+moved_fault lines NoMemory = NoMemory
+moved_fault lines (BadDirective line) = BadDirective (lines + line)
+moved_fault lines (AfterDouble line) = AfterDouble (lines + line)
+moved_fault lines (UnclosedDouble line) = UnclosedDouble (lines + line)
+moved_fault lines (InputTooLong line) = InputTooLong (lines + line)
+
+-- Of a complete script, two newlines and any text the directives are those of the script and then those of the text,
+-- and the fault is the text's.
+abbrev pub JoinedItems : Type 0
+JoinedItems =
+    (script text : List ℕ) → IsComplete 1 (lines_of script) → length ((script ++ newline ++ newline) ++ text) ≤ longest_input →
+    let before = length (lines_of (script ++ newline ++ newline)) in
+    let joined = script_of ((script ++ newline ++ newline) ++ text) in
+    (directives_of joined.items ≡ directives_of (script_of script).items ++ map (moved before) (directives_of (script_of text).items))
+    × (joined.fault ≡ option_map (moved_fault before) (script_of text).fault)

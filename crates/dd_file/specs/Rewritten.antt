@@ -1,0 +1,63 @@
+-- A script as it is written, with what was found in the place of what was expected.
+use Rattle.std.specs.Prelude.{ℕ, Bool, true, false, not, ◌&&◌, ◌||◌, List, [], ◌∷◌, ◌++◌, ◌==◌, nat_eq, length, if◌then◌else◌, codes}
+use Rattle.std.specs.List.{list_all, list_any, ends_with}
+use Rattle.dd_file.specs.Bytes.{newline, is_blank}
+use Rattle.dd_file.specs.Lines.{pieces, lines_of, text_of, without_last}
+use Rattle.dd_file.specs.Script.{is_dashes}
+use Rattle.dd_file.specs.declared.item.Item.{Item}
+use Rattle.dd_file.specs.declared.item.Item.TheVariants.{Comment, Blank, Directive}
+
+-- the lines of an item, of a directive those up to its separator
+abbrev pub raw_lines_of : Item → List (List ℕ)
+raw_lines_of (Comment lines) = lines
+raw_lines_of (Blank lines) = lines
+raw_lines_of (Directive directive) = directive.raw_lines
+
+abbrev pub is_directive : Item → Bool
+is_directive (Comment lines) = false
+is_directive (Blank lines) = false
+is_directive (Directive directive) = true
+
+-- what is written of an item before its output
+abbrev pub kept_text : Item → List ℕ
+kept_text item = text_of (raw_lines_of item)
+
+-- a line of four dashes
+abbrev pub dashes : List ℕ
+dashes = codes "----" ++ newline
+
+abbrev pub has_blank_line : List ℕ → Bool
+has_blank_line text = list_any is_blank (lines_of text)
+
+-- what stands before an output, and behind it: double dashes where it has a blank line, and an empty line
+abbrev pub opening : Bool → List ℕ
+opening true = dashes ++ dashes
+opening false = dashes
+
+abbrev pub closing : Bool → List ℕ
+closing true = (dashes ++ dashes) ++ newline
+closing false = newline
+
+-- an output behind its separator
+abbrev pub found_text : List ℕ → List ℕ
+found_text found = (opening (has_blank_line found) ++ found) ++ closing (has_blank_line found)
+
+-- a line that can stand in an output: not four dashes, and no carriage return at its end
+abbrev pub is_output_line : List ℕ → Bool
+is_output_line line = not (is_dashes line || ends_with nat_eq line (13 ∷ []))
+
+-- A text that can be written as an output: whole lines, none of four dashes and none that ends in a carriage return.
+abbrev pub is_output : List ℕ → Bool
+is_output text = (length text == 0 || ends_with nat_eq text newline) && list_all (λ piece. is_output_line (without_last 10 piece)) (pieces text)
+
+-- an item with the output that was found, which only a directive has
+abbrev pub entry_text : Item → List ℕ → List ℕ
+entry_text item found = kept_text item ++ (if is_directive item then found_text found else [])
+
+-- the text without its last newline where it ends in two
+abbrev pub without_double_end : List ℕ → List ℕ
+without_double_end text = if ends_with nat_eq text (newline ++ newline) then without_last 10 text else text
+
+-- how many newlines end a text: 0, 1, or 2 for two and more
+abbrev pub newlines_at_end : List ℕ → ℕ
+newlines_at_end text = if ends_with nat_eq text (newline ++ newline) then 2 else (if ends_with nat_eq text newline then 1 else 0)

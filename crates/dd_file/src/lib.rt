@@ -1,0 +1,24 @@
+//! Script files: reading them item by item, and writing them with what was found.
+#![tactic(auto)]
+
+mod arguments;
+pub mod blocks;
+mod buffer;
+mod command;
+mod cut;
+pub mod device;
+mod directive;
+mod draft;
+pub mod fault;
+pub mod item;
+pub mod laws;
+mod line_kinds;
+pub mod lines;
+mod phase;
+pub mod reader;
+pub mod rewriter;
+pub mod stage;
+mod text;
+mod white_space;
+mod words;
+pub mod writing;

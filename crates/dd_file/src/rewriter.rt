@@ -1,0 +1,274 @@
+//! Writing a script again, with what was found.
+ghost use Rattle.std.specs.Prelude.{◌≡◌, ◌⊎◌, ℕ, List, [], ◌∷◌, ◌++◌, ◌==◌, Option, IsErr, OnOk, OnErr, IfOk, true, map, if◌then◌else◌};
+ghost use Rattle.dd_file.specs.Bytes.{newline};
+ghost use Rattle.dd_file.specs.Lines.{text_of, without_last};
+ghost use Rattle.dd_file.specs.RewriterState.{CanKeep, WantsFound, HasWritten, Continues, BreaksOff, Finishes, FinishesPart};
+ghost use Rattle.dd_file.specs.Rewritten.{kept_text, found_text, opening, closing, has_blank_line, is_output, is_directive, newlines_at_end};
+
+use crate::device::Sink;
+use crate::fault::WriteFault;
+use crate::item::Item;
+use crate::stage::Stage;
+use crate::writing::write_all;
+use std::marker::Model;
+
+/// How many newlines end a text after one more byte: 0, 1, or 2 for two and more.
+fn count_newline(newlines: u8, byte: u8) -> u8
+    ensures { (text : List ℕ) → newlines ≡ newlines_at_end text → result ≡ newlines_at_end (text ++ byte ∷ []) }
+{
+    if byte != b'\n' {
+        return 0;
+    }
+    if newlines == 0 { 1 } else { 2 }
+}
+
+/// How many newlines end a text after more bytes.
+fn count_newlines(newlines: u8, bytes: &[u8]) -> u8
+    ensures { (text : List ℕ) → newlines ≡ newlines_at_end text → result ≡ newlines_at_end (text ++ bytes.now) }
+{
+    let mut count = newlines;
+    for b in bytes {
+        count = count_newline(count, *b);
+    }
+    count
+}
+
+/// The bytes without a newline at their end.
+fn without_newline(bytes: &[u8]) -> &[u8]
+    ensures { result.now ≡ without_last 10 bytes.now }
+{
+    match bytes.split_last() {
+        Some((last, front)) => { if *last == b'\n' { front } else { bytes } }
+        None => bytes,
+    }
+}
+
+/// The newline that is held back where so many end the text.
+fn held_newline(newlines: u8) -> &'static [u8]
+    ensures { result.now ≡ (if newlines == 0 then [] else newline) }
+{
+    if newlines == 0 { b"" } else { b"\n" }
+}
+
+/// The newline that is written at the end, where it was held back and none stands before it.
+fn last_newline(newlines: u8) -> &'static [u8]
+    ensures { result.now ≡ (if newlines == 1 then newline else []) }
+{
+    if newlines == 1 { b"\n" } else { b"" }
+}
+
+/// Writes more text behind so many newlines, holds a newline at its end back, and answers how many end it then.
+fn write_text<W: Sink>(writer: &mut W, newlines: u8, text: &[u8]) -> Result<u8, WriteFault>
+    ensures ok { IfOk result (λ count. Continues newlines count (W.contents writer.old) (W.contents writer.new) text.now) }
+    ensures err { OnErr result (BreaksOff newlines (W.contents writer.old) (W.contents writer.new) text.now) }
+    ensures failed { OnErr result (W.has_failed writer.new ≡ true) }
+    ensures sound { OnOk result (W.has_failed writer.new ≡ W.has_failed writer.old) }
+{
+    if text.is_empty() {
+        return Ok(newlines);
+    }
+    write_all(writer, held_newline(newlines))?;
+    write_all(writer, without_newline(text))?;
+    Ok(count_newlines(newlines, text))
+}
+
+/// Writes a line with a newline, behind so many newlines.
+fn write_line<W: Sink>(writer: &mut W, newlines: u8, line: &[u8]) -> Result<u8, WriteFault>
+    ensures ok { IfOk result (λ count. Continues newlines count (W.contents writer.old) (W.contents writer.new) (line.now ++ newline)) }
+    ensures err { OnErr result (BreaksOff newlines (W.contents writer.old) (W.contents writer.new) (line.now ++ newline)) }
+    ensures failed { OnErr result (W.has_failed writer.new ≡ true) }
+    ensures sound { OnOk result (W.has_failed writer.new ≡ W.has_failed writer.old) }
+{
+    let behind = write_text(writer, newlines, line)?;
+    let after = write_text(writer, behind, b"\n")?;
+    Ok(after)
+}
+
+/// Writes lines behind so many newlines, each with a newline.
+fn write_lines<W: Sink>(writer: &mut W, newlines: u8, lines: &[Vec<u8>]) -> Result<u8, WriteFault>
+    ensures ok { IfOk result (λ count. Continues newlines count (W.contents writer.old) (W.contents writer.new) (text_of (map (λ line. line.items) lines.now))) }
+    ensures err { OnErr result (BreaksOff newlines (W.contents writer.old) (W.contents writer.new) (text_of (map (λ line. line.items) lines.now))) }
+    ensures failed { OnErr result (W.has_failed writer.new ≡ true) }
+    ensures sound { OnOk result (W.has_failed writer.new ≡ W.has_failed writer.old) }
+{
+    let mut count = newlines;
+    for line in lines {
+        count = write_line(writer, count, line.as_slice())?;
+    }
+    Ok(count)
+}
+
+/// Whether a line of the text is blank.
+fn needs_double(text: &[u8]) -> bool
+    ensures { result ≡ has_blank_line text.now }
+{
+    let mut is_blank = true;
+    let mut is_begun = false;
+    for b in text {
+        if *b == b'\n' {
+            if is_blank {
+                return true;
+            }
+            is_blank = true;
+            is_begun = false;
+        } else {
+            is_begun = true;
+            is_blank = is_blank && matches!(*b, 9..=13 | 32);
+        }
+    }
+    is_begun && is_blank
+}
+
+/// What stands before an output, in double dashes or not.
+fn before_found(double: bool) -> &'static [u8]
+    ensures { result.now ≡ opening double }
+{
+    if double { b"----\n----\n" } else { b"----\n" }
+}
+
+/// What stands behind an output, in double dashes or not.
+fn behind_found(double: bool) -> &'static [u8]
+    ensures { result.now ≡ closing double }
+{
+    if double { b"----\n----\n\n" } else { b"\n" }
+}
+
+/// Writes an output behind its separator, behind so many newlines.
+fn write_found<W: Sink>(writer: &mut W, newlines: u8, text: &[u8]) -> Result<u8, WriteFault>
+    ensures ok { IfOk result (λ count. Continues newlines count (W.contents writer.old) (W.contents writer.new) (found_text text.now)) }
+    ensures err { OnErr result (BreaksOff newlines (W.contents writer.old) (W.contents writer.new) (found_text text.now)) }
+    ensures failed { OnErr result (W.has_failed writer.new ≡ true) }
+    ensures sound { OnOk result (W.has_failed writer.new ≡ W.has_failed writer.old) }
+{
+    let double = needs_double(text);
+    let before = write_text(writer, newlines, before_found(double))?;
+    let inside = write_text(writer, before, text)?;
+    let behind = write_text(writer, inside, behind_found(double))?;
+    Ok(behind)
+}
+
+/// Writes a script again. The last newline of the text so far is held back until more text comes.
+#[derive(Drop)]
+pub struct Rewriter {
+    stage: Stage,
+    newlines: u8,
+}
+
+impl Model for Rewriter {
+    ghost use Rattle.dd_file.specs.RewriterState.{RewriterState};
+
+    ghost Value = { RewriterState };
+
+    ghost view = { λ a. record { stage = a.stage; newlines = a.newlines } };
+}
+
+impl Rewriter {
+    pub fn new() -> Rewriter
+        ensures stage { result.stage ≡ Stage.Ready }
+        ensures nothing { (start : Option (List ℕ)) → HasWritten result.newlines start start [] }
+    {
+        Rewriter {
+            stage: Stage::Ready,
+            newlines: 0,
+        }
+    }
+
+    /// Writes the lines of an item, of a directive those up to its separator. After a directive comes `found`.
+    pub fn keep<W: Sink>(&mut self, writer: &mut W, item: &Item) -> Result<(), WriteFault>
+        requires { CanKeep self.old }
+        ensures written { OnOk result (Continues self.old.newlines self.new.newlines
+            (W.contents writer.old) (W.contents writer.new) (kept_text item.now)) }
+        ensures part { OnErr result (BreaksOff self.old.newlines
+            (W.contents writer.old) (W.contents writer.new) (kept_text item.now)) }
+        ensures stage { OnOk result (self.new.stage ≡ (if is_directive item.now then Stage.FoundWanted else Stage.Ready)) }
+        // A fault stays, and no writer is asked again.
+        ensures fault { OnErr result (self.new.stage ≡ Stage.Failed) }
+        ensures again { self.old.stage ≡ Stage.Failed → IsErr result × (writer.new ≡ writer.old) }
+        // A fault is answered exactly where a write failed.
+        ensures failed { OnErr result ((self.old.stage ≡ Stage.Failed) ⊎ (W.has_failed writer.new ≡ true)) }
+        ensures sound { OnOk result (W.has_failed writer.new ≡ W.has_failed writer.old) }
+    {
+        if self.stage == Stage::Failed {
+            return Err(WriteFault);
+        }
+        let next = if item.is_directive() {
+            Stage::FoundWanted
+        } else {
+            Stage::Ready
+        };
+        match write_lines(writer, self.newlines, item.raw_lines()) {
+            Ok(newlines) => {
+                self.newlines = newlines;
+                self.stage = next;
+                Ok(())
+            }
+            Err(fault) => {
+                self.stage = Stage::Failed;
+                Err(fault)
+            }
+        }
+    }
+
+    /// Writes what was found for the directive that was kept last.
+    pub fn found<W: Sink>(&mut self, writer: &mut W, text: &[u8]) -> Result<(), WriteFault>
+        requires wanted { WantsFound self.old }
+        requires output { self.old.stage ≡ Stage.FoundWanted → is_output text.now ≡ true }
+        ensures written { OnOk result (Continues self.old.newlines self.new.newlines
+            (W.contents writer.old) (W.contents writer.new) (found_text text.now)) }
+        ensures part { OnErr result (BreaksOff self.old.newlines
+            (W.contents writer.old) (W.contents writer.new) (found_text text.now)) }
+        ensures stage { OnOk result (self.new.stage ≡ Stage.Ready) }
+        // A fault stays, and no writer is asked again.
+        ensures fault { OnErr result (self.new.stage ≡ Stage.Failed) }
+        ensures again { self.old.stage ≡ Stage.Failed → IsErr result × (writer.new ≡ writer.old) }
+        // A fault is answered exactly where a write failed.
+        ensures failed { OnErr result ((self.old.stage ≡ Stage.Failed) ⊎ (W.has_failed writer.new ≡ true)) }
+        ensures sound { OnOk result (W.has_failed writer.new ≡ W.has_failed writer.old) }
+    {
+        if self.stage == Stage::Failed {
+            return Err(WriteFault);
+        }
+        match write_found(writer, self.newlines, text) {
+            Ok(newlines) => {
+                self.newlines = newlines;
+                self.stage = Stage::Ready;
+                Ok(())
+            }
+            Err(fault) => {
+                self.stage = Stage::Failed;
+                Err(fault)
+            }
+        }
+    }
+
+    /// Writes the newline that is held back, unless the text ends in two.
+    pub fn end<W: Sink>(&mut self, writer: &mut W) -> Result<(), WriteFault>
+        requires { CanKeep self.old }
+        ensures written { OnOk result (Finishes self.old.newlines (W.contents writer.old) (W.contents writer.new)) }
+        ensures part { OnErr result (FinishesPart self.old.newlines (W.contents writer.old) (W.contents writer.new)) }
+        ensures stage { OnOk result (self.new.stage ≡ Stage.Over) }
+        // A fault stays, and no writer is asked again.
+        ensures fault { OnErr result (self.new.stage ≡ Stage.Failed) }
+        ensures again { self.old.stage ≡ Stage.Failed → IsErr result × (writer.new ≡ writer.old) }
+        // A fault is answered exactly where a write failed.
+        ensures failed { OnErr result ((self.old.stage ≡ Stage.Failed) ⊎ (W.has_failed writer.new ≡ true)) }
+        ensures sound { OnOk result (W.has_failed writer.new ≡ W.has_failed writer.old) }
+    {
+        if self.stage == Stage::Failed {
+            return Err(WriteFault);
+        }
+        match write_all(writer, last_newline(self.newlines)) {
+            Ok(()) => {
+                self.stage = Stage::Over;
+                Ok(())
+            }
+            Err(fault) => {
+                self.stage = Stage::Failed;
+                Err(fault)
+            }
+        }
+    }
+}
+
+#[cfg(test)]
+mod tests;
