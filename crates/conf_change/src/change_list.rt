@@ -1,5 +1,5 @@
 //! Reading lists of changes, as the test scripts of etcd's raft packages write them: `v1 l2 r3`.
-ghost use Rattle.std.specs.Prelude.{◌≡◌, Ok, Err, length, IfOk, IfErr, IfSome, MatchResult, OnErr};
+ghost use Rattle.std.specs.Prelude.{◌≡◌, Ok, Err, length, IfOk, IfErr, IfSome, MatchResult};
 ghost use Rattle.conf_change.specs.Words.{words};
 ghost use Rattle.conf_change.specs.ChangeList.{StandsFor, IsFirstBad, bad_token, change_in, changes_in, kind_in};
 

@@ -2,3 +2,8 @@ pub mod Replies
 pub mod Listing
 pub mod Parts
 pub mod Between
+pub mod ArgumentWalks
+pub mod CommandReplies
+pub mod ToldLines
+pub mod ToldTexts
+pub mod ToldReplies

@@ -10,7 +10,8 @@ use Rattle.conf_change.specs.declared.change.Change.{Change}
 use Rattle.conf_change.specs.declared.refused.Refused.{Refused}
 use Rattle.conf_change.specs.declared.refused.Refused.TheVariants.{NoMemory}
 use Rattle.conf_change.specs.declared.step.Step.TheVariants.{Simple}
-use Rattle.conf_tool.specs.LineReply.{LineReply, told, reply_to_outcome, reply_to_changes, bad_token_text, has_one_word, line_reply}
+use Rattle.conf_tool.specs.Texts.{bad_token_text}
+use Rattle.conf_tool.specs.LineReply.{LineReply, told, reply_to_outcome, reply_to_changes, has_one_word, line_reply}
 
 -- a list of one
 one-list : (changes : List Change) (default : Change) → length changes ≡ 1 → get_or changes 0 default ∷ [] ≡ changes

@@ -1,5 +1,12 @@
+pub mod Program
 pub mod Ranges
 pub mod Handed
+pub mod Texts
 pub mod LineReply
+pub mod SessionState
+pub mod Arguments
+pub mod Reply
+pub mod Commands
+pub mod Told
 pub mod Outputs
 pub mod Run

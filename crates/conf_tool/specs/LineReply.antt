@@ -3,9 +3,10 @@ use Rattle.std.specs.Prelude.{ℕ, Bool, ◌==◌, List, [], ◌∷◌, ◌++◌
 use Rattle.dd_file.specs.Bytes.{newline}
 use Rattle.conf_change.specs.Configuration.{Configuration}
 use Rattle.conf_change.specs.Outcome.{Outcome, outcome}
-use Rattle.conf_change.specs.ChangeList.{BadToken, unknown_token, unknown_input, bad_number, changes_in}
+use Rattle.conf_change.specs.ChangeList.{BadToken, changes_in}
 use Rattle.conf_change.specs.Words.{words}
 use Rattle.conf_change.specs.Text.{config_text, refused_text}
+use Rattle.conf_tool.specs.Texts.{bad_token_text}
 use Rattle.conf_change.specs.declared.change.Change.{Change}
 use Rattle.conf_change.specs.declared.step.Step.TheVariants.{Simple}
 
@@ -17,12 +18,6 @@ pub record LineReply : Type 0 where
 -- a text alone: the configuration stays
 abbrev pub told : Configuration → List ℕ → LineReply
 told c text = record { text = text; after = c }
-
--- a word that spells no change
-abbrev pub bad_token_text : BadToken → List ℕ
-bad_token_text (unknown_token token) = codes "unknown token " ++ token
-bad_token_text (unknown_input token) = codes "unknown input: " ++ token
-bad_token_text (bad_number token) = codes "bad number: " ++ token
 
 -- a change that is made, or refused
 abbrev pub reply_to_outcome : Configuration → Outcome → LineReply

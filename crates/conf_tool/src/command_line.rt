@@ -1,10 +1,13 @@
 //! The words of the command line.
-ghost use Rattle.std.specs.Prelude.{IfOk};
+ghost use Rattle.std.specs.Prelude.{◌≡◌, true, map, IfOk, IfErr};
+ghost use Rattle.clap.specs.Words.{FailsBy, app_of, fault_of, kind_of, takes};
+ghost use Rattle.conf_tool.specs.Program.{program as the_program};
 ghost use Rattle.conf_tool.specs.Ranges.{IsInRange};
 
 use crate::invocation::Invocation;
 use crate::mode::Mode;
 use crate::options::Options;
+use clap::error::ErrorKind;
 use clap::{Arg, Command, Error};
 use std::alloc::Global;
 use std::convert::AsStr;
@@ -26,7 +29,11 @@ removed all voters";
 /// What the words ask for, the program's name being the first. A fault is `clap`'s own: of help, of a usage fault or
 /// of want of memory.
 pub fn command_line<'a, S: AsStr>(alloc: Global, words: &'a [S]) -> Result<Invocation<'a>, Error>
-    ensures { IfOk result (λ invocation. IsInRange invocation.options) }
+    // The words are refused exactly where `clap` refuses them, and taken elsewhere unless memory is wanting.
+    ensures refused { FailsBy (fault_of the_program (map S.text words.entry.now)) result }
+    ensures taken { IfErr result (λ error. takes the_program (map S.text words.entry.now) ≡ true → kind_of error ≡ ErrorKind.OutOfMemory) }
+
+    ensures range { IfOk result (λ invocation. IsInRange invocation.options) }
 {
     let matches = program(alloc)?.try_get_matches_from(words)?;
     let file = match matches.subcommand() {
@@ -41,7 +48,10 @@ pub fn command_line<'a, S: AsStr>(alloc: Global, words: &'a [S]) -> Result<Invoc
 }
 
 // The program, each mode being a subcommand.
-fn program<'a>(alloc: Global) -> Result<Command<'a>, Error> {
+fn program<'a>(alloc: Global) -> Result<Command<'a>, Error>
+    ensures app { IfOk result (λ command. app_of command ≡ the_program) }
+    ensures memory { IfErr result (λ error. kind_of error ≡ ErrorKind.OutOfMemory) }
+{
     let file = Arg::new(alloc, "FILE").help(
         "The file to read; standard input where it is left out or -",
     );

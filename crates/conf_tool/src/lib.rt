@@ -1,18 +1,25 @@
 //! The modes of the program, over any reader and writer, and its command line.
 #![tactic(auto)]
 
+mod arguments;
 pub mod command_line;
+mod commands;
 pub mod invocation;
+pub mod laws;
 mod line_answer;
 pub mod mode;
 pub mod options;
+mod reply;
 pub mod run;
+pub mod session;
 pub mod status;
+mod texts;
 pub mod tool_fault;
 
 pub use invocation::Invocation;
 pub use mode::Mode;
 pub use options::Options;
+pub use session::Session;
 pub use status::Status;
 pub use tool_fault::ToolFault;
 

@@ -3,7 +3,8 @@ ghost use Rattle.std.specs.Prelude.{◌≡◌, ◌++◌, Ok, Err, length, OnOk, 
 ghost use Rattle.dd_file.specs.Bytes.{newline};
 ghost use Rattle.conf_change.specs.ChangeList.{bad_token};
 ghost use Rattle.conf_tool.specs.LineReply as says;
-ghost use Rattle.conf_tool.specs.LineReply.{line_reply, reply_to_changes, bad_token_text};
+ghost use Rattle.conf_tool.specs.LineReply.{line_reply, reply_to_changes};
+ghost use Rattle.conf_tool.specs.Texts.{bad_token_text};
 
 use conf_change::{
     Change, Changer, Refused, TokenFault, next_token, read_changes, write_config, write_refused,
@@ -77,7 +78,7 @@ fn make_change(
 }
 
 // Appends which word spells no change, and why.
-fn tell_fault(fault: TokenFault<'_>, text: &mut Vec<u8>) -> Result<(), NoMemory>
+pub(crate) fn tell_fault(fault: TokenFault<'_>, text: &mut Vec<u8>) -> Result<(), NoMemory>
     ensures { OnOk result (IsSomeAnd (bad_token fault.entry) (λ bad. text.new.items ≡ text.old.items ++ bad_token_text bad)) }
 {
     match fault {

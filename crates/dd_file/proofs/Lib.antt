@@ -32,3 +32,4 @@ pub mod FrontLines
 pub mod OpenFront
 pub mod ScriptLines
 pub mod JoinedItems
+pub mod WorkedRewriting

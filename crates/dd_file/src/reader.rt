@@ -101,8 +101,6 @@ fn read_item<R: Source>(
 
 #[cfg(test)]
 mod tests {
-    ghost use Rattle.std.specs.Prelude.{None};
-
     use super::*;
     use crate::device::{FromRead, Source};
     use crate::fault::DeviceFault;
@@ -110,6 +108,7 @@ mod tests {
     use std::test::Fail;
 
     /// Gives one byte a call, and fails behind them or not.
+    #[derive(Drop)]
     struct Trickle<'a> {
         bytes: &'a [u8],
         fails: bool,
@@ -143,6 +142,7 @@ mod tests {
     }
 
     /// Comments of 2^20 bytes each, for ever.
+    #[derive(Drop)]
     struct Endless {
         count: usize,
     }
@@ -255,7 +255,7 @@ mod tests {
         ),
         ("\\\n \nx", "lines:<\\>< >|3:x//|"),
         ("simple a=\\\n\n----\n", "1:simple a=//|"),
-        ("simple\n# no\n\nv1 \n----\n\n", "1:simple/# no\n\nv1//|"),
+        ("simple\n# no\n\nv1 \n----\n\n", "1:simple/# no\n\nv1/|"),
         ("\r", "lines:<>|"),
         ("simple\n----\n---- \n", "1:simple//---- \n|"),
     ];

@@ -1,0 +1,195 @@
+-- Which texts are told lines.
+use Rattle.std.proofs.Common.{◌≡◌, ℕ, zero, suc, ◌+◌, ◌/◌, ◌%◌, ◌<◌, Bool, true, false, cond, not, ◌&&◌, ◌||◌, List, [], ◌∷◌, ◌++◌, length, map, refl, sym, ap, ◌∙◌, arith}
+use Rattle.std.specs.Prelude.{◌==◌, nat_le, nat_lt, nat_eq, codes, decimal, flat_map}
+use Rattle.std.specs.List.{list_all, list_any, join_with_byte}
+use Rattle.std.specs.Fmt.{digit_glyph, digits_onto, digits}
+use Rattle.std.specs.FinMap as finite
+use Rattle.std.proofs.lemmas.List.{append-nil}
+use Rattle.std.proofs.lemmas.Bool.Decides.{nat_tests}
+use Rattle.quorum_sets.specs.Ids.{Ids, ascending, is_empty}
+use Rattle.dd_file.specs.Bytes.{newline}
+use Rattle.dd_file.specs.Lines.{text_of}
+use Rattle.conf_change.specs.Configuration.{Configuration, is_joint}
+use Rattle.conf_change.specs.ConfState.{ConfStateLists}
+use Rattle.conf_change.specs.TrackerState.{TrackerState}
+use Rattle.conf_change.specs.Text.{where_there, spaced_numbers, set_text, config_text, progress_text, refused_text}
+use Rattle.conf_change.specs.ConfStateLine.{truth_text, conf_state_text}
+use Rattle.conf_change.specs.declared.progress.Progress.{Progress}
+use Rattle.conf_change.specs.declared.refused.Refused.{Refused}
+use Rattle.conf_change.specs.declared.refused.Refused.TheVariants.{AlreadyJoint, ZeroVoterJoint, NotJoint, SimpleInJoint, RemovedAllVoters, MoreThanOneVoter, NoMemory}
+use Rattle.conf_tool.specs.Texts.{line, member_line, member_lines, tracker_text}
+use Rattle.conf_tool.specs.Told.{is_line_byte, is_told_line, IsTold}
+
+pub first : (a b : Bool) → (a && b) ≡ true → a ≡ true
+first true b e = refl
+first false b e = cc
+
+pub second : (a b : Bool) → (a && b) ≡ true → b ≡ true
+second true b e = e
+second false b e = cc
+
+pub both : (a b : Bool) → a ≡ true → b ≡ true → (a && b) ≡ true
+both true b p q = q
+both false b p q = cc
+
+pub all-append : {X : Type 0} (p : X → Bool) (xs ys : List X) → list_all p xs ≡ true → list_all p ys ≡ true → list_all p (xs ++ ys) ≡ true
+all-append p [] ys h k = k
+all-append p (x ∷ xs) ys h k = both _ _ (first _ _ h) (all-append p xs ys (second _ _ h) k)
+
+abbrev IsBytes : List ℕ → Type 0
+IsBytes text = list_all is_line_byte text ≡ true
+
+pub told-bytes : (text : List ℕ) → is_told_line text ≡ true → list_all is_line_byte text ≡ true
+told-bytes [] h = cc
+told-bytes (b ∷ bs) h = second _ _ h
+
+pub told-append : (front back : List ℕ) → is_told_line front ≡ true → IsBytes back → is_told_line (front ++ back) ≡ true
+told-append [] back h k = cc
+told-append (b ∷ bs) back h k = both _ _ (first _ _ h) (all-append is_line_byte (b ∷ bs) back (second _ _ h) k)
+
+where-bytes : (there : Bool) (text : List ℕ) → IsBytes text → IsBytes (where_there there text)
+where-bytes true text h = h
+where-bytes false text h = refl
+
+-- ---- numbers
+byte-high : (b : ℕ) → nat_le 48 b ≡ true → is_line_byte b ≡ true
+byte-high b h = grind (arith, nat_tests)
+
+bytes-high : (bs : List ℕ) → list_all (nat_le 48) bs ≡ true → IsBytes bs
+bytes-high [] h = refl
+bytes-high (b ∷ bs) h = both _ _ (byte-high b (first _ _ h)) (bytes-high bs (second _ _ h))
+
+glyph-high : (d : ℕ) → nat_le 48 (digit_glyph false d) ≡ true
+glyph-high d = grind (arith, nat_tests)
+
+-- bytes from 48 on, one at least
+abbrev is_high : List ℕ → Bool
+is_high [] = false
+is_high (b ∷ bs) = list_all (nat_le 48) (b ∷ bs)
+
+high-told : (bs : List ℕ) → is_high bs ≡ true → is_told_line bs ≡ true
+high-told [] h = cc
+high-told (b ∷ bs) h = both _ _ (first _ _ h) (bytes-high (b ∷ bs) h)
+
+either : (b : Bool) (xs ys : List ℕ) → is_high xs ≡ true → is_high ys ≡ true → is_high (cond b xs ys) ≡ true
+either true xs ys h k = h
+either false xs ys h k = k
+
+digits_onto-high : (k n : ℕ) (b : ℕ) (bs : List ℕ) → is_high (b ∷ bs) ≡ true → is_high (digits_onto k 10 false n (b ∷ bs)) ≡ true
+digits_onto-high zero n b bs h = h
+digits_onto-high (suc k) n b bs h =
+    let more : is_high (digit_glyph false (n % 10) ∷ b ∷ bs) ≡ true = both _ _ (glyph-high (n % 10)) h in
+    either (n / 10 == 0) _ _ more (digits_onto-high k (n / 10) (digit_glyph false (n % 10)) (b ∷ bs) more)
+
+number-high : (k n : ℕ) → is_high (digits_onto (suc k) 10 false n []) ≡ true
+number-high k n =
+    let one : is_high (digit_glyph false (n % 10) ∷ []) ≡ true = both _ _ (glyph-high (n % 10)) refl in
+    either (n / 10 == 0) _ _ one (digits_onto-high k (n / 10) (digit_glyph false (n % 10)) [] one)
+
+decimal-told : (n : ℕ) → is_told_line (decimal n) ≡ true
+unfolding digits
+decimal-told n = high-told (decimal n) (number-high 63 n)
+
+decimal-bytes : (n : ℕ) → IsBytes (decimal n)
+decimal-bytes n = told-bytes (decimal n) (decimal-told n)
+
+spaced-bytes : (numbers : List ℕ) → IsBytes (spaced_numbers numbers)
+spaced-bytes [] = refl
+spaced-bytes (n ∷ []) = decimal-bytes n
+spaced-bytes (n ∷ m ∷ numbers) = all-append is_line_byte (decimal n) (32 ∷ spaced_numbers (m ∷ numbers)) (decimal-bytes n) (spaced-bytes (m ∷ numbers))
+
+-- ---- the texts of a configuration, of a member, of a refusal and of a saved form
+record IsLine (text : List ℕ) : Type 0 where
+  line : is_told_line text ≡ true
+
+record IsTail (text : List ℕ) : Type 0 where
+  tail : list_all is_line_byte text ≡ true
+
+starts : (text : List ℕ) → is_told_line text ≡ true → IsLine text
+starts text h = record { line = h }
+
+goes : (text : List ℕ) → IsBytes text → IsTail text
+goes text h = record { tail = h }
+
+infixl 60 ◌▸◌
+◌▸◌ : {front back : List ℕ} → IsLine front → IsTail back → IsLine (front ++ back)
+◌▸◌ {front} {back} h k = record { line = told-append front back h.line k.tail }
+
+infixl 61 ◌▹◌
+◌▹◌ : {front back : List ℕ} → IsTail front → IsTail back → IsTail (front ++ back)
+◌▹◌ {front} {back} h k = record { tail = all-append is_line_byte front back h.tail k.tail }
+
+number : (n : ℕ) → IsTail (decimal n)
+number n = goes (decimal n) (decimal-bytes n)
+
+numbers : (ns : List ℕ) → IsTail (spaced_numbers ns)
+numbers ns = goes (spaced_numbers ns) (spaced-bytes ns)
+
+set : (ids : Ids) → IsTail (set_text ids)
+set ids = goes (codes "(") refl ▹ numbers (ascending ids) ▹ goes (codes ")") refl
+
+named : (there : Bool) (name : List ℕ) (ids : Ids) → IsBytes name → IsTail (where_there there (name ++ set_text ids))
+named there name ids h = goes _ (where-bytes there (name ++ set_text ids) (all-append is_line_byte name (set_text ids) h (set ids).tail))
+
+config-line : (c : Configuration) → IsLine (config_text c)
+config-line c =
+    starts (codes "voters=") refl ▸ set c.incoming
+    ▸ named (is_joint c) (codes "&&") c.outgoing refl
+    ▸ named (not (is_empty c.learners)) (codes " learners=") c.learners refl
+    ▸ named (not (is_empty c.learners_next)) (codes " learners_next=") c.learners_next refl
+    ▸ goes (where_there c.auto_leave (codes " autoleave")) (where-bytes c.auto_leave (codes " autoleave") refl)
+
+pub config-told : (c : Configuration) → is_told_line (config_text c) ≡ true
+config-told c = (config-line c).line
+
+progress-line : (id : ℕ) (p : Progress) → IsLine (progress_text id p)
+progress-line id p =
+    starts (decimal id) (decimal-told id) ▸ goes (codes ": StateProbe match=") refl ▸ number p.matched ▸ goes (codes " next=") refl ▸ number p.next
+    ▸ goes (where_there p.learner (codes " learner")) (where-bytes p.learner (codes " learner") refl)
+
+pub progress-told : (id : ℕ) (p : Progress) → is_told_line (progress_text id p) ≡ true
+progress-told id p = (progress-line id p).line
+
+pub refused-told : (refused : Refused) → is_told_line (refused_text refused) ≡ true
+refused-told AlreadyJoint = refl
+refused-told ZeroVoterJoint = refl
+refused-told NotJoint = refl
+refused-told SimpleInJoint = refl
+refused-told RemovedAllVoters = refl
+refused-told MoreThanOneVoter = refl
+refused-told NoMemory = refl
+
+truth-bytes : (truth : Bool) → IsBytes (truth_text truth)
+truth-bytes true = refl
+truth-bytes false = refl
+
+conf_state-line : (saved : ConfStateLists) → IsLine (conf_state_text saved)
+conf_state-line saved =
+    starts (codes "Voters:[") refl ▸ numbers saved.voters ▸ goes (codes "] VotersOutgoing:[") refl ▸ numbers saved.voters_outgoing
+    ▸ goes (codes "] Learners:[") refl ▸ numbers saved.learners ▸ goes (codes "] LearnersNext:[") refl ▸ numbers saved.learners_next
+    ▸ goes (codes "] AutoLeave:") refl ▸ goes (truth_text saved.auto_leave) (truth-bytes saved.auto_leave)
+
+pub conf_state-told : (saved : ConfStateLists) → is_told_line (conf_state_text saved) ≡ true
+conf_state-told saved = (conf_state-line saved).line
+
+-- ---- texts of such lines
+pub line-told : (text : List ℕ) → is_told_line text ≡ true → IsTold (line text)
+line-told text h = record { lines = text ∷ []; some = omega arith; whole = sym (append-nil (line text)); told = both _ _ h refl }
+
+members-whole : (members : List (ℕ × Progress)) → flat_map member_line members ≡ text_of (map (λ member. progress_text member.0 member.1) members)
+members-whole [] = refl
+members-whole (member ∷ members) = ap (λ rest. member_line member ++ rest) (members-whole members)
+
+members-told : (members : List (ℕ × Progress)) → list_all is_told_line (map (λ member. progress_text member.0 member.1) members) ≡ true
+members-told [] = refl
+members-told (member ∷ members) = both _ _ (progress-told member.0 member.1) (members-told members)
+
+pub tracker-told : (tracker : TrackerState) → IsTold (tracker_text tracker)
+tracker-told tracker =
+    let members = finite.entries tracker.progress in
+    record {
+      lines = config_text tracker.config ∷ map (λ member. progress_text member.0 member.1) members;
+      some = omega arith;
+      whole = ap (λ rest. line (config_text tracker.config) ++ rest) (members-whole members);
+      told = both _ _ (config-told tracker.config) (members-told members);
+    }

@@ -1,0 +1,165 @@
+-- What each directive is answered is told lines.
+use Rattle.std.proofs.Common.{◌≡◌, ℕ, Bool, true, false, cond, not, ◌&&◌, ◌||◌, List, [], ◌∷◌, ◌++◌, filter, refl, sym, ap, subst, ◌∙◌, arith}
+use Rattle.std.specs.Prelude.{◌==◌, Option, Some, None, Result, Ok, Err, codes, nat_le}
+use Rattle.std.specs.List.{list_all, list_any, slice_split, onto_first}
+use Rattle.std.proofs.lemmas.Bool.{eqb-true}
+use Rattle.std.proofs.lemmas.Bool.Decides.{nat_tests}
+use Rattle.dd_file.specs.DirectiveText.{DirectiveText}
+use Rattle.dd_file.specs.Words.{ArgumentText, is_key, is_key_byte}
+use Rattle.conf_change.specs.ChangerState.{ChangerState}
+use Rattle.conf_change.specs.Configuration.{Configuration}
+use Rattle.conf_change.specs.Outcome.{Outcome, outcome}
+use Rattle.conf_change.specs.Words.{is_white, has_bytes, words}
+use Rattle.conf_change.specs.ChangeList.{BadToken, unknown_token, unknown_input, bad_number, token_of, IsFirstBad, changes_in}
+use Rattle.conf_change.specs.ConfState.{ConfStateLists, lists_of, restored}
+use Rattle.conf_change.specs.ConfStateLine.{conf_state_in, conf_state_text}
+use Rattle.conf_change.specs.Text.{refused_text}
+use Rattle.conf_change.specs.Changer.{moved_to, begun_with}
+use Rattle.conf_change.specs.declared.change.Change.{Change}
+use Rattle.conf_change.specs.declared.step.Step.{Step}
+use Rattle.conf_change.specs.declared.step.Step.TheVariants.{Simple, EnterJoint, LeaveJoint}
+use Rattle.conf_tool.specs.SessionState.{SessionState}
+use Rattle.conf_tool.specs.Arguments.{is_good, first_bad, bad_argument, asks_auto_leave}
+use Rattle.conf_tool.specs.Texts.{bad_token_text}
+use Rattle.conf_tool.specs.Reply.{Reply, told, changed}
+use Rattle.conf_tool.specs.Commands.{with_changes, with_no_input, with_arguments, after_outcome, on_step, enter_with, leave_with, after_restored, restore_with, reply_to}
+use Rattle.conf_tool.specs.Told.{is_line_byte, is_told_line, IsTold, has_keys}
+use Rattle.conf_tool.specs.declared.arguments.Takes.{Takes}
+use Rattle.conf_tool.specs.declared.arguments.Takes.TheVariants.{Nothing, AutoLeave}
+use Rattle.conf_tool.proofs.ToldLines.{first, second, both, told-append, refused-told, conf_state-told, line-told, tracker-told}
+
+abbrev Tells : Reply → Type 0
+Tells reply = IsTold reply.found
+
+tells : (text : List ℕ) → is_told_line text ≡ true → Tells (told text)
+tells text h = line-told text h
+
+either : (b : Bool) (x y : Reply) → Tells x → Tells y → Tells (cond b x y)
+either true x y h k = h
+either false x y h k = k
+
+-- ---- the words of an input
+unequal : (b : Bool) → (b ≡ true → ⊥) → not b ≡ true
+unequal true h = absurd (h refl)
+unequal false h = refl
+
+abbrev has_no_white : List ℕ → Bool
+has_no_white word = list_all (λ b. not (is_white b)) word
+
+onto-whole : (b : ℕ) (pieces : List (List ℕ)) → is_white b ≡ false → list_all has_no_white pieces ≡ true → list_all has_no_white (onto_first b pieces) ≡ true
+onto-whole b [] e h = both _ _ (both _ _ (ap not e) refl) refl
+onto-whole b (piece ∷ pieces) e h = both _ _ (both _ _ (ap not e) (first _ _ h)) (second _ _ h)
+
+split-step : (b : ℕ) (pieces : List (List ℕ)) (white : Bool) → is_white b ≡ white → list_all has_no_white pieces ≡ true → list_all has_no_white (cond white ([] ∷ pieces) (onto_first b pieces)) ≡ true
+split-step b pieces true e h = h
+split-step b pieces false e h = onto-whole b pieces e h
+
+split-whole : (text : List ℕ) → list_all has_no_white (slice_split is_white text) ≡ true
+split-whole [] = refl
+split-whole (b ∷ text) = split-step b (slice_split is_white text) (is_white b) refl (split-whole text)
+
+filter-step : (test : List ℕ → Bool) (piece : List ℕ) (pieces : List (List ℕ)) (kept : Bool) → has_no_white piece ≡ true → list_all has_no_white pieces ≡ true → list_all has_no_white (cond kept (piece ∷ pieces) pieces) ≡ true
+filter-step test piece pieces true h k = both _ _ h k
+filter-step test piece pieces false h k = k
+
+filter-whole : (test : List ℕ → Bool) (pieces : List (List ℕ)) → list_all has_no_white pieces ≡ true → list_all has_no_white (filter test pieces) ≡ true
+filter-whole test [] h = refl
+filter-whole test (piece ∷ pieces) h = filter-step test piece (filter test pieces) (test piece) (first _ _ h) (filter-whole test pieces (second _ _ h))
+
+words-whole : (text : List ℕ) → list_all has_no_white (words text) ≡ true
+words-whole text = filter-whole has_bytes (slice_split is_white text) (split-whole text)
+
+among : (before : List (List ℕ)) (word : List ℕ) (after : List (List ℕ)) → list_all has_no_white (before ++ word ∷ after) ≡ true → has_no_white word ≡ true
+among [] word after h = first _ _ h
+among (w ∷ before) word after h = among before word after (second _ _ h)
+
+byte-black : (b : ℕ) → not (is_white b) ≡ true → is_line_byte b ≡ true
+byte-black b h = grind (arith, nat_tests)
+
+bytes-black : (word : List ℕ) → has_no_white word ≡ true → list_all is_line_byte word ≡ true
+bytes-black [] h = refl
+bytes-black (b ∷ word) h = both _ _ (byte-black b (first _ _ h)) (bytes-black word (second _ _ h))
+
+token-told : (bad : BadToken) → list_all is_line_byte (token_of bad) ≡ true → is_told_line (bad_token_text bad) ≡ true
+token-told (unknown_token token) h = told-append (codes "unknown token ") token refl h
+token-told (unknown_input token) h = told-append (codes "unknown input: ") token refl h
+token-told (bad_number token) h = told-append (codes "bad number: ") token refl h
+
+-- the first bad token of a text is one of its words
+abbrev FirstBads : Type 0
+FirstBads = (text : List ℕ) (bad : BadToken) → changes_in text ≡ Err bad → IsFirstBad (words text) bad
+
+bad-told : FirstBads → (text : List ℕ) (bad : BadToken) → changes_in text ≡ Err bad → is_told_line (bad_token_text bad) ≡ true
+bad-told first_bads text bad e =
+    let is : IsFirstBad (words text) bad = first_bads text bad e in
+    token-told bad (bytes-black (token_of bad) (among is.before (token_of bad) is.after (ap (list_all has_no_white) (sym is.place) ∙ words-whole text)))
+
+changes-tell : FirstBads → (reply : List Change → Reply) (text : List ℕ) (read : Result (List Change) BadToken) → changes_in text ≡ read → ((changes : List Change) → Tells (reply changes)) → Tells (with_changes reply read)
+changes-tell first_bads reply text (Ok changes) e h = h changes
+changes-tell first_bads reply text (Err bad) e h = tells (bad_token_text bad) (bad-told first_bads text bad e)
+
+-- ---- the arguments
+apart : (b n : ℕ) → is_key_byte n ≡ false → is_key_byte b ≡ true → not (b == n) ≡ true
+apart b n e h = unequal (b == n) (λ same. let f : is_key_byte b ≡ is_key_byte n = ap is_key_byte (eqb-true b n same) in cc)
+
+byte-key : (b : ℕ) → is_key_byte b ≡ true → is_line_byte b ≡ true
+byte-key b h = both _ _ (apart b 10 refl h) (apart b 13 refl h)
+
+bytes-key : (key : List ℕ) → list_all is_key_byte key ≡ true → list_all is_line_byte key ≡ true
+bytes-key [] h = refl
+bytes-key (b ∷ key) h = both _ _ (byte-key b (first _ _ h)) (bytes-key key (second _ _ h))
+
+abbrev are_keys : List ArgumentText → Bool
+are_keys arguments = list_all (λ argument. is_key argument.key) arguments
+
+bad-step : (argument : ArgumentText) (rest : Option (List ℕ)) (good : Bool) (key : List ℕ) → is_key argument.key ≡ true → (rest ≡ Some key → is_key key ≡ true) → cond good rest (Some argument.key) ≡ Some key → is_key key ≡ true
+bad-step argument rest true key h k e = k e
+bad-step argument rest false key h k e = let same : argument.key ≡ key = cc in ap is_key (sym same) ∙ h
+
+bad-key : (takes : Takes) (before arguments : List ArgumentText) (key : List ℕ) → are_keys arguments ≡ true → first_bad takes before arguments ≡ Some key → is_key key ≡ true
+bad-key takes before [] key h e = cc
+bad-key takes before (argument ∷ arguments) key h e =
+    bad-step argument (first_bad takes (before ++ argument ∷ []) arguments) (is_good takes before argument) key (first _ _ h) (bad-key takes (before ++ argument ∷ []) arguments key (second _ _ h)) e
+
+arguments-tell : (takes : Takes) (arguments : List ArgumentText) (reply : Reply) (bad : Option (List ℕ)) → are_keys arguments ≡ true → bad_argument takes arguments ≡ bad → Tells reply → Tells (with_arguments reply bad)
+arguments-tell takes arguments reply None h e t = t
+arguments-tell takes arguments reply (Some key) h e t =
+    tells (codes "bad argument: " ++ key) (told-append (codes "bad argument: ") key refl (bytes-key key (second _ _ (bad-key takes [] arguments key h e))))
+
+-- ---- the commands
+changed-tells : (changer : ChangerState) → Tells (changed changer)
+changed-tells changer = tracker-told changer.tracker
+
+outcome-tells : (changer : ChangerState) (step : Step) (o : Outcome) → Tells (after_outcome changer step o)
+outcome-tells changer step (Ok after) = changed-tells (moved_to changer step after)
+outcome-tells changer step (Err refused) = tells (refused_text refused) (refused-told refused)
+
+step-tells : (changer : ChangerState) (step : Step) → Tells (on_step changer step)
+step-tells changer step = outcome-tells changer step (outcome changer.tracker.config step)
+
+leave-tells : (changer : ChangerState) (changes : List Change) → Tells (leave_with changer changes)
+leave-tells changer [] = step-tells changer LeaveJoint
+leave-tells changer (change ∷ changes) = tells (codes "this command takes no input") refl
+
+no_input-tells : (reply : Reply) (input : List ℕ) → Tells reply → Tells (with_no_input reply input)
+no_input-tells reply [] h = h
+no_input-tells reply (b ∷ input) h = tells (codes "this command takes no input") refl
+
+restored-tells : (changer : ChangerState) (c : Option Configuration) → Tells (after_restored changer c)
+restored-tells changer None = tells (codes "not a configuration") refl
+restored-tells changer (Some c) = changed-tells (begun_with changer.last_index c)
+
+restore-tells : (changer : ChangerState) (arguments : List ArgumentText) (read : Option ConfStateLists) → are_keys arguments ≡ true → Tells (restore_with changer arguments read)
+restore-tells changer arguments None h = tells (codes "bad conf state") refl
+restore-tells changer arguments (Some saved) h = arguments-tell Nothing arguments _ _ h refl (restored-tells changer (restored saved))
+
+pub reply-told : FirstBads → (changer : ChangerState) (directive : DirectiveText) → has_keys directive ≡ true → IsTold (reply_to changer directive).found
+reply-told first_bads changer directive keys =
+    either _ _ _ (changes-tell first_bads _ directive.input _ refl (λ changes. step-tells changer (Simple changes)))
+    (either _ _ _ (changes-tell first_bads _ directive.input _ refl (λ changes.
+    arguments-tell AutoLeave directive.arguments _ _ keys refl (step-tells changer (EnterJoint (asks_auto_leave directive.arguments) changes))))
+    (either _ _ _ (changes-tell first_bads _ directive.input _ refl (leave-tells changer))
+    (either _ _ _ (no_input-tells _ directive.input (arguments-tell Nothing directive.arguments _ _ keys refl
+    (tells (conf_state_text (lists_of changer.tracker.config)) (conf_state-told (lists_of changer.tracker.config)))))
+    (either _ _ _ (restore-tells changer directive.arguments (conf_state_in directive.input) keys)
+    (changes-tell first_bads _ directive.input _ refl (λ changes. tells (codes "unknown command") refl))))))

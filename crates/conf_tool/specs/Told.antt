@@ -1,0 +1,36 @@
+-- Texts that are told line by line.
+use Rattle.std.specs.Prelude.{◌≡◌, ℕ, ◌<◌, Bool, true, false, not, ◌&&◌, ◌==◌, List, [], ◌∷◌, length, nat_le}
+use Rattle.std.specs.List.{list_all, ends_with}
+use Rattle.std.specs.Prelude.{nat_eq}
+use Rattle.dd_file.specs.Bytes.{newline}
+use Rattle.dd_file.specs.Lines.{text_of}
+use Rattle.dd_file.specs.DirectiveText.{DirectiveText}
+use Rattle.dd_file.specs.Words.{is_key}
+use Rattle.dd_file.specs.Rewritten.{is_output, has_blank_line}
+
+-- a byte that stands in a line and ends none
+abbrev pub is_line_byte : ℕ → Bool
+is_line_byte b = not (b == 10) && not (b == 13)
+
+-- A line that begins with a letter or a digit, or with what stands behind 0 in ASCII. So it is neither blank nor dashes.
+abbrev pub is_told_line : List ℕ → Bool
+is_told_line [] = false
+is_told_line (b ∷ bs) = nat_le 48 b && list_all is_line_byte (b ∷ bs)
+
+-- one such line or more, each with a newline
+pub record IsTold (text : List ℕ) : Type 0 where
+  pub lines : List (List ℕ)
+  pub some : 0 < length lines
+  pub whole : text ≡ text_of lines
+  pub told : list_all is_told_line lines ≡ true
+
+-- A text that can be written as the output of a directive, and is read again as it is: whole lines, one at least, none
+-- of them blank, of four dashes or with a carriage return at its end.
+pub record CanStand (text : List ℕ) : Type 0 where
+  pub output : is_output text ≡ true
+  pub ended : ends_with nat_eq text newline ≡ true
+  pub full : has_blank_line text ≡ false
+
+-- the keys of its arguments are keys, as they are in each directive of a script
+abbrev pub has_keys : DirectiveText → Bool
+has_keys directive = list_all (λ argument. is_key argument.key) directive.arguments

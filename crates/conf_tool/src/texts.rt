@@ -1,0 +1,96 @@
+//! The texts that a session answers, each in lines.
+ghost use Rattle.std.specs.Prelude.{◌≡◌, ◌≢◌, ◌++◌, IfOk, OnOk, IsSomeAnd};
+ghost use Rattle.conf_change.specs.ChangeList.{bad_token};
+ghost use Rattle.conf_change.specs.ConfState.{lists_of};
+ghost use Rattle.conf_change.specs.Text.{refused_text, progress_text};
+ghost use Rattle.conf_change.specs.ConfStateLine.{conf_state_text};
+ghost use Rattle.conf_tool.specs.Texts as says;
+ghost use Rattle.conf_tool.specs.Texts.{line, bad_token_text, member_lines};
+
+use crate::line_answer::tell_fault;
+use conf_change::{
+    Config, Progress, Refused, TokenFault, Tracker, conf_state, write_conf_state, write_config,
+    write_progress, write_refused,
+};
+use quorum_sets::{NoMemory, TreeIds};
+use std::alloc::Global;
+
+// Ends a text, so that it is whole lines.
+fn end_line(text: Vec<u8>) -> Result<Vec<u8>, NoMemory>
+    ensures { IfOk result (λ whole. whole.items ≡ line text.items) }
+{
+    let mut ended = text;
+    ended.push(b'\n')?;
+    Ok(ended)
+}
+
+/// Two texts, one behind the other, as a line.
+pub(crate) fn line_of(alloc: Global, front: &[u8], back: &[u8]) -> Result<Vec<u8>, NoMemory>
+    ensures { IfOk result (λ text. text.items ≡ line (front.now ++ back.now)) }
+{
+    let mut text = Vec::new(alloc);
+    text.extend_from_slice(front)?;
+    text.extend_from_slice(back)?;
+    end_line(text)
+}
+
+/// Which word spells no change.
+pub(crate) fn bad_token_line(alloc: Global, fault: TokenFault<'_>) -> Result<Vec<u8>, NoMemory>
+    ensures { IfOk result (λ text. IsSomeAnd (bad_token fault.entry) (λ bad. text.items ≡ line (bad_token_text bad))) }
+{
+    let mut text = Vec::new(alloc);
+    tell_fault(fault, &mut text)?;
+    end_line(text)
+}
+
+/// Why a change was refused. Want of memory is no refusal of a change.
+pub(crate) fn refused_line(alloc: Global, refused: Refused) -> Result<Vec<u8>, NoMemory>
+    requires { refused ≢ Refused.NoMemory }
+    ensures { IfOk result (λ text. text.items ≡ line (refused_text refused)) }
+{
+    let mut text = Vec::new(alloc);
+    write_refused(&mut text, refused)?;
+    end_line(text)
+}
+
+/// The saved form of a configuration.
+pub(crate) fn conf_state_line(alloc: Global, config: &Config<TreeIds>) -> Result<Vec<u8>, NoMemory>
+    ensures { IfOk result (λ text. text.items ≡ line (conf_state_text (lists_of config.now))) }
+{
+    let mut text = Vec::new(alloc);
+    let state = conf_state(alloc, config)?;
+    write_conf_state(&mut text, &state)?;
+    end_line(text)
+}
+
+/// A configuration, and behind it each member with its progress, in ascending order of the ids.
+pub(crate) fn tracker_text(alloc: Global, tracker: &Tracker<TreeIds>) -> Result<Vec<u8>, NoMemory>
+    ensures { IfOk result (λ text. text.items ≡ says.tracker_text tracker.now) }
+{
+    let mut text = Vec::new(alloc);
+    write_config(&mut text, tracker.config())?;
+    let mut text = end_line(text)?;
+    append_members(tracker, &mut text)?;
+    Ok(text)
+}
+
+// Appends each member with its progress. After want of memory only some may be appended.
+fn append_members(tracker: &Tracker<TreeIds>, text: &mut Vec<u8>) -> Result<(), NoMemory>
+    ensures { OnOk result (text.new.items ≡ text.old.items ++ member_lines tracker.now) }
+{
+    for place in 0..tracker.member_count() {
+        if let Some((id, progress)) = tracker.member_at(place) {
+            append_member(text, id, progress)?;
+        }
+    }
+    Ok(())
+}
+
+// Appends a member with its progress, as a line.
+fn append_member(text: &mut Vec<u8>, id: u64, progress: Progress) -> Result<(), NoMemory>
+    ensures { OnOk result (text.new.items ≡ text.old.items ++ line (progress_text id progress)) }
+{
+    write_progress(text, id, progress)?;
+    text.push(b'\n')?;
+    Ok(())
+}
