@@ -144,7 +144,7 @@ mod tests {
     /// Comments of 2^20 bytes each, for ever.
     #[derive(Drop)]
     struct Endless {
-        count: usize,
+        count: u8,
     }
 
     impl Source for Endless {
@@ -153,22 +153,29 @@ mod tests {
         ghost has_failed = { λ s. false };
 
         fn read(&mut self, buffer: &mut [u8]) -> Result<usize, DeviceFault> {
-            if buffer.len() != 4096 {
-                return Ok(0);
-            }
             buffer.fill(b'a');
-            self.count = (self.count + 1) % 256;
-            if self.count == 1 {
-                buffer[0] = b'#';
+            self.count = self.count.wrapping_add(1);
+            let (first, last) = marks(self.count);
+            if let Some(byte) = buffer.first_mut() {
+                *byte = first;
             }
-            if self.count == 0 {
-                buffer[4095] = b'\n';
+            if let Some(byte) = buffer.last_mut() {
+                *byte = last;
             }
-            Ok(4096)
+            Ok(buffer.len())
         }
 
         fn failed(&self) -> bool {
             false
+        }
+    }
+
+    // The first and the last byte of a read: a line begins in one of 256 reads, and ends in the one before.
+    fn marks(count: u8) -> (u8, u8) {
+        match count {
+            1 => (b'#', b'a'),
+            0 => (b'a', b'\n'),
+            _ => (b'a', b'a'),
         }
     }
 
