@@ -6,7 +6,7 @@ use Rattle.quorum_sets.specs.Voters.{Voters}
 use Rattle.conf_change.specs.declared.config.Invariant.{Invariant}
 use Rattle.conf_change.specs.declared.config.Invariant.TheVariants.{ZeroId, NextNotOutgoing, NextAndIncoming, LearnerAndVoter, NotJointButNext, NotJointButAutoLeave}
 
--- the incoming and the outgoing voters, the learners, those who become learners when the joint configuration is after_leave, and whether it is after_leave by itself
+-- the incoming and the outgoing voters, the learners, those who become learners when the joint configuration is left, and whether it is left by itself
 pub record Configuration : Type 0 where
   pub incoming : Ids
   pub outgoing : Ids
