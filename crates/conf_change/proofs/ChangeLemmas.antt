@@ -14,7 +14,7 @@ abbrev pub onto : List Change → Result (List Change) BadToken → Result (List
 onto done (Ok more) = Ok (done ++ more)
 onto done (Err bad) = Err bad
 
-kind_in-letter_of : (kind : Kind) → kind_in (letter_of kind) ≡ Some kind
+pub kind_in-letter_of : (kind : Kind) → kind_in (letter_of kind) ≡ Some kind
 kind_in-letter_of Voter = refl
 kind_in-letter_of Learner = refl
 kind_in-letter_of Remove = refl

@@ -17,3 +17,4 @@ pub mod NumberLemmas
 pub mod ChangeLemmas
 pub mod LineLemmas
 pub mod MemberLemmas
+pub mod SameSets

@@ -1,6 +1,6 @@
 -- Walks of a set by its places.
 use Rattle.std.proofs.Common.{◌≡◌, ℕ, ◌+◌, Bool, true, false, cond, ◌||◌, ◌==◌, [], ◌∷◌, ◌++◌, take, get_or, slice_get, refl, sym, ap, ◌∙◌, ◌≤◌}
-use Rattle.std.specs.Prelude.{Option, Some, None, unwrap_or}
+use Rattle.std.specs.Prelude.{Option, Some, None}
 use Rattle.std.specs.FinMap as finite
 use Rattle.std.specs.List.{list_any}
 use Rattle.std.proofs.lemmas.Option.{slice_get_within, get_or_from_slice_get}
@@ -10,7 +10,6 @@ use Rattle.quorum_sets.specs.Ids.{Ids, has, ascending, ids_of, with_id, size}
 use Rattle.quorum_sets.proofs.IdLemmas.{has-with_id, has-ascending, has-ids_of, same_ids}
 use Rattle.conf_change.specs.Configuration.{is_member}
 use Rattle.conf_change.specs.TrackerState.{TrackerState}
-use Rattle.conf_change.specs.Progress.{fresh_progress, with_mark}
 use Rattle.conf_change.specs.TrackerEdits.{entry_of, entry_in, Follows, FollowsAll}
 use Rattle.conf_change.specs.declared.progress.Progress.{Progress}
 
@@ -23,14 +22,14 @@ or_last true b = refl
 or_last false true = refl
 or_last false false = refl
 
-is_passed-more : (ids : Ids) (place id q : ℕ) → slice_get (ascending ids) place ≡ Some id → is_passed ids (place + 1) q ≡ (is_passed ids place q || (q == id))
+pub is_passed-more : (ids : Ids) (place id q : ℕ) → slice_get (ascending ids) place ≡ Some id → is_passed ids (place + 1) q ≡ (is_passed ids place q || (q == id))
 is_passed-more ids place id q here =
     ap (list_any (λ x. q == x)) (take_more (ascending ids) place 0 (slice_get_within (ascending ids) place id here))
     ∙ list_any-append (λ x. q == x) (take place (ascending ids)) (get_or (ascending ids) place 0 ∷ [])
     ∙ ap (λ x. is_passed ids place q || ((q == x) || false)) (get_or_from_slice_get (ascending ids) place id 0 here)
     ∙ or_last (is_passed ids place q) (q == id)
 
-is_passed-all : (ids : Ids) (place q : ℕ) → size ids ≤ place → is_passed ids place q ≡ has ids q
+pub is_passed-all : (ids : Ids) (place q : ℕ) → size ids ≤ place → is_passed ids place q ≡ has ids q
 is_passed-all ids place q end = ap (list_any (λ x. q == x)) (take_all place (ascending ids) end) ∙ sym (has-ascending ids q)
 
 -- ---- the ids of two sets

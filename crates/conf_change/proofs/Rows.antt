@@ -1,19 +1,19 @@
 -- Small cases, worked out by hand.
-use Rattle.std.proofs.Common.{◌≡◌, ℕ, true, false, List, [], ◌∷◌, refl, sym, ap, ◌∙◌, ◌||◌, ◌&&◌, ◌==◌, ◌≢◌, not, T, subst}
-use Rattle.std.specs.Prelude.{Some, None, codes, Ok, Err, Result}
+use Rattle.std.proofs.Common.{◌≡◌, ℕ, true, false, List, [], ◌∷◌, refl, ap, ◌∙◌}
+use Rattle.std.specs.Prelude.{Some, None, codes, Ok, Err}
 use Rattle.std.specs.Ordering.{nat_cmp}
 use Rattle.std.specs.Cmp.{nat_cmp_total}
 use Rattle.std.specs.FinMap as finite
 use Rattle.std.specs.FinMap.{put, find}
 use Rattle.quorum_sets.specs.Ids.{Ids, has, ids_of, no_ids}
-use Rattle.quorum_sets.proofs.IdLemmas.{has-ids_of, has-no_ids, entries-no_ids}
+use Rattle.quorum_sets.proofs.IdLemmas.{has-ids_of, entries-no_ids}
 use Rattle.conf_change.specs.Configuration.{Configuration, first_broken}
-use Rattle.conf_change.specs.Change.{result_of, last_word, is_incoming_after, is_learner_after, is_next_after}
-use Rattle.conf_change.specs.Outcome.{with_outgoing, simple_outcome, enter_outcome, leave_outcome}
+use Rattle.conf_change.specs.Change.{result_of, last_word, is_learner_after, is_next_after}
+use Rattle.conf_change.specs.Outcome.{simple_outcome, enter_outcome, leave_outcome}
 use Rattle.conf_change.specs.Progress.{keeps_progress}
 use Rattle.conf_change.specs.declared.config.Invariant.TheVariants.{ZeroId, NextNotOutgoing, NextAndIncoming}
 use Rattle.conf_change.specs.declared.refused.Refused.TheVariants.{NotJoint, ZeroVoterJoint, SimpleInJoint, RemovedAllVoters}
-use Rattle.conf_change.specs.declared.step.Step.TheVariants.{Simple, EnterJoint, LeaveJoint}
+use Rattle.conf_change.specs.declared.step.Step.TheVariants.{Simple, EnterJoint}
 use Rattle.conf_change.specs.Words.{words}
 use Rattle.conf_change.specs.ChangeList.{changes_in, unknown_token, unknown_input, bad_number}
 use Rattle.conf_change.specs.ConfStateLine.{conf_state_in}

@@ -1,7 +1,8 @@
 -- A configuration: who votes, who learns, and what is wrong with one that is not valid.
-use Rattle.std.specs.Prelude.{ℕ, Bool, false, not, ◌&&◌, ◌||◌, List, [], ◌∷◌, ◌++◌, Option, find}
+use Rattle.std.specs.Prelude.{ℕ, Bool, false, not, ◌&&◌, ◌||◌, List, [], ◌∷◌, ◌++◌, Option, find, nat_eq}
+use Rattle.std.specs.Bool.{beq}
 use Rattle.std.specs.List.{list_all}
-use Rattle.quorum_sets.specs.Ids.{Ids, no_ids, has, ascending, is_empty}
+use Rattle.quorum_sets.specs.Ids.{Ids, no_ids, has, ascending, is_empty, difference_count}
 use Rattle.quorum_sets.specs.Voters.{Voters}
 use Rattle.conf_change.specs.declared.config.Invariant.{Invariant}
 use Rattle.conf_change.specs.declared.config.Invariant.TheVariants.{ZeroId, NextNotOutgoing, NextAndIncoming, LearnerAndVoter, NotJointButNext, NotJointButAutoLeave}
@@ -74,3 +75,13 @@ has_voter_or_nobody c = has_voter c || (is_empty c.incoming && is_empty c.outgoi
 -- it is valid, and has an incoming voter or nobody at all
 abbrev pub is_restorable : Configuration → Bool
 is_restorable c = is_valid c && has_voter_or_nobody c
+
+-- no id is in just one of the sets
+abbrev pub is_same_set : Ids → Ids → Bool
+is_same_set a b = nat_eq (difference_count a b) 0
+
+-- the four sets and the flag are the same
+abbrev pub is_same : Configuration → Configuration → Bool
+is_same a b =
+    is_same_set a.incoming b.incoming && is_same_set a.outgoing b.outgoing && is_same_set a.learners b.learners
+    && is_same_set a.learners_next b.learners_next && beq a.auto_leave b.auto_leave

@@ -12,4 +12,5 @@ pub mod Text
 pub mod Words
 pub mod Number
 pub mod ChangeList
+pub mod SameChanges
 pub mod ConfStateLine

@@ -39,6 +39,18 @@ impl Model for Changes {
     ghost view = { λ inner. inner.list.items };
 }
 
+impl PartialEq for Changes {
+    ghost use Rattle.conf_change.specs.SameChanges.{is_same_list, is_same_list-laws};
+
+    ghost eq = { is_same_list };
+
+    ghost laws = { is_same_list-laws };
+
+    fn eq(&self, other: &Changes) -> bool {
+        self.list == other.list
+    }
+}
+
 impl From<Vec<Change>> for Changes {
     ghost from_gives = { λ list changes. changes ≡ list.items };
 
@@ -70,25 +82,5 @@ impl Changes {
     {
         let list = self.list.clone()?;
         Ok(Changes { list })
-    }
-}
-
-#[cfg(test)]
-mod tests {
-    use super::*;
-    use std::test::Fail;
-
-    #[test]
-    fn gives_its_vector_back(rt: HostRuntime) -> Result<(), Fail> {
-        let change = Change {
-            kind: Kind::Learner,
-            id: 5,
-        };
-        let changes = Changes::from(vec![in rt.alloc(); change]?);
-        let copy = changes.try_clone()?;
-        assert_eq!(rt; changes.as_slice(), copy.as_slice());
-        let list: Vec<Change> = copy.into();
-        assert_eq!(rt; list.as_slice(), [change].as_slice());
-        Ok(())
     }
 }

@@ -1,9 +1,9 @@
 //! Configurations: who votes, who learns, and what is wrong with one that is not valid.
 ghost use Rattle.std.specs.Prelude.{◌≡◌, ◌↔◌, Some, true, false, not, ◌&&◌, IfOk, IfErr, OnOk, OnErr, IsOk, IsTrue, if◌then◌else◌};
-ghost use Rattle.conf_change.specs.Configuration.{first_broken, is_valid, keeps, is_within, is_apart};
+ghost use Rattle.conf_change.specs.Configuration.{first_broken, is_valid, keeps, is_within, is_apart, is_same, is_same_set};
 ghost use Rattle.conf_change.specs.declared.config.Invariant.{Invariant};
 
-use quorum_sets::{MemberSet, NoMemory};
+use quorum_sets::{MemberSet, NoMemory, symdiff};
 use std::marker::Model;
 use thiserror::Error;
 
@@ -70,6 +70,32 @@ impl<S: MemberSet> Config<S> {
             auto_leave: self.auto_leave,
         })
     }
+
+    /// Whether the two have the same four sets and the same flag. It takes no memory.
+    pub fn same(&self, other: &Config<S>) -> bool
+        ensures same { result ≡ is_same self.now other.now }
+        ensures equal { (result ≡ true) ↔ (self.now ≡ other.now) }
+    {
+        has_same_parts(self, other)
+    }
+}
+
+// Whether the four sets and the flag are the same.
+fn has_same_parts<S: MemberSet>(a: &Config<S>, b: &Config<S>) -> bool
+    ensures { result ≡ is_same a.now b.now }
+{
+    has_same_ids(&a.incoming, &b.incoming)
+        && has_same_ids(&a.outgoing, &b.outgoing)
+        && has_same_ids(&a.learners, &b.learners)
+        && has_same_ids(&a.learners_next, &b.learners_next)
+        && a.auto_leave == b.auto_leave
+}
+
+// Whether no id is in just one of the sets.
+fn has_same_ids<S: MemberSet>(a: &S, b: &S) -> bool
+    ensures { result ≡ is_same_set (S.ids a.now) (S.ids b.now) }
+{
+    symdiff(a, b) == 0
 }
 
 /// Answers the first invariant that the configuration breaks; one that breaks none is valid. It takes no memory.
@@ -140,62 +166,4 @@ fn is_apart_from_both<S: MemberSet>(ids: &S, first: &S, second: &S) -> bool
         }
     }
     true
-}
-
-#[cfg(test)]
-mod tests {
-    use super::*;
-    use quorum_sets::TreeIds;
-    use std::alloc::Global;
-    use std::test::Fail;
-
-    fn set(alloc: Global, ids: &[u64]) -> Result<TreeIds, NoMemory> {
-        let mut set = TreeIds::empty(alloc);
-        for id in ids {
-            set.insert(*id)?;
-        }
-        Ok(set)
-    }
-
-    #[test]
-    fn tells_what_is_broken(rt: HostRuntime) -> Result<(), Fail> {
-        let rows: [(
-            [u64; 1],
-            &[u64],
-            &[u64],
-            &[u64],
-            bool,
-            Result<(), Invariant>,
-        ); 7] = [
-            ([1], &[2], &[], &[1], false, Err(Invariant::NextNotOutgoing)),
-            ([1], &[1], &[], &[1], false, Err(Invariant::NextAndIncoming)),
-            ([0], &[], &[0], &[], false, Err(Invariant::ZeroId)),
-            ([1], &[2], &[2], &[], false, Err(Invariant::LearnerAndVoter)),
-            (
-                [1],
-                &[],
-                &[],
-                &[],
-                true,
-                Err(Invariant::NotJointButAutoLeave),
-            ),
-            ([1], &[], &[2], &[], false, Ok(())),
-            ([3], &[1], &[2], &[1], true, Ok(())),
-        ];
-        for (row, (incoming, outgoing, learners, next, auto_leave, want)) in rows
-            .iter()
-            .enumerate()
-        {
-            let config = Config {
-                incoming: set(rt.alloc(), incoming)?,
-                outgoing: set(rt.alloc(), outgoing)?,
-                learners: set(rt.alloc(), learners)?,
-                learners_next: set(rt.alloc(), next)?,
-                auto_leave: *auto_leave,
-            };
-            assert_eq!(rt; check(&config), *want, "row {row}");
-            assert_eq!(rt; check(&config.try_clone()?), *want, "copy of row {row}");
-        }
-        Ok(())
-    }
 }

@@ -95,8 +95,8 @@ pub(crate) fn without_outgoing<S: MemberSet>(
     })
 }
 
-// The ids of both sets.
-fn union<S: MemberSet>(a: &S, b: &S) -> Result<S, NoMemory>
+/// The ids of both sets.
+pub fn union<S: MemberSet>(a: &S, b: &S) -> Result<S, NoMemory>
     ensures { IfOk result (λ both. S.ids both ≡ ids_of (ascending (S.ids a.now) ++ ascending (S.ids b.now))) }
 {
     let mut both = a.try_clone()?;

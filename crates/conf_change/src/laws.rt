@@ -3,7 +3,7 @@ ghost use Rattle.std.specs.Prelude.{◌≡◌, ◌↔◌, ℕ, List, Ok, Err, So
 ghost use Rattle.conf_change.specs.declared.change.Change.{Change};
 ghost use Rattle.conf_change.specs.Words.{words};
 ghost use Rattle.conf_change.specs.ChangeList.{StandsFor, BadToken, IsFirstBad, changes_in};
-ghost use Rattle.conf_change.specs.Configuration.{Configuration, is_restorable};
+ghost use Rattle.conf_change.specs.Configuration.{Configuration, is_restorable, is_same};
 ghost use Rattle.conf_change.specs.ConfState.{ConfStateLists, Describes, lists_of, restored};
 ghost use Rattle.conf_change.specs.ConfStateLine.{StandsForConfState, conf_state_in};
 
@@ -32,4 +32,9 @@ pub fn restored_is_described()
 pub fn saved_form_describes()
     ensures own { (c : Configuration) → Describes (lists_of c) c }
     ensures one { (saved : ConfStateLists) (c d : Configuration) → Describes saved c → Describes saved d → c ≡ d }
+{}
+
+/// The test whether two configurations are the same is equality.
+pub fn same_is_equality()
+    ensures { (a b : Configuration) → (is_same a b ≡ true) ↔ (a ≡ b) }
 {}

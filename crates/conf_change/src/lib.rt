@@ -23,6 +23,7 @@ pub use change::{Change, Changes, Kind};
 pub use change_list::{TokenFault, read_changes};
 pub use changer::Changer;
 pub use config::{Config, Invariant, check};
+pub use edits::union;
 pub use progress::Progress;
 pub use refused::Refused;
 pub use restore::RestoreFault;

@@ -12,8 +12,6 @@ pub mod laws;
 mod majority;
 mod member_set;
 mod no_memory;
-#[cfg(test)]
-mod tests;
 mod tree_ids;
 mod voting;
 
