@@ -1,15 +1,14 @@
 -- What an item takes in with one more line, phase by phase.
 use Rattle.std.proofs.Common.{◌≡◌, ℕ, ◌+◌, ◌-◌, Bool, true, false, cond, ◌&&◌, List, [], ◌∷◌, ◌++◌, length, map, ◌<◌, refl, sym, ◌∙◌, ap, arith}
-use Rattle.std.specs.Prelude.{Option, Some, None, is_some, IsSome, option_to_list, Ok, Err}
+use Rattle.std.specs.Prelude.{Option, Some, None, IsSome, option_to_list, Ok, Err}
 use Rattle.std.specs.List.{list_all, list_any}
 use Rattle.std.proofs.lemmas.List.{append_assoc, length-append, map-append}
 use Rattle.dd_file.specs.Bytes.{is_blank}
 use Rattle.dd_file.specs.Words.{CommandText, command_of}
-use Rattle.dd_file.specs.Script.{Front, front, first_of, joined, is_continued, is_separator, is_dashes, has_pair, in_double, body, directive, after_pair, at_command}
-use Rattle.dd_file.specs.Draft.{DraftText, AddsIn, FitsIn, drafted, with_command, begins_directive, ends_in_dashes}
+use Rattle.dd_file.specs.Script.{front, first_of, joined, is_continued, is_separator, is_dashes, has_pair, in_double, body, directive, after_pair, at_command}
+use Rattle.dd_file.specs.Draft.{DraftText, AddsIn, FitsIn, drafted, begins_directive, ends_in_dashes}
 use Rattle.dd_file.specs.declared.item.Item.TheVariants.{Blank}
 use Rattle.dd_file.specs.declared.fault.FileFault.TheVariants.{AfterDouble, BadDirective}
-use Rattle.dd_file.specs.declared.phase.Phase.{Phase}
 use Rattle.dd_file.specs.declared.phase.Phase.TheVariants.{Head, BlankLines, NoCommand, Input, Separator, Single, Double, Pair, Complete, AfterPair}
 use Rattle.dd_file.proofs.Drafting.{with_command-same, with_command-some, body-separator, single-blank, double-pair, has_pair-push, ends_in_dashes-push, first_of-head}
 

@@ -1,13 +1,13 @@
 -- What calls that read on one after another say of the whole input.
-use Rattle.std.proofs.Common.{◌≡◌, ℕ, zero, suc, ◌+◌, ◌<◌, ◌≤◌, Bool, true, false, List, [], ◌∷◌, ◌++◌, length, refl, sym, ◌∙◌, ap, subst, arith, inl, inr}
-use Rattle.std.specs.Prelude.{◌⊎◌, Option, Some, None, Result, Ok, Err}
+use Rattle.std.proofs.Common.{◌≡◌, ℕ, zero, suc, ◌+◌, ◌<◌, true, List, [], ◌∷◌, ◌++◌, length, refl, sym, ◌∙◌, ap, subst, arith, inl, inr}
+use Rattle.std.specs.Prelude.{◌⊎◌, Option, Some, None, Result, Ok}
 use Rattle.std.specs.Io.KnownBytes.{Consumes, IsAtEnd}
 use Rattle.std.proofs.lemmas.List.{append_assoc, append-nil, append_cancel_right}
 use Rattle.dd_file.specs.Place.{Place}
 use Rattle.dd_file.specs.Device.{LosesFront}
 use Rattle.dd_file.specs.Reading.{Next, Over, Found, Faulty, Script, followed, with_first, first_items, script_from}
 use Rattle.dd_file.specs.ReaderState.{ReaderState}
-use Rattle.dd_file.specs.Answer.{AgreesWith, Agrees, Answers, IsCutShort, answered, MovesOn, ReadsOn}
+use Rattle.dd_file.specs.Answer.{AgreesWith, Agrees, Answers, IsCutShort, answered, MovesOn}
 use Rattle.dd_file.specs.InOrder.{ReadsTo, TakesBytes, GivenSoFar}
 use Rattle.dd_file.specs.declared.fault.FileFault.{FileFault}
 use Rattle.dd_file.proofs.PieceParts.{consumes-append}

@@ -1,12 +1,12 @@
 -- What the lines that were read say of the next item.
-use Rattle.std.proofs.Common.{◌≡◌, ℕ, ◌+◌, Bool, true, false, cond, not, ◌&&◌, List, [], ◌∷◌, ◌++◌, length, drop, take, map, refl, sym, ◌∙◌, ap, subst, arith, inl, inr}
+use Rattle.std.proofs.Common.{◌≡◌, ℕ, ◌+◌, Bool, true, false, not, ◌&&◌, List, [], ◌++◌, length, drop, take, map, refl, sym, ◌∙◌, ap, subst, inl, inr}
 use Rattle.std.specs.Prelude.{◌⊎◌, Option, Some, None, is_some, Result, Ok, Err}
 use Rattle.std.specs.List.{concat}
 use Rattle.dd_file.specs.Lines.{pieces, line_of}
 use Rattle.dd_file.specs.Place.{Place}
 use Rattle.dd_file.specs.Words.{CommandText}
 use Rattle.dd_file.specs.Script.{Front, front, first_of, body, in_single, in_double, after_pair}
-use Rattle.dd_file.specs.Reading.{Next, Over, Found, Faulty, next_item, next_line, from_front, with_count, at_end, is_too_long, pieces_within}
+use Rattle.dd_file.specs.Reading.{Next, Over, Found, Faulty, next_item, next_line, from_front, with_count, is_too_long, pieces_within}
 use Rattle.dd_file.specs.Draft.{DraftText, Fits, FitsIn, front_of, front_in, is_done, found_of, found_in_front, with_command, behind_separator, drafted}
 use Rattle.dd_file.specs.declared.item.Item.{Item}
 use Rattle.dd_file.specs.declared.phase.Phase.{Phase}
@@ -14,7 +14,7 @@ use Rattle.dd_file.specs.declared.phase.Phase.TheVariants.{Begin, CommentLine, B
 use Rattle.dd_file.specs.declared.fault.FileFault.{FileFault}
 use Rattle.dd_file.specs.declared.fault.FileFault.TheVariants.{InputTooLong}
 use Rattle.dd_file.proofs.LinesOn.{LinesOn, line-over, line-long}
-use Rattle.dd_file.proofs.DraftEnd.{Ends, EndsWith, draft-ends, done-same, first_of-continued}
+use Rattle.dd_file.proofs.DraftEnd.{Ends, draft-ends, done-same, first_of-continued}
 
 -- the answer as what comes next
 abbrev pub as_next : Result (Option Item) FileFault → Place → List ℕ → Next Item

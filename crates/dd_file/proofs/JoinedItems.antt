@@ -16,7 +16,7 @@ use Rattle.dd_file.specs.declared.item.Item.TheVariants.{Comment, Blank, Directi
 use Rattle.dd_file.specs.declared.fault.FileFault.{FileFault}
 use Rattle.dd_file.proofs.Locality.{first_of-local, ended_front}
 use Rattle.dd_file.proofs.CarriageReturns.{without_return}
-use Rattle.dd_file.proofs.WrittenLines.{both, pieces-line, text_of-append}
+use Rattle.dd_file.proofs.WrittenLines.{both, ended, lines-lines, text_of-append}
 use Rattle.dd_file.proofs.Newlines.{without_last-push}
 use Rattle.dd_file.proofs.FrontLines.{first_of-fits, moved_item}
 use Rattle.dd_file.proofs.OpenFront.{open-front}
@@ -42,19 +42,6 @@ cut-byte false b text e cut = at cut.lines cut.is cut.are_lines where
 cut_of : (text : List ℕ) → Cut text
 cut_of [] = record { lines = []; last = []; is = refl; are_lines = refl; is_last = refl }
 cut_of (b ∷ text) = cut-byte (b == 10) b text refl (cut_of text)
-
--- lines that are written, and what follows them
-pieces-lines : (lines : List (List ℕ)) (rest : List ℕ) → list_all is_line lines ≡ true → pieces (text_of lines ++ rest) ≡ map (λ line. line ++ newline) lines ++ pieces rest
-pieces-lines [] rest h = refl
-pieces-lines (line ∷ lines) rest h = let k = both (is_line line) (list_all is_line lines) h in
-    ap pieces (append_assoc (line ++ newline) (text_of lines) rest) ∙ pieces-line line (text_of lines ++ rest) k.0 ∙ ap (λ ps. (line ++ newline) ∷ ps) (pieces-lines lines rest k.1)
-
--- the lines of those pieces
-abbrev ended : List (List ℕ) → List (List ℕ)
-ended lines = map line_of (map (λ line. line ++ newline) lines)
-
-lines-lines : (lines : List (List ℕ)) (rest : List ℕ) → list_all is_line lines ≡ true → lines_of (text_of lines ++ rest) ≡ ended lines ++ lines_of rest
-lines-lines lines rest h = ap (map line_of) (pieces-lines lines rest h) ∙ map-append line_of (map (λ line. line ++ newline) lines) (pieces rest)
 
 -- a last line without its newline
 pieces-last : (b : ℕ) (line : List ℕ) → is_line (b ∷ line) ≡ true → pieces (b ∷ line) ≡ (b ∷ line) ∷ []

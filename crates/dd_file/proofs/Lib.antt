@@ -27,9 +27,13 @@ pub mod CarriageReturns
 pub mod WrittenLines
 pub mod Scanning
 pub mod SameText
+pub mod ReadItem
+pub mod ScriptItems
 pub mod WrittenItem
 pub mod FrontLines
 pub mod OpenFront
 pub mod ScriptLines
 pub mod JoinedItems
+pub mod WrittenScript
 pub mod WorkedRewriting
+pub mod Keys

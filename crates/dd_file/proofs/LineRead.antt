@@ -1,6 +1,6 @@
 -- What the piece that was read says of the next line.
 use Rattle.std.proofs.Common.{◌≡◌, ℕ, ◌+◌, ◌≤◌, ◌<◌, Bool, true, false, List, [], ◌++◌, length, refl, sym, ◌∙◌, ap, subst, arith, inl, inr}
-use Rattle.std.specs.Prelude.{◌⊎◌, ◌||◌, Option, Some, None, Result, Ok, Err, MatchOption}
+use Rattle.std.specs.Prelude.{◌⊎◌, ◌||◌, Option, Some, None, Ok, Err, MatchOption}
 use Rattle.std.proofs.lemmas.List.{append_assoc, append_cancel_right}
 use Rattle.std.specs.Io.KnownBytes.{IsAtEnd}
 use Rattle.dd_file.specs.Lines.{line_of, is_whole}
@@ -8,7 +8,7 @@ use Rattle.dd_file.specs.Place.{Place, longest_input}
 use Rattle.dd_file.specs.Reading.{Over, Found, Faulty, next_line}
 use Rattle.dd_file.specs.ReaderState.{ReaderState, IsOver}
 use Rattle.dd_file.specs.PieceRead.{PartRead, PieceRead, LongRead, PieceFault}
-use Rattle.dd_file.specs.Answer.{AgreesWith, Agrees, Answers, MovesOn, ReadsOn, IsLineFault, IsCutShort, is_read_fault}
+use Rattle.dd_file.specs.Answer.{AgreesWith, Agrees, Answers, MovesOn, ReadsOn, IsLineFault, is_read_fault}
 use Rattle.dd_file.specs.declared.fault.FileFault.{FileFault}
 use Rattle.dd_file.specs.declared.fault.FileFault.TheVariants.{Read, NoMemory, BadDirective, AfterDouble, UnclosedDouble, InputTooLong}
 use Rattle.dd_file.proofs.NextLine.{next_line-found, next_line-over, next_line-long}

@@ -60,10 +60,14 @@ newlines_at_end-one b = at (nat_eq 10 b) where
   at true = refl
   at false = refl
 
+-- the last two bytes tell whether a text ends in two newlines
+ends_with-two : (xs : List ℕ) (a b : ℕ) → ends_with nat_eq ((xs ++ a ∷ []) ++ b ∷ []) (newline ++ newline) ≡ (nat_eq 10 a && (nat_eq 10 b && true))
+ends_with-two xs a b =
+    ap (λ t. ends_with nat_eq t (newline ++ newline)) (append_assoc xs (a ∷ []) (b ∷ [])) ∙ ends_with-append xs (a ∷ b ∷ []) (newline ++ newline) refl
+
 newlines_at_end-two : (xs : List ℕ) (a b : ℕ) → newlines_at_end ((xs ++ a ∷ []) ++ b ∷ []) ≡ counted (nat_eq 10 b) (nat_eq 10 a)
 newlines_at_end-two xs a b =
-    let two : ends_with nat_eq ((xs ++ a ∷ []) ++ b ∷ []) (newline ++ newline) ≡ (nat_eq 10 a && (nat_eq 10 b && true)) =
-    ap (λ t. ends_with nat_eq t (newline ++ newline)) (append_assoc xs (a ∷ []) (b ∷ [])) ∙ ends_with-append xs (a ∷ b ∷ []) (newline ++ newline) refl in
+    let two = ends_with-two xs a b in
     let one : ends_with nat_eq ((xs ++ a ∷ []) ++ b ∷ []) newline ≡ (nat_eq 10 b && true) = ends_with-append (xs ++ a ∷ []) (b ∷ []) newline refl in
     ap (λ p. if p then 2 else (if ends_with nat_eq ((xs ++ a ∷ []) ++ b ∷ []) newline then 1 else 0)) two
     ∙ ap (λ q. if nat_eq 10 a && (nat_eq 10 b && true) then 2 else (if q then 1 else 0)) one ∙ at (nat_eq 10 a) (nat_eq 10 b) where
@@ -139,3 +143,12 @@ without_last-front xs (y ∷ ys) = let held = if newlines_at_end xs == 0 then []
   held ++ without_last 10 (y ∷ ys),
   without_last-append 10 xs y ys ∙ ap (λ t. t ++ without_last 10 (y ∷ ys)) (sym (text-held xs)) ∙ append_assoc (without_last 10 xs) held (without_last 10 (y ∷ ys)),
 )
+
+-- a text behind whose last byte a newline is put
+pub double_end-pushed : (xs : List ℕ) (a : ℕ) → without_double_end ((xs ++ a ∷ []) ++ newline) ≡ cond (nat_eq 10 a) (xs ++ a ∷ []) ((xs ++ a ∷ []) ++ newline)
+double_end-pushed xs a =
+    let text = (xs ++ a ∷ []) ++ newline in
+    ap (λ p. if p then without_last 10 text else text) (ends_with-two xs a 10) ∙ ap (λ t. if nat_eq 10 a && true then t else text) (without_last-push 10 10 (xs ++ a ∷ [])) ∙ at (nat_eq 10 a) (xs ++ a ∷ []) text where
+      at : (p : Bool) (front whole : List ℕ) → (if p && true then front else whole) ≡ cond p front whole
+      at true front whole = refl
+      at false front whole = refl

@@ -1,6 +1,6 @@
 -- The next line of some bytes, told by their first piece.
-use Rattle.std.proofs.Common.{◌≡◌, ℕ, zero, suc, ◌+◌, ◌-◌, ◌≤◌, ◌<◌, Bool, true, false, cond, List, [], ◌∷◌, ◌++◌, length, take, drop, map, refl, sym, ◌∙◌, ap, arith, rules, inl, inr}
-use Rattle.std.specs.Prelude.{◌==◌, ◌⊎◌, filter, nat_lt}
+use Rattle.std.proofs.Common.{◌≡◌, ℕ, zero, suc, ◌+◌, ◌-◌, ◌≤◌, ◌<◌, true, false, List, [], ◌∷◌, ◌++◌, length, take, drop, refl, sym, ◌∙◌, ap, arith, inl, inr}
+use Rattle.std.specs.Prelude.{◌==◌, ◌⊎◌, filter}
 use Rattle.std.specs.List.{concat}
 use Rattle.std.proofs.lemmas.List.{append-nil, take_all, take-append-le, length-append, length-take}
 use Rattle.std.proofs.Math.Seq.{drop-append_seam, drop-length}
@@ -8,7 +8,7 @@ use Rattle.std.proofs.lemmas.Bool.Decides.{nat_tests}
 use Rattle.dd_file.specs.FirstPiece.{first_len}
 use Rattle.dd_file.specs.Lines.{pieces, line_of, is_whole}
 use Rattle.dd_file.specs.Place.{Place}
-use Rattle.dd_file.specs.Reading.{Next, Over, Found, Faulty, next_line, from_pieces, found_in, is_too_long, pieces_within}
+use Rattle.dd_file.specs.Reading.{Next, Over, Found, Faulty, next_line, from_pieces, is_too_long, pieces_within}
 use Rattle.dd_file.specs.declared.fault.FileFault.TheVariants.{InputTooLong}
 use Rattle.dd_file.proofs.Pieces.{pieces-first}
 use Rattle.dd_file.proofs.PieceParts.{longer, shorter}

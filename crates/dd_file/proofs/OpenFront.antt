@@ -6,13 +6,13 @@ use Rattle.std.proofs.lemmas.List.{drop-append-le}
 use Rattle.dd_file.specs.Bytes.{is_blank}
 use Rattle.dd_file.specs.Parts.{up_to, behind}
 use Rattle.dd_file.specs.Words.{CommandText, command_of}
-use Rattle.dd_file.specs.Script.{Front, front, first_of, head_of, joined, is_continued, is_comment, is_separator, is_dashes, begins_with_dashes, before_pair, has_pair, directive, after_pair, in_double, in_single, body, at_command, at_head}
+use Rattle.dd_file.specs.Script.{Front, front, first_of, head_of, joined, is_continued, is_comment, is_separator, is_dashes, before_pair, has_pair, directive, after_pair, in_double, in_single, body, at_command, at_head}
 use Rattle.dd_file.specs.Laws.{has_separator}
 use Rattle.dd_file.specs.declared.item.Item.{Item}
 use Rattle.dd_file.specs.declared.item.Item.TheVariants.{Comment, Blank}
 use Rattle.dd_file.specs.declared.fault.FileFault.{FileFault}
 use Rattle.dd_file.specs.declared.fault.FileFault.TheVariants.{BadDirective, AfterDouble, UnclosedDouble}
-use Rattle.dd_file.proofs.Locality.{head-length, head-local, pair-bound, any-local, up_to-local, behind-local, has_pair-local, before_pair-local}
+use Rattle.dd_file.proofs.Locality.{output_at, head-length, head-local, pair-bound, any-local, up_to-local, behind-local, has_pair-local, before_pair-local}
 use Rattle.dd_file.proofs.Scanning.{any-seam, up_to-seam}
 use Rattle.dd_file.proofs.FrontLines.{up_to-behind}
 
@@ -59,7 +59,7 @@ in_double-closes n command head input lines = at (has_pair lines) refl where
       let is : in_double n command head input lines ≡ front (Err (UnclosedDouble n)) (length head + length input + length (before_pair lines) + 2) false = rw e refl in
       closes-is _ _ _ _ _ (λ more. in_double n command head input (lines ++ [] ∷ more)) is refl (λ more. refl) (closes-fault (UnclosedDouble n) _ (length head + length input + 2 + length lines) false _)
 
-up_to-all : {X : Type 0} (test : X → Bool) (xs : List X) → list_any test xs ≡ false → up_to test xs ≡ xs
+pub up_to-all : {X : Type 0} (test : X → Bool) (xs : List X) → list_any test xs ≡ false → up_to test xs ≡ xs
 up_to-all test [] h = refl
 up_to-all test (x ∷ xs) h = at (test x) (up_to-all test xs) h where
   at : (c : Bool) → (list_any test xs ≡ false → up_to test xs ≡ xs) → (c || list_any test xs) ≡ false → cond c [] (x ∷ up_to test xs) ≡ x ∷ xs
@@ -81,9 +81,6 @@ in_single-closes n command head input lines = at (list_any is_blank lines) refl 
       closes-is _ _ _ _ _ (λ more. front (Ok (directive n command head input lines)) (length head + length input + 1 + length lines + 1) true) is refl same (λ ended sep. (refl, λ more. refl))
 
 -- what stands behind a separator
-abbrev output_at : ℕ → CommandText → List (List ℕ) → List (List ℕ) → List (List ℕ) → Front
-output_at n command head input output = cond (begins_with_dashes output) (in_double n command head input (drop 1 output)) (in_single n command head input output)
-
 output-closes : (n : ℕ) (command : CommandText) (head input output : List (List ℕ)) →
     Closes (output_at n command head input output) (length head + length input + 1 + length output) (λ more. output_at n command head input (output ++ [] ∷ more))
 output-closes n command head input [] = in_single-closes n command head input []

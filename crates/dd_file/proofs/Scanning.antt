@@ -1,10 +1,11 @@
 -- What is found in lines that were put together.
 use Rattle.std.proofs.Common.{◌≡◌, ℕ, zero, suc, Bool, true, false, not, cond, ◌&&◌, ◌||◌, List, [], ◌∷◌, ◌++◌, length, drop, refl, sym, ◌∙◌, ap}
-use Rattle.std.specs.Prelude.{Some, codes}
+use Rattle.std.specs.Prelude.{◌==◌, Some, codes, filter}
 use Rattle.std.specs.List.{list_all, list_any}
 use Rattle.std.proofs.Math.Seq.{drop-append_seam}
 use Rattle.dd_file.specs.Bytes.{is_blank}
 use Rattle.dd_file.specs.Parts.{up_to, behind}
+use Rattle.dd_file.specs.Lines.{without_last}
 use Rattle.dd_file.specs.Script.{first_of, head_of, at_head, is_comment, is_continued, is_dashes, begins_with_dashes, before_pair, has_pair}
 use Rattle.dd_file.specs.Rewritten.{is_output_line}
 use Rattle.dd_file.proofs.CarriageReturns.{without_return, without_returns, trimmed-without_return}
@@ -60,6 +61,21 @@ all-head test (line ∷ lines) h = let k = both (test line) (list_all test lines
   at true here ih = ap (λ b. b && list_all test (head_of lines)) here ∙ ih
   at false here ih = ap (λ b. b && true) here
 
+pub all-filter : {X : Type 0} (test kept : X → Bool) (xs : List X) → list_all test xs ≡ true → list_all test (filter kept xs) ≡ true
+all-filter test kept [] h = refl
+all-filter test kept (x ∷ xs) h = let k = both (test x) (list_all test xs) h in at (kept x) k.0 (all-filter test kept xs k.1) where
+  at : (c : Bool) → test x ≡ true → list_all test (filter kept xs) ≡ true → list_all test (cond c (x ∷ filter kept xs) (filter kept xs)) ≡ true
+  at true here ih = ap (λ b. b && list_all test (filter kept xs)) here ∙ ih
+  at false here ih = ih
+
+pub all-without_last : (test : ℕ → Bool) (b : ℕ) (xs : List ℕ) → list_all test xs ≡ true → list_all test (without_last b xs) ≡ true
+all-without_last test b [] h = refl
+all-without_last test b (x ∷ []) h = at (x == b) where
+  at : (c : Bool) → list_all test (cond c [] (x ∷ [])) ≡ true
+  at true = refl
+  at false = h
+all-without_last test b (x ∷ y ∷ xs) h = let k = both (test x) (list_all test (y ∷ xs)) h in ap (λ c. c && list_all test (without_last b (y ∷ xs))) k.0 ∙ all-without_last test b (y ∷ xs) k.1
+
 -- a head that has its last line, written and read again
 pub head_of-again : (lines more : List (List ℕ)) → list_all is_continued (head_of lines) ≡ false → head_of (without_returns (head_of lines) ++ more) ≡ without_returns (head_of lines)
 head_of-again [] more h = cc
@@ -87,7 +103,7 @@ first_of-head n line rest more comment blank head =
     rw (comment, blank) (ap (λ (h : List (List ℕ)). Some (at_head n h (drop (length h) ((line ∷ rest) ++ more)))) head ∙ ap (λ ls. Some (at_head n (line ∷ rest) ls)) (drop-append_seam (line ∷ rest) more))
 
 -- no line of an output is four dashes
-output_line-dashes : (line : List ℕ) → is_output_line line ≡ true → is_dashes line ≡ false
+pub output_line-dashes : (line : List ℕ) → is_output_line line ≡ true → is_dashes line ≡ false
 output_line-dashes line h = at (is_dashes line) _ h where
   at : (c r : Bool) → not (c || r) ≡ true → c ≡ false
   at true r k = cc

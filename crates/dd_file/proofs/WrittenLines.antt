@@ -2,7 +2,7 @@
 use Rattle.std.proofs.Common.{◌≡◌, ℕ, Bool, true, false, not, cond, ◌&&◌, ◌||◌, List, [], ◌∷◌, ◌++◌, inl, inr, length, map, refl, sym, ◌∙◌, ap, subst, rules}
 use Rattle.std.specs.Prelude.{◌==◌, nat_eq}
 use Rattle.std.specs.List.{list_all, list_any, ends_with}
-use Rattle.std.proofs.lemmas.List.{append_assoc}
+use Rattle.std.proofs.lemmas.List.{append_assoc, append-nil, map-append}
 use Rattle.dd_file.specs.Bytes.{newline, is_blank}
 use Rattle.dd_file.specs.Lines.{pieces, before_first_piece, line_of, lines_of, text_of, without_last}
 use Rattle.dd_file.specs.Script.{is_dashes}
@@ -25,10 +25,21 @@ pieces-line (b ∷ line) rest h = at (b == 10) (pieces-line line rest) h where
   at true ih k = cc
   at false ih k = ap (before_first_piece b) (ih k)
 
+-- lines that are written, and what follows them
+pieces-lines : (lines : List (List ℕ)) (rest : List ℕ) → list_all is_line lines ≡ true → pieces (text_of lines ++ rest) ≡ map (λ line. line ++ newline) lines ++ pieces rest
+pieces-lines [] rest h = refl
+pieces-lines (line ∷ lines) rest h = let k = both (is_line line) (list_all is_line lines) h in
+    ap pieces (append_assoc (line ++ newline) (text_of lines) rest) ∙ pieces-line line (text_of lines ++ rest) k.0 ∙ ap (λ ps. (line ++ newline) ∷ ps) (pieces-lines lines rest k.1)
+
+-- the lines of those pieces
+abbrev pub ended : List (List ℕ) → List (List ℕ)
+ended lines = map line_of (map (λ line. line ++ newline) lines)
+
+pub lines-lines : (lines : List (List ℕ)) (rest : List ℕ) → list_all is_line lines ≡ true → lines_of (text_of lines ++ rest) ≡ ended lines ++ lines_of rest
+lines-lines lines rest h = ap (map line_of) (pieces-lines lines rest h) ∙ map-append line_of (map (λ line. line ++ newline) lines) (pieces rest)
+
 pub pieces-text_of : (lines : List (List ℕ)) → list_all is_line lines ≡ true → pieces (text_of lines) ≡ map (λ line. line ++ newline) lines
-pieces-text_of [] h = refl
-pieces-text_of (line ∷ lines) h = let k = both (is_line line) (list_all is_line lines) h in
-    pieces-line line (text_of lines) k.0 ∙ ap (λ ps. (line ++ newline) ∷ ps) (pieces-text_of lines k.1)
+pieces-text_of lines h = ap pieces (sym (append-nil (text_of lines))) ∙ pieces-lines lines [] h ∙ append-nil (map (λ line. line ++ newline) lines)
 
 without_last-newline : (line : List ℕ) → without_last 10 (line ++ newline) ≡ line
 without_last-newline line = without_last-push 10 10 line

@@ -1,5 +1,5 @@
 -- Items or lines that are read one after another.
-use Rattle.std.specs.Prelude.{◌≡◌, ℕ, ◌<◌, Bool, List, [], ◌∷◌, ◌++◌, length, Option}
+use Rattle.std.specs.Prelude.{◌≡◌, ℕ, ◌<◌, List, [], ◌∷◌, ◌++◌, length, Option}
 use Rattle.dd_file.specs.Place.{Place}
 use Rattle.dd_file.specs.Reading.{Next, Found}
 use Rattle.dd_file.specs.ReaderState.{ReaderState}

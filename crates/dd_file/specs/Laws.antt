@@ -1,13 +1,14 @@
 -- Laws of scripts that are written again and of scripts that are joined.
-use Rattle.std.specs.Prelude.{◌≡◌, ℕ, ◌+◌, ◌≤◌, Bool, true, false, not, ◌==◌, nat_lt, List, [], ◌∷◌, ◌++◌, length, drop, map, flat_map, Some, option_map, Result, Ok, Err, if◌then◌else◌}
+use Rattle.std.specs.Prelude.{◌≡◌, ℕ, ◌+◌, ◌≤◌, Bool, true, false, not, ◌==◌, nat_lt, List, [], ◌∷◌, ◌++◌, length, drop, map, flat_map, Some, option_map, None, Result, Ok, Err, if◌then◌else◌}
 use Rattle.std.specs.List.{list_all}
 use Rattle.dd_file.specs.Bytes.{newline, without_trailing_space}
 use Rattle.dd_file.specs.Lines.{lines_of}
 use Rattle.dd_file.specs.DirectiveText.{DirectiveText}
+use Rattle.dd_file.specs.Words.{has_keys}
 use Rattle.dd_file.specs.Script.{Front, front, first_of}
 use Rattle.dd_file.specs.Place.{longest_input}
 use Rattle.dd_file.specs.Reading.{script_of}
-use Rattle.dd_file.specs.Rewritten.{entry_text, is_output, is_directive, raw_lines_of}
+use Rattle.dd_file.specs.Rewritten.{Entry, entry, entry_text, rewritten_text, is_output, is_directive, raw_lines_of}
 use Rattle.dd_file.specs.declared.item.Item.{Item}
 use Rattle.dd_file.specs.declared.item.Item.TheVariants.{Comment, Blank, Directive}
 use Rattle.dd_file.specs.declared.fault.FileFault.{FileFault}
@@ -43,6 +44,42 @@ WrittenItem =
     (n m count : ℕ) (is_ended : Bool) (lines more : List (List ℕ)) (item : Item) (found : List ℕ) →
     list_all is_line lines ≡ true → is_output found ≡ true → first_of n lines ≡ Some (front (Ok item) count is_ended) →
     (again : Item) × (first_of m (lines_of (entry_text item found) ++ more) ≡ Some (front (Ok again) (length (lines_of (entry_text item found))) true)) × IsSameItem m found item again
+
+-- The entries are read again item by item, each with what was found as what is expected. A blank of one empty line at the
+-- end may be gone.
+pub data AreReadAgain : List Entry → List Item → Type 0 where
+  AreOver : AreReadAgain [] []
+  LastIsGone : (found : List ℕ) → AreReadAgain (entry (Blank ([] ∷ [])) found ∷ []) []
+  ReadAgain : (n : ℕ) (item again : Item) (found : List ℕ) (entries : List Entry) (items : List Item) →
+      IsSameItem n found item again → AreReadAgain entries items → AreReadAgain (entry item found ∷ entries) (again ∷ items)
+
+-- the last item is a blank of several lines
+abbrev pub ends_in_long_blank : List Item → Bool
+ends_in_long_blank [] = false
+ends_in_long_blank (Comment lines ∷ []) = false
+ends_in_long_blank (Blank lines ∷ []) = nat_lt 1 (length lines)
+ends_in_long_blank (Directive directive ∷ []) = false
+ends_in_long_blank (item ∷ next ∷ items) = ends_in_long_blank (next ∷ items)
+
+-- The items of a script, those before its fault where it has one, written again with outputs that were found, are read
+-- again, and without a fault. (Where they end in a blank of several lines, the newline that is dropped may leave a lone
+-- backslash on the last line.)
+abbrev pub WrittenScript : Type 0
+WrittenScript =
+    (input : List ℕ) (entries : List Entry) →
+    map (λ entry. entry.item) entries ≡ (script_of input).items → list_all (λ entry. is_output entry.found) entries ≡ true →
+    ends_in_long_blank (script_of input).items ≡ false → length (rewritten_text entries) ≤ longest_input →
+    let again = script_of (rewritten_text entries) in (again.fault ≡ None) × AreReadAgain entries again.items
+
+-- the keys of a directive's arguments are keys
+abbrev pub item_has_keys : Item → Bool
+item_has_keys (Comment lines) = true
+item_has_keys (Blank lines) = true
+item_has_keys (Directive directive) = has_keys directive.arguments
+
+-- The items of a script have keys.
+abbrev pub ItemsHaveKeys : Type 0
+ItemsHaveKeys = (input : List ℕ) → list_all item_has_keys (script_of input).items ≡ true
 
 -- an item that is no directive, or a directive with its separator
 abbrev pub has_separator : ℕ → Result Item FileFault → Bool

@@ -1,5 +1,5 @@
 -- A script as it is written, with what was found in the place of what was expected.
-use Rattle.std.specs.Prelude.{ℕ, Bool, true, false, not, ◌&&◌, ◌||◌, List, [], ◌∷◌, ◌++◌, ◌==◌, nat_eq, length, if◌then◌else◌, codes}
+use Rattle.std.specs.Prelude.{ℕ, Bool, true, false, not, ◌&&◌, ◌||◌, List, [], ◌∷◌, ◌++◌, ◌==◌, nat_eq, length, flat_map, if◌then◌else◌, codes}
 use Rattle.std.specs.List.{list_all, list_any, ends_with}
 use Rattle.dd_file.specs.Bytes.{newline, is_blank}
 use Rattle.dd_file.specs.Lines.{pieces, lines_of, text_of, without_last}
@@ -57,6 +57,18 @@ entry_text item found = kept_text item ++ (if is_directive item then found_text 
 -- the text without its last newline where it ends in two
 abbrev pub without_double_end : List ℕ → List ℕ
 without_double_end text = if ends_with nat_eq text (newline ++ newline) then without_last 10 text else text
+
+-- an item, and what was found where it is a directive
+pub record Entry : Type 0 where
+  pub item : Item
+  pub found : List ℕ
+
+abbrev pub entry : Item → List ℕ → Entry
+entry item found = record { item = item; found = found }
+
+-- a script that is written again
+abbrev pub rewritten_text : List Entry → List ℕ
+rewritten_text entries = without_double_end (flat_map (λ entry. entry_text entry.item entry.found) entries)
 
 -- how many newlines end a text: 0, 1, or 2 for two and more
 abbrev pub newlines_at_end : List ℕ → ℕ

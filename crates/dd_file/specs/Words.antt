@@ -99,6 +99,10 @@ abbrev pub arguments_of : List (List ℕ) → Option (List ArgumentText)
 arguments_of [] = Some []
 arguments_of (word ∷ words) = before_others (argument_of word) (arguments_of words)
 
+-- the key of each argument is a key
+abbrev pub has_keys : List ArgumentText → Bool
+has_keys arguments = list_all (λ argument. is_key argument.key) arguments
+
 -- a command is a key, and not `subtest`
 abbrev pub is_command_name : List ℕ → Bool
 is_command_name word = is_key word && not (bytes_eq word (codes "subtest"))

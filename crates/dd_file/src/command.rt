@@ -16,11 +16,14 @@ pub(crate) struct Command {
 }
 
 impl Model for Command {
-    ghost use Rattle.dd_file.specs.Words.{CommandText};
+    ghost use Rattle.std.specs.Prelude.{◌≡◌, true};
+    ghost use Rattle.dd_file.specs.Words.{CommandText, has_keys};
 
     ghost Value = { CommandText };
 
     ghost view = { λ a. record { name = a.name.items; arguments = a.arguments.items } };
+
+    ghost invariant = { λ a. has_keys a.arguments.items ≡ true };
 }
 
 /// Whether a word can be a command: `subtest` begins no directive.
@@ -62,86 +65,5 @@ pub(crate) fn parse_command(alloc: Global, text: &[u8]) -> Result<Option<Command
             arguments,
         })),
         None => Ok(None),
-    }
-}
-
-#[cfg(test)]
-mod tests {
-    use super::*;
-    use std::test::Fail;
-
-    /// The command, its keys and each value in brackets, or nothing where the text is no directive.
-    fn shown(alloc: Global, text: &str) -> Result<Vec<u8>, AllocError> {
-        let mut shown = Vec::new(alloc);
-        let Some(command) = parse_command(alloc, text.as_bytes())? else {
-            return Ok(shown);
-        };
-        shown.extend_from_slice(command.name.as_slice())?;
-        for argument in &command.arguments {
-            shown.push(b' ')?;
-            shown.extend_from_slice(argument.key())?;
-            for i in 0..4 {
-                if let Some(value) = argument.value(i) {
-                    shown.push(b'[')?;
-                    shown.extend_from_slice(value)?;
-                    shown.push(b']')?;
-                }
-            }
-        }
-        Ok(shown)
-    }
-
-    #[test]
-    fn reads_directives(rt: HostRuntime) -> Result<(), Fail> {
-        for (text, want) in [
-            ("simple", "simple"),
-            (
-                "\tenter-joint  autoleave=true ",
-                "enter-joint autoleave[true]",
-            ),
-            (
-                "committed cfg=(1, 2) cfgj=zero idx=(_,3)",
-                "committed cfg[1][2] cfgj[zero] idx[_][3]",
-            ),
-            ("vote cfg votes=( y n )", "vote cfg votes[y n]"),
-            ("x a=() b=( ) c=(,) d=", "x a b c[][] d[]"),
-            ("x a=((=#\\ \\", ""),
-            ("x a=((=#\\)", "x a[(=#\\]"),
-            ("x a==1", "x a[=1]"),
-            ("subtests", "subtests"),
-        ] {
-            assert_eq!(rt;
-                shown(rt.alloc(), text)?.as_slice(),
-                want.as_bytes(),
-                "at {text}"
-            );
-        }
-        Ok(())
-    }
-
-    #[test]
-    fn refuses_what_is_no_directive(rt: HostRuntime) -> Result<(), Fail> {
-        for text in [
-            "",
-            "subtest",
-            "a=1",
-            "simple =1",
-            "simple a=(",
-            "simple a=(1, 2)b",
-            "simple a=(1)(2)",
-            "simple a=b(c d)",
-            "simple a=b)",
-            "simple (1)",
-            "simple \\",
-            "caf\u{e9}",
-            "simple \u{e9}=1",
-        ] {
-            assert_eq!(rt;
-                parse_command(rt.alloc(), text.as_bytes())?.is_none(),
-                true,
-                "at {text}"
-            );
-        }
-        Ok(())
     }
 }

@@ -1,9 +1,7 @@
-//! Cutting a text into lines.
-ghost use Rattle.std.specs.Prelude.{◌≡◌, ◌≤◌, IfOk, length, map};
-ghost use Rattle.dd_file.specs.Lines.{lines_of, without_last};
+//! Cutting a line from a text, and its end from a line.
+ghost use Rattle.std.specs.Prelude.{◌≡◌, ◌≤◌, length};
+ghost use Rattle.dd_file.specs.Lines.{without_last};
 ghost use Rattle.dd_file.specs.FirstPiece.{first_len};
-
-use std::alloc::{AllocError, Global};
 
 /// How many bytes come up to the first newline, with it.
 pub(crate) fn piece_len(bytes: &[u8]) -> usize
@@ -26,19 +24,4 @@ pub(crate) fn without_end(bytes: &[u8], end: u8) -> &[u8]
         Some((last, front)) => { if *last == end { front } else { bytes } }
         None => bytes,
     }
-}
-
-/// The lines of a text.
-pub fn lines(alloc: Global, text: &[u8]) -> Result<Vec<Vec<u8>>, AllocError>
-    ensures { IfOk result (λ lines. map (λ line. line.items) lines.items ≡ lines_of text.now) }
-{
-    let mut lines = Vec::new(alloc);
-    let mut rest = text;
-    while !rest.is_empty() {
-        let (piece, behind) = rest.split_at(piece_len(rest));
-        let line = without_end(without_end(piece, b'\n'), b'\r');
-        lines.push(Vec::from_slice(alloc, line)?)?;
-        rest = behind;
-    }
-    Ok(lines)
 }

@@ -1,5 +1,6 @@
 //! The items of a script.
-ghost use Rattle.std.specs.Prelude.{◌≡◌, map, option_map, slice_get};
+ghost use Rattle.std.specs.Prelude.{◌≡◌, true, map, option_map, slice_get};
+ghost use Rattle.dd_file.specs.Words.{has_keys};
 
 use crate::command::Command;
 use std::marker::Model;
@@ -87,7 +88,9 @@ pub struct Directive {
 }
 
 impl Model for Directive {
+    ghost use Rattle.std.specs.Prelude.{◌≡◌, true};
     ghost use Rattle.dd_file.specs.DirectiveText.{DirectiveText};
+    ghost use Rattle.dd_file.specs.Words.{has_keys};
 
     ghost Value = { DirectiveText };
 
@@ -99,6 +102,8 @@ impl Model for Directive {
       expected = a.expected.items;
       raw_lines = a.raw_lines;
     } };
+
+    ghost invariant = { λ a. has_keys a.arguments.items ≡ true };
 }
 
 impl Directive {
@@ -151,7 +156,8 @@ impl Directive {
 
     /// The arguments, in the order in which they stand.
     pub fn arguments(&self) -> &[Argument]
-        ensures { result.now ≡ self.now.arguments }
+        ensures arguments { result.now ≡ self.now.arguments }
+        ensures keys { has_keys self.now.arguments ≡ true }
     {
         self.arguments.as_slice()
     }

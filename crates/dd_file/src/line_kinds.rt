@@ -31,38 +31,3 @@ pub(crate) fn is_dashes(line: &[u8]) -> bool
 {
     line == b"----".as_slice()
 }
-
-#[cfg(test)]
-mod tests {
-    use super::*;
-
-    #[test]
-    fn tells_comments_and_continued_lines(rt: HostRuntime) {
-        for (line, comment, continued) in [
-            ("", false, false),
-            ("\t # a", true, false),
-            ("# a\\", true, true),
-            ("a #", false, false),
-            ("a \\ ", false, true),
-            ("\\a", false, false),
-        ] {
-            assert_eq!(rt; is_comment(line.as_bytes()), comment, "at {line}");
-            assert_eq!(rt; is_continued(line.as_bytes()), continued, "at {line}");
-        }
-    }
-
-    #[test]
-    fn tells_separators(rt: HostRuntime) {
-        for (line, separator, dashes) in [
-            ("----", true, true),
-            (" ----\t", true, false),
-            ("---", false, false),
-            ("-----", false, false),
-            ("---- -", false, false),
-            ("", false, false),
-        ] {
-            assert_eq!(rt; is_separator(line.as_bytes()), separator, "at {line}");
-            assert_eq!(rt; is_dashes(line.as_bytes()), dashes, "at {line}");
-        }
-    }
-}

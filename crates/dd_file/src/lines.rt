@@ -164,35 +164,3 @@ fn drop_end(bytes: &mut Vec<u8>, end: u8)
     let len = without_end(bytes.as_slice(), end).len();
     bytes.truncate(len);
 }
-
-#[cfg(test)]
-mod tests {
-    use super::*;
-    use crate::device::FromRead;
-    use std::test::Fail;
-
-    #[test]
-    fn gives_lines(rt: HostRuntime) -> Result<(), Fail> {
-        for (input, want) in [
-            ("", ""),
-            ("a\r\n\nb\r\r", "<a><><b\r>"),
-            ("\n", "<>"),
-            ("\r", "<>"),
-            ("a", "<a>"),
-        ] {
-            let alloc = rt.alloc();
-            let mut source = FromRead::new(input.as_bytes());
-            let mut lines = Lines::new(alloc)?;
-            let mut shown = Vec::new(alloc);
-            for _ in 0..9 {
-                if let Some(line) = lines.next(&mut source)? {
-                    shown.push(b'<')?;
-                    shown.extend_from_slice(line.as_slice())?;
-                    shown.push(b'>')?;
-                }
-            }
-            assert_eq!(rt; shown.as_slice(), want.as_bytes(), "at {input}");
-        }
-        Ok(())
-    }
-}

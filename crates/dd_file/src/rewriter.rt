@@ -269,6 +269,3 @@ impl Rewriter {
         }
     }
 }
-
-#[cfg(test)]
-mod tests;

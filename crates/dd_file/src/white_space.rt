@@ -50,22 +50,3 @@ pub(crate) fn trimmed(bytes: &[u8]) -> &[u8]
 {
     without_leading_space(without_trailing_space(bytes))
 }
-
-#[cfg(test)]
-mod tests {
-    use super::*;
-
-    #[test]
-    fn trims_both_ends(rt: HostRuntime) {
-        for (bytes, want) in [
-            ("", ""),
-            (" \t\r\n\x0b\x0c", ""),
-            ("a", "a"),
-            (" a b\t", "a b"),
-            ("\x08 \u{a0}", "\x08 \u{a0}"),
-        ] {
-            assert_eq!(rt; trimmed(bytes.as_bytes()), want.as_bytes(), "at {bytes}");
-            assert_eq!(rt; is_blank(bytes.as_bytes()), want.is_empty(), "at {bytes}");
-        }
-    }
-}

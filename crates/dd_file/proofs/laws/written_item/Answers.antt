@@ -1,5 +1,6 @@
-use Rattle.dd_file.proofs.WrittenItem.{item-again}
+use Rattle.dd_file.proofs.ReadItem.{first_of-item}
+use Rattle.dd_file.proofs.WrittenItem.{read-again}
 use Rattle.dd_file.proofs.laws.written_item.Goals as goal
 
 pub returns : goal.returns
-returns c n m count is_ended lines more item found are output is = item-again n m count is_ended lines more item found are output is
+returns c n m count is_ended lines more item found are output is = read-again m more item found output (first_of-item n count is_ended lines item are is)

@@ -1,4 +1,4 @@
-use Rattle.std.proofs.Common.{◌≡◌, ◌+◌, vec_items, refl, sym, ap, ◌∙◌, arith, rules}
+use Rattle.std.proofs.Common.{◌+◌, vec_items, refl, sym, ap, ◌∙◌, arith}
 use Rattle.dd_file.specs.Draft.{DraftText, blank_draft, is_done}
 use Rattle.dd_file.proofs.ItemLoop.{reading-none, reading-more, done-reads, memory-reads, fault-item, end-reads, or-false}
 use Rattle.dd_file.proofs.reader.read_item.Goals as goal

@@ -1,4 +1,4 @@
-use Rattle.std.proofs.Common.{◌≡◌, ◌++◌, ◌∷◌, ◌&&◌, ◌+◌, [], true, false, map, vec_items, sym, ap, ◌∙◌, arith, rules}
+use Rattle.std.proofs.Common.{◌≡◌, ◌&&◌, ◌+◌, true, false, map, vec_items, sym, ap, ◌∙◌, arith, rules}
 use Rattle.std.proofs.lemmas.Grind.{common_steps}
 use Rattle.dd_file.specs.Script.{is_dashes}
 use Rattle.dd_file.specs.Draft.{DraftText, ends_in_dashes}

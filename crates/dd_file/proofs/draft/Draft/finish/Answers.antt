@@ -1,6 +1,5 @@
 use Rattle.std.proofs.Common.{◌≡◌, ap, inl, inr, sym, ◌∙◌, true, rules}
 use Rattle.dd_file.specs.Draft.{DraftText}
-use Rattle.dd_file.specs.declared.phase.Phase.{Phase}
 use Rattle.dd_file.specs.declared.phase.Phase.TheVariants.{Head, Double}
 use Rattle.dd_file.proofs.DraftEnd.{found-bad-at, found-unclosed-at, found-parts, directive-phase, is_directive_phase}
 use Rattle.dd_file.proofs.draft.Draft.finish.Goals as goal

@@ -1,4 +1,4 @@
-use Rattle.std.proofs.Common.{◌≡◌, ◌++◌, ◌+◌, ◌≤◌, length, vec_len, take, drop, true, false, [], sym, ap, ◌∙◌, subst, inl, inr, arith, rules}
+use Rattle.std.proofs.Common.{◌≡◌, ◌++◌, ◌+◌, ◌≤◌, length, vec_len, take, drop, true, false, [], sym, ap, ◌∙◌, inl, inr, arith, rules}
 use Rattle.std.proofs.lemmas.List.{length-drop}
 use Rattle.std.specs.Io.KnownBytes.{Consumes, IsAtEnd}
 use Rattle.dd_file.specs.FirstPiece.{first_len}

@@ -1,4 +1,4 @@
-use Rattle.std.proofs.Common.{◌≡◌, ◌≤◌, [], true, sym, ap, subst, ◌∙◌, rules}
+use Rattle.std.proofs.Common.{◌≡◌, ◌≤◌, true, sym, ap, subst, ◌∙◌, rules}
 use Rattle.dd_file.specs.Place.{longest_input}
 use Rattle.dd_file.specs.ReaderState.{ReaderState}
 use Rattle.dd_file.proofs.ItemLoop.{over-reads-item}
