@@ -1,10 +1,9 @@
 -- Answers to a line.
-use Rattle.std.proofs.Common.{◌≡◌, ℕ, ◌+◌, Bool, true, false, List, [], ◌∷◌, ◌++◌, length, get_or, refl, sym, ◌∙◌, ap, subst, arith}
+use Rattle.std.proofs.Common.{◌≡◌, ℕ, Bool, true, false, List, [], ◌∷◌, ◌++◌, length, get_or, refl, sym, ◌∙◌, ap, arith}
 use Rattle.std.specs.Prelude.{◌≢◌, Option, Some, None, Result, Ok, Err, IfSome, IsSomeAnd, OnOk, if◌then◌else◌}
 use Rattle.conf_change.specs.Configuration.{Configuration}
 use Rattle.conf_change.specs.Changer.{ChangerState, Makes}
 use Rattle.conf_change.specs.ChangeList.{BadToken, changes_in}
-use Rattle.conf_change.specs.Outcome.{outcome}
 use Rattle.conf_change.specs.Text.{config_text, refused_text}
 use Rattle.conf_change.specs.declared.change.Change.{Change}
 use Rattle.conf_change.specs.declared.refused.Refused.{Refused}

@@ -1,23 +1,26 @@
 -- Which texts are told lines.
-use Rattle.std.proofs.Common.{◌≡◌, ℕ, zero, suc, ◌+◌, ◌/◌, ◌%◌, ◌<◌, Bool, true, false, cond, not, ◌&&◌, ◌||◌, List, [], ◌∷◌, ◌++◌, length, map, refl, sym, ap, ◌∙◌, arith}
-use Rattle.std.specs.Prelude.{◌==◌, nat_le, nat_lt, nat_eq, codes, decimal, flat_map}
-use Rattle.std.specs.List.{list_all, list_any, join_with_byte}
+use Rattle.std.proofs.Common.{◌≡◌, ℕ, zero, suc, ◌/◌, ◌%◌, ◌≤◌, Bool, true, false, cond, not, ◌&&◌, List, [], ◌∷◌, ◌++◌, map, refl, sym, ap, ◌∙◌, arith}
+use Rattle.std.specs.Prelude.{◌==◌, nat_le, codes, decimal, flat_map}
+use Rattle.std.specs.List.{AllZip, list_all, join_with_byte}
 use Rattle.std.specs.Fmt.{digit_glyph, digits_onto, digits}
 use Rattle.std.specs.FinMap as finite
+use Rattle.std.specs.Str.Parse.{AllDigits}
 use Rattle.std.proofs.lemmas.List.{append-nil}
 use Rattle.std.proofs.lemmas.Bool.Decides.{nat_tests}
+use Rattle.std.proofs.lemmas.Str.Parse.{digit_at}
 use Rattle.quorum_sets.specs.Ids.{Ids, ascending, is_empty}
-use Rattle.dd_file.specs.Bytes.{newline}
 use Rattle.dd_file.specs.Lines.{text_of}
 use Rattle.conf_change.specs.Configuration.{Configuration, is_joint}
 use Rattle.conf_change.specs.ConfState.{ConfStateLists}
+use Rattle.conf_change.specs.Number.{SpellsNumber}
+use Rattle.conf_change.specs.Words.{trimmed}
 use Rattle.conf_change.specs.TrackerState.{TrackerState}
 use Rattle.conf_change.specs.Text.{where_there, spaced_numbers, set_text, config_text, progress_text, refused_text}
-use Rattle.conf_change.specs.ConfStateLine.{truth_text, conf_state_text}
+use Rattle.conf_change.specs.ConfStateLine.{truth_text, line_text, conf_state_text, SpellsNumbers, StandsForConfState}
 use Rattle.conf_change.specs.declared.progress.Progress.{Progress}
 use Rattle.conf_change.specs.declared.refused.Refused.{Refused}
 use Rattle.conf_change.specs.declared.refused.Refused.TheVariants.{AlreadyJoint, ZeroVoterJoint, NotJoint, SimpleInJoint, RemovedAllVoters, MoreThanOneVoter, NoMemory}
-use Rattle.conf_tool.specs.Texts.{line, member_line, member_lines, tracker_text}
+use Rattle.conf_tool.specs.Texts.{line, member_line, tracker_text}
 use Rattle.conf_tool.specs.Told.{is_line_byte, is_told_line, IsTold}
 
 pub first : (a b : Bool) → (a && b) ≡ true → a ≡ true
@@ -163,14 +166,40 @@ truth-bytes : (truth : Bool) → IsBytes (truth_text truth)
 truth-bytes true = refl
 truth-bytes false = refl
 
-conf_state-line : (saved : ConfStateLists) → IsLine (conf_state_text saved)
-conf_state-line saved =
-    starts (codes "Voters:[") refl ▸ numbers saved.voters ▸ goes (codes "] VotersOutgoing:[") refl ▸ numbers saved.voters_outgoing
-    ▸ goes (codes "] Learners:[") refl ▸ numbers saved.learners ▸ goes (codes "] LearnersNext:[") refl ▸ numbers saved.learners_next
-    ▸ goes (codes "] AutoLeave:") refl ▸ goes (truth_text saved.auto_leave) (truth-bytes saved.auto_leave)
+saved-line : (a b c d : List ℕ) (auto_leave : Bool) → IsTail a → IsTail b → IsTail c → IsTail d → IsLine (line_text a b c d auto_leave)
+saved-line a b c d auto_leave voters voters_outgoing learners learners_next =
+    starts (codes "Voters:[") refl ▸ voters ▸ goes (codes "] VotersOutgoing:[") refl ▸ voters_outgoing
+    ▸ goes (codes "] Learners:[") refl ▸ learners ▸ goes (codes "] LearnersNext:[") refl ▸ learners_next
+    ▸ goes (codes "] AutoLeave:") refl ▸ goes (truth_text auto_leave) (truth-bytes auto_leave)
 
 pub conf_state-told : (saved : ConfStateLists) → is_told_line (conf_state_text saved) ≡ true
-conf_state-told saved = (conf_state-line saved).line
+conf_state-told saved =
+    (saved-line _ _ _ _ saved.auto_leave (numbers saved.voters) (numbers saved.voters_outgoing) (numbers saved.learners) (numbers saved.learners_next)).line
+
+-- numbers that were read, with any zeros before them
+byte-from_zero : (b : ℕ) → 48 ≤ b → is_line_byte b ≡ true
+byte-from_zero b h = grind (arith, nat_tests)
+
+digits-bytes : (spelled : List ℕ) → AllDigits 10 spelled → IsBytes spelled
+digits-bytes [] h = refl
+digits-bytes (b ∷ bs) h = both _ _ (byte-from_zero b (digit_at (b ∷ bs) 0 h (omega arith)).0) (digits-bytes bs h.1)
+
+joined-bytes : (pieces : List (List ℕ)) (ns : List ℕ) → AllZip SpellsNumber pieces ns → IsBytes (join_with_byte 32 pieces)
+joined-bytes [] ns h = refl
+joined-bytes (piece ∷ pieces) [] h = absurd h
+joined-bytes (piece ∷ []) (n ∷ ns) h = digits-bytes piece h.0.numeral.1
+joined-bytes (piece ∷ next ∷ pieces) (n ∷ ns) h =
+    all-append is_line_byte piece (32 ∷ join_with_byte 32 (next ∷ pieces)) (digits-bytes piece h.0.numeral.1) (joined-bytes (next ∷ pieces) ns h.1)
+
+spelled-tail : (text ns : List ℕ) → SpellsNumbers text ns → IsTail text
+spelled-tail text ns h = goes text (ap (list_all is_line_byte) h.spaced ∙ joined-bytes h.pieces ns h.spelled)
+
+-- the text of a saved configuration is one line
+pub saved-bytes : (text : List ℕ) (saved : ConfStateLists) → StandsForConfState text saved → list_all is_line_byte (trimmed text) ≡ true
+saved-bytes text saved h =
+    let whole : IsLine (line_text h.voters h.voters_outgoing h.learners h.learners_next saved.auto_leave) = saved-line _ _ _ _ saved.auto_leave
+    (spelled-tail _ _ h.spells_voters) (spelled-tail _ _ h.spells_voters_outgoing) (spelled-tail _ _ h.spells_learners) (spelled-tail _ _ h.spells_learners_next) in
+    ap (list_all is_line_byte) h.line ∙ told-bytes (line_text h.voters h.voters_outgoing h.learners h.learners_next saved.auto_leave) whole.line
 
 -- ---- texts of such lines
 pub line-told : (text : List ℕ) → is_told_line text ≡ true → IsTold (line text)

@@ -1,7 +1,7 @@
 -- What each directive is answered is told lines.
-use Rattle.std.proofs.Common.{◌≡◌, ℕ, Bool, true, false, cond, not, ◌&&◌, ◌||◌, List, [], ◌∷◌, ◌++◌, filter, refl, sym, ap, subst, ◌∙◌, arith}
-use Rattle.std.specs.Prelude.{◌==◌, Option, Some, None, Result, Ok, Err, codes, nat_le}
-use Rattle.std.specs.List.{list_all, list_any, slice_split, onto_first}
+use Rattle.std.proofs.Common.{◌≡◌, ℕ, Bool, true, false, cond, not, List, [], ◌∷◌, ◌++◌, filter, refl, sym, ap, ◌∙◌, arith}
+use Rattle.std.specs.Prelude.{◌==◌, Option, Some, None, Result, Ok, Err, codes}
+use Rattle.std.specs.List.{list_all, slice_split, onto_first}
 use Rattle.std.proofs.lemmas.Bool.{eqb-true}
 use Rattle.std.proofs.lemmas.Bool.Decides.{nat_tests}
 use Rattle.dd_file.specs.DirectiveText.{DirectiveText}
@@ -18,12 +18,12 @@ use Rattle.conf_change.specs.Changer.{moved_to, begun_with}
 use Rattle.conf_change.specs.declared.change.Change.{Change}
 use Rattle.conf_change.specs.declared.step.Step.{Step}
 use Rattle.conf_change.specs.declared.step.Step.TheVariants.{Simple, EnterJoint, LeaveJoint}
-use Rattle.conf_tool.specs.SessionState.{SessionState}
 use Rattle.conf_tool.specs.Arguments.{is_good, first_bad, bad_argument, asks_auto_leave}
 use Rattle.conf_tool.specs.Texts.{bad_token_text}
 use Rattle.conf_tool.specs.Reply.{Reply, told, changed}
-use Rattle.conf_tool.specs.Commands.{with_changes, with_no_input, with_arguments, after_outcome, on_step, enter_with, leave_with, after_restored, restore_with, reply_to}
-use Rattle.conf_tool.specs.Told.{is_line_byte, is_told_line, IsTold, has_keys}
+use Rattle.conf_tool.specs.Commands.{with_changes, with_no_input, with_arguments, after_outcome, on_step, leave_with, after_restored, restore_with, reply_to}
+use Rattle.conf_tool.specs.Told.{is_line_byte, is_told_line, IsTold}
+use Rattle.dd_file.specs.Words.{has_keys}
 use Rattle.conf_tool.specs.declared.arguments.Takes.{Takes}
 use Rattle.conf_tool.specs.declared.arguments.Takes.TheVariants.{Nothing, AutoLeave}
 use Rattle.conf_tool.proofs.ToldLines.{first, second, both, told-append, refused-told, conf_state-told, line-told, tracker-told}
@@ -153,7 +153,7 @@ restore-tells : (changer : ChangerState) (arguments : List ArgumentText) (read :
 restore-tells changer arguments None h = tells (codes "bad conf state") refl
 restore-tells changer arguments (Some saved) h = arguments-tell Nothing arguments _ _ h refl (restored-tells changer (restored saved))
 
-pub reply-told : FirstBads → (changer : ChangerState) (directive : DirectiveText) → has_keys directive ≡ true → IsTold (reply_to changer directive).found
+pub reply-told : FirstBads → (changer : ChangerState) (directive : DirectiveText) → has_keys directive.arguments ≡ true → IsTold (reply_to changer directive).found
 reply-told first_bads changer directive keys =
     either _ _ _ (changes-tell first_bads _ directive.input _ refl (λ changes. step-tells changer (Simple changes)))
     (either _ _ _ (changes-tell first_bads _ directive.input _ refl (λ changes.

@@ -1,14 +1,14 @@
 -- A text of told lines can stand as an output.
-use Rattle.std.proofs.Common.{◌≡◌, ℕ, zero, suc, ◌+◌, ◌-◌, ◌<◌, ◌≤◌, Bool, true, false, cond, not, ◌&&◌, ◌||◌, List, [], ◌∷◌, ◌++◌, length, drop, map, refl, sym, ap, ◌∙◌, arith}
+use Rattle.std.proofs.Common.{◌≡◌, ℕ, suc, ◌-◌, ◌<◌, Bool, true, false, cond, not, ◌&&◌, ◌||◌, List, [], ◌∷◌, ◌++◌, length, drop, map, refl, ap, ◌∙◌, arith}
 use Rattle.std.specs.Prelude.{◌==◌, nat_le, nat_eq, codes, bytes_eq}
 use Rattle.std.specs.List.{list_all, list_any, ends_with}
 use Rattle.std.specs.Cmp.Lexicographic.{pointwise}
 use Rattle.std.proofs.lemmas.List.{append-nil}
 use Rattle.std.proofs.lemmas.Bool.Decides.{nat_tests}
 use Rattle.dd_file.specs.Bytes.{newline, is_space, is_blank}
-use Rattle.dd_file.specs.Lines.{pieces, line_of, lines_of, text_of, without_last, before_first_piece}
+use Rattle.dd_file.specs.Lines.{pieces, line_of, text_of, without_last, before_first_piece}
 use Rattle.dd_file.specs.Script.{is_dashes}
-use Rattle.dd_file.specs.Rewritten.{is_output, is_output_line, has_blank_line}
+use Rattle.dd_file.specs.Rewritten.{is_output_line}
 use Rattle.conf_tool.specs.Texts.{line}
 use Rattle.conf_tool.specs.Told.{is_line_byte, is_told_line, IsTold, CanStand}
 use Rattle.conf_tool.proofs.ToldLines.{first, second, both, told-bytes}

@@ -1,5 +1,5 @@
 -- The arguments of a command, and which of them are bad.
-use Rattle.std.specs.Prelude.{ℕ, Bool, true, false, not, ◌&&◌, ◌||◌, List, [], ◌∷◌, ◌++◌, Option, Some, None, if◌then◌else◌, codes, bytes_eq}
+use Rattle.std.specs.Prelude.{ℕ, Bool, false, not, ◌&&◌, ◌||◌, List, [], ◌∷◌, ◌++◌, Option, Some, None, if◌then◌else◌, codes, bytes_eq}
 use Rattle.std.specs.List.{list_any}
 use Rattle.dd_file.specs.Words.{ArgumentText}
 use Rattle.conf_tool.specs.declared.arguments.Takes.{Takes}

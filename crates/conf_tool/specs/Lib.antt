@@ -1,12 +1,13 @@
 pub mod Program
 pub mod Ranges
-pub mod Handed
 pub mod Texts
 pub mod LineReply
 pub mod SessionState
 pub mod Arguments
 pub mod Reply
 pub mod Commands
+pub mod Reports
 pub mod Told
 pub mod Outputs
 pub mod Run
+pub mod Laws

@@ -1,14 +1,18 @@
 -- The output of each mode, for a whole input.
-use Rattle.std.specs.Prelude.{ℕ, List, Option, Some, None, Result, Ok, Err}
-use Rattle.dd_file.specs.Reading.{listing_of}
+use Rattle.std.specs.Prelude.{ℕ, Bool, true, false, List, ◌++◌, flat_map, Option, Some, None, Result, Ok, Err}
+use Rattle.std.specs.List.{list_any}
+use Rattle.dd_file.specs.Reading.{script_of, listing_of}
+use Rattle.dd_file.specs.Rewritten.{Entry, rewritten_text}
 use Rattle.dd_file.specs.declared.fault.FileFault.{FileFault}
 use Rattle.conf_change.specs.Configuration.{empty_configuration}
 use Rattle.conf_tool.specs.LineReply.{line_replies}
+use Rattle.conf_tool.specs.SessionState.{new_session}
+use Rattle.conf_tool.specs.Reports.{entries_of, differs, report, counts_text}
 use Rattle.conf_tool.specs.declared.mode.Mode.{Mode}
-use Rattle.conf_tool.specs.declared.mode.Mode.TheVariants.{Lines}
+use Rattle.conf_tool.specs.declared.mode.Mode.TheVariants.{Lines, Check, Rewrite}
 use Rattle.conf_tool.specs.declared.options.Options.{Options}
 use Rattle.conf_tool.specs.declared.status.Status.{Status}
-use Rattle.conf_tool.specs.declared.status.Status.TheVariants.{Clean}
+use Rattle.conf_tool.specs.declared.status.Status.TheVariants.{Clean, Different}
 
 -- what is written, and how it ends: with a status, or with a fault of the input
 pub record Output : Type 0 where
@@ -26,6 +30,32 @@ lined input =
     let listing = listing_of input in
     record { text = line_replies empty_configuration listing.items; outcome = clean_unless listing.fault }
 
+abbrev pub status_of : Bool → Status
+status_of false = Clean
+status_of true = Different
+
+-- the reports, and the counts unless there is a fault
+abbrev pub checked_entries : List Entry → Option FileFault → Output
+checked_entries entries None = record { text = flat_map report entries ++ counts_text entries; outcome = Ok (status_of (list_any differs entries)) }
+checked_entries entries (Some fault) = record { text = flat_map report entries; outcome = Err fault }
+
+-- of `check`: what differs in a script, in a session that keeps so many earlier configurations
+abbrev pub checked : List ℕ → ℕ → Output
+checked input history =
+    let script = script_of input in
+    checked_entries (entries_of (new_session history) script.items) script.fault
+
+-- of `rewrite`: the script up to a fault, with what was found
+abbrev pub rewritten : List ℕ → ℕ → Output
+rewritten input history =
+    let script = script_of input in
+    record {
+      text = rewritten_text (entries_of (new_session history) script.items);
+      outcome = clean_unless script.fault;
+    }
+
 -- of a mode with its options
 abbrev pub output_of : Mode → Options → List ℕ → Output
 output_of Lines options input = lined input
+output_of Check options input = checked input options.history
+output_of Rewrite options input = rewritten input options.history

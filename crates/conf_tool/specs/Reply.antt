@@ -1,5 +1,5 @@
 -- What a command replies.
-use Rattle.std.specs.Prelude.{◌≡◌, ℕ, List, Option, Some, None, refl}
+use Rattle.std.specs.Prelude.{ℕ, List, Option, Some, None, refl}
 use Rattle.std.specs.Coded.{Coded, coded_ℕ, coded_list, coded_option, coded×, code_by}
 use Rattle.conf_change.specs.ChangerState.{ChangerState, changer_code}
 use Rattle.conf_tool.specs.Texts.{line, tracker_text}

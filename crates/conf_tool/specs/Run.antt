@@ -8,7 +8,7 @@ use Rattle.dd_file.specs.declared.fault.FileFault.{FileFault}
 use Rattle.dd_file.specs.declared.fault.FileFault.TheVariants.{InputTooLong, BadDirective, AfterDouble, UnclosedDouble, Read as ReadOfScript, NoMemory as NoMemoryForScript}
 use Rattle.conf_tool.specs.Outputs.{Output}
 use Rattle.conf_tool.specs.declared.mode.Mode.{Mode}
-use Rattle.conf_tool.specs.declared.mode.Mode.TheVariants.{Lines}
+use Rattle.conf_tool.specs.declared.mode.Mode.TheVariants.{Lines, Check, Rewrite}
 use Rattle.conf_tool.specs.declared.status.Status.{Status}
 use Rattle.conf_tool.specs.declared.status.Status.TheVariants.{Clean, Different}
 use Rattle.conf_tool.specs.declared.tool_fault.ToolFault.{ToolFault}
@@ -32,18 +32,44 @@ abbrev pub Answers : (List ℕ → Output) → Option (List ℕ) → Option (Lis
 Answers output left_before left_after before after result =
     (input more : List ℕ) → Agrees fresh left_before left_after input more → Means (output input) result before after
 
+-- a reader's fault as one of the run: a read that failed and want of memory are no faults of the input
+abbrev pub as_tool_fault : FileFault → ToolFault
+as_tool_fault (BadDirective line) = Script (BadDirective line)
+as_tool_fault (AfterDouble line) = Script (AfterDouble line)
+as_tool_fault (UnclosedDouble line) = Script (UnclosedDouble line)
+as_tool_fault (InputTooLong line) = Script (InputTooLong line)
+as_tool_fault ReadOfScript = Read
+as_tool_fault NoMemoryForScript = NoMemory
+
+-- a fault of the input
+abbrev pub IsScriptFault : FileFault → Type 0
+IsScriptFault (BadDirective line) = ⊤
+IsScriptFault (AfterDouble line) = ⊤
+IsScriptFault (UnclosedDouble line) = ⊤
+IsScriptFault (InputTooLong line) = ⊤
+IsScriptFault ReadOfScript = ⊥
+IsScriptFault NoMemoryForScript = ⊥
+
+abbrev pub IsTooLong : FileFault → Type 0
+IsTooLong (BadDirective line) = ⊥
+IsTooLong (AfterDouble line) = ⊥
+IsTooLong (UnclosedDouble line) = ⊥
+IsTooLong (InputTooLong line) = ⊤
+IsTooLong ReadOfScript = ⊥
+IsTooLong NoMemoryForScript = ⊥
+
 -- the faults of an input that a mode tells
 abbrev pub CanBeFaulty : Mode → FileFault → Type 0
-CanBeFaulty Lines (BadDirective line) = ⊥
-CanBeFaulty Lines (AfterDouble line) = ⊥
-CanBeFaulty Lines (UnclosedDouble line) = ⊥
-CanBeFaulty Lines (InputTooLong line) = ⊤
-CanBeFaulty Lines ReadOfScript = ⊥
-CanBeFaulty Lines NoMemoryForScript = ⊥
+CanBeFaulty Lines fault = IsTooLong fault
+CanBeFaulty Check fault = IsScriptFault fault
+CanBeFaulty Rewrite fault = IsScriptFault fault
 
+-- the statuses of a mode: it is only `check` that tells a difference
 abbrev pub CanBe : Mode → Status → Type 0
-CanBe Lines Clean = ⊤
+CanBe mode Clean = ⊤
 CanBe Lines Different = ⊥
+CanBe Check Different = ⊤
+CanBe Rewrite Different = ⊥
 
 -- the answers that a mode has, whatever the reader and the writer are
 abbrev pub CanAnswer : Mode → Result Status ToolFault → Type 0

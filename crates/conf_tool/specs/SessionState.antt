@@ -1,5 +1,5 @@
 -- What a session holds.
-use Rattle.std.specs.Prelude.{◌≡◌, ℕ, ◌+◌, ◌-◌, ◌^◌, min, refl}
+use Rattle.std.specs.Prelude.{ℕ, ◌+◌, ◌-◌, ◌^◌, min, refl}
 use Rattle.std.specs.Coded.{Coded, coded_ℕ, coded×, code_by}
 use Rattle.conf_change.specs.ChangerState.{ChangerState, changer_code}
 use Rattle.conf_change.specs.Changer.{new_changer, with_last_index}

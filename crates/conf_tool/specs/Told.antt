@@ -4,8 +4,6 @@ use Rattle.std.specs.List.{list_all, ends_with}
 use Rattle.std.specs.Prelude.{nat_eq}
 use Rattle.dd_file.specs.Bytes.{newline}
 use Rattle.dd_file.specs.Lines.{text_of}
-use Rattle.dd_file.specs.DirectiveText.{DirectiveText}
-use Rattle.dd_file.specs.Words.{is_key}
 use Rattle.dd_file.specs.Rewritten.{is_output, has_blank_line}
 
 -- a byte that stands in a line and ends none
@@ -30,7 +28,3 @@ pub record CanStand (text : List ℕ) : Type 0 where
   pub output : is_output text ≡ true
   pub ended : ends_with nat_eq text newline ≡ true
   pub full : has_blank_line text ≡ false
-
--- the keys of its arguments are keys, as they are in each directive of a script
-abbrev pub has_keys : DirectiveText → Bool
-has_keys directive = list_all (λ argument. is_key argument.key) directive.arguments

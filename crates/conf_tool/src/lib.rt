@@ -10,6 +10,7 @@ mod line_answer;
 pub mod mode;
 pub mod options;
 mod reply;
+mod report;
 pub mod run;
 pub mod session;
 pub mod status;
@@ -22,6 +23,3 @@ pub use options::Options;
 pub use session::Session;
 pub use status::Status;
 pub use tool_fault::ToolFault;
-
-#[cfg(test)]
-mod tests;

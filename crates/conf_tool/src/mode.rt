@@ -5,4 +5,8 @@
 pub enum Mode {
     /// Each line of the input is one change.
     Lines,
+    /// A script is run, and what it finds is held against what it expects.
+    Check,
+    /// A script is run, and written again with what was found.
+    Rewrite,
 }

@@ -5,7 +5,9 @@ ghost use Rattle.conf_tool.specs.Outputs.{output_of};
 ghost use Rattle.conf_tool.specs.Ranges.{IsInRange};
 ghost use Rattle.conf_tool.specs.Run.{Answers, CanAnswer, is_read_fault, is_write_fault};
 
+mod check;
 mod lines;
+mod rewrite;
 
 use crate::mode::Mode;
 use crate::options::Options;
@@ -35,8 +37,9 @@ pub fn run<R: Source, W: Sink>(
     ensures write { W.has_failed writer.new ≡ (W.has_failed writer.old || is_write_fault result) }
     ensures kinds { CanAnswer mode result }
 {
-    let _ = options;
     match mode {
         Mode::Lines => lines::run_lines(alloc, reader, writer),
+        Mode::Check => check::run_check(alloc, options.history, reader, writer),
+        Mode::Rewrite => rewrite::run_rewrite(alloc, options.history, reader, writer),
     }
 }

@@ -1,5 +1,6 @@
 //! What can stop a run.
 ghost use Rattle.std.specs.Prelude.{◌≡◌};
+ghost use Rattle.conf_tool.specs.Run.{as_tool_fault};
 ghost use Rattle.conf_tool.specs.declared.tool_fault.ToolFault.TheVariants.{Write, NoMemory};
 
 use dd_file::fault::{FileFault, WriteFault};
@@ -18,6 +19,18 @@ pub enum ToolFault {
     Write,
     #[error("out of memory")]
     NoMemory,
+}
+
+impl From<FileFault> for ToolFault {
+    ghost from_gives = { λ fault told. told ≡ as_tool_fault fault };
+
+    fn from(fault: FileFault) -> ToolFault {
+        match fault {
+            FileFault::Read => ToolFault::Read,
+            FileFault::NoMemory => ToolFault::NoMemory,
+            _ => ToolFault::Script(fault),
+        }
+    }
 }
 
 impl From<WriteFault> for ToolFault {

@@ -7,7 +7,9 @@ use clap::error::ErrorKind;
 use conf_tool::command_line::command_line;
 use conf_tool::run::run;
 use conf_tool::{Invocation, Status, ToolFault};
-use dd_file::device::{FromRead, Source, ToWrite};
+use dd_file::blocks::Blocks;
+use dd_file::device::{FromRead, Sink, Source, ToWrite};
+use std::alloc::Global;
 use std::fs::File;
 use std::process::ExitCode;
 use std::{env, io};
@@ -71,22 +73,35 @@ fn open(rt: &HostRuntime, invocation: Invocation<'_>) -> ExitCode
     }
 }
 
-// Runs over a reader and standard output.
+// Runs over a reader and standard output, which is written in blocks.
 fn run_over<R: Source>(rt: &HostRuntime, invocation: Invocation<'_>, reader: &mut R) -> ExitCode
     requires { IsInRange invocation.options }
 {
-    let mut writer = ToWrite::new(rt.stdout());
-    let outcome = run(
-        rt.alloc(),
-        invocation.mode,
-        invocation.options,
-        reader,
-        &mut writer,
-    );
+    let outcome = match Blocks::new(rt.alloc(), ToWrite::new(rt.stdout())) {
+        Ok(mut writer) => run_to_end(rt.alloc(), invocation, reader, &mut writer),
+        Err(_) => Err(ToolFault::NoMemory),
+    };
     match outcome {
         Ok(Status::Clean) => ExitCode::SUCCESS,
         Ok(Status::Different) => ExitCode::FAILURE,
         Err(fault) => fail(rt, fault),
+    }
+}
+
+// Runs, and then writes what still waits in the last block: after a fault too. Where that write fails, an answer that
+// stands for the whole output no longer does.
+fn run_to_end<R: Source, W: Sink>(
+    alloc: Global,
+    invocation: Invocation<'_>,
+    reader: &mut R,
+    writer: &mut Blocks<W>,
+) -> Result<Status, ToolFault>
+    requires { IsInRange invocation.options }
+{
+    let outcome = run(alloc, invocation.mode, invocation.options, reader, writer);
+    match (outcome, writer.flush()) {
+        (Ok(_) | Err(ToolFault::Script(_)), Err(_)) => Err(ToolFault::Write),
+        (outcome, _) => outcome,
     }
 }
 

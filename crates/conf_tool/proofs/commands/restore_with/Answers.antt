@@ -1,6 +1,4 @@
 use Rattle.std.proofs.Common.{rules, refl}
-use Rattle.std.specs.Prelude.{None}
-use Rattle.conf_change.specs.ConfState.{restored}
 use Rattle.conf_tool.proofs.CommandReplies.{not_restored}
 use Rattle.conf_tool.proofs.commands.restore_with.Goals as goal
 

@@ -1,0 +1,71 @@
+-- A directive whose input is the same but for white space at line ends is answered the same.
+use Rattle.std.proofs.Common.{◌≡◌, ℕ, Bool, true, false, cond, List, [], ◌∷◌, map, refl, sym, ap, ◌∙◌, subst, arith}
+use Rattle.std.specs.Prelude.{Option, Some, None, codes, bytes_eq, flat_map}
+use Rattle.std.specs.List.{list_all}
+use Rattle.dd_file.specs.DirectiveText.{DirectiveText}
+use Rattle.dd_file.specs.Bytes.{without_trailing_space}
+use Rattle.dd_file.specs.Lines.{line_of}
+use Rattle.dd_file.specs.Laws.{IsSameDirective}
+use Rattle.dd_file.proofs.Pieces.{pieces-first}
+use Rattle.conf_change.specs.ChangerState.{ChangerState}
+use Rattle.conf_change.specs.Words.{words, trimmed}
+use Rattle.conf_change.specs.ChangeList.{changes_in, changes_in_words}
+use Rattle.conf_change.specs.ConfState.{ConfStateLists, lists_of}
+use Rattle.conf_change.specs.ConfStateLine.{line_in, conf_state_in, conf_state_text}
+use Rattle.conf_change.specs.declared.step.Step.TheVariants.{Simple}
+use Rattle.conf_change.proofs.LineLemmas.{StandsForConfState-from_some}
+use Rattle.conf_tool.specs.SessionState.{SessionState}
+use Rattle.conf_tool.specs.Reply.{Reply, told}
+use Rattle.conf_tool.specs.Commands.{with_changes, with_no_input, with_arguments, on_step, enter_with, leave_with, restore_with, reply_to, answered, answer}
+use Rattle.conf_tool.specs.Arguments.{bad_argument}
+use Rattle.conf_tool.specs.declared.arguments.Takes.TheVariants.{Nothing}
+use Rattle.conf_tool.specs.Told.{is_line_byte}
+use Rattle.conf_tool.proofs.ToldLines.{saved-bytes}
+use Rattle.conf_tool.proofs.InputLines.{IsOneLine, has_one, first_line, ends_of, words-told, trimmed-told}
+
+-- a text with a newline between its two ends is no saved configuration
+no-conf_state : (text : List ℕ) → list_all is_line_byte (trimmed text) ≡ false → conf_state_in text ≡ None
+no-conf_state text h = at (conf_state_in text) refl where
+  at : (found : Option ConfStateLists) → conf_state_in text ≡ found → conf_state_in text ≡ None
+  at None e = e
+  at (Some saved) e = let whole = saved-bytes text saved (StandsForConfState-from_some text saved e) in absurd cc
+
+-- three things are asked of an input: the saved configuration that it stands for, its changes, and whether it is empty
+conf_state-same : (input other : List ℕ) → ends_of input ≡ ends_of other → conf_state_in input ≡ conf_state_in other
+conf_state-same input other same = at (has_one (ends_of other)) (subst (λ ls. IsOneLine (has_one ls) (first_line ls) (trimmed input)) same (trimmed-told input)) (trimmed-told other) where
+  at : (one : Bool) → IsOneLine one (first_line (ends_of other)) (trimmed input) → IsOneLine one (first_line (ends_of other)) (trimmed other) → conf_state_in input ≡ conf_state_in other
+  at true e f = ap line_in (e ∙ sym f)
+  at false e f = no-conf_state input e ∙ sym (no-conf_state other f)
+
+changes-same : (input other : List ℕ) → ends_of input ≡ ends_of other → changes_in input ≡ changes_in other
+changes-same input other same = ap changes_in_words (words-told input ∙ ap (flat_map words) same ∙ sym (words-told other))
+
+-- bytes have a line
+some-line : (b : ℕ) (bs : List ℕ) → [] ≡ ends_of (b ∷ bs) → ⊥
+some-line b bs none = let first = none ∙ ap (λ ps. map without_trailing_space (map line_of ps)) (pieces-first (b ∷ bs) (omega arith)) in cc
+
+no_input-same : (reply : Reply) (input other : List ℕ) → ends_of input ≡ ends_of other → with_no_input reply input ≡ with_no_input reply other
+no_input-same reply [] [] same = refl
+no_input-same reply [] (b ∷ other) same = absurd (some-line b other same)
+no_input-same reply (b ∷ input) [] same = absurd (some-line b input (sym same))
+no_input-same reply (b ∷ input) (c ∷ other) same = refl
+
+either-same : (b c : Bool) (x y z w : Reply) → b ≡ c → x ≡ y → z ≡ w → cond b x z ≡ cond c y w
+either-same b c x y z w p q r = cc
+
+reply-same : (changer : ChangerState) (again directive : DirectiveText) → again.command ≡ directive.command → again.arguments ≡ directive.arguments → ends_of again.input ≡ ends_of directive.input →
+    reply_to changer again ≡ reply_to changer directive
+reply-same changer again directive command arguments input =
+    let changes : changes_in again.input ≡ changes_in directive.input = changes-same again.input directive.input input in
+    let is = λ (name : List ℕ). ap (λ c. bytes_eq c name) command in
+    either-same _ _ _ _ _ _ (is (codes "simple")) (ap (with_changes (λ changes. on_step changer (Simple changes))) changes)
+    (either-same _ _ _ _ _ _ (is (codes "enter-joint")) (ap (λ given. with_changes (enter_with changer given) (changes_in again.input)) arguments ∙ ap (with_changes (enter_with changer directive.arguments)) changes)
+    (either-same _ _ _ _ _ _ (is (codes "leave-joint")) (ap (with_changes (leave_with changer)) changes)
+    (either-same _ _ _ _ _ _ (is (codes "conf-state"))
+    (ap (λ given. with_no_input (with_arguments (told (conf_state_text (lists_of changer.tracker.config))) (bad_argument Nothing given)) again.input) arguments ∙ no_input-same _ again.input directive.input input)
+    (either-same _ _ _ _ _ _ (is (codes "restore"))
+    (ap (λ given. restore_with changer given (conf_state_in again.input)) arguments ∙ ap (restore_with changer directive.arguments) (conf_state-same again.input directive.input input))
+    (ap (with_changes (λ changes. told (codes "unknown command"))) changes)))))
+
+pub same-answer : (n : ℕ) (found : List ℕ) (directive again : DirectiveText) (session : SessionState) → IsSameDirective n found directive again → answer session again ≡ answer session directive
+same-answer n found directive again session same = ap (answered session) (reply-same session.changer again directive same.command same.arguments same.input)

@@ -1,0 +1,61 @@
+-- What the modes for scripts write of each item.
+use Rattle.std.specs.Prelude.{ℕ, Bool, false, not, List, [], ◌∷◌, ◌++◌, flat_map, count_by, codes, decimal, bytes_eq, if◌then◌else◌}
+use Rattle.dd_file.specs.Lines.{pieces, without_last}
+use Rattle.dd_file.specs.DirectiveText.{DirectiveText}
+use Rattle.dd_file.specs.Rewritten.{Entry, entry, is_directive}
+use Rattle.dd_file.specs.declared.item.Item.{Item}
+use Rattle.dd_file.specs.declared.item.Item.TheVariants.{Comment, Blank, Directive}
+use Rattle.conf_tool.specs.SessionState.{SessionState}
+use Rattle.conf_tool.specs.Commands.{answer}
+use Rattle.conf_tool.specs.Texts.{line}
+
+-- what a session finds for an item: nothing, unless it is a directive
+abbrev pub found_for : SessionState → Item → List ℕ
+found_for session (Comment lines) = []
+found_for session (Blank lines) = []
+found_for session (Directive directive) = (answer session directive).found
+
+-- the session after an item: it obeys a directive, and nothing else alters it
+abbrev pub session_after : SessionState → Item → SessionState
+session_after session (Comment lines) = session
+session_after session (Blank lines) = session
+session_after session (Directive directive) = (answer session directive).session
+
+-- the items in turn, each with what a session finds that obeyed those before it
+abbrev pub entries_of : SessionState → List Item → List Entry
+entries_of session [] = []
+entries_of session (item ∷ items) = entry item (found_for session item) ∷ entries_of (session_after session item) items
+
+-- it is a directive whose expected text is another
+abbrev pub expects_other : List ℕ → Item → Bool
+expects_other found (Comment lines) = false
+expects_other found (Blank lines) = false
+expects_other found (Directive directive) = not (bytes_eq found directive.expected)
+
+abbrev pub differs : Entry → Bool
+differs entry = expects_other entry.found entry.item
+
+-- each line of a text behind a sign
+abbrev pub marked : List ℕ → List ℕ → List ℕ
+marked sign text = flat_map (λ piece. line (sign ++ without_last 10 piece)) (pieces text)
+
+-- a directive's line number and command, what it expects and what was found
+abbrev pub difference_text : List ℕ → DirectiveText → List ℕ
+difference_text found directive =
+    line (decimal directive.line ++ codes ": " ++ directive.command) ++ marked (codes "- ") directive.expected ++ marked (codes "+ ") found
+
+abbrev pub report_of : List ℕ → Item → List ℕ
+report_of found (Comment lines) = []
+report_of found (Blank lines) = []
+report_of found (Directive directive) = if not (bytes_eq found directive.expected) then difference_text found directive else []
+
+-- the report on an entry: nothing, unless it differs
+abbrev pub report : Entry → List ℕ
+report entry = report_of entry.found entry.item
+
+-- how many directives there are, and how many differ
+abbrev pub counts_line : ℕ → ℕ → List ℕ
+counts_line directives mismatches = line (decimal directives ++ codes " directives, " ++ decimal mismatches ++ codes " mismatches")
+
+abbrev pub counts_text : List Entry → List ℕ
+counts_text entries = counts_line (count_by (λ entry. is_directive entry.item) entries) (count_by differs entries)

@@ -1,0 +1,123 @@
+//! What the mode `check` reports: each directive that found another text than it expects, and how many there were.
+ghost use Rattle.std.specs.Prelude.{◌≡◌, ◌≤◌, ◌<◌, ◌+◌, ◌^◌, ◌++◌, [], decimal, nat_lt, OnOk, if◌then◌else◌};
+ghost use Rattle.dd_file.specs.Bytes.{newline};
+ghost use Rattle.conf_tool.specs.Outputs.{status_of};
+ghost use Rattle.conf_tool.specs.Reports.{marked, difference_text, counts_line};
+
+use crate::status::Status;
+use dd_file::item::Directive;
+use itoa::Buffer;
+use quorum_sets::NoMemory;
+
+/// How many directives there were, and how many of them found another text than they expect.
+#[derive(Drop)]
+pub(crate) struct Counts {
+    directives: usize,
+    mismatches: usize,
+    ghost among: { mismatches ≤ directives },
+}
+
+impl Counts {
+    pub(crate) fn new() -> Counts
+        ensures directives { result.directives ≡ 0 }
+        ensures mismatches { result.mismatches ≡ 0 }
+    {
+        Counts {
+            directives: 0,
+            mismatches: 0,
+        }
+    }
+
+    /// Counts one more directive.
+    pub(crate) fn add(&mut self, differs: bool)
+        requires { self.old.directives < 2 ^ 30 }
+        ensures directives { self.new.directives ≡ self.old.directives + 1 }
+        ensures mismatches { self.new.mismatches ≡ self.old.mismatches + (if differs then 1 else 0) }
+    {
+        self.directives += 1;
+        if differs {
+            self.mismatches += 1;
+        }
+    }
+
+    pub(crate) fn status(&self) -> Status
+        ensures { result ≡ status_of (nat_lt 0 self.now.mismatches) }
+    {
+        if self.mismatches > 0 {
+            Status::Different
+        } else {
+            Status::Clean
+        }
+    }
+
+    /// Appends the counts. After want of memory a part of them may be appended.
+    pub(crate) fn append_to(&self, text: &mut Vec<u8>) -> Result<(), NoMemory>
+        ensures { OnOk result (text.new.items ≡ text.old.items ++ counts_line self.now.directives self.now.mismatches) }
+    {
+        append_number(text, self.directives)?;
+        text.extend_from_slice(b" directives, ")?;
+        append_number(text, self.mismatches)?;
+        text.extend_from_slice(b" mismatches")?;
+        text.push(b'\n')?;
+        Ok(())
+    }
+}
+
+/// Appends a directive's line number and command, what it expects and what was found. After want of memory a part of
+/// that may be appended.
+pub(crate) fn append_difference(
+    text: &mut Vec<u8>,
+    directive: &Directive,
+    found: &[u8],
+) -> Result<(), NoMemory>
+    ensures { OnOk result (text.new.items ≡ text.old.items ++ difference_text found.now directive.now) }
+{
+    append_number(text, directive.line())?;
+    text.extend_from_slice(b": ")?;
+    text.extend_from_slice(directive.command())?;
+    text.push(b'\n')?;
+    append_marked(text, b"- ", directive.expected())?;
+    append_marked(text, b"+ ", found)
+}
+
+// Appends a number in decimal.
+fn append_number(text: &mut Vec<u8>, number: usize) -> Result<(), NoMemory>
+    ensures { OnOk result (text.new.items ≡ text.old.items ++ decimal number) }
+{
+    let mut buffer = Buffer::new();
+    text.extend_from_slice(buffer.format(number).as_bytes())?;
+    Ok(())
+}
+
+// Appends each line of some bytes behind a sign.
+fn append_marked(text: &mut Vec<u8>, sign: &[u8], bytes: &[u8]) -> Result<(), NoMemory>
+    ensures { OnOk result (text.new.items ≡ text.old.items ++ marked sign.now bytes.now) }
+{
+    let mut is_begun = false;
+    for b in bytes {
+        begin_line(text, is_begun, sign)?;
+        text.push(*b)?;
+        is_begun = *b != b'\n';
+    }
+    end_line(text, is_begun)
+}
+
+// Appends the sign, unless the line is begun.
+fn begin_line(text: &mut Vec<u8>, is_begun: bool, sign: &[u8]) -> Result<(), NoMemory>
+    ensures { OnOk result (text.new.items ≡ text.old.items ++ (if is_begun then [] else sign.now)) }
+{
+    if !is_begun {
+        text.extend_from_slice(sign)?;
+    }
+    Ok(())
+}
+
+// Appends a newline where a line is begun.
+fn end_line(text: &mut Vec<u8>, is_begun: bool) -> Result<(), NoMemory>
+    ensures { OnOk result (text.new.items ≡ text.old.items ++ (if is_begun then newline else [])) }
+{
+    if is_begun {
+        text.push(b'\n')?;
+    }
+    Ok(())
+}
