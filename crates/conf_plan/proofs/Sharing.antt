@@ -1,0 +1,85 @@
+-- The shared members, found in a walk over the voters and one over the learners.
+use Rattle.std.proofs.Common.{◌≡◌, ℕ, ◌+◌, ◌≤◌, Bool, true, false, ◌&&◌, ◌||◌, ◌==◌, ◌++◌, refl, sym, ap, ◌∙◌, slice_get, eqb-true}
+use Rattle.std.specs.Prelude.{Some}
+use Rattle.std.specs.List.{list_any}
+use Rattle.std.proofs.lemmas.List.Folds.{list_any-append}
+use Rattle.quorum_sets.specs.Ids.{Ids, no_ids, has, with_id, ascending, size}
+use Rattle.quorum_sets.proofs.IdLemmas.{has-no_ids, has-with_id, has-ascending, has-ids_where, same_ids}
+use Rattle.conf_change.specs.Configuration.{Configuration, members}
+use Rattle.conf_change.proofs.Passing.{is_passed, is_passed-more, is_passed-all}
+use Rattle.conf_plan.specs.Planned.{is_shared, shared_members, single_with}
+
+-- of those at the first places, the shared ones were put in
+abbrev pub IsSharedSoFar : Ids → Ids → Configuration → ℕ → Ids → Type 0
+IsSharedSoFar before ids target place now = (q : ℕ) → has now q ≡ (has before q || (is_passed ids place q && is_shared target q))
+
+pub shared_begun : (before ids : Ids) (target : Configuration) → IsSharedSoFar before ids target 0 before
+shared_begun before ids target q = sym (or_none (has before q))
+  where
+    or_none : (b : Bool) → (b || false) ≡ b
+    or_none true = refl
+    or_none false = refl
+
+-- one more is put in, where it is shared
+pub shared_more : (before ids now after : Ids) (target : Configuration) (place id : ℕ) → slice_get (ascending ids) place ≡ Some id → IsSharedSoFar before ids target place now
+    → is_shared target id ≡ true → after ≡ with_id now id → IsSharedSoFar before ids target (place + 1) after
+shared_more before ids now after target place id here so_far shared added q =
+    ap (λ s. has s q) added ∙ has-with_id now id q ∙ ap (λ b. (q == id) || b) (so_far q)
+    ∙ in_turn (q == id) (has before q) (is_passed ids place q) (is_shared target q) (λ same. ap (is_shared target) (eqb-true q id same) ∙ shared)
+    ∙ sym (ap (λ b. has before q || (b && is_shared target q)) (is_passed-more ids place id q here))
+  where
+    in_turn : (x y z s : Bool) → (x ≡ true → s ≡ true) → (x || (y || (z && s))) ≡ (y || ((z || x) && s))
+    in_turn true true z s own = refl
+    in_turn true false true true own = refl
+    in_turn true false false true own = refl
+    in_turn true false z false own = sym (own refl) ∙ no_more z
+      where
+        no_more : (b : Bool) → false ≡ ((b || true) && false)
+        no_more true = refl
+        no_more false = refl
+    in_turn false true z s own = refl
+    in_turn false false true s own = refl
+    in_turn false false false s own = refl
+
+-- one that is not shared is left out
+pub shared_same : (before ids now : Ids) (target : Configuration) (place id : ℕ) → slice_get (ascending ids) place ≡ Some id → IsSharedSoFar before ids target place now
+    → is_shared target id ≡ false → IsSharedSoFar before ids target (place + 1) now
+shared_same before ids now target place id here so_far apart q =
+    so_far q ∙ ap (λ b. has before q || b) (left_out (q == id) (is_passed ids place q) (is_shared target q) (λ same. ap (is_shared target) (eqb-true q id same) ∙ apart))
+    ∙ sym (ap (λ b. has before q || (b && is_shared target q)) (is_passed-more ids place id q here))
+  where
+    left_out : (x z s : Bool) → (x ≡ true → s ≡ false) → (z && s) ≡ ((z || x) && s)
+    left_out true true s own = refl
+    left_out true false s own = sym (own refl)
+    left_out false true s own = refl
+    left_out false false s own = refl
+
+pub shared_all : (before ids now : Ids) (target : Configuration) (place : ℕ) → size ids ≤ place → IsSharedSoFar before ids target place now
+    → (q : ℕ) → has now q ≡ (has before q || (has ids q && is_shared target q))
+shared_all before ids now target place end so_far q = so_far q ∙ ap (λ b. has before q || (b && is_shared target q)) (is_passed-all ids place q end)
+
+-- both walks
+pub shared_made : (voters learners none one both : Ids) (target : Configuration) → none ≡ no_ids
+    → ((q : ℕ) → has one q ≡ (has none q || (has voters q && is_shared target q))) → ((q : ℕ) → has both q ≡ (has one q || (has learners q && is_shared target q)))
+    → both ≡ shared_members (single_with voters learners) target
+shared_made voters learners none one both target empty first second =
+    same_ids both (shared_members (single_with voters learners) target) (λ q.
+    second q ∙ ap (λ b. b || (has learners q && is_shared target q)) (first q ∙ ap (λ b. b || (has voters q && is_shared target q)) (ap (λ s. has s q) empty ∙ has-no_ids q))
+    ∙ by_member (has voters q) (has learners q) (is_shared target q)
+    ∙ sym (has-ids_where (is_shared target) (members (single_with voters learners)) q ∙ ap (λ b. is_shared target q && b) (is_one q)))
+  where
+    is_one : (q : ℕ) → list_any (λ x. q == x) (members (single_with voters learners)) ≡ ((has voters q || false) || has learners q)
+    is_one q =
+        list_any-append (λ x. q == x) (ascending voters ++ ascending no_ids) (ascending learners)
+        ∙ ap (λ b. b || list_any (λ x. q == x) (ascending learners)) (list_any-append (λ x. q == x) (ascending voters) (ascending no_ids))
+        ∙ sym (λ i. (has-ascending voters q i || (sym (has-no_ids q) ∙ has-ascending no_ids q) i) || has-ascending learners q i)
+
+    by_member : (v l s : Bool) → ((v && s) || (l && s)) ≡ (s && ((v || false) || l))
+    by_member true true true = refl
+    by_member true true false = refl
+    by_member true false true = refl
+    by_member true false false = refl
+    by_member false true true = refl
+    by_member false true false = refl
+    by_member false false true = refl
+    by_member false false false = refl

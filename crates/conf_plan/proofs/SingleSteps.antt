@@ -1,0 +1,92 @@
+-- The steps between two configurations that are not joint.
+use Rattle.std.proofs.Common.{◌≡◌, ℕ, ◌≤◌, Bool, true, false, not, ◌&&◌, ◌||◌, List, length, refl, sym, ap, ◌∙◌, arith}
+use Rattle.std.specs.Prelude.{Ok, nat_lt, nat_le}
+use Rattle.std.proofs.lemmas.Bool.{cond_both, leb-true, le-ltb, not_from_false, and_right}
+use Rattle.quorum_sets.specs.Ids.{Ids, has, is_empty, difference_count}
+use Rattle.quorum_sets.proofs.IdLemmas.{has-no_ids}
+use Rattle.conf_change.specs.Configuration.{Configuration, is_joint, has_voter}
+use Rattle.conf_change.specs.Change.{result_of}
+use Rattle.conf_change.specs.Outcome.{outcome, with_outgoing, after_leave}
+use Rattle.conf_change.specs.declared.change.Change.{Change}
+use Rattle.conf_change.specs.declared.step.Step.TheVariants.{Simple, EnterJoint, LeaveJoint}
+use Rattle.conf_change.proofs.ResultLemmas.{same_configuration}
+use Rattle.conf_change.proofs.Soundness.{has-after_leave}
+use Rattle.conf_change.proofs.Validity.{members_from_valid}
+use Rattle.conf_plan.specs.Run.{IsRun}
+use Rattle.conf_plan.specs.Planned.{single_with, moves, single_steps}
+use Rattle.conf_plan.proofs.Moved.{IsSingle, AreWanted, no_outgoing, moves-has_wanted}
+
+-- ---- steps that are accepted, each where it passes what is looked for
+simple_accepted : (c after : Configuration) (changes : List Change) → is_joint c ≡ false → result_of c changes ≡ after → has_voter after ≡ true
+    → difference_count c.incoming after.incoming ≤ 1 → outcome c (Simple changes) ≡ Ok after
+simple_accepted c after changes single made voter few =
+    by_result single (ap has_voter made ∙ voter) (ap (λ d. nat_lt 1 (difference_count c.incoming d.incoming)) made ∙ le-ltb 1 _ few) ∙ ap Ok made
+  where
+    by_result : is_joint c ≡ false → has_voter (result_of c changes) ≡ true → nat_lt 1 (difference_count c.incoming (result_of c changes).incoming) ≡ false
+        → outcome c (Simple changes) ≡ Ok (result_of c changes)
+    by_result single voter few = rw (single, voter, few) refl
+
+pub enter_accepted : (c after : Configuration) (auto_leave : Bool) (changes : List Change) → is_joint c ≡ false → has_voter c ≡ true
+    → result_of (with_outgoing c auto_leave) changes ≡ after → has_voter after ≡ true → outcome c (EnterJoint auto_leave changes) ≡ Ok after
+enter_accepted c after auto_leave changes single before made voter = by_result single before (ap has_voter made ∙ voter) ∙ ap Ok made
+  where
+    by_result : is_joint c ≡ false → has_voter c ≡ true → has_voter (result_of (with_outgoing c auto_leave) changes) ≡ true
+        → outcome c (EnterJoint auto_leave changes) ≡ Ok (result_of (with_outgoing c auto_leave) changes)
+    by_result single before voter = rw (single, before, voter) refl
+
+pub leave_accepted : (c : Configuration) → is_joint c ≡ true → outcome c LeaveJoint ≡ Ok (after_leave c)
+leave_accepted c joint = rw joint refl
+
+-- ---- one voter at a time
+and_yes : (b : Bool) → (b && true) ≡ b
+and_yes true = refl
+and_yes false = refl
+
+simple_moves : (c : Configuration) (voters learners : Ids) → IsSingle c → AreWanted voters learners → result_of c (moves c voters learners) ≡ single_with voters learners
+simple_moves c voters learners single wanted =
+    let valid = members_from_valid c single.settled.valid in
+    let moved = moves-has_wanted c c.outgoing voters learners c.auto_leave single wanted valid.learner_outgoing in
+    let out : (q : ℕ) → has c.outgoing q ≡ false = λ q. ap (λ s. has s q) (no_outgoing c single.single) ∙ has-no_ids q in
+    same_configuration (result_of c (moves c voters learners)) (single_with voters learners)
+    (λ q. ap (λ s. has s q) moved.incoming) (no_outgoing c single.single)
+    (λ q. moved.learners q ∙ ap (λ b. has learners q && not b) (out q) ∙ and_yes (has learners q))
+    (λ q. moved.next q ∙ ap (λ b. has learners q && b) (out q) ∙ and_right (has learners q) false refl ∙ sym (has-no_ids q))
+    (valid.auto_leave single.single)
+
+-- ---- by a joint configuration
+either_way : (a b : Bool) → ((a && not b) || (a && b)) ≡ a
+either_way true true = refl
+either_way true false = refl
+either_way false b = refl
+
+leave_moves : (c : Configuration) (voters learners : Ids) → IsSingle c → AreWanted voters learners
+    → after_leave (result_of (with_outgoing c false) (moves c voters learners)) ≡ single_with voters learners
+leave_moves c voters learners single wanted =
+    let valid = members_from_valid c single.settled.valid in
+    let moved = moves-has_wanted c c.incoming voters learners false single wanted valid.learner_incoming in
+    let entered = result_of (with_outgoing c false) (moves c voters learners) in
+    same_configuration (after_leave entered) (single_with voters learners)
+    (λ q. ap (λ s. has s q) moved.incoming) refl
+    (λ q. has-after_leave entered q ∙ (λ i. moved.learners q i || moved.next q i) ∙ either_way (has learners q) (has c.incoming q))
+    (λ q. refl) refl
+
+-- ---- the steps
+pub single_steps-is_run : (c : Configuration) (voters learners : Ids) → IsSingle c → AreWanted voters learners
+    → IsRun c (single_steps c voters learners) (single_with voters learners)
+single_steps-is_run c voters learners single wanted =
+    let target = single_with voters learners in
+    let entered = result_of (with_outgoing c false) (moves c voters learners) in
+    let valid = members_from_valid c single.settled.valid in
+    let moved = moves-has_wanted c c.incoming voters learners false single wanted valid.learner_incoming in
+    let voter : has_voter target ≡ true = not_from_false _ wanted.voter in
+    cond_both (nat_le (difference_count c.incoming voters) 1) _ _ (λ steps. IsRun c steps target)
+    (λ few. (target, simple_accepted c target (moves c voters learners) single.single (simple_moves c voters learners single wanted) voter (leb-true _ 1 few), refl))
+    (λ many. (
+      entered,
+      enter_accepted c entered false (moves c voters learners) single.single single.settled.voter refl (ap (λ s. not (is_empty s)) moved.incoming ∙ voter),
+      (target, leave_accepted entered single.settled.voter ∙ ap Ok (leave_moves c voters learners single wanted), refl),
+    ))
+
+pub single_steps-at_most_two : (c : Configuration) (voters learners : Ids) → length (single_steps c voters learners) ≤ 2
+single_steps-at_most_two c voters learners =
+    cond_both (nat_le (difference_count c.incoming voters) 1) _ _ (λ steps. length steps ≤ 2) (λ few. omega arith) (λ many. omega arith)

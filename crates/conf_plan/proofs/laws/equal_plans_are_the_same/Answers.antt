@@ -1,0 +1,5 @@
+use Rattle.conf_plan.proofs.SamePlans.{is_same_plan-Decides}
+use Rattle.conf_plan.proofs.laws.equal_plans_are_the_same.Goals as goal
+
+pub returns : goal.returns
+returns c = is_same_plan-Decides

@@ -1,0 +1,7 @@
+pub mod Run
+pub mod PlanSteps
+pub mod SamePlans
+pub mod Planned
+pub mod Walking
+pub mod PlanText
+pub mod PlanCode

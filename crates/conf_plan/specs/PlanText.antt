@@ -1,0 +1,106 @@
+-- The text of a plan: its lines as they are printed, and which texts stand for which plans.
+use Rattle.std.specs.Prelude.{◌≡◌, ℕ, ◌+◌, ◌≤◌, Bool, ◌==◌, ◌⊎◌, List, [], ◌∷◌, ◌++◌, length, map, flat_map, filter, codes, decimal, if◌then◌else◌}
+use Rattle.std.specs.List.{AllZip, join_with_byte, slice_split}
+use Rattle.conf_change.specs.Words.{has_bytes, words}
+use Rattle.conf_change.specs.ChangeList.{letter_of, Spells}
+use Rattle.conf_change.specs.ConfStateLine.{truth_text}
+use Rattle.conf_change.specs.declared.change.Change.{Change}
+use Rattle.conf_change.specs.declared.step.Step.{Step}
+use Rattle.conf_change.specs.declared.step.Step.TheVariants.{Simple, EnterJoint, LeaveJoint}
+use Rattle.conf_plan.specs.Run.{changes_of}
+use Rattle.conf_plan.specs.declared.text.PlanTextFault.{PlanTextFault}
+use Rattle.conf_plan.specs.declared.text.PlanTextFault.TheVariants.{BadLine, TooManySteps, NoMemory}
+
+abbrev pub flag_word : Bool → List ℕ
+flag_word auto_leave = codes "autoleave=" ++ truth_text auto_leave
+
+-- the words that a step's line begins with; its changes follow them
+abbrev pub command_words : Step → List (List ℕ)
+command_words (Simple _) = codes "simple" ∷ []
+command_words (EnterJoint auto_leave _) = codes "enter-joint" ∷ flag_word auto_leave ∷ []
+command_words LeaveJoint = codes "leave-joint" ∷ []
+
+-- ---- as it is printed
+-- a change: its letter, and its id without leading zeros
+abbrev pub change_text : Change → List ℕ
+change_text change = letter_of change.kind ∷ decimal change.id
+
+-- a change behind the words before it
+abbrev pub spaced_change : Change → List ℕ
+spaced_change change = 32 ∷ change_text change
+
+-- the words of a step's line, with one space between
+abbrev pub line_text : Step → List ℕ
+line_text step = join_with_byte 32 (command_words step ++ map change_text (changes_of step))
+
+abbrev pub line_and_newline : Step → List ℕ
+line_and_newline step = line_text step ++ codes "\n"
+
+-- a line for each step, or a line that says that there is nothing to do
+abbrev pub plan_text : List Step → List ℕ
+plan_text [] = codes "nothing to do\n"
+plan_text (step ∷ steps) = flat_map line_and_newline (step ∷ steps)
+
+-- ---- which texts stand for which plans
+abbrev pub is_newline : ℕ → Bool
+is_newline byte = byte == 10
+
+-- a list of pieces, without its last one where that is empty
+abbrev pub without_empty_end : List (List ℕ) → List (List ℕ)
+without_empty_end [] = []
+without_empty_end (piece ∷ []) = filter has_bytes (piece ∷ [])
+without_empty_end (piece ∷ next ∷ pieces) = piece ∷ without_empty_end (next ∷ pieces)
+
+-- The lines of a text: it is cut at each newline, and what follows the last newline is a line if it is not empty. The empty text is read as one blank line.
+abbrev pub lines_of : List ℕ → List (List ℕ)
+lines_of text = if has_bytes text then without_empty_end (slice_split is_newline text) else [] ∷ []
+
+-- the words of the line, however much white space stands around them, are the step's command and then its changes, one word a change
+pub record IsLineOf (line : List ℕ) (step : Step) : Type 0 where
+  pub tokens : List (List ℕ)
+  pub line_words : words line ≡ command_words step ++ tokens
+  pub spelled : AllZip Spells tokens (changes_of step)
+
+-- the text is one line, whose words say that there is nothing to do
+pub record SaysNothing (text : List ℕ) : Type 0 where
+  pub line : List ℕ
+  pub alone : lines_of text ≡ line ∷ []
+  pub line_words : words line ≡ codes "nothing" ∷ codes "to" ∷ codes "do" ∷ []
+
+-- its lines, at most four (and no text has none), are those of the steps in order
+pub record IsTextOf (text : List ℕ) (steps : List Step) : Type 0 where
+  pub at_most_four : length steps ≤ 4
+  pub lines : AllZip IsLineOf (lines_of text) steps
+
+-- the text stands for the plan of these steps
+abbrev pub StandsForPlan : List ℕ → List Step → Type 0
+StandsForPlan text steps = ((steps ≡ []) × SaysNothing text) ⊎ IsTextOf text steps
+
+-- the line with this number, counted from 1 and at most 4, is the first that stands for no step, and the text is not the one that says that there is nothing to do
+pub record IsFirstBadLine (text : List ℕ) (number : ℕ) : Type 0 where
+  pub before : List (List ℕ)
+  pub line : List ℕ
+  pub after : List (List ℕ)
+  pub steps : List Step
+  pub place : lines_of text ≡ before ++ line ∷ after
+  pub counted : number ≡ length before + 1
+  pub in_first_four : number ≤ 4
+  pub stand : AllZip IsLineOf before steps
+  pub bad : (step : Step) → ¬ (IsLineOf line step)
+  pub something : ¬ (SaysNothing text)
+
+-- the first four lines stand for steps, and a fifth line follows, whatever it holds
+pub record IsTooLong (text : List ℕ) : Type 0 where
+  pub before : List (List ℕ)
+  pub fifth : List ℕ
+  pub after : List (List ℕ)
+  pub steps : List Step
+  pub place : lines_of text ≡ before ++ fifth ∷ after
+  pub four : length before ≡ 4
+  pub stand : AllZip IsLineOf before steps
+
+-- the text stands for no plan, for this reason; want of memory is no reason that a text has
+abbrev pub HasFault : List ℕ → PlanTextFault → Type 0
+HasFault text (BadLine number) = IsFirstBadLine text number
+HasFault text TooManySteps = IsTooLong text
+HasFault text NoMemory = ⊥

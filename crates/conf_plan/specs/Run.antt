@@ -1,0 +1,36 @@
+-- Runs: steps that lead from one configuration to another.
+use Rattle.std.specs.Prelude.{◌≡◌, ℕ, ◌-◌, ◌<◌, true, List, [], ◌∷◌, take, Ok, Some, slice_get}
+use Rattle.conf_change.specs.Configuration.{Configuration, is_valid, has_voter}
+use Rattle.conf_change.specs.Outcome.{outcome}
+use Rattle.conf_change.specs.Changer.{ChangerState, Accepts, Refuses}
+use Rattle.conf_change.specs.declared.change.Change.{Change}
+use Rattle.conf_change.specs.declared.refused.Refused.{Refused}
+use Rattle.conf_change.specs.declared.step.Step.{Step}
+use Rattle.conf_change.specs.declared.step.Step.TheVariants.{Simple, EnterJoint, LeaveJoint}
+
+-- it is valid and has an incoming voter
+pub record IsValidWithVoter (c : Configuration) : Type 0 where
+  pub valid : is_valid c ≡ true
+  pub voter : has_voter c ≡ true
+
+-- the steps lead from the one configuration to the other: each is accepted where those before it lead
+abbrev pub IsRun : Configuration → List Step → Configuration → Type 0
+IsRun before [] after = before ≡ after
+IsRun before (step ∷ steps) after = (next : Configuration) × (outcome before step ≡ Ok next) × IsRun next steps after
+
+-- the changes of a step
+abbrev pub changes_of : Step → List Change
+changes_of (Simple changes) = changes
+changes_of (EnterJoint _ changes) = changes
+changes_of LeaveJoint = []
+
+-- a changer takes the steps in order
+abbrev pub Takes : ChangerState → List Step → ChangerState → Type 0
+Takes before [] after = before ≡ after
+Takes before (step ∷ steps) after = (next : ChangerState) × Accepts before step next × Takes next steps after
+
+-- it takes the steps before the one of this number, counted from 1, which is refused for this reason, want of memory aside
+pub record StopsAt (before : ChangerState) (steps : List Step) (number : ℕ) (why : Refused) (after : ChangerState) : Type 0 where
+  pub in_range : 0 < number
+  pub taken : Takes before (take (number - 1) steps) after
+  pub refused : (step : Step) × (slice_get steps (number - 1) ≡ Some step) × Refuses after step why

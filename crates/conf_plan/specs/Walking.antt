@@ -1,0 +1,28 @@
+-- Ids that are met in rising order.
+use Rattle.std.specs.Prelude.{◌≡◌, ℕ, ◌+◌, ◌≤◌, Bool, ◌⊎◌, ◌↔◌, true, List, ◌++◌, Option, Some, None, slice_get, if◌then◌else◌}
+use Rattle.std.specs.List.{All}
+use Rattle.quorum_sets.specs.Ids.{Ids, ascending}
+use Rattle.conf_change.specs.declared.step.Step.{Step}
+use Rattle.conf_plan.specs.PlanSteps.{HasWordIds}
+
+-- no id comes after every id
+abbrev pub IsNoLater : Option ℕ → Option ℕ → Type 0
+IsNoLater first None = Unit {0}
+IsNoLater None (Some id) = ⊥
+IsNoLater (Some first) (Some id) = first ≤ id
+
+-- it is the first of the two
+pub record IsEarlier (a b first : Option ℕ) : Type 0 where
+  pub no_later_than_a : IsNoLater first a
+  pub no_later_than_b : IsNoLater first b
+  pub either : (first ≡ a) ⊎ (first ≡ b)
+
+-- the place after the id, where the id stands at the place, and else the same place
+pub record IsPassed (ids : Ids) (place id : ℕ) (found : Bool) (next : ℕ) : Type 0 where
+  pub here : (found ≡ true) ↔ (slice_get (ascending ids) place ≡ Some id)
+  pub behind : next ≡ place + (if found then 1 else 0)
+
+-- steps are added behind those before; their ids are numbers of 64 bits
+pub record IsAdded (before more after : List Step) : Type 0 where
+  pub whole : after ≡ before ++ more
+  pub word_ids : All HasWordIds more

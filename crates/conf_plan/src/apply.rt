@@ -1,0 +1,58 @@
+//! Taking the steps of a plan.
+ghost use Rattle.std.specs.Prelude.{◌≡◌, OnOk, IfErr};
+ghost use Rattle.conf_change.specs.Configuration.{Configuration};
+ghost use Rattle.conf_change.specs.Changer.{IsSound, Makes};
+ghost use Rattle.conf_plan.specs.Run.{IsRun, Takes, StopsAt};
+
+use crate::plan_steps::Plan;
+use conf_change::{Changer, Refused, Step};
+use quorum_sets::MemberSet;
+use thiserror::Error;
+
+/// The step at which a plan stopped, counted from 1, and why.
+#[derive(Clone, Copy, Debug, PartialEq, Eq, Error)]
+#[error("step {step}: {refused}")]
+pub struct StepRefused {
+    pub step: usize,
+    pub refused: Refused,
+}
+
+/// Takes the steps of a plan in order, up to the first that is refused: the changer then stands after the steps before it.
+/// A plan that leads to a configuration from where the changer stands gets it there, unless memory is wanting.
+pub fn apply_plan<S: MemberSet>(changer: &mut Changer<S>, plan: &Plan) -> Result<(), StepRefused>
+    ensures taken { OnOk result (Takes changer.old plan.now changer.new) }
+    ensures stopped { IfErr result (λ stop. StopsAt changer.old plan.now stop.step stop.refused changer.new) }
+    ensures sound { IsSound changer.new.tracker }
+    ensures reached { OnOk result ((target : Configuration) → IsRun changer.old.tracker.config plan.now target → changer.new.tracker.config ≡ target) }
+    ensures memory_alone { IfErr result (λ stop. (target : Configuration) → IsRun changer.old.tracker.config plan.now target → stop.refused ≡ Refused.NoMemory) }
+{
+    for place in 0..plan.len() {
+        if let Some(step) = plan.step(place) {
+            match take_step(changer, step) {
+                Ok(()) => {}
+                Err(refused) => {
+                    return Err(StepRefused {
+                        step: place + 1,
+                        refused,
+                    });
+                }
+            }
+        }
+    }
+    let _tracker = changer.tracker();
+    Ok(())
+}
+
+// Takes one step.
+fn take_step<S: MemberSet>(changer: &mut Changer<S>, step: &Step) -> Result<(), Refused>
+    ensures { Makes changer.old step.now result changer.new }
+{
+    match step {
+        Step::Simple(changes) => changer.simple(changes.as_slice()),
+        Step::EnterJoint(auto_leave, changes) => changer.enter_joint(
+            *auto_leave,
+            changes.as_slice(),
+        ),
+        Step::LeaveJoint => changer.leave_joint(),
+    }
+}

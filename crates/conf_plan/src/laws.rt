@@ -1,0 +1,47 @@
+//! Laws of this crate's definitions, each the contract of a function that does nothing.
+ghost use Rattle.std.specs.Prelude.{◌≡◌, ◌≤◌, ◌↔◌, ◌⊎◌, ℕ, true, List, length, Ok, Err};
+ghost use Rattle.conf_change.specs.Configuration.{Configuration};
+ghost use Rattle.conf_change.specs.declared.step.Step.{Step};
+ghost use Rattle.conf_plan.specs.declared.text.PlanTextFault.{PlanTextFault};
+ghost use Rattle.conf_plan.specs.Planned.{planned};
+ghost use Rattle.conf_plan.specs.PlanSteps.{IsPlan};
+ghost use Rattle.conf_plan.specs.PlanText.{StandsForPlan, HasFault, plan_text};
+ghost use Rattle.conf_plan.specs.PlanCode.{plan_in};
+ghost use Rattle.conf_plan.specs.Run.{IsRun, IsValidWithVoter};
+ghost use Rattle.conf_plan.specs.SamePlans.{is_same_plan};
+
+/// Along a run the configuration stays valid and keeps a voter.
+pub fn run_stays_settled()
+    ensures { (before after : Configuration) (steps : List Step) → IsValidWithVoter before → IsRun before steps after → IsValidWithVoter after }
+{}
+
+/// The plan from one configuration to another is a run of at most four steps.
+pub fn planned_is_run()
+    ensures run { (now target : Configuration) → IsValidWithVoter now → IsValidWithVoter target → IsRun now (planned now target) target }
+    ensures at_most_four { (now target : Configuration) → IsValidWithVoter now → IsValidWithVoter target → length (planned now target) ≤ 4 }
+{}
+
+/// Whatever run was made, the plan is a run back, of at most four steps, and of at most three where one step is undone.
+pub fn undo_of_run()
+    ensures back { (before after : Configuration) (steps : List Step) → IsValidWithVoter before → IsRun before steps after
+        → IsRun after (planned after before) before }
+    ensures at_most_four { (before after : Configuration) (steps : List Step) → IsValidWithVoter before → IsRun before steps after
+        → length (planned after before) ≤ 4 }
+    ensures at_most_three { (before after : Configuration) (steps : List Step) → IsValidWithVoter before → IsRun before steps after
+        → length steps ≡ 1 → length (planned after before) ≤ 3 }
+{}
+
+/// A text stands for one plan at most, and it is the one that the function gives; where it stands for none, it has one
+/// fault, which the function gives. The printed text of a plan stands for it.
+pub fn one_plan_per_text()
+    ensures ok { (text : List ℕ) (steps : List Step) → (StandsForPlan text steps) ↔ (plan_in text ≡ Ok steps) }
+    ensures err { (text : List ℕ) (fault : PlanTextFault) → (HasFault text fault) ↔ (plan_in text ≡ Err fault) }
+    ensures each { (text : List ℕ) → ((steps : List Step) × StandsForPlan text steps) ⊎ ((fault : PlanTextFault) × HasFault text fault) }
+    ensures one { (text : List ℕ) (a b : List Step) → StandsForPlan text a → StandsForPlan text b → a ≡ b }
+    ensures printed { (steps : List Step) → IsPlan steps → StandsForPlan (plan_text steps) steps }
+{}
+
+/// Plans are equal, by `==`, exactly where they are the same.
+pub fn equal_plans_are_the_same()
+    ensures { (a b : List Step) → (is_same_plan a b ≡ true) ↔ (a ≡ b) }
+{}

@@ -1,0 +1,15 @@
+//! Plans: the steps from one configuration to another.
+#![tactic(auto)]
+
+pub mod apply;
+pub mod laws;
+pub mod plan_steps;
+pub mod planner;
+mod shared;
+pub mod text;
+mod walk;
+
+pub use apply::{StepRefused, apply_plan};
+pub use plan_steps::Plan;
+pub use planner::{PlanFault, plan};
+pub use text::{PlanTextFault, print_plan, read_plan};

@@ -1,0 +1,169 @@
+//! Making a plan.
+ghost use Rattle.std.specs.Prelude.{◌≡◌, ◌↔◌, true, false, [], ◌∷◌, Err, IfOk, OnOk};
+ghost use Rattle.conf_change.specs.Configuration.{is_joint, is_valid, has_voter};
+ghost use Rattle.conf_plan.specs.Planned.{single_with, single_steps, entering_step, joint_steps, planned_from_single, planned};
+ghost use Rattle.conf_plan.specs.Run.{IsRun, IsValidWithVoter};
+ghost use Rattle.conf_plan.specs.Walking.{IsAdded};
+
+use crate::plan_steps::Plan;
+use crate::shared::shared_members;
+use crate::walk::moves_to;
+use conf_change::{Changes, Config, Step, union};
+use quorum_sets::{MemberSet, NoMemory, symdiff};
+use std::alloc::Global;
+use thiserror::Error;
+
+/// Why no plan is made.
+#[derive(Clone, Copy, Debug, PartialEq, Eq, Error)]
+pub enum PlanFault {
+    #[error("the present configuration has no voter")]
+    NoVoterNow,
+    #[error("no plan: the earlier configuration has no voter")]
+    NoVoterTarget,
+    #[error("out of memory")]
+    NoMemory,
+}
+
+impl From<NoMemory> for PlanFault {
+    ghost use Rattle.conf_plan.specs.declared.planner.PlanFault.TheVariants.{NoMemory};
+
+    ghost from_gives = { λ _ fault. fault ≡ NoMemory };
+
+    fn from(_error: NoMemory) -> PlanFault {
+        PlanFault::NoMemory
+    }
+}
+
+/// The plan from one configuration to another: its steps lead from the one to the other. There is one between any two
+/// configurations with voters, and without voters there is none, which is found before any memory is taken.
+pub fn plan<S: MemberSet>(
+    alloc: Global,
+    now: &Config<S>,
+    target: &Config<S>,
+) -> Result<Plan, PlanFault>
+    requires valid_now { is_valid now.now ≡ true }
+    requires valid_target { is_valid target.now ≡ true }
+    ensures planned { IfOk result (λ plan. plan ≡ planned now.now target.now) }
+    ensures run { IfOk result (λ plan. IsRun now.now plan target.now) }
+    ensures no_voter_now { (result ≡ Err PlanFault.NoVoterNow) ↔ (has_voter now.now ≡ false) }
+    ensures no_voter_target { (result ≡ Err PlanFault.NoVoterTarget) ↔ ((has_voter now.now ≡ true) × (has_voter target.now ≡ false)) }
+{
+    if now.incoming.len() == 0 {
+        return Err(PlanFault::NoVoterNow);
+    }
+    if target.incoming.len() == 0 {
+        return Err(PlanFault::NoVoterTarget);
+    }
+    let mut steps = Vec::new(alloc);
+    add_plan(alloc, &mut steps, now, target)?;
+    Ok(Plan::of_steps(steps))
+}
+
+// The plan from one configuration to another.
+fn add_plan<S: MemberSet>(
+    alloc: Global,
+    steps: &mut Vec<Step>,
+    now: &Config<S>,
+    target: &Config<S>,
+) -> Result<(), NoMemory>
+    requires now { IsValidWithVoter now.now }
+    requires target { IsValidWithVoter target.now }
+    ensures { OnOk result (IsAdded steps.old.items (planned now.now target.now) steps.new.items) }
+{
+    if now.same(target) {
+        return Ok(());
+    }
+    if now.outgoing.len() == 0 {
+        return add_from_single(alloc, steps, &now.incoming, &now.learners, target);
+    }
+    steps.push(Step::LeaveJoint)?;
+    let learners = union(&now.learners, &now.learners_next)?;
+    add_from_single(alloc, steps, &now.incoming, &learners, target)
+}
+
+// From these voters and learners, neither joint, to a configuration.
+fn add_from_single<S: MemberSet>(
+    alloc: Global,
+    steps: &mut Vec<Step>,
+    incoming: &S,
+    learners: &S,
+    target: &Config<S>,
+) -> Result<(), NoMemory>
+    requires start { IsValidWithVoter (single_with (S.ids incoming.now) (S.ids learners.now)) }
+    requires target { IsValidWithVoter target.now }
+    ensures { OnOk result (IsAdded steps.old.items (planned_from_single (single_with (S.ids incoming.now) (S.ids learners.now)) target.now) steps.new.items) }
+{
+    if target.outgoing.len() != 0 {
+        add_joint_steps(alloc, steps, incoming, learners, target)
+    } else if symdiff(incoming, &target.incoming) == 0 && symdiff(learners, &target.learners) == 0 {
+        Ok(())
+    } else {
+        add_single_steps(
+            alloc,
+            steps,
+            incoming,
+            learners,
+            &target.incoming,
+            &target.learners,
+        )
+    }
+}
+
+// From these voters and learners into a joint configuration.
+fn add_joint_steps<S: MemberSet>(
+    alloc: Global,
+    steps: &mut Vec<Step>,
+    incoming: &S,
+    learners: &S,
+    target: &Config<S>,
+) -> Result<(), NoMemory>
+    requires start { IsValidWithVoter (single_with (S.ids incoming.now) (S.ids learners.now)) }
+    requires target { IsValidWithVoter target.now }
+    requires joint { is_joint target.now ≡ true }
+    ensures { OnOk result (IsAdded steps.old.items (joint_steps (single_with (S.ids incoming.now) (S.ids learners.now)) target.now) steps.new.items) }
+{
+    if symdiff(incoming, &target.outgoing) == 0 {
+        return add_entering_step(alloc, steps, incoming, learners, target);
+    }
+    // The steps that are inserted lead to the target's outgoing voters, with the shared members as learners.
+    let shared = shared_members(alloc, incoming, learners, target)?;
+    add_single_steps(alloc, steps, incoming, learners, &target.outgoing, &shared)?;
+    add_entering_step(alloc, steps, &target.outgoing, &shared, target)
+}
+
+// From the target's outgoing voters and these learners into the target.
+fn add_entering_step<S: MemberSet>(
+    alloc: Global,
+    steps: &mut Vec<Step>,
+    incoming: &S,
+    learners: &S,
+    target: &Config<S>,
+) -> Result<(), NoMemory>
+    ensures { OnOk result (IsAdded steps.old.items (entering_step (single_with (S.ids incoming.now) (S.ids learners.now)) target.now ∷ []) steps.new.items) }
+{
+    let to_learners = union(&target.learners, &target.learners_next)?;
+    let changes = moves_to(alloc, incoming, learners, &target.incoming, &to_learners)?;
+    steps.push(Step::EnterJoint(target.auto_leave, Changes::from(changes)))?;
+    Ok(())
+}
+
+// From these voters and learners to others, neither joint.
+fn add_single_steps<S: MemberSet>(
+    alloc: Global,
+    steps: &mut Vec<Step>,
+    incoming: &S,
+    learners: &S,
+    to_voters: &S,
+    to_learners: &S,
+) -> Result<(), NoMemory>
+    ensures { OnOk result (IsAdded steps.old.items (single_steps (single_with (S.ids incoming.now) (S.ids learners.now)) (S.ids to_voters.now) (S.ids to_learners.now)) steps.new.items) }
+{
+    let changes = Changes::from(moves_to(alloc, incoming, learners, to_voters, to_learners)?);
+    if symdiff(incoming, to_voters) <= 1 {
+        steps.push(Step::Simple(changes))?;
+    } else {
+        steps.push(Step::EnterJoint(false, changes))?;
+        steps.push(Step::LeaveJoint)?;
+    }
+    Ok(())
+}

@@ -1,0 +1,292 @@
+//! The text of a plan: a line for each step, or `nothing to do`. The form of the lines is own.
+ghost use Rattle.std.specs.Prelude.{◌≡◌, ◌⊎◌, ◌<◌, ◌≤◌, [], ◌∷◌, ◌++◌, List, Ok, Err, length, flat_map, IfOk, IfErr, OnOk, OnErr};
+ghost use Rattle.std.specs.List.{join_with_byte, position_or_len};
+ghost use Rattle.conf_change.specs.Words.{words};
+ghost use Rattle.conf_change.specs.ChangeList.{letter_of};
+ghost use Rattle.conf_change.specs.Text.{Extends};
+ghost use Rattle.conf_change.specs.declared.step.Step.{Step};
+ghost use Rattle.conf_plan.specs.Run as run;
+ghost use Rattle.conf_plan.specs.PlanText.{StandsForPlan, HasFault, command_words, spaced_change, line_and_newline, plan_text, lines_of, is_newline};
+ghost use Rattle.conf_plan.specs.PlanCode as code;
+ghost use Rattle.conf_plan.specs.PlanCode.{plan_in, step_in, enter_in, list_in};
+ghost use Rattle.conf_plan.specs.declared.text.PlanTextFault.{PlanTextFault};
+
+use crate::plan_steps::Plan;
+use conf_change::{Change, Changes, Kind, Step, TokenFault, next_token, read_changes};
+use itoa::Buffer;
+use quorum_sets::NoMemory;
+use std::alloc::{AllocFailed, Global};
+use thiserror::Error;
+
+/// Why a text stands for no plan.
+#[derive(Clone, Copy, Debug, PartialEq, Eq, Error)]
+pub enum PlanTextFault {
+    /// The line with this number, counted from 1, is the first that stands for no step.
+    #[error("line {0}: bad line")]
+    BadLine(usize),
+    /// A fifth line follows four that stand for steps.
+    #[error("too many steps")]
+    TooManySteps,
+    #[error("out of memory")]
+    NoMemory,
+}
+
+impl From<NoMemory> for PlanTextFault {
+    ghost use Rattle.conf_plan.specs.declared.text.PlanTextFault.TheVariants.{NoMemory};
+
+    ghost from_gives = { λ _ fault. fault ≡ NoMemory };
+
+    fn from(_error: NoMemory) -> PlanTextFault {
+        PlanTextFault::NoMemory
+    }
+}
+
+impl From<AllocFailed<Step>> for PlanTextFault {
+    ghost use Rattle.conf_plan.specs.declared.text.PlanTextFault.TheVariants.{NoMemory};
+
+    ghost from_gives = { λ _ fault. fault ≡ NoMemory };
+
+    fn from(_error: AllocFailed<Step>) -> PlanTextFault {
+        PlanTextFault::NoMemory
+    }
+}
+
+/// Appends the lines of a plan, each with a newline: `simple v1 r2`, `enter-joint autoleave=false l3`, `leave-joint`, or
+/// `nothing to do` where it has no step. What is appended is read as the same plan.
+#[tactic(auto, using(crate::proofs::PrintedLines::printed_laws))]
+pub fn print_plan(text: &mut Vec<u8>, plan: &Plan) -> Result<(), NoMemory>
+    ensures ok { OnOk result (text.new.items ≡ text.old.items ++ plan_text plan.now) }
+    ensures stands { StandsForPlan (plan_text plan.now) plan.now }
+    ensures reads_back { plan_in (plan_text plan.now) ≡ Ok plan.now }
+    ensures err { OnErr result (text.new.items ≡ text.old.items) }
+{
+    let len = text.len();
+    let printed = append_plan(text, plan.as_slice());
+    if printed.is_err() {
+        text.truncate(len);
+    }
+    printed
+}
+
+fn append_plan(text: &mut Vec<u8>, steps: &[Step]) -> Result<(), NoMemory>
+    ensures ok { OnOk result (text.new.items ≡ text.old.items ++ plan_text steps.now) }
+    ensures extends { Extends text.old.items text.new.items }
+{
+    if steps.is_empty() {
+        text.extend_from_slice(b"nothing to do\n")?;
+        Ok(())
+    } else {
+        append_lines(text, steps)
+    }
+}
+
+fn append_lines(text: &mut Vec<u8>, steps: &[Step]) -> Result<(), NoMemory>
+    ensures ok { OnOk result (text.new.items ≡ text.old.items ++ flat_map line_and_newline steps.now) }
+    ensures extends { Extends text.old.items text.new.items }
+{
+    for step in steps {
+        append_line(text, step)?;
+    }
+    Ok(())
+}
+
+fn append_line(text: &mut Vec<u8>, step: &Step) -> Result<(), NoMemory>
+    ensures ok { OnOk result (text.new.items ≡ text.old.items ++ line_and_newline step.now) }
+    ensures extends { Extends text.old.items text.new.items }
+{
+    text.extend_from_slice(command(step))?;
+    append_changes(text, changes_of(step))?;
+    text.push(b'\n')?;
+    Ok(())
+}
+
+// The words with which a step's line begins.
+fn command(step: &Step) -> &'static [u8]
+    ensures { result.now ≡ join_with_byte 32 (command_words step.now) }
+{
+    match step {
+        Step::Simple(_) => b"simple",
+        Step::EnterJoint(true, _) => b"enter-joint autoleave=true",
+        Step::EnterJoint(false, _) => b"enter-joint autoleave=false",
+        Step::LeaveJoint => b"leave-joint",
+    }
+}
+
+// The changes of a step.
+fn changes_of(step: &Step) -> &[Change]
+    ensures { result.now ≡ run.changes_of step.now }
+{
+    match step {
+        Step::Simple(changes) | Step::EnterJoint(_, changes) => changes.as_slice(),
+        Step::LeaveJoint => &[],
+    }
+}
+
+// Appends changes, each behind a space.
+fn append_changes(text: &mut Vec<u8>, changes: &[Change]) -> Result<(), NoMemory>
+    ensures ok { OnOk result (text.new.items ≡ text.old.items ++ flat_map spaced_change changes.now) }
+    ensures extends { Extends text.old.items text.new.items }
+{
+    for change in changes {
+        append_change(text, *change)?;
+    }
+    Ok(())
+}
+
+fn append_change(text: &mut Vec<u8>, change: Change) -> Result<(), NoMemory>
+    ensures ok { OnOk result (text.new.items ≡ text.old.items ++ spaced_change change) }
+    ensures extends { Extends text.old.items text.new.items }
+{
+    let mut buffer = Buffer::new();
+    text.push(b' ')?;
+    text.push(letter(change.kind))?;
+    text.extend_from_slice(buffer.format(change.id).as_bytes())?;
+    Ok(())
+}
+
+fn letter(kind: Kind) -> u8
+    ensures { result ≡ letter_of kind }
+{
+    match kind {
+        Kind::Voter => b'v',
+        Kind::Learner => b'l',
+        Kind::Remove => b'r',
+        Kind::Update => b'u',
+    }
+}
+
+/// Reads the lines of a plan: the form that `print_plan` appends, with any white space around the words of a line and
+/// any zeros before the ids. The lines are read in order, and the first that stands for no step, or the fifth, decides;
+/// a blank line stands for none, and the empty text is read as one blank line.
+#[tactic(auto, using(crate::proofs::PlanLines::answer_laws))]
+pub fn read_plan(alloc: Global, text: &[u8]) -> Result<Plan, PlanTextFault>
+    ensures stands { IfOk result (StandsForPlan text.now) }
+    ensures told { IfErr result (λ fault. (fault ≡ PlanTextFault.NoMemory) ⊎ HasFault text.now fault) }
+    ensures read { (steps : List Step) → StandsForPlan text.now steps → (result ≡ Ok steps) ⊎ (result ≡ Err PlanTextFault.NoMemory) }
+    ensures refused { (fault : PlanTextFault) → HasFault text.now fault → (result ≡ Err fault) ⊎ (result ≡ Err PlanTextFault.NoMemory) }
+
+    // The same by the function.
+    ensures value { (result ≡ plan_in text.now) ⊎ (result ≡ Err PlanTextFault.NoMemory) }
+{
+    read_lines(alloc, text)
+}
+
+fn read_lines(alloc: Global, text: &[u8]) -> Result<Plan, PlanTextFault>
+    ensures { (result ≡ plan_in text.now) ⊎ (result ≡ Err PlanTextFault.NoMemory) }
+{
+    let (line, behind) = first_line(text);
+    if behind.is_empty() && is_nothing(line) {
+        return Ok(Plan::of_steps(Vec::new(alloc)));
+    }
+    let mut steps = Vec::new(alloc);
+    let mut rest = text;
+    loop {
+        if steps.len() == 4 {
+            return Err(PlanTextFault::TooManySteps);
+        }
+        let (line, behind) = first_line(rest);
+        let step = read_step(alloc, line)?.ok_or(PlanTextFault::BadLine(steps.len() + 1))?;
+        steps.push(step)?;
+        if behind.is_empty() {
+            return Ok(Plan::of_steps(steps));
+        }
+        rest = behind;
+    }
+}
+
+// The first line, without its newline, and the text that follows that newline.
+fn first_line(text: &[u8]) -> (&[u8], &[u8])
+    ensures last { length result.1.now ≡ 0 → lines_of text.now ≡ result.0.now ∷ [] }
+    ensures more { 0 < length result.1.now → lines_of text.now ≡ result.0.now ∷ lines_of result.1.now }
+    ensures within { length result.1.now ≤ length text.now }
+    ensures shorter { 0 < length result.1.now → length result.1.now < length text.now }
+{
+    let (line, behind) = text.split_at(newline_at(text));
+    match behind {
+        [_, behind @ ..] => (line, behind),
+        [] => (line, behind),
+    }
+}
+
+// The place of the first newline, or the length of the text.
+fn newline_at(text: &[u8]) -> usize
+    ensures place { result ≡ position_or_len is_newline text.now }
+    ensures within { result ≤ length text.now }
+{
+    text.iter().take_while(|byte| **byte != b'\n').count()
+}
+
+// Whether a line says that there is nothing to do.
+fn is_nothing(line: &[u8]) -> bool
+    ensures { result ≡ code.is_nothing (words line.now) }
+{
+    let Some((first, rest)) = next_token(line) else {
+        return false;
+    };
+    let Some((second, rest)) = next_token(rest) else {
+        return false;
+    };
+    let Some((third, rest)) = next_token(rest) else {
+        return false;
+    };
+    first == b"nothing".as_slice()
+        && second == b"to".as_slice()
+        && third == b"do".as_slice()
+        && next_token(rest).is_none()
+}
+
+// The step that a line stands for, if it stands for one.
+fn read_step(alloc: Global, line: &[u8]) -> Result<Option<Step>, NoMemory>
+    ensures { IfOk result (λ found. found ≡ step_in (words line.now)) }
+{
+    let Some((command, rest)) = next_token(line) else {
+        return Ok(None);
+    };
+    if command == b"simple".as_slice() {
+        Ok(read_list(alloc, rest)?.map(Step::Simple))
+    } else if command == b"enter-joint".as_slice() {
+        read_enter(alloc, rest)
+    } else if command == b"leave-joint".as_slice() && next_token(rest).is_none() {
+        Ok(Some(Step::LeaveJoint))
+    } else {
+        Ok(None)
+    }
+}
+
+// The step of a flag and changes.
+fn read_enter(alloc: Global, text: &[u8]) -> Result<Option<Step>, NoMemory>
+    ensures { IfOk result (λ found. found ≡ enter_in (words text.now)) }
+{
+    let Some((flag, rest)) = next_token(text) else {
+        return Ok(None);
+    };
+    let Some(auto_leave) = read_flag(flag) else {
+        return Ok(None);
+    };
+    let list = read_list(alloc, rest)?;
+    Ok(list.map(|changes| Step::EnterJoint(auto_leave, changes)))
+}
+
+// The flag that a word stands for.
+fn read_flag(word: &[u8]) -> Option<bool>
+    ensures { result ≡ code.flag_in word.now }
+{
+    if word == b"autoleave=true".as_slice() {
+        Some(true)
+    } else if word == b"autoleave=false".as_slice() {
+        Some(false)
+    } else {
+        None
+    }
+}
+
+// The changes of a text whose words all spell one.
+fn read_list(alloc: Global, text: &[u8]) -> Result<Option<Changes>, NoMemory>
+    ensures { IfOk result (λ found. found ≡ list_in (words text.now)) }
+{
+    match read_changes(alloc, text) {
+        Ok(list) => Ok(Some(Changes::from(list))),
+        Err(TokenFault::NoMemory) => Err(NoMemory),
+        Err(_) => Ok(None),
+    }
+}
