@@ -1,0 +1,312 @@
+//! Scripts and the items that are read of them, and the lines of inputs.
+use crate::devices::{byte_by_byte, comments_for_ever};
+use dd_file::device::{FromRead, Source};
+use dd_file::fault::FileFault;
+use dd_file::item::{Argument, Directive, Item, RawLines};
+use dd_file::lines::Lines;
+use dd_file::reader::Reader;
+use std::alloc::{AllocError, Global};
+use std::test::Fail;
+
+fn lines_of(alloc: Global, input: &str) -> Result<Vec<u8>, Fail> {
+    let mut source = FromRead::new(input.as_bytes());
+    let mut lines = Lines::new(alloc)?;
+    let mut shown = Vec::new(alloc);
+    for _ in 0..9 {
+        if let Some(line) = lines.next(&mut source)? {
+            show_line(&mut shown, line.as_slice())?;
+        }
+    }
+    Ok(shown)
+}
+
+#[test]
+fn gives_lines(rt: HostRuntime) -> Result<(), Fail> {
+    for (input, want) in [
+        ("", ""),
+        ("a\r\n\nb\r\r", "<a><><b\r>"),
+        ("\n", "<>"),
+        ("\r", "<>"),
+        ("a", "<a>"),
+    ] {
+        let shown = lines_of(rt.alloc(), input)?;
+        assert_eq!(rt; shown.as_slice(), want.as_bytes(), "at {input}");
+    }
+    Ok(())
+}
+
+fn show_line(shown: &mut Vec<u8>, line: &[u8]) -> Result<(), AllocError> {
+    shown.push(b'<')?;
+    shown.extend_from_slice(line)?;
+    shown.push(b'>')?;
+    Ok(())
+}
+
+// The lines of a comment or of a blank.
+fn show_lines(shown: &mut Vec<u8>, lines: &RawLines) -> Result<(), AllocError> {
+    shown.extend_from_slice(b"lines:")?;
+    for i in 0..3 {
+        if let Some(line) = lines.get(i) {
+            show_line(shown, line)?;
+        }
+    }
+    Ok(())
+}
+
+fn show_argument(shown: &mut Vec<u8>, argument: &Argument) -> Result<(), AllocError> {
+    shown.push(b' ')?;
+    shown.extend_from_slice(argument.key())?;
+    for i in 0..4 {
+        if let Some(value) = argument.value(i) {
+            shown.push(b'[')?;
+            shown.extend_from_slice(value)?;
+            shown.push(b']')?;
+        }
+    }
+    Ok(())
+}
+
+// The line and the command, each argument with its values in brackets, the input and what is expected.
+fn show_directive(shown: &mut Vec<u8>, directive: &Directive) -> Result<(), AllocError> {
+    shown.push(b'0' + (directive.line() % 10) as u8)?;
+    shown.push(b':')?;
+    shown.extend_from_slice(directive.command())?;
+    for i in 0..directive.arguments().len() {
+        if let Some(argument) = directive.arg(i) {
+            show_argument(shown, argument)?;
+        }
+    }
+    shown.push(b'/')?;
+    shown.extend_from_slice(directive.input())?;
+    shown.push(b'/')?;
+    shown.extend_from_slice(directive.expected())
+}
+
+fn show_item(shown: &mut Vec<u8>, item: &Item) -> Result<(), AllocError> {
+    match item {
+        Item::Comment(lines) => show_lines(shown, lines)?,
+        Item::Blank(lines) => show_lines(shown, lines)?,
+        Item::Directive(directive) => show_directive(shown, directive)?,
+    }
+    shown.push(b'|')?;
+    Ok(())
+}
+
+// Each item, and the message of the fault that ends them.
+fn shown<R: Source>(alloc: Global, source: &mut R) -> Result<String, Fail> {
+    let mut shown = Vec::new(alloc);
+    let mut reader = Reader::new(alloc)?;
+    for _ in 0..100 {
+        match reader.next(source) {
+            Ok(Some(item)) => show_item(&mut shown, &item)?,
+            Ok(None) => break,
+            Err(fault) => {
+                let message = format!(in alloc; "{fault}")?;
+                shown.extend_from_slice(message.as_bytes())?;
+                break;
+            }
+        }
+    }
+    Ok(String::from_utf8(shown)?)
+}
+
+static SCRIPTS: [(&str, &str); 36] = [
+    ("", ""),
+    (
+        "enter-joint \\\n  autoleave=true\n----\nno\n",
+        "1:enter-joint autoleave[true]//no\n|",
+    ),
+    (
+        "simple\n----\n----\nremoved all voters\n----\n----\n",
+        "1:simple//removed all voters\n|",
+    ),
+    (
+        "simple\n----\n----\nremoved all voters\n----\n----\nx\n",
+        "line 7: line after double separator is not blank",
+    ),
+    ("simple a=(1, 2) b\n", "1:simple a[1][2] b//|"),
+    (
+        "# c\r\n\nsimple\nv1\n ---- \nold\n\nx y",
+        "lines:<# c>|lines:<>|3:simple/v1/old\n|8:x y//|",
+    ),
+    (
+        "simple\n----\n----\n\na\n----\nb\n----\n----\n \n# x",
+        "1:simple//\na\n----\nb\n|lines:<# x>|",
+    ),
+    (
+        "\n\nsimple\n----\n----\nx\n",
+        "lines:<>|lines:<>|line 3: double separator is not closed",
+    ),
+    ("simple\n# no\n\nv1 \n----\n\n", "1:simple/# no\n\nv1/|"),
+    ("\r", "lines:<>|"),
+    ("simple\n----\n---- \n", "1:simple//---- \n|"),
+    // comments, and what is none
+    (
+        "\t # a\n# b\\\n# c",
+        "lines:<\t # a>|lines:<# b\\>|lines:<# c>|",
+    ),
+    ("a #\n", "line 1: bad directive"),
+    // heads of several lines
+    (" a \\ \n\tb", "1:a b//|"),
+    ("\\\n \nx", "lines:<\\>< >|3:x//|"),
+    ("simple a=\\\n\n----\n", "1:simple a[]//|"),
+    ("simple a=\\\\\n\n----\n", "1:simple a[\\]//|"),
+    ("simple a=\\b\nc", "1:simple a[\\b]/c/|"),
+    ("a\\\n----\n", "1:a ----//|"),
+    ("a\\\n# b\n", "line 1: bad directive"),
+    // white space at both ends, and other bytes that look like it
+    (" \t\x0b\x0c", "lines:< \t\x0b\x0c>|"),
+    ("\x08", "line 1: bad directive"),
+    ("a\n\t\r\n\x0b\x0c b c\t\n", "1:a/b c/|"),
+    ("a\n\x08 \u{a0}\n", "1:a/\x08 \u{a0}/|"),
+    ("a\n\n\t\n----\n b\nc \n", "1:a// b\nc \n|"),
+    (
+        "# a\n\nundo \\\r\nsteps=2\n\n v1\n----\n----\na \n\n----\n----\n",
+        "lines:<# a>|lines:<>|3:undo steps[2]/v1/a \n\n|",
+    ),
+    // four dashes, and what is none
+    (
+        "a\n---\n-----\n---- -\n\t---- \nb",
+        "1:a/---\n-----\n---- -/b\n|",
+    ),
+    // commands and arguments
+    ("simple", "1:simple//|"),
+    ("subtests", "1:subtests//|"),
+    (
+        "\tenter-joint  autoleave=true ",
+        "1:enter-joint autoleave[true]//|",
+    ),
+    (
+        "committed cfg=(1, 2) cfgj=zero idx=(_,3)",
+        "1:committed cfg[1][2] cfgj[zero] idx[_][3]//|",
+    ),
+    ("vote cfg votes=( y n )", "1:vote cfg votes[y n]//|"),
+    ("x a=() b=( ) c=(,) d=", "1:x a b c[][] d[]//|"),
+    ("x a=((=#\\)", "1:x a[(=#\\]//|"),
+    ("x a==1", "1:x a[=1]//|"),
+    ("x a=\u{e9}", "1:x a[\u{e9}]//|"),
+];
+
+#[test]
+fn reads_items(rt: HostRuntime) -> Result<(), Fail> {
+    for (script, want) in &SCRIPTS {
+        let mut source = FromRead::new(script.as_bytes());
+        assert_eq!(rt;
+            shown(rt.alloc(), &mut source)?.as_str(),
+            *want,
+            "at {script}"
+        );
+        let mut slow = byte_by_byte(script.as_bytes(), None);
+        assert_eq!(rt;
+            shown(rt.alloc(), &mut slow)?.as_str(),
+            *want,
+            "at {script}"
+        );
+    }
+    Ok(())
+}
+
+static NO_DIRECTIVES: [&str; 15] = [
+    "subtest",
+    "subtest a",
+    "a=1",
+    "simple =1",
+    "simple a=(",
+    "simple a=(1",
+    "simple a=(1, 2)b",
+    "simple a=(1)(2)",
+    "simple a=b(c d)",
+    "simple a=b)",
+    "simple (1)",
+    "simple \\",
+    "x a=((=#\\ \\",
+    "caf\u{e9}",
+    "simple \u{e9}=1",
+];
+
+fn fault_of(alloc: Global, script: &str) -> Result<Option<FileFault>, FileFault> {
+    let mut source = FromRead::new(script.as_bytes());
+    Ok(Reader::new(alloc)?.next(&mut source).err())
+}
+
+#[test]
+fn refuses_what_is_no_directive(rt: HostRuntime) -> Result<(), Fail> {
+    for text in &NO_DIRECTIVES {
+        let fault = fault_of(rt.alloc(), *text)?;
+        assert_eq!(rt; fault, Some(FileFault::BadDirective(1)), "at {text}");
+    }
+    Ok(())
+}
+
+fn show_raw_lines(shown: &mut Vec<u8>, item: &Item) -> Result<(), AllocError> {
+    for i in 0..9 {
+        if let Some(line) = item.raw_line(i) {
+            show_line(shown, line)?;
+        }
+    }
+    shown.push(b'|')?;
+    Ok(())
+}
+
+fn raw_lines_of(alloc: Global, script: &str) -> Result<Vec<u8>, Fail> {
+    let mut source = FromRead::new(script.as_bytes());
+    let mut reader = Reader::new(alloc)?;
+    let mut shown = Vec::new(alloc);
+    for _ in 0..9 {
+        if let Some(item) = reader.next(&mut source)? {
+            show_raw_lines(&mut shown, &item)?;
+        }
+    }
+    Ok(shown)
+}
+
+#[test]
+fn keeps_the_lines_of_each_item(rt: HostRuntime) -> Result<(), Fail> {
+    for (script, want) in [
+        (
+            "# a\r\n\\\n\t\n undo \\ \r\nsteps=2\n\n v1\n ----\n----\na \n\n----\n----\n",
+            "<# a>|<\\><\t>|< undo \\ ><steps=2><>< v1>|",
+        ),
+        ("simple\n----\na\n\n# b", "<simple>|<# b>|"),
+    ] {
+        let shown = raw_lines_of(rt.alloc(), script)?;
+        assert_eq!(rt; shown.as_slice(), want.as_bytes(), "at {script}");
+    }
+    Ok(())
+}
+
+#[test]
+fn a_failed_read_is_for_good(rt: HostRuntime) -> Result<(), Fail> {
+    let mut source = byte_by_byte(b"# a\n# b\n# c\n", Some(8));
+    let mut reader = Reader::new(rt.alloc())?;
+    for answer in [None, None, Some(FileFault::Read), Some(FileFault::Read)] {
+        assert_eq!(rt; reader.next(&mut source).err(), answer);
+    }
+    assert!(rt; source.failed());
+    Ok(())
+}
+
+#[test]
+fn reads_little_ahead(rt: HostRuntime) -> Result<(), Fail> {
+    let mut script = Vec::new(rt.alloc());
+    for _ in 0..25000 {
+        script.extend_from_slice(b"# a\n")?;
+    }
+    let mut source = FromRead::new(script.as_slice());
+    let mut reader = Reader::new(rt.alloc())?;
+    assert_eq!(rt; reader.next(&mut source)?.is_some(), true);
+    assert!(rt; source.into_inner().len() >= 100000 - 4 - 4096);
+    Ok(())
+}
+
+#[test]
+fn an_input_without_end_is_too_long(rt: HostRuntime) -> Result<(), Fail> {
+    let mut source = comments_for_ever();
+    let mut reader = Reader::new(rt.alloc())?;
+    for _ in 1..1024 {
+        assert_eq!(rt; reader.next(&mut source)?.is_some(), true);
+    }
+    let fault = reader.next(&mut source).err().ok_or("no fault")?;
+    assert_eq!(rt; fault, FileFault::InputTooLong(1024));
+    Ok(())
+}

@@ -1,0 +1,228 @@
+//! Sessions: what each directive finds.
+use conf_tool::Session;
+use dd_file::device::FromRead;
+use dd_file::item::Item;
+use dd_file::reader::Reader;
+use std::alloc::Global;
+use std::process::Abort;
+use std::test::Fail;
+
+// A directive as it stands in a script, and the text that it finds but for the newline at its end.
+type Row = (&'static str, &'static str);
+
+const LISTS_THAT_LEAVE_NO_VOTER: &[Row] = &[
+    ("simple\nl1", "removed all voters"),
+    ("simple", "removed all voters"),
+];
+
+const ZERO_IS_IGNORED: &[Row] = &[(
+    "simple\nv1 r0 v0 l0",
+    "voters=(1)\n1: StateProbe match=0 next=1",
+)];
+
+const LISTS: &[Row] = &[
+    ("simple\nv1", "voters=(1)\n1: StateProbe match=0 next=1"),
+    (
+        "simple\nv2 r2 v2 l3",
+        "voters=(1 2) learners=(3)\n1: StateProbe match=0 next=1\n2: StateProbe match=0 next=1\n3: StateProbe match=0 next=1 learner",
+    ),
+    (
+        "simple\nr1 v5",
+        "more than one voter changed without entering joint config",
+    ),
+    (
+        "simple\nu1",
+        "voters=(1 2) learners=(3)\n1: StateProbe match=0 next=1\n2: StateProbe match=0 next=1\n3: StateProbe match=0 next=1 learner",
+    ),
+];
+
+const MEMBERS_THAT_RETURN: &[Row] = &[
+    ("simple\nv1", "voters=(1)\n1: StateProbe match=0 next=1"),
+    (
+        "simple\nv2",
+        "voters=(1 2)\n1: StateProbe match=0 next=1\n2: StateProbe match=0 next=1",
+    ),
+    (
+        "simple\nr2 v2",
+        "voters=(1 2)\n1: StateProbe match=0 next=1\n2: StateProbe match=0 next=2",
+    ),
+    (
+        "simple\nr2 v2",
+        "voters=(1 2)\n1: StateProbe match=0 next=1\n2: StateProbe match=0 next=3",
+    ),
+];
+
+const JOINT: &[Row] = &[
+    ("simple\nv1", "voters=(1)\n1: StateProbe match=0 next=1"),
+    (
+        "enter-joint\nr1 r2 r9 v2 v3 v4 v2 v3 v4 l2 l2 r4 r4 l1 l1",
+        "voters=(3)&&(1) learners=(2) learners_next=(1)\n1: StateProbe match=0 next=1\n2: StateProbe match=0 next=1 learner\n3: StateProbe match=0 next=1",
+    ),
+    (
+        "leave-joint",
+        "voters=(3) learners=(1 2)\n1: StateProbe match=0 next=1 learner\n2: StateProbe match=0 next=1 learner\n3: StateProbe match=0 next=1",
+    ),
+];
+
+const AUTO_LEAVE: &[Row] = &[
+    ("simple\nv1", "voters=(1)\n1: StateProbe match=0 next=1"),
+    (
+        "enter-joint autoleave=true",
+        "voters=(1)&&(1) autoleave\n1: StateProbe match=0 next=1",
+    ),
+    ("enter-joint autoleave=true", "config is already joint"),
+    (
+        "simple\nv2",
+        "can't apply simple config change in joint config",
+    ),
+    (
+        "conf-state",
+        "Voters:[1] VotersOutgoing:[1] Learners:[] LearnersNext:[] AutoLeave:true",
+    ),
+];
+
+const LEAVING_BY_HAND: &[Row] = &[
+    ("simple\nv1", "voters=(1)\n1: StateProbe match=0 next=1"),
+    (
+        "enter-joint autoleave=true\nv2",
+        "voters=(1 2)&&(1) autoleave\n1: StateProbe match=0 next=1\n2: StateProbe match=0 next=1",
+    ),
+    (
+        "leave-joint",
+        "voters=(1 2)\n1: StateProbe match=0 next=1\n2: StateProbe match=0 next=1",
+    ),
+];
+
+const NOT_JOINT: &[Row] = &[
+    ("simple\nv1", "voters=(1)\n1: StateProbe match=0 next=1"),
+    ("leave-joint", "can't leave a non-joint config"),
+    ("leave-joint\nv1", "this command takes no input"),
+];
+
+const NOBODY: &[Row] = &[("enter-joint\nv1", "can't make a zero-voter config joint")];
+
+const BAD_AUTO_LEAVE: &[Row] = &[
+    ("simple\nv1", "voters=(1)\n1: StateProbe match=0 next=1"),
+    ("enter-joint\nr1", "removed all voters"),
+    ("enter-joint autoleave=yes", "bad argument: autoleave"),
+    ("enter-joint autoleave=yes\nx5", "unknown input: x5"),
+    ("simple\nu1", "voters=(1)\n1: StateProbe match=0 next=1"),
+];
+
+const SAVED: &[Row] = &[
+    (
+        "restore\nVoters:[1 2 3] VotersOutgoing:[1 2 4 6] Learners:[5] LearnersNext:[4] AutoLeave:false",
+        "voters=(1 2 3)&&(1 2 4 6) learners=(5) learners_next=(4)\n1: StateProbe match=0 next=1\n2: StateProbe match=0 next=1\n3: StateProbe match=0 next=1\n4: StateProbe match=0 next=1\n5: StateProbe match=0 next=1 learner\n6: StateProbe match=0 next=1",
+    ),
+    (
+        "restore\nVoters:[1 2 3] VotersOutgoing:[1 2 4 6] Learners:[5] LearnersNext:[7] AutoLeave:false",
+        "not a configuration",
+    ),
+    (
+        "conf-state",
+        "Voters:[1 2 3] VotersOutgoing:[1 2 4 6] Learners:[5] LearnersNext:[4] AutoLeave:false",
+    ),
+];
+
+const SAVED_FORMS: &[Row] = &[
+    (
+        "restore\nVoters:[3 1] VotersOutgoing:[] Learners:[] LearnersNext:[] AutoLeave:false",
+        "voters=(1 3)\n1: StateProbe match=0 next=1\n3: StateProbe match=0 next=1",
+    ),
+    (
+        "restore\nVoters:[1 1] VotersOutgoing:[] Learners:[] LearnersNext:[] AutoLeave:false",
+        "not a configuration",
+    ),
+    (
+        "restore\nVoters:[0] VotersOutgoing:[] Learners:[] LearnersNext:[] AutoLeave:false",
+        "not a configuration",
+    ),
+    (
+        "restore\nVoters:[1] VotersOutgoing:[] Learners:[] LearnersNext:[] AutoLeave:true",
+        "not a configuration",
+    ),
+    (
+        "restore\nVoters:[] VotersOutgoing:[] Learners:[1] LearnersNext:[] AutoLeave:false",
+        "not a configuration",
+    ),
+    (
+        "restore\nVoters: [1] VotersOutgoing:[] Learners:[] LearnersNext:[] AutoLeave:false",
+        "bad conf state",
+    ),
+    ("restore", "bad conf state"),
+    (
+        "conf-state",
+        "Voters:[1 3] VotersOutgoing:[] Learners:[] LearnersNext:[] AutoLeave:false",
+    ),
+    (
+        "restore\nVoters:[] VotersOutgoing:[] Learners:[] LearnersNext:[] AutoLeave:false",
+        "voters=()",
+    ),
+];
+
+const WORDS: &[Row] = &[
+    (
+        "simple\nv18446744073709551615",
+        "voters=(18446744073709551615)\n18446744073709551615: StateProbe match=0 next=1",
+    ),
+    (
+        "simple\nv18446744073709551616",
+        "bad number: v18446744073709551616",
+    ),
+    ("simple\nv", "unknown token v"),
+    ("simple\nx5", "unknown input: x5"),
+    ("frob", "unknown command"),
+    ("frob\nv", "unknown token v"),
+];
+
+// Gives a session the directive that a text holds.
+fn found_for(alloc: Global, session: &mut Session, text: &str) -> Result<Vec<u8>, Fail> {
+    let mut source = FromRead::new(text.as_bytes());
+    match Reader::new(alloc)?.next(&mut source)? {
+        Some(Item::Directive(directive)) => Ok(session.step(&directive)?),
+        _ => Err("no directive".into()),
+    }
+}
+
+// Gives a session each directive in turn. The last index counts them.
+fn finds(rt: &impl Abort, alloc: Global, rows: &[Row]) -> Result<(), Fail> {
+    let mut session = Session::new(alloc, 100)?;
+    let mut directives: u64 = 0;
+    for (text, want) in rows {
+        let mut found = found_for(alloc, &mut session, *text)?;
+        assert_eq!(rt; found.pop(), Some(b'\n'), "at {text}");
+        assert_eq!(rt; found.as_slice(), want.as_bytes(), "at {text}");
+        directives = directives.saturating_add(1);
+        assert_eq!(rt; session.changer().last_index(), directives, "after {text}");
+    }
+    Ok(())
+}
+
+#[test]
+fn changes_one_voter_at_a_time(rt: HostRuntime) -> Result<(), Fail> {
+    finds(&rt, rt.alloc(), LISTS_THAT_LEAVE_NO_VOTER)?;
+    finds(&rt, rt.alloc(), ZERO_IS_IGNORED)?;
+    finds(&rt, rt.alloc(), LISTS)?;
+    finds(&rt, rt.alloc(), MEMBERS_THAT_RETURN)
+}
+
+#[test]
+fn enters_and_leaves_joint_configurations(rt: HostRuntime) -> Result<(), Fail> {
+    finds(&rt, rt.alloc(), JOINT)?;
+    finds(&rt, rt.alloc(), AUTO_LEAVE)?;
+    finds(&rt, rt.alloc(), LEAVING_BY_HAND)?;
+    finds(&rt, rt.alloc(), NOT_JOINT)?;
+    finds(&rt, rt.alloc(), NOBODY)?;
+    finds(&rt, rt.alloc(), BAD_AUTO_LEAVE)
+}
+
+#[test]
+fn saves_and_restores(rt: HostRuntime) -> Result<(), Fail> {
+    finds(&rt, rt.alloc(), SAVED)?;
+    finds(&rt, rt.alloc(), SAVED_FORMS)
+}
+
+#[test]
+fn tells_what_it_does_not_know(rt: HostRuntime) -> Result<(), Fail> {
+    finds(&rt, rt.alloc(), WORDS)
+}

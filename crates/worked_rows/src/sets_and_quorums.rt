@@ -1,0 +1,262 @@
+//! Sets of ids, and the worked values of quorums, committed indexes, votes and differences.
+use quorum_sets::{
+    AckSource, MemberSet, NoMemory, TreeIds, VoteResult, committed, is_quorum, joint_committed,
+    joint_vote, quorum, symdiff, vote,
+};
+use std::alloc::Global;
+use std::collections::BTreeMap;
+use std::process::Abort;
+use std::test::Fail;
+
+pub(crate) fn set_of(alloc: Global, ids: &[u64]) -> Result<TreeIds, NoMemory> {
+    let mut set = TreeIds::empty(alloc);
+    for id in ids {
+        set.insert(*id)?;
+    }
+    Ok(set)
+}
+
+fn acks_of(alloc: Global, entries: &[(u64, u64)]) -> Result<BTreeMap<u64, u64>, NoMemory> {
+    let mut acks = BTreeMap::new(alloc);
+    for (id, index) in entries {
+        acks.insert(*id, *index)?;
+    }
+    Ok(acks)
+}
+
+fn votes_of(alloc: Global, entries: &[(u64, bool)]) -> Result<BTreeMap<u64, bool>, NoMemory> {
+    let mut votes = BTreeMap::new(alloc);
+    for (id, says_yes) in entries {
+        votes.insert(*id, *says_yes)?;
+    }
+    Ok(votes)
+}
+
+#[test]
+fn majorities(rt: HostRuntime) {
+    for (n, majority) in [(0, 1), (1, 1), (2, 2), (3, 2), (4, 3)] {
+        assert_eq!(rt; quorum(n), majority, "of {n}");
+    }
+}
+
+fn has_quorum(
+    alloc: Global,
+    incoming: &[u64],
+    outgoing: &[u64],
+    ids: &[u64],
+) -> Result<bool, NoMemory> {
+    let incoming = set_of(alloc, incoming)?;
+    let outgoing = set_of(alloc, outgoing)?;
+    let ids = set_of(alloc, ids)?;
+    Ok(is_quorum((&incoming, &outgoing), &ids))
+}
+
+// The incoming and the outgoing voters, other ids, and whether these are a quorum.
+static QUORUMS: [(&[u64], &[u64], &[u64], bool); 5] = [
+    (&[], &[], &[], false),
+    (&[], &[], &[1, 2, 3], false),
+    (&[1, 2, 3], &[], &[1, 3, 4, 5], true),
+    (&[1, 2, 3], &[3, 4, 5, 6], &[1, 3, 4, 5], true),
+    (&[1, 2, 3], &[3, 4, 5, 6], &[1, 2, 3], false),
+];
+
+#[test]
+fn quorums(rt: HostRuntime) -> Result<(), Fail> {
+    for (incoming, outgoing, ids, wanted) in &QUORUMS {
+        let found = has_quorum(rt.alloc(), *incoming, *outgoing, *ids)?;
+        assert_eq!(rt; found, *wanted, "{ids:?} of {incoming:?} and {outgoing:?}");
+    }
+    Ok(())
+}
+
+const NINE: &[u64] = &[1, 2, 3, 4, 5, 6, 7, 8, 9];
+
+const BY_TWO: &[(u64, u64)] = &[(1, 5), (3, 7)];
+
+const BY_NINE: &[(u64, u64)] = &[
+    (1, 1),
+    (2, 2),
+    (3, 3),
+    (4, 4),
+    (5, 5),
+    (6, 6),
+    (7, 7),
+    (8, 8),
+    (9, 9),
+];
+
+fn index_of(alloc: Global, ids: &[u64], entries: &[(u64, u64)]) -> Result<u64, NoMemory> {
+    let ids = set_of(alloc, ids)?;
+    let acks = acks_of(alloc, entries)?;
+    committed(alloc, &ids, &acks)
+}
+
+fn joint_index_of(
+    alloc: Global,
+    incoming: &[u64],
+    outgoing: &[u64],
+    entries: &[(u64, u64)],
+) -> Result<u64, NoMemory> {
+    let incoming = set_of(alloc, incoming)?;
+    let outgoing = set_of(alloc, outgoing)?;
+    let acks = acks_of(alloc, entries)?;
+    joint_committed(alloc, &incoming, &outgoing, &acks)
+}
+
+static COMMITTED: [(&[u64], &[(u64, u64)], u64); 4] = [
+    (&[1, 2, 3], BY_TWO, 5),
+    (NINE, BY_NINE, 5),
+    (&[1, 2, 3, 4], BY_NINE, 2),
+    (&[], BY_TWO, 18446744073709551615),
+];
+
+static JOINT_COMMITTED: [(&[u64], &[u64], &[(u64, u64)], u64); 3] = [
+    (&[1, 2, 3], &[], BY_TWO, 5),
+    (NINE, &[1], BY_NINE, 1),
+    (&[1], &[2], &[(1, 100)], 0),
+];
+
+#[test]
+fn committed_indexes(rt: HostRuntime) -> Result<(), Fail> {
+    for (ids, entries, index) in &COMMITTED {
+        let found = index_of(rt.alloc(), *ids, *entries)?;
+        assert_eq!(rt; found, *index, "of {ids:?} by {entries:?}");
+    }
+    for (incoming, outgoing, entries, index) in &JOINT_COMMITTED {
+        let found = joint_index_of(rt.alloc(), *incoming, *outgoing, *entries)?;
+        assert_eq!(rt;
+            found,
+            *index,
+            "of {incoming:?} and {outgoing:?} by {entries:?}"
+        );
+    }
+    Ok(())
+}
+
+#[test]
+fn acknowledgements(rt: HostRuntime) -> Result<(), Fail> {
+    let acks = acks_of(rt.alloc(), &[(1, 5), (3, 0)])?;
+    for (id, index) in [(1, Some(5)), (2, None), (3, Some(0))] {
+        assert_eq!(rt; acks.acked(id), index, "of {id}");
+    }
+    Ok(())
+}
+
+fn vote_of(alloc: Global, ids: &[u64], entries: &[(u64, bool)]) -> Result<VoteResult, NoMemory> {
+    let ids = set_of(alloc, ids)?;
+    let votes = votes_of(alloc, entries)?;
+    Ok(vote(&ids, &votes))
+}
+
+fn joint_vote_of(
+    alloc: Global,
+    incoming: &[u64],
+    outgoing: &[u64],
+    entries: &[(u64, bool)],
+) -> Result<VoteResult, NoMemory> {
+    let incoming = set_of(alloc, incoming)?;
+    let outgoing = set_of(alloc, outgoing)?;
+    let votes = votes_of(alloc, entries)?;
+    Ok(joint_vote(&incoming, &outgoing, &votes))
+}
+
+static VOTES: [(&[u64], &[(u64, bool)], VoteResult); 4] = [
+    (
+        &[1, 2, 3],
+        &[(1, true), (2, true), (4, false)],
+        VoteResult::VoteWon,
+    ),
+    (&[], &[], VoteResult::VoteWon),
+    (&[1, 2], &[(1, true)], VoteResult::VotePending),
+    (&[1, 2], &[(1, true), (2, false)], VoteResult::VoteLost),
+];
+
+static JOINT_VOTES: [(&[u64], &[u64], &[(u64, bool)], VoteResult); 3] = [
+    (
+        &[1, 2, 3],
+        &[3, 4, 5],
+        &[(1, true), (2, true), (4, false)],
+        VoteResult::VotePending,
+    ),
+    (
+        &[1, 2, 3],
+        &[3, 4, 5],
+        &[(1, true), (2, true), (3, false), (4, false)],
+        VoteResult::VoteLost,
+    ),
+    (&[], &[], &[], VoteResult::VoteWon),
+];
+
+#[test]
+fn votes(rt: HostRuntime) -> Result<(), Fail> {
+    for (ids, entries, wanted) in &VOTES {
+        let found = vote_of(rt.alloc(), *ids, *entries)?;
+        assert_eq!(rt; found, *wanted, "of {ids:?} by {entries:?}");
+    }
+    for (incoming, outgoing, entries, wanted) in &JOINT_VOTES {
+        let found = joint_vote_of(rt.alloc(), *incoming, *outgoing, *entries)?;
+        assert_eq!(rt;
+            found,
+            *wanted,
+            "of {incoming:?} and {outgoing:?} by {entries:?}"
+        );
+    }
+    Ok(())
+}
+
+fn difference(alloc: Global, a: &[u64], b: &[u64]) -> Result<usize, NoMemory> {
+    let a = set_of(alloc, a)?;
+    let b = set_of(alloc, b)?;
+    Ok(symdiff(&a, &b))
+}
+
+static DIFFERENCES: [(&[u64], &[u64], usize); 4] = [
+    (&[1, 2, 3], &[3, 2, 1], 0),
+    (&[1, 2, 3], &[2, 3, 4], 2),
+    (&[1, 2, 3], &[4, 5, 6], 6),
+    (&[], &[7, 9], 2),
+];
+
+#[test]
+fn differences(rt: HostRuntime) -> Result<(), Fail> {
+    for (a, b, count) in &DIFFERENCES {
+        assert_eq!(rt;
+            difference(rt.alloc(), *a, *b)?,
+            *count,
+            "of {a:?} and {b:?}"
+        );
+    }
+    Ok(())
+}
+
+// Holds what a set answers against its ids in ascending order; 7 is none of them.
+fn holds<S: MemberSet>(rt: &impl Abort, set: &S, ids: &[u64]) {
+    assert_eq!(rt; set.len(), ids.len());
+    assert_eq!(rt; set.at(ids.len()), None);
+    assert!(rt; !set.contains(7));
+    for (place, id) in ids.iter().enumerate() {
+        assert_eq!(rt; set.at(place), Some(*id), "at {place}");
+        assert!(rt; set.contains(*id), "of {id}");
+    }
+}
+
+// Each method of a member set, through its bound.
+fn walk_through<S: MemberSet>(rt: &impl Abort, alloc: Global) -> Result<(), Fail> {
+    let mut set = S::empty(alloc);
+    holds(rt, &set, &[]);
+    for (id, changes) in [(9, true), (2, true), (9, false), (u64::MAX, true)] {
+        assert_eq!(rt; set.insert(id)?, changes, "insert {id}");
+    }
+    let copy = set.try_clone()?;
+    for changes in [true, false] {
+        assert_eq!(rt; set.remove(9), changes);
+    }
+    holds(rt, &set, &[2, u64::MAX]);
+    holds(rt, &copy, &[2, 9, u64::MAX]);
+    Ok(())
+}
+
+#[test]
+fn tree_ids(rt: HostRuntime) -> Result<(), Fail> {
+    walk_through::<TreeIds>(&rt, rt.alloc())
+}
