@@ -1,14 +1,14 @@
 -- The progress of the members, before and after a step.
-use Rattle.std.specs.Prelude.{ℕ, max, Bool, false, not, ◌&&◌, map, unwrap_or, if◌then◌else◌}
+use Rattle.std.specs.Prelude.{ℕ, max, Bool, not, ◌&&◌, map, unwrap_or, if◌then◌else◌}
 use Rattle.std.specs.FinMap as finite
 use Rattle.quorum_sets.specs.Ids.{has}
 use Rattle.conf_change.specs.Configuration.{Configuration, is_member, members}
 use Rattle.conf_change.specs.Change.{removes}
+use Rattle.conf_change.specs.Step.{changes_of}
 use Rattle.conf_change.specs.TrackerState.{ProgressMap}
 use Rattle.conf_change.specs.ChangerState.{ChangerState}
 use Rattle.conf_change.specs.declared.progress.Progress.{Progress}
 use Rattle.conf_change.specs.declared.step.Step.{Step}
-use Rattle.conf_change.specs.declared.step.Step.TheVariants.{Simple, EnterJoint, LeaveJoint}
 
 -- the progress of a new member: nothing is known of it, and it is sent the last index, or 1 where the log is empty
 abbrev pub fresh_progress : ℕ → Bool → Progress
@@ -26,11 +26,9 @@ progress_by c of = finite.from_entries (map (λ id. (id, of id)) (members c))
 abbrev pub all_fresh : ℕ → Configuration → ProgressMap
 all_fresh last_index c = progress_by c (λ id. fresh_progress last_index (has c.learners id))
 
--- the step puts a new member in the id's place, if the id stays: its list removes the id, and the id does not go out
+-- the step puts a new member in the id's place, if the id stays: its changes remove the id, and the id does not go out
 abbrev pub is_replaced : Step → Configuration → ℕ → Bool
-is_replaced (Simple changes) after id = removes changes id && not (has after.outgoing id)
-is_replaced (EnterJoint _ changes) after id = removes changes id && not (has after.outgoing id)
-is_replaced LeaveJoint after id = false
+is_replaced step after id = removes (changes_of step) id && not (has after.outgoing id)
 
 -- a member keeps its progress in the step: it was one before and stays one, and no new member takes its place
 abbrev pub keeps_progress : Configuration → Step → Configuration → ℕ → Bool

@@ -1,5 +1,8 @@
 //! Steps from one configuration to another.
-use crate::change::Changes;
+ghost use Rattle.std.specs.Prelude.{◌≡◌};
+ghost use Rattle.conf_change.specs.Step.{changes_of};
+
+use crate::change::{Change, Changes};
 
 /// One step from a configuration to the next: one voter at a time, into a joint configuration (with or without
 /// auto-leave), or out of it (Ongaro's dissertation, sections 4.1 and 4.3).
@@ -8,4 +11,16 @@ pub enum Step {
     Simple(Changes),
     EnterJoint(bool, Changes),
     LeaveJoint,
+}
+
+impl Step {
+    /// Its changes in order; leaving a joint configuration has none.
+    pub fn changes(&self) -> &[Change]
+        ensures { result.now ≡ changes_of self.now }
+    {
+        match self {
+            Step::Simple(changes) | Step::EnterJoint(_, changes) => changes.as_slice(),
+            Step::LeaveJoint => &[],
+        }
+    }
 }

@@ -18,7 +18,7 @@ use Rattle.conf_change.specs.declared.change.Kind.{Kind}
 use Rattle.conf_change.specs.declared.change.Kind.TheVariants.{Voter, Learner, Remove, Update}
 use Rattle.conf_change.specs.declared.step.Step.{Step}
 use Rattle.conf_change.specs.declared.step.Step.TheVariants.{Simple, EnterJoint, LeaveJoint}
-use Rattle.conf_plan.specs.Run.{changes_of}
+use Rattle.conf_change.specs.Step.{changes_of}
 use Rattle.conf_plan.specs.PlanSteps.{HasWordIds, IsPlan}
 use Rattle.conf_plan.specs.PlanText.{flag_word, command_words, change_text, line_text, line_and_newline, plan_text, is_newline, lines_of, IsLineOf, StandsForPlan}
 use Rattle.conf_plan.specs.PlanCode.{plan_in}

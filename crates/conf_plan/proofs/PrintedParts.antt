@@ -6,7 +6,7 @@ use Rattle.std.proofs.lemmas.List.{append_assoc, append-nil}
 use Rattle.conf_change.specs.declared.change.Change.{Change}
 use Rattle.conf_change.specs.declared.step.Step.{Step}
 use Rattle.conf_change.specs.declared.step.Step.TheVariants.{Simple, EnterJoint, LeaveJoint}
-use Rattle.conf_plan.specs.Run.{changes_of}
+use Rattle.conf_change.specs.Step.{changes_of}
 use Rattle.conf_plan.specs.PlanText.{flag_word, command_words, change_text, spaced_change, line_text, line_and_newline}
 
 join-changes : (word : List ℕ) (changes : List Change) → join_with_byte 32 (word ∷ map change_text changes) ≡ word ++ flat_map spaced_change changes

@@ -10,7 +10,7 @@ use Rattle.conf_change.specs.declared.change.Change.{Change}
 use Rattle.conf_change.specs.declared.step.Step.{Step}
 use Rattle.conf_change.specs.declared.step.Step.TheVariants.{Simple, EnterJoint, LeaveJoint}
 use Rattle.conf_change.proofs.ChangeLemmas.{changes_in_ok, AllZip-from_ok}
-use Rattle.conf_plan.specs.Run.{changes_of}
+use Rattle.conf_change.specs.Step.{changes_of}
 use Rattle.conf_plan.specs.PlanSteps.{HasWordIds}
 use Rattle.conf_plan.specs.PlanText.{flag_word, command_words, IsLineOf}
 use Rattle.conf_plan.specs.PlanCode.{list_in, flag_in, enter_with, enter_in, leave_in, step_in}

@@ -2,7 +2,7 @@
 use Rattle.std.specs.Prelude.{◌<◌, ◌≤◌, ◌^◌, List, length}
 use Rattle.std.specs.List.{All}
 use Rattle.conf_change.specs.declared.step.Step.{Step}
-use Rattle.conf_plan.specs.Run.{changes_of}
+use Rattle.conf_change.specs.Step.{changes_of}
 
 -- the ids of a step are numbers of 64 bits
 abbrev pub HasWordIds : Step → Type 0

@@ -3,10 +3,8 @@ use Rattle.std.specs.Prelude.{◌≡◌, ℕ, ◌-◌, ◌<◌, true, List, [], 
 use Rattle.conf_change.specs.Configuration.{Configuration, is_valid, has_voter}
 use Rattle.conf_change.specs.Outcome.{outcome}
 use Rattle.conf_change.specs.Changer.{ChangerState, Accepts, Refuses}
-use Rattle.conf_change.specs.declared.change.Change.{Change}
 use Rattle.conf_change.specs.declared.refused.Refused.{Refused}
 use Rattle.conf_change.specs.declared.step.Step.{Step}
-use Rattle.conf_change.specs.declared.step.Step.TheVariants.{Simple, EnterJoint, LeaveJoint}
 
 -- it is valid and has an incoming voter
 pub record IsValidWithVoter (c : Configuration) : Type 0 where
@@ -17,12 +15,6 @@ pub record IsValidWithVoter (c : Configuration) : Type 0 where
 abbrev pub IsRun : Configuration → List Step → Configuration → Type 0
 IsRun before [] after = before ≡ after
 IsRun before (step ∷ steps) after = (next : Configuration) × (outcome before step ≡ Ok next) × IsRun next steps after
-
--- the changes of a step
-abbrev pub changes_of : Step → List Change
-changes_of (Simple changes) = changes
-changes_of (EnterJoint _ changes) = changes
-changes_of LeaveJoint = []
 
 -- a changer takes the steps in order
 abbrev pub Takes : ChangerState → List Step → ChangerState → Type 0

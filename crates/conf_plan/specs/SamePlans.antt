@@ -5,7 +5,7 @@ use Rattle.std.specs.Cmp.Lexicographic.{pointwise, lists_per}
 use Rattle.conf_change.specs.SameChanges.{is_same_list, is_same_list-laws}
 use Rattle.conf_change.specs.declared.step.Step.{Step}
 use Rattle.conf_change.specs.declared.step.Step.TheVariants.{Simple, EnterJoint, LeaveJoint}
-use Rattle.conf_plan.specs.Run.{changes_of}
+use Rattle.conf_change.specs.Step.{changes_of}
 
 -- the number of a kind of step
 abbrev pub form_of : Step → ℕ

@@ -5,7 +5,6 @@ ghost use Rattle.conf_change.specs.Words.{words};
 ghost use Rattle.conf_change.specs.ChangeList.{letter_of};
 ghost use Rattle.conf_change.specs.Text.{Extends};
 ghost use Rattle.conf_change.specs.declared.step.Step.{Step};
-ghost use Rattle.conf_plan.specs.Run as run;
 ghost use Rattle.conf_plan.specs.PlanText.{StandsForPlan, HasFault, command_words, spaced_change, line_and_newline, plan_text, lines_of, is_newline};
 ghost use Rattle.conf_plan.specs.PlanCode as code;
 ghost use Rattle.conf_plan.specs.PlanCode.{plan_in, step_in, enter_in, list_in};
@@ -95,7 +94,7 @@ fn append_line(text: &mut Vec<u8>, step: &Step) -> Result<(), NoMemory>
     ensures extends { Extends text.old.items text.new.items }
 {
     text.extend_from_slice(command(step))?;
-    append_changes(text, changes_of(step))?;
+    append_changes(text, step.changes())?;
     text.push(b'\n')?;
     Ok(())
 }
@@ -109,16 +108,6 @@ fn command(step: &Step) -> &'static [u8]
         Step::EnterJoint(true, _) => b"enter-joint autoleave=true",
         Step::EnterJoint(false, _) => b"enter-joint autoleave=false",
         Step::LeaveJoint => b"leave-joint",
-    }
-}
-
-// The changes of a step.
-fn changes_of(step: &Step) -> &[Change]
-    ensures { result.now ≡ run.changes_of step.now }
-{
-    match step {
-        Step::Simple(changes) | Step::EnterJoint(_, changes) => changes.as_slice(),
-        Step::LeaveJoint => &[],
     }
 }
 
