@@ -47,23 +47,31 @@ take-more n k [] = search (rules, common_steps)
 take-more zero k (b ∷ bytes) = search (rules, common_steps)
 take-more (suc n) k (b ∷ bytes) = let e : suc n + k ≡ suc (n + k) = omega arith in rw e (ap (λ t. b ∷ t) (take-more n k bytes))
 
+-- all bytes from a place on
+rest-whole : (n : ℕ) (bytes : List ℕ) → take (length bytes - n) (drop n bytes) ≡ drop n bytes
+rest-whole n bytes = take_all _ _ (subst (λ m. m ≤ length bytes - n) (sym (length-drop n bytes)) (omega arith))
+
 -- a front of some bytes, and a front of the rest
 pub front-more : (old mid new : Option (List ℕ)) (n k : ℕ) (bytes : List ℕ) → n ≤ length bytes →
     Appends old mid (take n bytes) → Appends mid new (take k (take (length bytes - n) (drop n bytes))) → Appends old new (take (n + k) bytes)
 front-more old mid new n k bytes le a b =
-    let whole : take (length bytes - n) (drop n bytes) ≡ drop n bytes = take_all _ _ (subst (λ m. m ≤ length bytes - n) (sym (length-drop n bytes)) (omega arith)) in
-    subst (λ t. Appends old new t) (sym (take-more n k bytes)) (appends-append old mid new _ _ a (subst (λ t. Appends mid new (take k t)) whole b))
+    subst (λ t. Appends old new t) (sym (take-more n k bytes)) (appends-append old mid new _ _ a (subst (λ t. Appends mid new (take k t)) (rest-whole n bytes) b))
 
 -- a front of some bytes is a part of them
 pub front-part : (old new : Option (List ℕ)) (n : ℕ) (bytes : List ℕ) → Appends old new (take n bytes) → AppendsPart old new bytes
 front-part old new n bytes a = subst (λ t. AppendsPart old new t) (take-append-drop n bytes) (part-append old new (take n bytes) (drop n bytes) a)
 
+-- a front of what waits that is passed on is a part of it
+pub gathered-part : (old new : Option (List ℕ)) (n k : ℕ) (bytes block : List ℕ) → bytes ≡ block →
+    Appends old new (take k (take (length bytes - n) (drop n bytes))) → AppendsPart old new (drop n block)
+gathered-part old new n k bytes block e a =
+    subst (λ t. AppendsPart old new (drop n t)) e (front-part old new k (drop n bytes) (subst (λ t. Appends old new (take k t)) (rest-whole n bytes) a))
+
 -- a front of what waits that is passed on leaves all bytes so far as they were
 pub gathered-more : (old new : Option (List ℕ)) (n k : ℕ) (bytes block : List ℕ) → bytes ≡ block →
     Appends old new (take k (take (length bytes - n) (drop n bytes))) → Keeps (append_known old (drop n block)) (append_known new (drop (n + k) block))
 gathered-more old new n k bytes block e a =
-    let whole : take (length bytes - n) (drop n bytes) ≡ drop n bytes = take_all _ _ (subst (λ m. m ≤ length bytes - n) (sym (length-drop n bytes)) (omega arith)) in
-    subst (λ t. Keeps (append_known old (drop n t)) (append_known new (drop (n + k) t))) e (at old new (subst (λ t. Appends old new (take k t)) whole a)) where
+    subst (λ t. Keeps (append_known old (drop n t)) (append_known new (drop (n + k) t))) e (at old new (subst (λ t. Appends old new (take k t)) (rest-whole n bytes) a)) where
       at : (old new : Option (List ℕ)) → Appends old new (take k (drop n bytes)) → Keeps (append_known old (drop n bytes)) (append_known new (drop (n + k) bytes))
       at None new b = tt
       at (Some o) None b = absurd b

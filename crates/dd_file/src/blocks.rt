@@ -1,6 +1,7 @@
 //! Gathering what is written into blocks, so that a program makes one system call a block and not one a line.
 ghost use Rattle.std.specs.Prelude.{◌≡◌, ◌≤◌, ◌+◌, ◌++◌, ◌||◌, IsErr, is_err, OnOk, IfOk, true, [], length, vec_len, vec_capacity};
 ghost use Rattle.std.specs.Io.KnownBytes.{Appends, Keeps};
+ghost use Rattle.dd_file.specs.Device.{AppendsPart};
 
 use crate::device::Sink;
 use crate::fault::{DeviceFault, WriteFault};
@@ -34,14 +35,14 @@ fn append(block: &mut Vec<u8>, bytes: &[u8])
 }
 
 impl<W: Sink> Blocks<W> {
-    ghost use Rattle.dd_file.specs.Gathered.{gathering_writer, waiting_bytes};
+    ghost use Rattle.dd_file.specs.Gathered.{gathering_writer, waiting_bytes, NothingWaits};
 
     /// Takes the memory of one block. Without it the writer is dropped.
     pub fn new(alloc: Global, writer: W) -> Result<Blocks<W>, AllocError>
     where
         W: Drop,
         ensures writer { IfOk result (λ blocks. gathering_writer blocks ≡ writer) }
-        ensures empty { IfOk result (λ blocks. waiting_bytes blocks ≡ []) }
+        ensures empty { IfOk result (λ blocks. NothingWaits blocks) }
     {
         let block = Vec::with_capacity(alloc, BLOCK_BYTES)?;
         Ok(Blocks {
@@ -54,7 +55,8 @@ impl<W: Sink> Blocks<W> {
     /// Writes on what waits, and has room for a block then.
     fn pass_on(&mut self) -> Result<(), DeviceFault>
         ensures bytes { Keeps (⟦<Blocks<W> as Sink>⟧.contents self.old) (⟦<Blocks<W> as Sink>⟧.contents self.new) }
-        ensures ok { OnOk result (waiting_bytes self.new ≡ []) }
+        ensures ok { OnOk result (NothingWaits self.new) }
+        ensures part { AppendsPart (W.contents (gathering_writer self.old)) (W.contents (gathering_writer self.new)) (waiting_bytes self.old) }
         ensures room { OnOk result (vec_len self.new.block ≡ 0) }
         ensures again { W.has_failed (gathering_writer self.old) ≡ true → IsErr result × (self.new ≡ self.old) }
         ensures failed { W.has_failed (gathering_writer self.new) ≡ (W.has_failed (gathering_writer self.old) || is_err result) }
@@ -77,7 +79,9 @@ impl<W: Sink> Blocks<W> {
     /// Writes on what waits.
     pub fn flush(&mut self) -> Result<(), WriteFault>
         ensures bytes { Keeps (⟦<Blocks<W> as Sink>⟧.contents self.old) (⟦<Blocks<W> as Sink>⟧.contents self.new) }
-        ensures ok { OnOk result (waiting_bytes self.new ≡ []) }
+        ensures ok { OnOk result (NothingWaits self.new) }
+        // What waited was written on from its front, as far as the writer took it.
+        ensures part { AppendsPart (W.contents (gathering_writer self.old)) (W.contents (gathering_writer self.new)) (waiting_bytes self.old) }
         // A fault stays, and the writer is not asked again.
         ensures again { W.has_failed (gathering_writer self.old) ≡ true → IsErr result × (self.new ≡ self.old) }
         // A fault is answered exactly where a write failed.
