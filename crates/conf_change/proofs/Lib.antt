@@ -3,6 +3,7 @@ pub mod ResultLemmas
 pub mod ProgressLemmas
 pub mod Walks
 pub mod Validity
+pub mod Outcomes
 pub mod Soundness
 pub mod ConfStateLemmas
 pub mod Putting

@@ -1,10 +1,10 @@
 -- What a call owes that makes a step.
 use Rattle.std.proofs.Common.{◌≡◌, ℕ, Bool, true, false, cond, not, ◌&&◌, ◌||◌, List, refl, sym, ap, subst, ◌∙◌, ◌≤◌}
-use Rattle.std.specs.Prelude.{Option, Some, None, is_some, IfSome, unwrap_or, Ok, nat_lt, if◌then◌else◌}
+use Rattle.std.specs.Prelude.{Option, Some, None, is_some, IfSome, unwrap_or, Ok, if◌then◌else◌}
 use Rattle.std.specs.Cmp.{nat_cmp_total}
 use Rattle.std.specs.FinMap as finite
 use Rattle.std.specs.FinMap.{nat_cmp-IsAntisymmetric}
-use Rattle.std.proofs.lemmas.Bool.{and_parts, true≢false, le-ltb, false_from_ne_true}
+use Rattle.std.proofs.lemmas.Bool.{and_parts, true≢false, false_from_ne_true}
 use Rattle.quorum_sets.specs.Ids.{Ids, no_ids, has, difference_count}
 use Rattle.quorum_sets.proofs.IdLemmas.{has-no_ids}
 use Rattle.conf_change.specs.Configuration.{Configuration, is_member, is_joint, has_voter}
@@ -19,6 +19,7 @@ use Rattle.conf_change.specs.declared.step.Step.{Step}
 use Rattle.conf_change.specs.declared.step.Step.TheVariants.{Simple, EnterJoint, LeaveJoint}
 use Rattle.conf_change.proofs.ProgressLemmas.{get-progress_by}
 use Rattle.conf_change.proofs.Validity.{ValidByMember, members_from_valid, none_from_is_empty}
+use Rattle.conf_change.proofs.Outcomes.{simple_accepted, enter_accepted, leave_accepted}
 use Rattle.conf_change.proofs.Soundness.{has-after_leave, moved_to-is_sound, outcome-are_neighbours, outcome-has_voter}
 
 -- ---- progress
@@ -93,17 +94,10 @@ pub simple_made : (before : ChangerState) (changes : List Change) (start after :
 simple_made before changes start after sound same single applied voter few =
     let c = before.tracker.config in
     let is : after.config ≡ result_of c changes = applied.configuration ∙ ap (λ t. result_of t.config changes) same in
-    let has_one : has_voter (result_of c changes) ≡ true = ap has_voter (sym is) ∙ voter in
-    let one_at_most : nat_lt 1 (difference_count c.incoming (result_of c changes).incoming) ≡ false =
-    ap (λ d. nat_lt 1 (difference_count c.incoming d.incoming)) (sym is) ∙ le-ltb 1 _ few in
     let outgoing = goes_out before.last_index changes start after applied in
-    made before (Simple changes) after sound (simple_accepted c changes single has_one one_at_most ∙ ap Ok (sym is))
+    made before (Simple changes) after sound (simple_accepted c after.config changes single (sym is) voter few)
     (λ q. applied.entries q
     ∙ (λ i. entry_in before.last_index after.config (cond (removes changes q && not (has (outgoing i) q)) None (finite.get (same i).progress q)) q))
-  where
-    simple_accepted : (c : Configuration) (changes : List Change) → is_joint c ≡ false → has_voter (result_of c changes) ≡ true
-        → nat_lt 1 (difference_count c.incoming (result_of c changes).incoming) ≡ false → outcome c (Simple changes) ≡ Ok (result_of c changes)
-    simple_accepted c changes single voter few = rw (single, voter, few) refl
 
 -- ---- entering a joint configuration
 twice : (a b o : Bool) → o ≡ false → (a || o || b) ≡ (a || a || b)
@@ -134,13 +128,9 @@ enter_made before auto_leave changes start after sound same single had_one appli
     let c = before.tracker.config in
     let is : after.config ≡ result_of (with_outgoing c auto_leave) changes = applied.configuration ∙ ap (λ t. result_of t.config changes) same in
     let outgoing = goes_out before.last_index changes start after applied in
-    made before (EnterJoint auto_leave changes) after sound (enter_accepted c single had_one (ap has_voter (sym is) ∙ voter) ∙ ap Ok (sym is))
+    made before (EnterJoint auto_leave changes) after sound (enter_accepted c after.config auto_leave changes single had_one (sym is) voter)
     (λ q. applied.entries q
     ∙ (λ i. entry_in before.last_index after.config (cond (removes changes q && not (has (outgoing i) q)) None (finite.get (same i).progress q)) q))
-  where
-    enter_accepted : (c : Configuration) → is_joint c ≡ false → has_voter c ≡ true
-        → has_voter (result_of (with_outgoing c auto_leave) changes) ≡ true → outcome c (EnterJoint auto_leave changes) ≡ Ok (result_of (with_outgoing c auto_leave) changes)
-    enter_accepted c single had_one voter = rw (single, had_one, voter) refl
 
 -- ---- leaving it
 -- who is no outgoing voter is what it was
@@ -181,6 +171,3 @@ leave_made before outgoing start after sound same outgoing_is joint follows =
     ∙ (λ i. cond (has (outgoing_is i) q) (entry_in before.last_index (same i).config (finite.get (same i).progress q) q) (finite.get (same i).progress q))
     ∙ entry_stays before.last_index before.tracker q sound (has c.outgoing q) refl
     ∙ ap (λ d. entry_in before.last_index d (had q) q) (sym is))
-  where
-    leave_accepted : (c : Configuration) → is_joint c ≡ true → outcome c LeaveJoint ≡ Ok (after_leave c)
-    leave_accepted c joint = rw joint refl

@@ -1,81 +1,27 @@
 -- What an accepted step keeps: the voters stay neighbours, a voter stays, and the tracker stays sound.
 use Rattle.std.proofs.Common.{◌≡◌, ℕ, ◌<◌, ◌≤◌, Bool, true, false, cond, not, ◌&&◌, ◌||◌, ◌==◌, List, [], ◌∷◌, ◌++◌, refl, sym, ap, subst, ◌∙◌, inl, inr, arith, ltb-false, is_some}
-use Rattle.std.specs.Prelude.{Option, Some, None, IfSome, unwrap_or, Ok, Err, nat_lt, find, reverse, option_map, if◌then◌else◌}
+use Rattle.std.specs.Prelude.{Option, Some, None, IfSome, unwrap_or, Ok, find, reverse, option_map, if◌then◌else◌}
 use Rattle.std.specs.FinMap as finite
 use Rattle.std.proofs.lemmas.Bool.{or_cases, and_parts, and_from, or_left, not-true, not-false, true≢false}
 use Rattle.std.proofs.lemmas.List.Folds.{list_any-append}
-use Rattle.quorum_sets.specs.Ids.{no_ids, has, ascending, is_empty, difference_count}
+use Rattle.quorum_sets.specs.Ids.{has, ascending, is_empty, difference_count}
 use Rattle.quorum_sets.specs.Voters.{AreNeighbours}
 use Rattle.quorum_sets.proofs.IdLemmas.{has-ascending, has-no_ids, has-ids_of}
 use Rattle.conf_change.specs.Configuration.{Configuration, voters_of, is_joint, has_voter, is_valid, is_restorable, is_member}
 use Rattle.conf_change.specs.Change.{names, last_word, is_update, is_incoming_after, is_learner_after, is_next_after, result_of}
-use Rattle.conf_change.specs.Outcome.{Outcome, outcome, simple_outcome, enter_outcome, leave_outcome, with_outgoing, after_leave}
+use Rattle.conf_change.specs.Outcome.{outcome, with_outgoing, after_leave}
 use Rattle.conf_change.specs.Progress.{fresh_progress, with_mark, keeps_progress, progress_after}
 use Rattle.conf_change.specs.Changer.{ChangerState, IsSound, begun_with, moved_to}
 use Rattle.conf_change.specs.declared.change.Change.{Change}
 use Rattle.conf_change.specs.declared.change.Kind.{Kind}
 use Rattle.conf_change.specs.declared.change.Kind.TheVariants.{Voter, Learner, Remove, Update}
 use Rattle.conf_change.specs.declared.progress.Progress.{Progress}
-use Rattle.conf_change.specs.declared.refused.Refused.{Refused}
-use Rattle.conf_change.specs.declared.refused.Refused.TheVariants.{NotJoint}
 use Rattle.conf_change.specs.declared.step.Step.{Step}
 use Rattle.conf_change.specs.declared.step.Step.TheVariants.{Simple, EnterJoint, LeaveJoint}
 use Rattle.conf_change.proofs.ResultLemmas.{has-incoming_after, has-learners_after, has-next_after}
-use Rattle.conf_change.proofs.Validity.{ValidByMember, members_from_valid, valid_from_members, no_ids_from_is_empty, none_from_is_empty}
+use Rattle.conf_change.proofs.Validity.{ValidByMember, members_from_valid, valid_from_members, none_from_is_empty}
+use Rattle.conf_change.proofs.Outcomes.{simple_taken, enter_taken, leave_taken, no_outgoing}
 use Rattle.conf_change.proofs.ProgressLemmas.{get-progress_by}
-
--- ---- what an accepted step has passed
-past_refusal : (refused : Bool) (why : Refused) (rest : Outcome) (after : Configuration)
-    → cond refused (Err why) rest ≡ Ok after → (refused ≡ false) × (rest ≡ Ok after)
-past_refusal true why rest after e = cc
-past_refusal false why rest after e = (refl, e)
-
-abbrev taken : Configuration → Outcome
-taken c = Ok c
-
-reached : (c after : Configuration) → taken c ≡ taken after → c ≡ after
-reached c after e = cc
-
-record SimpleTaken (c after : Configuration) (changes : List Change) : Type 0 where
-  single : is_joint c ≡ false
-  voter : has_voter (result_of c changes) ≡ true
-  one_at_most : nat_lt 1 (difference_count c.incoming (result_of c changes).incoming) ≡ false
-  made : result_of c changes ≡ after
-
-simple_taken : (c after : Configuration) (changes : List Change) → simple_outcome c changes ≡ Ok after → SimpleTaken c after changes
-simple_taken c after changes e =
-    let joint = past_refusal (is_joint c) _ _ after e in
-    let voter = past_refusal (not (has_voter (result_of c changes))) _ _ after joint.1 in
-    let one = past_refusal (nat_lt 1 (difference_count c.incoming (result_of c changes).incoming)) _ _ after voter.1 in
-    record { single = joint.0; voter = not-false _ voter.0; one_at_most = one.0; made = reached _ after one.1 }
-
-record EnterTaken (c after : Configuration) (auto_leave : Bool) (changes : List Change) : Type 0 where
-  single : is_joint c ≡ false
-  voter_before : has_voter c ≡ true
-  voter : has_voter (result_of (with_outgoing c auto_leave) changes) ≡ true
-  made : result_of (with_outgoing c auto_leave) changes ≡ after
-
-enter_taken : (c after : Configuration) (auto_leave : Bool) (changes : List Change)
-    → enter_outcome c auto_leave changes ≡ Ok after → EnterTaken c after auto_leave changes
-enter_taken c after auto_leave changes e =
-    let joint = past_refusal (is_joint c) _ _ after e in
-    let before = past_refusal (not (has_voter c)) _ _ after joint.1 in
-    let voter = past_refusal (not (has_voter (result_of (with_outgoing c auto_leave) changes))) _ _ after before.1 in
-    record { single = joint.0; voter_before = not-false _ before.0; voter = not-false _ voter.0; made = reached _ after voter.1 }
-
-record LeaveTaken (c after : Configuration) : Type 0 where
-  joint : is_joint c ≡ true
-  made : after_leave c ≡ after
-
-leave_taken : (c after : Configuration) → leave_outcome c ≡ Ok after → LeaveTaken c after
-leave_taken c after e = of_joint (is_joint c) refl e
-  where
-    of_joint : (joint : Bool) → is_joint c ≡ joint → cond joint (Ok (after_leave c)) (Err NotJoint) ≡ Ok after → LeaveTaken c after
-    of_joint true is e = record { joint = is; made = reached _ after e }
-    of_joint false is e = cc
-
-no_outgoing : (c : Configuration) → is_joint c ≡ false → c.outgoing ≡ no_ids
-no_outgoing c single = no_ids_from_is_empty c.outgoing (not-false _ single)
 
 -- ---- the voters before and after
 pub outcome-are_neighbours : (c after : Configuration) (step : Step) → outcome c step ≡ Ok after → AreNeighbours (voters_of c) (voters_of after)

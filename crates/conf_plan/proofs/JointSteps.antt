@@ -10,6 +10,7 @@ use Rattle.conf_change.specs.Configuration.{Configuration, is_joint, is_member, 
 use Rattle.conf_change.specs.Change.{result_of}
 use Rattle.conf_change.specs.Outcome.{outcome, with_outgoing}
 use Rattle.conf_change.specs.declared.step.Step.{Step}
+use Rattle.conf_change.proofs.Outcomes.{enter_accepted}
 use Rattle.conf_change.proofs.ResultLemmas.{same_configuration}
 use Rattle.conf_change.proofs.Validity.{members_from_valid, is_empty-no_ids}
 use Rattle.conf_plan.specs.Run.{IsValidWithVoter, IsRun}
@@ -17,7 +18,7 @@ use Rattle.conf_plan.specs.Planned.{single_with, moves, union_of, shared_members
 use Rattle.conf_plan.proofs.Runs.{run-is_settled, IsRun-append, IsRun-one, configuration_after-run}
 use Rattle.conf_plan.proofs.Moves.{has-union_of}
 use Rattle.conf_plan.proofs.Moved.{IsSingle, AreWanted, moves-has_wanted}
-use Rattle.conf_plan.proofs.SingleSteps.{single_steps-is_run, single_steps-at_most_two, enter_accepted}
+use Rattle.conf_plan.proofs.SingleSteps.{single_steps-is_run, single_steps-at_most_two}
 use Rattle.conf_change.proofs.SameSets.{same_sets}
 
 -- a voter is wanted as nothing else

@@ -1,5 +1,6 @@
 pub mod Runs
 pub mod Moves
+pub mod Parts
 pub mod Moved
 pub mod SingleSteps
 pub mod JointSteps

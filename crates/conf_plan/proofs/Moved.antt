@@ -2,12 +2,12 @@
 use Rattle.std.proofs.Common.{◌≡◌, ℕ, Bool, true, false, not, ◌&&◌, refl, sym, ap, ◌∙◌}
 use Rattle.std.specs.Prelude.{None}
 use Rattle.std.proofs.lemmas.Bool.{not-false, true≢false, false_from_ne_true}
-use Rattle.quorum_sets.specs.Ids.{Ids, no_ids, has, is_empty}
+use Rattle.quorum_sets.specs.Ids.{Ids, has, is_empty}
 use Rattle.quorum_sets.proofs.IdLemmas.{same_ids}
 use Rattle.conf_change.specs.Configuration.{Configuration, is_joint}
 use Rattle.conf_change.specs.Change.{is_incoming_after, is_learner_after, is_next_after, result_of}
 use Rattle.conf_change.proofs.ResultLemmas.{has-incoming_after, has-learners_after, has-next_after}
-use Rattle.conf_change.proofs.Validity.{ValidByMember, members_from_valid, none_from_is_empty, no_ids_from_is_empty}
+use Rattle.conf_change.proofs.Validity.{ValidByMember, members_from_valid, none_from_is_empty}
 use Rattle.conf_plan.specs.Run.{IsValidWithVoter}
 use Rattle.conf_plan.specs.Planned.{kind_by, kind_of_move, moves}
 use Rattle.conf_plan.proofs.Moves.{last_word-moves}
@@ -16,9 +16,6 @@ use Rattle.conf_plan.proofs.Moves.{last_word-moves}
 pub record IsSingle (c : Configuration) : Type 0 where
   pub settled : IsValidWithVoter c
   pub single : is_joint c ≡ false
-
-pub no_outgoing : (c : Configuration) → is_joint c ≡ false → c.outgoing ≡ no_ids
-no_outgoing c single = no_ids_from_is_empty c.outgoing (not-false _ single)
 
 -- nobody waits in it
 pub no_next : (c : Configuration) → IsSingle c → (q : ℕ) → has c.learners_next q ≡ false

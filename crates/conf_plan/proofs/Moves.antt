@@ -25,7 +25,7 @@ kind_or None b = refl
 kind_or (Some x) b = refl
 
 -- the first change has its say where the others have none
-last_word-cons : (x : Change) (xs : List Change) (q : ℕ) → last_word (x ∷ xs) q ≡ option_or (last_word xs q) (cond (names q x) (Some x.kind) None)
+pub last_word-cons : (x : Change) (xs : List Change) (q : ℕ) → last_word (x ∷ xs) q ≡ option_or (last_word xs q) (cond (names q x) (Some x.kind) None)
 last_word-cons x xs q =
     ap (λ ys. option_map (λ change. change.kind) (find (names q) ys)) (reverse-append (x ∷ []) xs)
     ∙ ap (option_map (λ (change : Change). change.kind)) (find-append (names q) (reverse xs) (x ∷ []))

@@ -1,41 +1,19 @@
 -- The steps between two configurations that are not joint.
-use Rattle.std.proofs.Common.{◌≡◌, ℕ, ◌≤◌, Bool, true, false, not, ◌&&◌, ◌||◌, List, length, refl, sym, ap, ◌∙◌, arith}
-use Rattle.std.specs.Prelude.{Ok, nat_lt, nat_le}
-use Rattle.std.proofs.lemmas.Bool.{cond_both, leb-true, le-ltb, not_from_false, and_right}
+use Rattle.std.proofs.Common.{◌≡◌, ℕ, ◌≤◌, Bool, true, false, not, ◌&&◌, ◌||◌, length, refl, sym, ap, ◌∙◌, arith}
+use Rattle.std.specs.Prelude.{Ok, nat_le}
+use Rattle.std.proofs.lemmas.Bool.{cond_both, leb-true, not_from_false, and_right}
 use Rattle.quorum_sets.specs.Ids.{Ids, has, is_empty, difference_count}
 use Rattle.quorum_sets.proofs.IdLemmas.{has-no_ids}
-use Rattle.conf_change.specs.Configuration.{Configuration, is_joint, has_voter}
+use Rattle.conf_change.specs.Configuration.{Configuration, has_voter}
 use Rattle.conf_change.specs.Change.{result_of}
-use Rattle.conf_change.specs.Outcome.{outcome, with_outgoing, after_leave}
-use Rattle.conf_change.specs.declared.change.Change.{Change}
-use Rattle.conf_change.specs.declared.step.Step.TheVariants.{Simple, EnterJoint, LeaveJoint}
+use Rattle.conf_change.specs.Outcome.{with_outgoing, after_leave}
+use Rattle.conf_change.proofs.Outcomes.{no_outgoing, simple_accepted, enter_accepted, leave_accepted}
 use Rattle.conf_change.proofs.ResultLemmas.{same_configuration}
 use Rattle.conf_change.proofs.Soundness.{has-after_leave}
 use Rattle.conf_change.proofs.Validity.{members_from_valid}
 use Rattle.conf_plan.specs.Run.{IsRun}
 use Rattle.conf_plan.specs.Planned.{single_with, moves, single_steps}
-use Rattle.conf_plan.proofs.Moved.{IsSingle, AreWanted, no_outgoing, moves-has_wanted}
-
--- ---- steps that are accepted, each where it passes what is looked for
-simple_accepted : (c after : Configuration) (changes : List Change) → is_joint c ≡ false → result_of c changes ≡ after → has_voter after ≡ true
-    → difference_count c.incoming after.incoming ≤ 1 → outcome c (Simple changes) ≡ Ok after
-simple_accepted c after changes single made voter few =
-    by_result single (ap has_voter made ∙ voter) (ap (λ d. nat_lt 1 (difference_count c.incoming d.incoming)) made ∙ le-ltb 1 _ few) ∙ ap Ok made
-  where
-    by_result : is_joint c ≡ false → has_voter (result_of c changes) ≡ true → nat_lt 1 (difference_count c.incoming (result_of c changes).incoming) ≡ false
-        → outcome c (Simple changes) ≡ Ok (result_of c changes)
-    by_result single voter few = rw (single, voter, few) refl
-
-pub enter_accepted : (c after : Configuration) (auto_leave : Bool) (changes : List Change) → is_joint c ≡ false → has_voter c ≡ true
-    → result_of (with_outgoing c auto_leave) changes ≡ after → has_voter after ≡ true → outcome c (EnterJoint auto_leave changes) ≡ Ok after
-enter_accepted c after auto_leave changes single before made voter = by_result single before (ap has_voter made ∙ voter) ∙ ap Ok made
-  where
-    by_result : is_joint c ≡ false → has_voter c ≡ true → has_voter (result_of (with_outgoing c auto_leave) changes) ≡ true
-        → outcome c (EnterJoint auto_leave changes) ≡ Ok (result_of (with_outgoing c auto_leave) changes)
-    by_result single before voter = rw (single, before, voter) refl
-
-pub leave_accepted : (c : Configuration) → is_joint c ≡ true → outcome c LeaveJoint ≡ Ok (after_leave c)
-leave_accepted c joint = rw joint refl
+use Rattle.conf_plan.proofs.Moved.{IsSingle, AreWanted, moves-has_wanted}
 
 -- ---- one voter at a time
 and_yes : (b : Bool) → (b && true) ≡ b

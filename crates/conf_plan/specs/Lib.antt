@@ -1,4 +1,5 @@
 pub mod Run
+pub mod Best
 pub mod PlanSteps
 pub mod SamePlans
 pub mod Planned

@@ -11,10 +11,18 @@ pub record IsValidWithVoter (c : Configuration) : Type 0 where
   pub valid : is_valid c ≡ true
   pub voter : has_voter c ≡ true
 
+-- the steps lead from the one configuration to the other, each of them in this way
+abbrev pub IsChain : (Configuration → Step → Configuration → Type 0) → Configuration → List Step → Configuration → Type 0
+IsChain Leads before [] after = before ≡ after
+IsChain Leads before (step ∷ steps) after = (next : Configuration) × Leads before step next × IsChain Leads next steps after
+
 -- the steps lead from the one configuration to the other: each is accepted where those before it lead
 abbrev pub IsRun : Configuration → List Step → Configuration → Type 0
-IsRun before [] after = before ≡ after
-IsRun before (step ∷ steps) after = (next : Configuration) × (outcome before step ≡ Ok next) × IsRun next steps after
+IsRun = IsChain (λ before step next. outcome before step ≡ Ok next)
+
+-- a run at each step of which something holds of the step and of the configurations before and after it
+abbrev pub IsRunWith : (Configuration → Step → Configuration → Type 0) → Configuration → List Step → Configuration → Type 0
+IsRunWith Holds = IsChain (λ before step next. (outcome before step ≡ Ok next) × Holds before step next)
 
 -- a changer takes the steps in order
 abbrev pub Takes : ChangerState → List Step → ChangerState → Type 0

@@ -3,6 +3,7 @@ ghost use Rattle.std.specs.Prelude.{◌≡◌, ◌≤◌, ◌↔◌, ◌⊎◌, 
 ghost use Rattle.conf_change.specs.Configuration.{Configuration};
 ghost use Rattle.conf_change.specs.declared.step.Step.{Step};
 ghost use Rattle.conf_plan.specs.declared.text.PlanTextFault.{PlanTextFault};
+ghost use Rattle.conf_plan.specs.Best.{times_named, HasSamePart};
 ghost use Rattle.conf_plan.specs.Planned.{planned};
 ghost use Rattle.conf_plan.specs.PlanSteps.{IsPlan};
 ghost use Rattle.conf_plan.specs.PlanText.{StandsForPlan, HasFault, plan_text};
@@ -13,6 +14,11 @@ ghost use Rattle.conf_plan.specs.SamePlans.{is_same_plan};
 /// Along a run the configuration stays valid and keeps a voter.
 pub fn run_stays_settled()
     ensures { (before after : Configuration) (steps : List Step) → IsValidWithVoter before → IsRun before steps after → IsValidWithVoter after }
+{}
+
+/// A run that never names an id leaves it an incoming voter, a learner of either kind, or neither, as it was.
+pub fn unnamed_stays()
+    ensures { (before after : Configuration) (steps : List Step) (id : ℕ) → IsRun before steps after → times_named id steps ≡ 0 → HasSamePart before after id }
 {}
 
 /// The plan from one configuration to another is a run of at most four steps.

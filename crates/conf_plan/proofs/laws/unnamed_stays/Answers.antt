@@ -1,0 +1,5 @@
+use Rattle.conf_plan.proofs.Parts.{run-same_part}
+use Rattle.conf_plan.proofs.laws.unnamed_stays.Goals as goal
+
+pub returns : goal.returns
+returns c = run-same_part
