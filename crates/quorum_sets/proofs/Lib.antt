@@ -4,4 +4,5 @@ pub mod Counts
 pub mod VoteLemmas
 pub mod CommitLemmas
 pub mod SortedLemmas
+pub mod RisingLemmas
 pub mod Rows

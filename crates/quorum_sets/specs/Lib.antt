@@ -1,4 +1,5 @@
 pub mod Ids
+pub mod Rising
 pub mod Voters
 pub mod Counting
 pub mod Committed

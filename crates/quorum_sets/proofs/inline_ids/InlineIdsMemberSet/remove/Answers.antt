@@ -1,0 +1,34 @@
+use Rattle.std.proofs.Common.{◌≡◌, ap, sym, subst, ◌∙◌, false, arith}
+use Rattle.quorum_sets.specs.Ids.{has, without_id, ids_of}
+use Rattle.quorum_sets.specs.Rising.{IsRising, StandsAt}
+use Rattle.quorum_sets.proofs.RisingLemmas.{has-stands, has-goes, ids_of-remove, rising-remove, without_id-absent}
+use Rattle.quorum_sets.proofs.inline_ids.InlineIdsMemberSet.remove.Goals as goal
+
+-- the set lacks it
+absent : (c : goal.In_default) → has c.args.self.now c.args.id ≡ false
+absent c =
+    sym (ap (λ list. has (ids_of list) c.args.id) c.as_slice.ensures ∙ ap (λ s. has s c.args.id) c.self.view_is)
+    ∙ has-goes c.as_slice.result.now c.args.id c.in_default.field-0 c.in_default.ensures
+
+pub returns-in_default-clause-changed : goal.returns-in_default-clause-changed
+returns-in_default-clause-changed c = sym (absent c)
+
+pub returns-in_default-clause-after : goal.returns-in_default-clause-after
+returns-in_default-clause-after c = without_id-absent c.args.self.now c.args.id (absent c)
+
+stands : (c : goal.After-remove) → StandsAt c.self.inside.list.items c.args.id c.in-Ok.place
+stands c = subst (λ list. StandsAt list c.args.id c.in-Ok.place) c.as_slice.ensures c.in-Ok.ensures
+
+pub invariant_of-self : goal.invariant_of-self
+invariant_of-self c = record {
+  rising = subst IsRising (sym c.remove.ensures.items) (rising-remove _ _ c.self.invariant.rising ((stands c).within));
+  room = omega (arith, c.self.invariant.room, c.remove.ensures.capacity);
+}
+
+pub returns-clause-changed : goal.returns-clause-changed
+returns-clause-changed c = sym (ap (λ s. has s c.args.id) (sym c.self.view_is) ∙ has-stands _ _ _ (stands c))
+
+pub returns-clause-after : goal.returns-clause-after
+returns-clause-after c =
+    ap ids_of c.remove.ensures.items ∙ ids_of-remove _ _ c.args.id c.self.invariant.rising (stands c)
+    ∙ ap (λ s. without_id s c.args.id) c.self.view_is

@@ -1,0 +1,94 @@
+//! A set of ids as a sorted list, which lies in the value while it is short.
+ghost use Rattle.std.specs.Prelude.{◌≡◌, ◌<◌, ◌≤◌, not, IfOk, OnOk, OnErr, IsOk, MatchResult};
+ghost use Rattle.quorum_sets.specs.Ids.{has, with_id, size};
+ghost use Rattle.quorum_sets.specs.Rising.{IsRising, StandsAt, GoesTo};
+
+use crate::member_set::MemberSet;
+use crate::no_memory::NoMemory;
+use smallvec::SmallVec;
+use std::alloc::Global;
+use std::marker::Model;
+
+/// A set of ids over a sorted list. Up to 8 ids take no memory. `at` and `len` take constant time, `contains` is a
+/// binary search, and an id that is put behind the last one takes constant time, growth aside.
+#[derive(Drop)]
+pub struct InlineIds {
+    list: SmallVec<u64, 8>,
+}
+
+impl Model for InlineIds {
+    ghost use Rattle.std.specs.Coded.{coded_ℕ};
+    ghost use Rattle.std.specs.FinSet as set;
+    ghost use Rattle.quorum_sets.specs.Ids.{Ids, ids_of};
+    ghost use Rattle.quorum_sets.specs.Rising.{IsIdList};
+
+    ghost Value = { Ids };
+
+    ghost coded = { set.code coded_ℕ };
+
+    ghost view = { λ inner. ids_of inner.list.items };
+
+    ghost invariant = { λ inner. IsIdList inner.list };
+}
+
+impl MemberSet for InlineIds {
+    ghost ids = { λ set. set };
+
+    fn empty(alloc: Global) -> InlineIds {
+        InlineIds {
+            list: SmallVec::new(alloc),
+        }
+    }
+
+    fn try_clone(&self) -> Result<InlineIds, NoMemory>
+        ensures same { IfOk result (λ copy. copy ≡ self.now) }
+        ensures few { size self.now ≤ 8 → IsOk result }
+    {
+        let list = SmallVec::from_slice(*self.list.allocator(), self.list.as_slice())?;
+        Ok(InlineIds { list })
+    }
+
+    fn insert(&mut self, id: u64) -> Result<bool, NoMemory>
+        ensures changed { IfOk result (λ changed. changed ≡ not (has self.old id)) }
+        ensures ok { OnOk result (self.new ≡ with_id self.old id) }
+        ensures err { OnErr result (self.new ≡ self.old) }
+        ensures few { size self.old < 8 → IsOk result }
+    {
+        let Err(place) = place_of(self.list.as_slice(), id) else {
+            return Ok(false);
+        };
+        self.list.insert(place, id)?;
+        Ok(true)
+    }
+
+    fn remove(&mut self, id: u64) -> bool {
+        let Ok(place) = place_of(self.list.as_slice(), id) else {
+            return false;
+        };
+        self.list.remove(place);
+        true
+    }
+
+    fn contains(&self, id: u64) -> bool {
+        place_of(self.list.as_slice(), id).is_ok()
+    }
+
+    fn len(&self) -> usize {
+        self.list.len()
+    }
+
+    fn at(&self, place: usize) -> Option<u64> {
+        self.list.as_slice().get(place).copied()
+    }
+}
+
+// Where the id stands in a rising list, or else where it goes. Behind the last one it takes no search.
+fn place_of(list: &[u64], id: u64) -> Result<usize, usize>
+    requires { IsRising list.now }
+    ensures { MatchResult result (λ place. StandsAt list.now id place) (λ place. GoesTo list.now id place) }
+{
+    match list.last() {
+        Some(last) if *last < id => Err(list.len()),
+        _ => list.binary_search(&id),
+    }
+}
