@@ -11,6 +11,8 @@ pub mod Rows
 pub mod Following
 pub mod ListSteps
 pub mod Making
+pub mod StepLaws
+pub mod SameForms
 pub mod Passing
 pub mod WordLemmas
 pub mod TextLemmas

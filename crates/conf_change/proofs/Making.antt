@@ -12,7 +12,7 @@ use Rattle.conf_change.specs.Change.{result_of, removes}
 use Rattle.conf_change.specs.Outcome.{outcome, with_outgoing, after_leave}
 use Rattle.conf_change.specs.Progress.{fresh_progress, with_mark, progress_after, is_replaced}
 use Rattle.conf_change.specs.TrackerEdits.{entry_in, IsInLine, Applies, FollowsAll}
-use Rattle.conf_change.specs.Changer.{TrackerState, ChangerState, IsSound, Makes, tracker_of}
+use Rattle.conf_change.specs.Changer.{TrackerState, ChangerState, IsSound, GivesNext, tracker_of}
 use Rattle.conf_change.specs.declared.change.Change.{Change}
 use Rattle.conf_change.specs.declared.progress.Progress.{Progress}
 use Rattle.conf_change.specs.declared.step.Step.{Step}
@@ -51,7 +51,7 @@ progress_made before step after sound entries =
 -- ---- made
 pub made : (before : ChangerState) (step : Step) (after : TrackerState) → IsSound before.tracker
     → outcome before.tracker.config step ≡ Ok after.config → LeftBy before step after
-    → Makes before step (Ok tt) (record { tracker = after; last_index = before.last_index })
+    → GivesNext before step (Ok (record { tracker = after; last_index = before.last_index }))
 made before step after sound e entries =
     let progress = progress_made before step after sound entries in
     let Sound : TrackerState → Type 0 = IsSound in
@@ -61,15 +61,15 @@ made before step after sound e entries =
         whole = λ i. record { tracker = record { config = after.config; progress = progress i }; last_index = before.last_index };
       };
       refused = tt;
-      unchanged = tt;
-      sound = subst Sound (λ i. record { config = after.config; progress = sym progress i }) (moved_to-is_sound before step after.config sound e);
+      sound = sound;
+      sound_after = subst Sound (λ i. record { config = after.config; progress = sym progress i }) (moved_to-is_sound before step after.config sound e);
       neighbours = outcome-are_neighbours before.tracker.config after.config step e;
       voter = λ _. outcome-has_voter before.tracker.config after.config step sound.restorable e;
     }
 
 -- the same of the changer as it is seen
-pub seen_as : (before now : ChangerState) (step : Step) (after : ChangerState) → before ≡ now → Makes before step (Ok tt) after → Makes now step (Ok tt) after
-seen_as before now step after same makes = let P : ChangerState → Type 0 = λ b. Makes b step (Ok tt) after in subst P same makes
+pub seen_as : (before now : ChangerState) (step : Step) (after : ChangerState) → before ≡ now → GivesNext before step (Ok after) → GivesNext now step (Ok after)
+seen_as before now step after same next = let P : ChangerState → Type 0 = λ b. GivesNext b step (Ok after) in subst P same next
 
 -- ---- a simple change
 in_line_entry : (last : ℕ) (member learner : Bool) (had : Option Progress) → is_some had ≡ member → IfSome had (λ p. p.learner ≡ learner)
@@ -90,7 +90,7 @@ goes_out last_index changes start after applied = sym (ap (λ c. c.outgoing) app
 pub simple_made : (before : ChangerState) (changes : List Change) (start after : TrackerState) → IsSound before.tracker → start ≡ before.tracker
     → is_joint before.tracker.config ≡ false → Applies before.last_index changes start after → has_voter after.config ≡ true
     → difference_count before.tracker.config.incoming after.config.incoming ≤ 1
-    → Makes before (Simple changes) (Ok tt) (record { tracker = after; last_index = before.last_index })
+    → GivesNext before (Simple changes) (Ok (record { tracker = after; last_index = before.last_index }))
 simple_made before changes start after sound same single applied voter few =
     let c = before.tracker.config in
     let is : after.config ≡ result_of c changes = applied.configuration ∙ ap (λ t. result_of t.config changes) same in
@@ -123,7 +123,7 @@ in_line-with_outgoing last_index t start auto_leave same sound single =
 
 pub enter_made : (before : ChangerState) (auto_leave : Bool) (changes : List Change) (start after : TrackerState) → IsSound before.tracker → start ≡ tracker_of (with_outgoing before.tracker.config auto_leave) before.tracker.progress
     → is_joint before.tracker.config ≡ false → has_voter before.tracker.config ≡ true → Applies before.last_index changes start after → has_voter after.config ≡ true
-    → Makes before (EnterJoint auto_leave changes) (Ok tt) (record { tracker = after; last_index = before.last_index })
+    → GivesNext before (EnterJoint auto_leave changes) (Ok (record { tracker = after; last_index = before.last_index }))
 enter_made before auto_leave changes start after sound same single had_one applied voter =
     let c = before.tracker.config in
     let is : after.config ≡ result_of (with_outgoing c auto_leave) changes = applied.configuration ∙ ap (λ t. result_of t.config changes) same in
@@ -161,7 +161,7 @@ entry_stays last t q sound false e =
 
 pub leave_made : (before : ChangerState) (outgoing : Ids) (start after : TrackerState) → IsSound before.tracker → start ≡ tracker_of (after_leave before.tracker.config) before.tracker.progress
     → outgoing ≡ before.tracker.config.outgoing → is_joint before.tracker.config ≡ true → FollowsAll before.last_index outgoing start after
-    → Makes before LeaveJoint (Ok tt) (record { tracker = after; last_index = before.last_index })
+    → GivesNext before LeaveJoint (Ok (record { tracker = after; last_index = before.last_index }))
 leave_made before outgoing start after sound same outgoing_is joint follows =
     let c = before.tracker.config in
     let is : after.config ≡ after_leave c = follows.configuration ∙ ap (λ t. t.config) same in

@@ -1,10 +1,10 @@
 -- What a changer's calls do to its configuration and progress.
-use Rattle.std.specs.Prelude.{◌≡◌, ◌≢◌, ℕ, ◌<◌, true, is_some, IfSome, IfErr, OnOk, OnErr, Result, Ok, Err}
+use Rattle.std.specs.Prelude.{◌≡◌, ◌≢◌, ℕ, ◌<◌, true, is_some, IfSome, IfOk, IfErr, OnOk, OnErr, Result, Ok, Err}
 use Rattle.std.specs.FinMap as finite
 use Rattle.quorum_sets.specs.Ids.{has}
 use Rattle.quorum_sets.specs.Voters.{AreNeighbours}
 use Rattle.conf_change.specs.Configuration.{Configuration, empty_configuration, voters_of, is_member, has_voter, is_restorable}
-use Rattle.conf_change.specs.Outcome.{outcome}
+use Rattle.conf_change.specs.Outcome.{Outcome, outcome}
 use Rattle.conf_change.specs.Progress.{progress_after, all_fresh}
 pub use Rattle.conf_change.specs.TrackerState.{TrackerState, ProgressMap}
 pub use Rattle.conf_change.specs.ChangerState.{ChangerState}
@@ -43,6 +43,14 @@ moved_to changer step after = record {
   last_index = changer.last_index;
 }
 
+abbrev pub moved_by : ChangerState → Step → Outcome → Result ChangerState Refused
+moved_by changer step (Ok after) = Ok (moved_to changer step after)
+moved_by changer step (Err why) = Err why
+
+-- the changer after a step, or why the step is refused
+abbrev pub changer_after : ChangerState → Step → Result ChangerState Refused
+changer_after changer step = moved_by changer step (outcome changer.tracker.config step)
+
 -- what holds of every tracker: its configuration is valid, and has a voter unless nobody is in it; its members and nobody else have progress; the learners are marked; and match is below next
 pub record IsSound (tracker : TrackerState) : Type 0 where
   pub restorable : is_restorable tracker.config ≡ true
@@ -63,7 +71,16 @@ Refuses before step why = why ≢ NoMemory → outcome before.tracker.config ste
 abbrev pub NeighboursAcross : ChangerState → ChangerState → Type 0
 NeighboursAcross before after = AreNeighbours (voters_of before.tracker.config) (voters_of after.tracker.config)
 
--- What a call that makes a step answers and leaves: the defined configuration and progress, or the defined refusal (or want of memory) with nothing altered. The tracker is sound in either case, the voters of before and after are neighbours, and where there was a voter there still is one.
+-- What a call answers that gives the changer after a step: the defined configuration and progress, or the defined refusal (or want of memory). The tracker is sound before and after, the voters of before and after are neighbours, and where there was a voter there still is one.
+pub record GivesNext (before : ChangerState) (step : Step) (result : Result ChangerState Refused) : Type 0 where
+  pub accepted : IfOk result (Accepts before step)
+  pub refused : IfErr result (Refuses before step)
+  pub sound : IsSound before.tracker
+  pub sound_after : IfOk result (λ after. IsSound after.tracker)
+  pub neighbours : IfOk result (NeighboursAcross before)
+  pub voter : has_voter before.tracker.config ≡ true → IfOk result (λ after. has_voter after.tracker.config ≡ true)
+
+-- What a call answers and leaves that makes a step in place: the same, and nothing is altered by a refusal (or want of memory).
 pub record Makes (before : ChangerState) (step : Step) (result : Result (Unit {0}) Refused) (after : ChangerState) : Type 0 where
   pub accepted : OnOk result (Accepts before step after)
   pub refused : IfErr result (Refuses before step)

@@ -1,11 +1,13 @@
-//! The changer: a tracker, and the three changes of its configuration. Each change is made on a copy, which takes the
-//! tracker's place only where nothing refuses it.
+//! The changer: a tracker, and the three changes of its configuration. Each change makes the next changer out of one copy,
+//! and the calls that change in place assign it; so a refused change leaves nothing altered.
 ghost use Rattle.std.specs.Prelude.{◌≡◌, [], ◌∷◌, IfOk};
 ghost use Rattle.conf_change.specs.declared.step.Step.TheVariants.{Simple, EnterJoint, LeaveJoint};
-ghost use Rattle.conf_change.specs.Changer.{IsSound, Makes, new_changer, changer_of, with_last_index};
+ghost use Rattle.conf_change.specs.Changer.{IsSound, GivesNext, Makes, new_changer, changer_of, with_last_index};
 
 use crate::change::Change;
+use crate::config::Config;
 use crate::refused::Refused;
+use crate::step::Step;
 use crate::tracker::Tracker;
 use quorum_sets::{MemberSet, NoMemory};
 use std::alloc::Global;
@@ -83,24 +85,25 @@ impl<S: MemberSet> Changer<S> {
     {
         Ok(Changer {
             tracker: self.tracker.try_clone()?,
-            last_index: self.last_index,
+            ..*self
         })
     }
 
-    /// Makes one change, as `simple` does a list of one.
-    pub fn simple_one(&mut self, change: Change) -> Result<(), Refused>
-        ensures { Makes self.old (Simple (change ∷ [])) result self.new }
+    /// The configuration of a changer that is done with; its members' progress goes.
+    pub fn into_config(self) -> Config<S>
+        ensures config { result ≡ self.tracker.config }
+        ensures sound { IsSound self.tracker }
     {
-        self.simple(&[change])
+        self.tracker.into_config()
     }
 
-    /// Changes one voter at most, and any number of learners (etcd's `Simple`; Ongaro's dissertation, section 4.1). The
-    /// voters are counted that differ before and after, and not the changes.
+    /// The changer after one voter at most changed, and any number of learners (etcd's `Simple`; Ongaro's dissertation,
+    /// section 4.1). The voters are counted that differ before and after, and not the changes.
     ///
     /// Refused with SimpleInJoint in a joint configuration, else with RemovedAllVoters where no voter is left, else with
     /// MoreThanOneVoter.
-    pub fn simple(&mut self, changes: &[Change]) -> Result<(), Refused>
-        ensures { Makes self.old (Simple changes.now) result self.new }
+    pub fn after_simple(&self, changes: &[Change]) -> Result<Changer<S>, Refused>
+        ensures { GivesNext self.now (Simple changes.now) result }
     {
         if self.tracker.is_joint() {
             return Err(Refused::SimpleInJoint);
@@ -113,17 +116,23 @@ impl<S: MemberSet> Changer<S> {
         if self.tracker.changed_voters(&after) > 1 {
             return Err(Refused::MoreThanOneVoter);
         }
-        self.tracker = after;
-        Ok(())
+        Ok(Changer {
+            tracker: after,
+            ..*self
+        })
     }
 
-    /// Enters a joint configuration: the voters so far become the outgoing ones, and the changes are made of the incoming
-    /// ones and of the learners (etcd's `EnterJoint`; Ongaro's dissertation, section 4.3).
+    /// The changer after it entered a joint configuration: the voters so far become the outgoing ones, and the changes are
+    /// made of the incoming ones and of the learners (etcd's `EnterJoint`; Ongaro's dissertation, section 4.3).
     ///
     /// Refused with AlreadyJoint in a joint configuration, else with ZeroVoterJoint where there is no voter, else with
     /// RemovedAllVoters where no incoming voter is left.
-    pub fn enter_joint(&mut self, auto_leave: bool, changes: &[Change]) -> Result<(), Refused>
-        ensures { Makes self.old (EnterJoint auto_leave changes.now) result self.new }
+    pub fn after_enter_joint(
+        &self,
+        auto_leave: bool,
+        changes: &[Change],
+    ) -> Result<Changer<S>, Refused>
+        ensures { GivesNext self.now (EnterJoint auto_leave changes.now) result }
     {
         if self.tracker.is_joint() {
             return Err(Refused::AlreadyJoint);
@@ -136,17 +145,19 @@ impl<S: MemberSet> Changer<S> {
         if !after.has_voter() {
             return Err(Refused::RemovedAllVoters);
         }
-        self.tracker = after;
-        Ok(())
+        Ok(Changer {
+            tracker: after,
+            ..*self
+        })
     }
 
-    /// Leaves a joint configuration: the outgoing voters go, the next learners learn, and auto-leave is off (etcd's
-    /// `LeaveJoint`; Ongaro's dissertation, section 4.3). A member that is no incoming voter and no learner goes with its
-    /// progress.
+    /// The changer after it left a joint configuration: the outgoing voters go, the next learners learn, and auto-leave is
+    /// off (etcd's `LeaveJoint`; Ongaro's dissertation, section 4.3). A member that is no incoming voter and no learner
+    /// goes with its progress.
     ///
     /// Refused with NotJoint in a configuration that is not joint.
-    pub fn leave_joint(&mut self) -> Result<(), Refused>
-        ensures { Makes self.old LeaveJoint result self.new }
+    pub fn after_leave_joint(&self) -> Result<Changer<S>, Refused>
+        ensures { GivesNext self.now LeaveJoint result }
     {
         if !self.tracker.is_joint() {
             return Err(Refused::NotJoint);
@@ -154,7 +165,62 @@ impl<S: MemberSet> Changer<S> {
         let mut after = self.tracker.without_outgoing()?;
         // The next learners are outgoing voters, so nobody else's progress has to follow.
         after.follow_all(&self.tracker.config().outgoing, self.last_index)?;
-        self.tracker = after;
+        Ok(Changer {
+            tracker: after,
+            ..*self
+        })
+    }
+
+    /// The changer after a step.
+    pub fn after_step(&self, step: &Step) -> Result<Changer<S>, Refused>
+        ensures { GivesNext self.now step.now result }
+    {
+        match step {
+            Step::Simple(changes) => self.after_simple(changes.as_slice()),
+            Step::EnterJoint(auto_leave, changes) => self.after_enter_joint(
+                *auto_leave,
+                changes.as_slice(),
+            ),
+            Step::LeaveJoint => self.after_leave_joint(),
+        }
+    }
+
+    /// Makes one change, as `simple` does a list of one.
+    pub fn simple_one(&mut self, change: Change) -> Result<(), Refused>
+        ensures { Makes self.old (Simple (change ∷ [])) result self.new }
+    {
+        self.simple(&[change])
+    }
+
+    /// Changes one voter at most, and any number of learners: `after_simple` in place.
+    pub fn simple(&mut self, changes: &[Change]) -> Result<(), Refused>
+        ensures { Makes self.old (Simple changes.now) result self.new }
+    {
+        *self = self.after_simple(changes)?;
+        Ok(())
+    }
+
+    /// Enters a joint configuration: `after_enter_joint` in place.
+    pub fn enter_joint(&mut self, auto_leave: bool, changes: &[Change]) -> Result<(), Refused>
+        ensures { Makes self.old (EnterJoint auto_leave changes.now) result self.new }
+    {
+        *self = self.after_enter_joint(auto_leave, changes)?;
+        Ok(())
+    }
+
+    /// Leaves a joint configuration: `after_leave_joint` in place.
+    pub fn leave_joint(&mut self) -> Result<(), Refused>
+        ensures { Makes self.old LeaveJoint result self.new }
+    {
+        *self = self.after_leave_joint()?;
+        Ok(())
+    }
+
+    /// Makes a step: `after_step` in place.
+    pub fn step(&mut self, step: &Step) -> Result<(), Refused>
+        ensures { Makes self.old step.now result self.new }
+    {
+        *self = self.after_step(step)?;
         Ok(())
     }
 }

@@ -3,8 +3,12 @@ ghost use Rattle.std.specs.Prelude.{◌≡◌, ◌↔◌, ℕ, List, Ok, Err, So
 ghost use Rattle.conf_change.specs.declared.change.Change.{Change};
 ghost use Rattle.conf_change.specs.Words.{words};
 ghost use Rattle.conf_change.specs.ChangeList.{StandsFor, BadToken, IsFirstBad, changes_in};
+ghost use Rattle.conf_change.specs.declared.refused.Refused.{Refused};
+ghost use Rattle.conf_change.specs.declared.step.Step.{Step};
+ghost use Rattle.conf_change.specs.Outcome.{outcome};
+ghost use Rattle.conf_change.specs.Changer.{ChangerState, Accepts, changer_after};
 ghost use Rattle.conf_change.specs.Configuration.{Configuration, is_restorable, is_same};
-ghost use Rattle.conf_change.specs.ConfState.{ConfStateLists, Describes, lists_of, restored};
+ghost use Rattle.conf_change.specs.ConfState.{ConfStateLists, Describes, is_same_form, lists_of, restored};
 ghost use Rattle.conf_change.specs.ConfStateLine.{StandsForConfState, conf_state_in};
 
 /// A text stands for one list of changes at most, and it is the one that the function gives; where it stands for none,
@@ -32,6 +36,18 @@ pub fn restored_is_described()
 pub fn saved_form_describes()
     ensures own { (c : Configuration) → Describes (lists_of c) c }
     ensures one { (saved : ConfStateLists) (c d : Configuration) → Describes saved c → Describes saved d → c ≡ d }
+{}
+
+/// Saved forms are equal, by `==`, exactly where they have the same lists in the same order and the same flag.
+pub fn equal_conf_states_are_the_same()
+    ensures { (a b : ConfStateLists) → (is_same_form a b ≡ true) ↔ (a ≡ b) }
+{}
+
+/// A step leads a changer to one changer at most, and it is the one that the function gives; where the step is refused,
+/// the function gives the refusal.
+pub fn one_changer_after_a_step()
+    ensures ok { (before after : ChangerState) (step : Step) → (Accepts before step after) ↔ (changer_after before step ≡ Ok after) }
+    ensures err { (before : ChangerState) (step : Step) (why : Refused) → (outcome before.tracker.config step ≡ Err why) ↔ (changer_after before step ≡ Err why) }
 {}
 
 /// The test whether two configurations are the same is equality.

@@ -1,25 +1,39 @@
 //! Why a change is refused.
 ghost use Rattle.std.specs.Prelude.{◌≡◌};
+ghost use Rattle.conf_change.specs.Text.{refused_text};
 
 use thiserror::Error;
 
 /// Why a change is refused (etcd's `confchange` package; the last is own).
 #[derive(Clone, Copy, Debug, PartialEq, Eq, Error)]
+#[error("{}", self.text())]
 pub enum Refused {
-    #[error("config is already joint")]
     AlreadyJoint,
-    #[error("can't make a zero-voter config joint")]
     ZeroVoterJoint,
-    #[error("can't leave a non-joint config")]
     NotJoint,
-    #[error("can't apply simple config change in joint config")]
     SimpleInJoint,
-    #[error("removed all voters")]
     RemovedAllVoters,
-    #[error("more than one voter changed without entering joint config")]
     MoreThanOneVoter,
-    #[error("out of memory")]
     NoMemory,
+}
+
+impl Refused {
+    // Its words.
+    pub(crate) fn text(self) -> &'static str
+        ensures { result.now ≡ refused_text self }
+    {
+        match self {
+            Refused::AlreadyJoint => "config is already joint",
+            Refused::ZeroVoterJoint => "can't make a zero-voter config joint",
+            Refused::NotJoint => "can't leave a non-joint config",
+            Refused::SimpleInJoint => "can't apply simple config change in joint config",
+            Refused::RemovedAllVoters => "removed all voters",
+            Refused::MoreThanOneVoter => {
+                "more than one voter changed without entering joint config"
+            }
+            Refused::NoMemory => "out of memory",
+        }
+    }
 }
 
 impl From<quorum_sets::NoMemory> for Refused {

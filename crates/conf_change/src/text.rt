@@ -102,20 +102,6 @@ pub fn write_refused(text: &mut Vec<u8>, refused: Refused) -> Result<(), NoMemor
     ensures ok { OnOk result (text.new.items ≡ text.old.items ++ refused_text refused) }
     ensures err { OnErr result (text.new.items ≡ text.old.items) }
 {
-    text.extend_from_slice(message_of(refused).as_bytes())?;
+    text.extend_from_slice(refused.text().as_bytes())?;
     Ok(())
-}
-
-fn message_of(refused: Refused) -> &'static str
-    ensures { result.now ≡ refused_text refused }
-{
-    match refused {
-        Refused::AlreadyJoint => "config is already joint",
-        Refused::ZeroVoterJoint => "can't make a zero-voter config joint",
-        Refused::NotJoint => "can't leave a non-joint config",
-        Refused::SimpleInJoint => "can't apply simple config change in joint config",
-        Refused::RemovedAllVoters => "removed all voters",
-        Refused::MoreThanOneVoter => "more than one voter changed without entering joint config",
-        Refused::NoMemory => "out of memory",
-    }
 }

@@ -81,6 +81,13 @@ impl<S: MemberSet> Tracker<S> {
         &self.config
     }
 
+    // The configuration, where the tracker is done with.
+    pub(crate) fn into_config(self) -> Config<S>
+        ensures { result ≡ self.config }
+    {
+        self.config
+    }
+
     /// The progress of the id; None where it is no member.
     pub fn progress(&self, id: u64) -> Option<Progress>
         ensures { result ≡ finite.get self.now.progress id }

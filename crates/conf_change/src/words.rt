@@ -1,6 +1,6 @@
 //! The words of a text. White space is tab, newline, vertical tab, form feed, carriage return and space, and no other
 //! byte (Go's `unicode.IsSpace` below 128).
-ghost use Rattle.std.specs.Prelude.{◌≡◌, ◌<◌, ◌≤◌, ◌↔◌, [], ◌∷◌, length, IsNone, IfSome};
+ghost use Rattle.std.specs.Prelude.{◌≡◌, ◌<◌, ◌≤◌, ◌↔◌, [], ◌∷◌, ◌++◌, length, IsNone, IfSome};
 ghost use Rattle.std.specs.List.{prefix_len, suffix_len, position_or_len};
 ghost use Rattle.conf_change.specs.Words as white;
 ghost use Rattle.conf_change.specs.Words.{words};
@@ -58,6 +58,7 @@ pub(crate) fn trimmed(text: &[u8]) -> &[u8]
 pub fn next_token(text: &[u8]) -> Option<(&[u8], &[u8])>
     ensures none { IsNone result ↔ (words text.now ≡ []) }
     ensures word { IfSome result (λ found. words text.now ≡ found.0.now ∷ words found.1.now) }
+    ensures whole { IfSome result (λ found. white.without_white_before text.now ≡ found.0.now ++ found.1.now) }
     ensures not_empty { IfSome result (λ found. 0 < length found.0.now) }
     ensures shorter { IfSome result (λ found. length found.1.now < length text.now) }
 {

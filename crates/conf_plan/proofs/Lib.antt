@@ -7,6 +7,7 @@ pub mod JointSteps
 pub mod PlannedRun
 pub mod Rows
 pub mod Taking
+pub mod OneChanger
 pub mod Rising
 pub mod OneWalk
 pub mod Sharing

@@ -1,8 +1,9 @@
 -- Runs: steps that lead from one configuration to another.
-use Rattle.std.specs.Prelude.{◌≡◌, ℕ, ◌-◌, ◌<◌, true, List, [], ◌∷◌, take, Ok, Some, slice_get}
+use Rattle.std.specs.Prelude.{◌≡◌, ℕ, ◌-◌, ◌<◌, true, List, [], ◌∷◌, take, Ok, Option, Some, option_and_then, slice_get}
+use Rattle.std.specs.Result.{result_ok}
 use Rattle.conf_change.specs.Configuration.{Configuration, is_valid, has_voter}
 use Rattle.conf_change.specs.Outcome.{outcome}
-use Rattle.conf_change.specs.Changer.{ChangerState, Accepts, Refuses}
+use Rattle.conf_change.specs.Changer.{ChangerState, Accepts, Refuses, changer_after}
 use Rattle.conf_change.specs.declared.refused.Refused.{Refused}
 use Rattle.conf_change.specs.declared.step.Step.{Step}
 
@@ -28,6 +29,11 @@ IsRunWith Holds = IsChain (λ before step next. (outcome before step ≡ Ok next
 abbrev pub Takes : ChangerState → List Step → ChangerState → Type 0
 Takes before [] after = before ≡ after
 Takes before (step ∷ steps) after = (next : ChangerState) × Accepts before step next × Takes next steps after
+
+-- the changer after the steps in order, if each is accepted
+abbrev pub after_steps : ChangerState → List Step → Option ChangerState
+after_steps before [] = Some before
+after_steps before (step ∷ steps) = option_and_then (λ next. after_steps next steps) (result_ok (changer_after before step))
 
 -- it takes the steps before the one of this number, counted from 1, which is refused for this reason, want of memory aside
 pub record StopsAt (before : ChangerState) (steps : List Step) (number : ℕ) (why : Refused) (after : ChangerState) : Type 0 where

@@ -1,11 +1,11 @@
 //! Taking the steps of a plan.
 ghost use Rattle.std.specs.Prelude.{◌≡◌, OnOk, IfErr};
 ghost use Rattle.conf_change.specs.Configuration.{Configuration};
-ghost use Rattle.conf_change.specs.Changer.{IsSound, Makes};
+ghost use Rattle.conf_change.specs.Changer.{IsSound};
 ghost use Rattle.conf_plan.specs.Run.{IsRun, Takes, StopsAt};
 
 use crate::plan_steps::Plan;
-use conf_change::{Changer, Refused, Step};
+use conf_change::{Changer, Refused};
 use quorum_sets::MemberSet;
 use thiserror::Error;
 
@@ -28,7 +28,7 @@ pub fn apply_plan<S: MemberSet>(changer: &mut Changer<S>, plan: &Plan) -> Result
 {
     for place in 0..plan.len() {
         if let Some(step) = plan.step(place) {
-            match take_step(changer, step) {
+            match changer.step(step) {
                 Ok(()) => {}
                 Err(refused) => {
                     return Err(StepRefused {
@@ -41,18 +41,4 @@ pub fn apply_plan<S: MemberSet>(changer: &mut Changer<S>, plan: &Plan) -> Result
     }
     let _tracker = changer.tracker();
     Ok(())
-}
-
-// Takes one step.
-fn take_step<S: MemberSet>(changer: &mut Changer<S>, step: &Step) -> Result<(), Refused>
-    ensures { Makes changer.old step.now result changer.new }
-{
-    match step {
-        Step::Simple(changes) => changer.simple(changes.as_slice()),
-        Step::EnterJoint(auto_leave, changes) => changer.enter_joint(
-            *auto_leave,
-            changes.as_slice(),
-        ),
-        Step::LeaveJoint => changer.leave_joint(),
-    }
 }

@@ -1,6 +1,7 @@
 //! Laws of this crate's definitions, each the contract of a function that does nothing.
-ghost use Rattle.std.specs.Prelude.{◌≡◌, ◌≤◌, ◌↔◌, ◌⊎◌, ℕ, true, List, length, Ok, Err};
+ghost use Rattle.std.specs.Prelude.{◌≡◌, ◌≤◌, ◌↔◌, ◌⊎◌, ℕ, true, List, length, Ok, Err, Some};
 ghost use Rattle.conf_change.specs.Configuration.{Configuration};
+ghost use Rattle.conf_change.specs.Changer.{ChangerState};
 ghost use Rattle.conf_change.specs.declared.step.Step.{Step};
 ghost use Rattle.conf_plan.specs.declared.text.PlanTextFault.{PlanTextFault};
 ghost use Rattle.conf_plan.specs.Best.{times_named, HasSamePart};
@@ -8,7 +9,7 @@ ghost use Rattle.conf_plan.specs.Planned.{planned};
 ghost use Rattle.conf_plan.specs.PlanSteps.{IsPlan};
 ghost use Rattle.conf_plan.specs.PlanText.{StandsForPlan, HasFault, plan_text};
 ghost use Rattle.conf_plan.specs.PlanCode.{plan_in};
-ghost use Rattle.conf_plan.specs.Run.{IsRun, IsValidWithVoter};
+ghost use Rattle.conf_plan.specs.Run.{IsRun, IsValidWithVoter, Takes, after_steps};
 ghost use Rattle.conf_plan.specs.SamePlans.{is_same_plan};
 
 /// Along a run the configuration stays valid and keeps a voter.
@@ -35,6 +36,14 @@ pub fn undo_of_run()
         → length (planned after before) ≤ 4 }
     ensures at_most_three { (before after : Configuration) (steps : List Step) → IsValidWithVoter before → IsRun before steps after
         → length steps ≡ 1 → length (planned after before) ≤ 3 }
+{}
+
+/// Steps lead a changer to one changer at most, and it is the one that the function gives, which it does wherever they are
+/// a run from the changer's configuration.
+pub fn one_changer_after_steps()
+    ensures taken { (before after : ChangerState) (steps : List Step) → (Takes before steps after) ↔ (after_steps before steps ≡ Some after) }
+    ensures run { (before : ChangerState) (steps : List Step) (target : Configuration) → IsRun before.tracker.config steps target
+        → (after : ChangerState) × (after_steps before steps ≡ Some after) × (after.tracker.config ≡ target) }
 {}
 
 /// A text stands for one plan at most, and it is the one that the function gives; where it stands for none, it has one

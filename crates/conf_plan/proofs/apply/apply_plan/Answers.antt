@@ -12,7 +12,7 @@ loop-place-preserved g c = elim c.match-step.branch [
   | in-Some+in-Ok w ↦
       let plan = c.args.plan.now in
       let P : ChangerState → Type 0 = λ s. Takes c.args.changer.now (take (c.loop-place.place + 1) plan) s in
-      let Q : List Step → Type 0 = λ xs. Takes c.args.changer.now xs w.take_step.new.changer in
+      let Q : List Step → Type 0 = λ xs. Takes c.args.changer.now xs w.step-in-Some.new.self in
       subst P (sym w.changer-is)
       (subst Q (sym (take_one_more plan c.loop-place.place w.in-Some.step.now (sym w.in-Some.ensures)))
       (takes_push _ _ _ _ _ c.loop-place.invariant w.in-Ok.ensures.accepted))

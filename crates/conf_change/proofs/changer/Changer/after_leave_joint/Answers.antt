@@ -1,6 +1,6 @@
 use Rattle.std.proofs.Common.{sym, ap, ◌∙◌}
 use Rattle.conf_change.proofs.Making.{seen_as, leave_made}
-use Rattle.conf_change.proofs.changer.Changer.leave_joint.Goals as goal
+use Rattle.conf_change.proofs.changer.Changer.after_leave_joint.Goals as goal
 
 pub returns : goal.returns
 returns g c =
@@ -9,5 +9,5 @@ returns g c =
     c.self.invariant c.in_ok-after.ensures (ap (λ config. config.outgoing) (c.behind-self.view_is ∙ c.config.ensures))
     (sym c.if-not-is_joint.ensures) c.in_ok-follow_all.ensures)
 
-pub invariant_of-self : goal.invariant_of-self
-invariant_of-self g c = (returns g c).sound
+pub invariant_of-result : goal.invariant_of-result
+invariant_of-result g c = (returns g c).sound_after

@@ -1,6 +1,6 @@
 use Rattle.std.proofs.Common.{sym}
 use Rattle.conf_change.proofs.Making.{seen_as, in_line-with_outgoing, enter_made}
-use Rattle.conf_change.proofs.changer.Changer.enter_joint.Goals as goal
+use Rattle.conf_change.proofs.changer.Changer.after_enter_joint.Goals as goal
 
 pub apply_list-requires-clause-in_line : goal.apply_list-requires-clause-in_line
 apply_list-requires-clause-in_line g c =
@@ -14,5 +14,5 @@ returns g c =
     c.self.invariant c.in_ok-after.ensures
     (sym c.if-is_joint.ensures) (sym c.if-not-has_voter.ensures) c.in_ok-apply_list.ensures (sym c.if-not-has_voter-2.ensures))
 
-pub invariant_of-self : goal.invariant_of-self
-invariant_of-self g c = (returns g c).sound
+pub invariant_of-result : goal.invariant_of-result
+invariant_of-result g c = (returns g c).sound_after

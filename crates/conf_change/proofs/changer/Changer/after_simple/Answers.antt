@@ -1,6 +1,6 @@
 use Rattle.std.proofs.Common.{sym, arith}
 use Rattle.conf_change.proofs.Making.{seen_as, simple_made}
-use Rattle.conf_change.proofs.changer.Changer.simple.Goals as goal
+use Rattle.conf_change.proofs.changer.Changer.after_simple.Goals as goal
 
 pub returns : goal.returns
 returns g c =
@@ -9,5 +9,5 @@ returns g c =
     c.self.invariant c.in_ok-after.ensures (sym c.if-is_joint.ensures) c.in_ok-apply_list.ensures (sym c.if-not-has_voter.ensures)
     (omega (arith, c.changed_voters.ensures)))
 
-pub invariant_of-self : goal.invariant_of-self
-invariant_of-self g c = (returns g c).sound
+pub invariant_of-result : goal.invariant_of-result
+invariant_of-result g c = (returns g c).sound_after

@@ -1,0 +1,40 @@
+-- That the changer after steps is the one that the function gives.
+use Rattle.std.proofs.Common.{◌≡◌, List, [], ◌∷◌, refl, ap, ◌∙◌}
+use Rattle.std.specs.Prelude.{Result, Ok, Err, Some, option_and_then}
+use Rattle.std.specs.Result.{result_ok}
+use Rattle.conf_change.specs.Configuration.{Configuration}
+use Rattle.conf_change.specs.Outcome.{Outcome}
+use Rattle.conf_change.specs.Changer.{ChangerState, Accepts, moved_by, moved_to, changer_after}
+use Rattle.conf_change.specs.declared.refused.Refused.{Refused}
+use Rattle.conf_change.specs.declared.step.Step.{Step}
+use Rattle.conf_change.proofs.StepLaws.{accepted_is_given, given_is_accepted}
+use Rattle.conf_plan.specs.Run.{IsRun, Takes, after_steps}
+
+-- the steps behind one that is accepted
+after_accepted : (before next : ChangerState) (step : Step) (steps : List Step) → changer_after before step ≡ Ok next
+    → after_steps before (step ∷ steps) ≡ after_steps next steps
+after_accepted before next step steps e = ap (λ given. option_and_then (λ n. after_steps n steps) (result_ok given)) e
+
+pub taken_is_given : (before after : ChangerState) (steps : List Step) → Takes before steps after → after_steps before steps ≡ Some after
+taken_is_given before after [] taken = ap Some taken
+taken_is_given before after (step ∷ steps) taken =
+    after_accepted before taken.0 step steps (accepted_is_given before taken.0 step taken.1) ∙ taken_is_given taken.0 after steps taken.2
+
+pub given_is_taken : (before after : ChangerState) (steps : List Step) → after_steps before steps ≡ Some after → Takes before steps after
+given_is_taken before after [] e = cc
+given_is_taken before after (step ∷ steps) e = by (λ next. given_is_taken next after steps) (changer_after before step) refl e
+  where
+    by : ((next : ChangerState) → after_steps next steps ≡ Some after → Takes next steps after)
+        → (given : Result ChangerState Refused) → changer_after before step ≡ given
+        → option_and_then (λ n. after_steps n steps) (result_ok given) ≡ Some after → Takes before (step ∷ steps) after
+    by rest (Ok next) is e = (next, given_is_accepted before next step is, rest next e)
+    by rest (Err why) is e = cc
+
+-- a run is taken
+pub run_is_given : (before : ChangerState) (steps : List Step) (target : Configuration) → IsRun before.tracker.config steps target
+    → (after : ChangerState) × (after_steps before steps ≡ Some after) × (after.tracker.config ≡ target)
+run_is_given before [] target run = (before, (λ i. Some before), run)
+run_is_given before (step ∷ steps) target run =
+    let next = moved_to before step run.0 in
+    let rest = run_is_given next steps target run.2 in
+    (rest.0, after_accepted before next step steps (ap (moved_by before step) run.1) ∙ rest.1, rest.2)
