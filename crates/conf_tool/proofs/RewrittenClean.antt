@@ -7,7 +7,7 @@ use Rattle.dd_file.specs.DirectiveText.{DirectiveText}
 use Rattle.dd_file.specs.Words.{has_keys}
 use Rattle.dd_file.specs.Reading.{script_of}
 use Rattle.dd_file.specs.Rewritten.{Entry, entry, is_output, rewritten_text}
-use Rattle.dd_file.specs.Laws.{IsSameItem, AreReadAgain, AreOver, LastIsGone, ReadAgain, WrittenScript, ItemsHaveKeys, item_has_keys}
+use Rattle.dd_file.specs.Laws.{IsSameItem, AreGiven, AreReadAgain, AreOver, LastIsGone, ReadAgain, ends_in_long_blank, ItemsAreGiven, WrittenScript, ItemsHaveKeys, item_has_keys}
 use Rattle.dd_file.specs.declared.item.Item.{Item}
 use Rattle.dd_file.specs.declared.item.Item.TheVariants.{Comment, Blank, Directive}
 use Rattle.conf_tool.specs.SessionState.{SessionState, new_session}
@@ -64,12 +64,13 @@ clean-items session (one ∷ items) entries again e (ReadAgain n item other foun
     ap (λ s. differs (entry other (found_for session other)) || list_any differs (entries_of s others)) clean.after
     ∙ ap (λ b. b || list_any differs (entries_of (session_after session one) others)) clean.same ∙ clean-items (session_after session one) items more others (cc) read
 
-pub rewritten-clean : WrittenScript → ItemsHaveKeys → FoundStands → RewrittenClean
-rewritten-clean written keys stands input history short fits =
+pub rewritten-clean : WrittenScript → ItemsAreGiven → ItemsHaveKeys → FoundStands → RewrittenClean
+rewritten-clean written given keys stands input history short fits =
     let session = new_session history in
     let items = (script_of input).items in
     let entries = entries_of session items in
-    let read = written input entries (items-of session items) (outputs stands session items (keys input)) short fits in
+    let same = items-of session items in
+    let read = written entries (subst AreGiven (sym same) (given input)) (outputs stands session items (keys input)) (ap ends_in_long_blank same ∙ short) fits in
     let again = (script_of (rewritten_text entries)).items in
     ap (λ fault. (checked_entries (entries_of session again) fault).outcome) read.0
     ∙ ap (λ b. Ok (status_of b)) (clean-items session items entries again refl read.1)

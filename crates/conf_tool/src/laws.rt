@@ -8,7 +8,7 @@ ghost use Rattle.dd_file.specs.Words.{has_keys};
 ghost use Rattle.conf_tool.specs.Laws.{RewrittenClean};
 
 use conf_change::laws::one_list_per_text;
-use dd_file::laws::{items_have_keys, written_script};
+use dd_file::laws::{items_are_given, items_have_keys, written_script};
 
 /// The text that is found can stand as the output of a directive: it is whole lines, one at least, and none of them is
 /// blank, of four dashes or ends in a carriage return. The keys of a script's arguments are keys (`dd_file::laws`).
@@ -25,5 +25,6 @@ pub fn rewritten_clean()
 {
     found_text_stands();
     written_script();
+    items_are_given();
     items_have_keys();
 }

@@ -1,15 +1,15 @@
 -- What calls that read on one after another say of the whole input.
 use Rattle.std.proofs.Common.{◌≡◌, ℕ, zero, suc, ◌+◌, ◌<◌, true, List, [], ◌∷◌, ◌++◌, length, refl, sym, ◌∙◌, ap, subst, arith, inl, inr}
-use Rattle.std.specs.Prelude.{◌⊎◌, Option, Some, None, Result, Ok}
+use Rattle.std.specs.Prelude.{◌⊎◌, Option, Some, None, Ok}
 use Rattle.std.specs.Io.KnownBytes.{Consumes, IsAtEnd}
 use Rattle.std.proofs.lemmas.List.{append_assoc, append-nil, append_cancel_right}
 use Rattle.dd_file.specs.Place.{Place}
 use Rattle.dd_file.specs.Device.{LosesFront}
 use Rattle.dd_file.specs.Reading.{Next, Over, Found, Faulty, Script, followed, with_first, first_items, script_from}
 use Rattle.dd_file.specs.ReaderState.{ReaderState}
-use Rattle.dd_file.specs.Answer.{AgreesWith, Agrees, Answers, IsCutShort, answered, MovesOn}
+use Rattle.dd_file.specs.Answer.{AgreesWith, Agrees, Answers, IsCutShort, MovesOn}
 use Rattle.dd_file.specs.InOrder.{ReadsTo, TakesBytes, GivenSoFar}
-use Rattle.dd_file.specs.declared.fault.FileFault.{FileFault}
+use Rattle.dd_file.specs.InTurn.{AgreesInTurn}
 use Rattle.dd_file.proofs.PieceParts.{consumes-append}
 
 -- the rest is the same at any fuel above the number of bytes
@@ -85,13 +85,6 @@ moves-append remaining old mid new before between after first second = record {
   at (inl ended) = at-mid ended (first.met ended)
   at (inr end) = inr end
 
--- An input that agrees with what two calls read agrees with what the first one read, and what is held then, with what
--- comes behind it, agrees with what the second one read.
-pub record AgreesInTurn (old mid : ReaderState) (before between after : Option (List ℕ)) (input more : List ℕ) : Type 0 where
-  pub behind : List ℕ
-  pub first : Agrees old before between input behind
-  pub second : Agrees mid between after (mid.held ++ behind) more
-
 pub no-front : (xs ys : List ℕ) → xs ++ ys ≡ [] → (xs ≡ []) × (ys ≡ [])
 no-front [] ys none = (refl, none)
 no-front (x ∷ xs) ys none = cc
@@ -162,21 +155,3 @@ given-more remaining view next old mid new before between after items item so_fa
       ReadsTo-push next items (view item) old.place mid.place new.place input (mid.held ++ turn.behind) (new.held ++ more) (so_far.read input turn.behind turn.first)
       (answer-whole (Some item) (answers (mid.held ++ turn.behind) more turn.second));
 }
-
--- What the last answer says of the whole input: nothing comes behind what was given, or a fault.
-pub given-all : {R X A : Type 0} (remaining : R → Option (List ℕ)) (view : X → A) (next : Place → List ℕ → Next A) (old mid new : ReaderState) (before between after : R) (items : List A) (last : Result (Option X) FileFault) (input more : List ℕ) →
-    TakesBytes next → GivenSoFar remaining next old mid before between items → MovesOn remaining mid new between after → Answers view next mid new (remaining between) (remaining after) last →
-    Agrees old (remaining before) (remaining after) input more →
-    IsCutShort last ⊎ ((behind : List ℕ) × IsFront items (script_from next old.place input) (followed (script_from next) (answered view new behind last)))
-given-all remaining view next old mid new before between after items last input more takes so_far moves answers agrees =
-    let turn = agrees-in-turn old mid (remaining before) (remaining between) (remaining after) input more so_far.moves.taken moves.taken so_far.moves.met agrees in
-    let bytes = mid.held ++ turn.behind in
-    let front = script_from-read next takes items old.place mid.place input bytes (so_far.read input turn.behind turn.first) in
-    elim (answers bytes more turn.second) [
-      | inl cut ↦ inl cut
-      | inr is ↦ inr (
-        more,
-        let rest = script_from-followed next takes mid.place bytes ∙ ap (followed (script_from next)) is in
-            record { items = front.items ∙ ap (λ (s : Script _). items ++ s.items) rest; fault = front.fault ∙ ap (λ (s : Script _). s.fault) rest },
-      )
-    ]

@@ -5,10 +5,9 @@ use Rattle.std.specs.List.{list_all}
 use Rattle.dd_file.specs.Parts.{up_to, behind}
 use Rattle.dd_file.specs.Words.{ArgumentText, CommandText, with_key, is_key, is_equals, values_of, argument_of, before_others, arguments_of, has_keys, is_command_name, command_of_words, words_of}
 use Rattle.dd_file.specs.Script.{joined}
-use Rattle.dd_file.specs.Laws.{item_has_keys}
+use Rattle.dd_file.specs.Laws.{AreGiven, item_has_keys}
 use Rattle.dd_file.specs.declared.item.Item.{Item}
-use Rattle.dd_file.proofs.ReadItem.{ReadItem, ReadComment, ReadBlank, ReadBlankHead, ReadDirective}
-use Rattle.dd_file.proofs.ScriptItems.{AreRead}
+use Rattle.dd_file.proofs.ReadItem.{ReadItem, ReadComment, ReadBlank, ReadBlankHead, ReadDirective, given-read}
 
 -- an argument whose key is a key, where there is one
 abbrev HasKey : Option ArgumentText → Type 0
@@ -63,6 +62,6 @@ read-keys item (ReadBlank line are comment blank) = refl
 read-keys item (ReadBlankHead line rest is are blank) = refl
 read-keys item (ReadDirective n command line rest input expected is says command_is none are) = command_of-keys (words_of (joined (line ∷ rest))) command command_is
 
-pub items-keys : (items : List Item) → AreRead items → list_all item_has_keys items ≡ true
+pub items-keys : (items : List Item) → AreGiven items → list_all item_has_keys items ≡ true
 items-keys [] are = refl
-items-keys (item ∷ items) are = ap (λ b. b && list_all item_has_keys items) (read-keys item are.0) ∙ items-keys items are.1
+items-keys (item ∷ items) are = ap (λ b. b && list_all item_has_keys items) (read-keys item (given-read item are.0)) ∙ items-keys items are.1

@@ -77,10 +77,6 @@ finishes-part newlines old new a start text is =
 pub finishes-none : (newlines : ℕ) (old : Option (List ℕ)) → FinishesPart newlines old old
 finishes-none newlines old start text is = subst (λ t. AppendsPart start old (without_double_end t)) (append-nil text) (is.begun [])
 
--- nothing more
-pub continues-nil : (newlines : ℕ) (old : Option (List ℕ)) → Continues newlines newlines old old []
-continues-nil newlines old start text is = subst (λ t. HasWritten newlines start old t) (sym (append-nil text)) is
-
 -- one part and then another
 pub continues-append : (a b c : ℕ) (old mid new : Option (List ℕ)) (xs ys : List ℕ) → Continues a b old mid xs → Continues b c mid new ys → Continues a c old new (xs ++ ys)
 continues-append a b c old mid new xs ys first second start text is =

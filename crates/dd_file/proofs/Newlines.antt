@@ -100,18 +100,10 @@ newlines_at_end-push text b = elim (split_last text) [
   not_not true = refl
   not_not false = refl
 
-pub newlines_at_end-first : (b n : ℕ) (text : List ℕ) → b ≡ 10 → n ≡ 0 → n ≡ newlines_at_end text → 1 ≡ newlines_at_end (text ++ b ∷ [])
-newlines_at_end-first b n text newline none e = sym (newlines_at_end-push text b ∙ ap (λ x. counted (nat_eq 10 x) (not (newlines_at_end text == 0))) newline ∙ ap (λ m. counted true (not (m == 0))) (sym e ∙ none))
-
 pub newlines_at_end-second : (b n : ℕ) (text : List ℕ) → b ≡ 10 → (n ≡ 0 → ⊥) → n ≡ newlines_at_end text → 2 ≡ newlines_at_end (text ++ b ∷ [])
 newlines_at_end-second b n text newline some e =
     let more : (n == 0) ≡ false = search rules in
     sym (newlines_at_end-push text b ∙ ap (λ x. counted (nat_eq 10 x) (not (newlines_at_end text == 0))) newline ∙ ap (λ m. counted true (not (m == 0))) (sym e) ∙ ap (λ z. counted true (not z)) more)
-
-pub newlines_at_end-other : (b : ℕ) (text : List ℕ) → (b ≡ 10 → ⊥) → 0 ≡ newlines_at_end (text ++ b ∷ [])
-newlines_at_end-other b text other =
-    let none : nat_eq 10 b ≡ false = search rules in
-    sym (newlines_at_end-push text b ∙ ap (λ q. counted q (not (newlines_at_end text == 0))) none)
 
 -- a text is what is left without a newline at its end, and that newline
 pub text-held : (text : List ℕ) → without_last 10 text ++ (if newlines_at_end text == 0 then [] else newline) ≡ text

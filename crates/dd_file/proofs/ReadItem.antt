@@ -7,7 +7,7 @@ use Rattle.dd_file.specs.Bytes.{is_blank}
 use Rattle.dd_file.specs.Parts.{up_to, behind}
 use Rattle.dd_file.specs.Words.{CommandText, command_of}
 use Rattle.dd_file.specs.Script.{Front, front, first_of, head_of, joined, is_continued, is_comment, is_separator, begins_with_dashes, before_pair, has_pair, directive, after_pair, in_double, in_single, body, at_command, at_head}
-use Rattle.dd_file.specs.Laws.{is_line}
+use Rattle.dd_file.specs.Laws.{is_line, IsGiven}
 use Rattle.dd_file.specs.declared.item.Item.{Item}
 use Rattle.dd_file.specs.declared.item.Item.TheVariants.{Comment, Blank}
 use Rattle.dd_file.specs.declared.fault.FileFault.{FileFault}
@@ -142,3 +142,6 @@ first_of-item n count is_ended (line ∷ lines) item are is = at (is_comment lin
   at true d ec ed h e = subst ReadItem (item-is _ item _ _ (count, is_ended, ap (front_or (front (Ok item) 0 true)) e)) (ReadComment line h ec)
   at false true ec ed h e = subst ReadItem (item-is _ item _ _ (count, is_ended, ap (front_or (front (Ok item) 0 true)) e)) (ReadBlank line h ec ed)
   at false false ec ed h e = headed-item n line lines item are ec ed (count, is_ended, ap (front_or (front (Ok item) 0 true)) e)
+
+pub given-read : (item : Item) → IsGiven item → ReadItem item
+given-read item given = first_of-item given.number given.count given.is_ended given.lines item given.are_lines given.first

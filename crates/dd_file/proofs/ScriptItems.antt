@@ -1,4 +1,4 @@
--- Each item of a script was read from lines.
+-- Each item of a script is given by the grammar for some lines.
 use Rattle.std.proofs.Common.{◌≡◌, ℕ, zero, suc, Bool, true, false, not, cond, ◌&&◌, ◌+◌, ◌-◌, List, [], ◌∷◌, length, take, map, refl, ◌∙◌, ap}
 use Rattle.std.specs.Prelude.{◌==◌, Option, Some, None, Result, Ok, Err, filter}
 use Rattle.std.specs.List.{list_all}
@@ -7,17 +7,11 @@ use Rattle.dd_file.specs.Lines.{pieces, before_first_piece, without_last, line_o
 use Rattle.dd_file.specs.Script.{Front, front, first_of}
 use Rattle.dd_file.specs.Place.{Place, start, longest_input}
 use Rattle.dd_file.specs.Reading.{followed, first_items, at_end, with_count, from_front, next_item, script_of, is_too_long, pieces_within}
-use Rattle.dd_file.specs.Laws.{is_line}
+use Rattle.dd_file.specs.Laws.{is_line, AreGiven}
 use Rattle.dd_file.specs.declared.item.Item.{Item}
 use Rattle.dd_file.specs.declared.fault.FileFault.{FileFault}
 use Rattle.dd_file.proofs.WrittenLines.{both}
 use Rattle.dd_file.proofs.Scanning.{all-filter, all-without_last}
-use Rattle.dd_file.proofs.ReadItem.{ReadItem, first_of-item}
-
--- items that were read
-abbrev pub AreRead : List Item → Type 0
-AreRead [] = Unit {0}
-AreRead (item ∷ items) = ReadItem item × AreRead items
 
 -- a piece has no newline but at its end
 abbrev is_piece : List ℕ → Bool
@@ -52,23 +46,26 @@ pieces_within-are limit place bytes = at (is_too_long limit place bytes) where
   at false = lines-are (pieces bytes) (pieces-are bytes)
 
 -- at most so many items
-first_items-read : (limit fuel : ℕ) (place : Place) (bytes : List ℕ) → AreRead (first_items (next_item limit) fuel place bytes).items
-first_items-read limit zero place bytes = tt
-first_items-read limit (suc fuel) place bytes = at (is_too_long limit place bytes) (first_of (place.lines + 1) lines) refl (first_items-read limit fuel) where
+first_items-given : (limit fuel : ℕ) (place : Place) (bytes : List ℕ) → AreGiven (first_items (next_item limit) fuel place bytes).items
+first_items-given limit zero place bytes = tt
+first_items-given limit (suc fuel) place bytes = at (is_too_long limit place bytes) (first_of (place.lines + 1) lines) refl (first_items-given limit fuel) where
   lines : List (List ℕ)
   lines = map line_of (pieces_within limit place bytes)
 
   found : (c : Bool) (count : ℕ) (is_ended : Bool) (r : Result Item FileFault) → first_of (place.lines + 1) lines ≡ Some (front r count is_ended) →
-      ((p : Place) (bs : List ℕ) → AreRead (first_items (next_item limit) fuel p bs).items) → AreRead (followed (first_items (next_item limit) fuel) (cond c (at_end true place) (with_count count r place bytes))).items
+      ((p : Place) (bs : List ℕ) → AreGiven (first_items (next_item limit) fuel p bs).items) → AreGiven (followed (first_items (next_item limit) fuel) (cond c (at_end true place) (with_count count r place bytes))).items
   found true count is_ended r e ih = tt
-  found false count is_ended (Ok item) e ih = (first_of-item (place.lines + 1) count is_ended lines item (pieces_within-are limit place bytes) e, ih _ _)
+  found false count is_ended (Ok item) e ih = (
+    record { number = place.lines + 1; lines = lines; are_lines = pieces_within-are limit place bytes; count = count; is_ended = is_ended; first = e },
+    ih _ _,
+  )
   found false count is_ended (Err fault) e ih = tt
 
-  at : (too_long : Bool) (f : Option Front) → first_of (place.lines + 1) lines ≡ f → ((p : Place) (bs : List ℕ) → AreRead (first_items (next_item limit) fuel p bs).items) →
-      AreRead (followed (first_items (next_item limit) fuel) (from_front too_long f place bytes)).items
+  at : (too_long : Bool) (f : Option Front) → first_of (place.lines + 1) lines ≡ f → ((p : Place) (bs : List ℕ) → AreGiven (first_items (next_item limit) fuel p bs).items) →
+      AreGiven (followed (first_items (next_item limit) fuel) (from_front too_long f place bytes)).items
   at true None e ih = tt
   at false None e ih = tt
   at too_long (Some f) e ih = found (too_long && not f.is_ended) f.count f.is_ended f.found e ih
 
-pub script_of-read : (input : List ℕ) → AreRead (script_of input).items
-script_of-read input = first_items-read longest_input (length input + 1) start input
+pub script_of-given : (input : List ℕ) → AreGiven (script_of input).items
+script_of-given input = first_items-given longest_input (length input + 1) start input

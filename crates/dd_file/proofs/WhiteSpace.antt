@@ -1,7 +1,7 @@
 -- White space at the ends of bytes.
 use Rattle.std.proofs.Common.{◌≡◌, ℕ, Bool, true, false, cond, ◌&&◌, List, [], ◌∷◌, ◌++◌, refl, sym, ◌∙◌, ap}
 use Rattle.std.proofs.lemmas.List.Folds.{list_all-append}
-use Rattle.dd_file.specs.Bytes.{is_space, is_blank, without_trailing_space}
+use Rattle.dd_file.specs.Bytes.{is_space, is_blank, without_leading_space, without_trailing_space, trimmed}
 
 -- bytes with one more at their end
 pub without_trailing_space-append : (x : ℕ) (xs : List ℕ) →
@@ -34,3 +34,22 @@ pub without_trailing_space-other : (x : ℕ) (front bytes : List ℕ) → bytes 
     bytes ≡ without_trailing_space bytes
 without_trailing_space-other x front bytes e h =
     e ∙ sym (ap without_trailing_space e ∙ without_trailing_space-append x front ∙ ap (λ c. cond c (without_trailing_space front) (front ++ x ∷ [])) h)
+
+-- what is trimmed is blank where the bytes are
+is_blank-without_trailing_space : (bytes : List ℕ) → is_blank (without_trailing_space bytes) ≡ is_blank bytes
+is_blank-without_trailing_space [] = refl
+is_blank-without_trailing_space (b ∷ bytes) = at (is_blank (b ∷ bytes)) refl (is_blank-without_trailing_space bytes) where
+  at : (c : Bool) → is_blank (b ∷ bytes) ≡ c → is_blank (without_trailing_space bytes) ≡ is_blank bytes →
+      is_blank (cond c [] (b ∷ without_trailing_space bytes)) ≡ is_blank (b ∷ bytes)
+  at true e same = sym e
+  at false e same = ap (λ t. is_space b && t) same
+
+is_blank-without_leading_space : (bytes : List ℕ) → is_blank (without_leading_space bytes) ≡ is_blank bytes
+is_blank-without_leading_space [] = refl
+is_blank-without_leading_space (b ∷ bytes) = at (is_space b) refl (is_blank-without_leading_space bytes) where
+  at : (c : Bool) → is_space b ≡ c → is_blank (without_leading_space bytes) ≡ is_blank bytes → is_blank (cond c (without_leading_space bytes) (b ∷ bytes)) ≡ (is_space b && is_blank bytes)
+  at true e same = same ∙ ap (λ c. c && is_blank bytes) (sym e)
+  at false e same = refl
+
+pub is_blank-trimmed : (bytes : List ℕ) → is_blank (trimmed bytes) ≡ is_blank bytes
+is_blank-trimmed bytes = is_blank-without_leading_space (without_trailing_space bytes) ∙ is_blank-without_trailing_space bytes

@@ -12,14 +12,13 @@ use Rattle.dd_file.specs.Script.{front, first_of, joined, is_comment, is_separat
 use Rattle.dd_file.specs.Place.{longest_input}
 use Rattle.dd_file.specs.Reading.{Script, script_of, with_first}
 use Rattle.dd_file.specs.Rewritten.{Entry, entry, entry_text, has_blank_line, is_output, rewritten_text, without_double_end}
-use Rattle.dd_file.specs.Laws.{is_line, IsSameItem, AreReadAgain, AreOver, LastIsGone, ReadAgain, ends_in_long_blank}
+use Rattle.dd_file.specs.Laws.{is_line, AreGiven, IsSameItem, AreReadAgain, AreOver, LastIsGone, ReadAgain, ends_in_long_blank}
 use Rattle.dd_file.specs.declared.item.Item.{Item}
 use Rattle.dd_file.specs.declared.item.Item.TheVariants.{Comment, Blank, Directive}
 use Rattle.dd_file.proofs.Newlines.{split_last, double_end-pushed}
 use Rattle.dd_file.proofs.WrittenLines.{both, lines-lines, pieces-text_of, text_of-append, output-lines}
 use Rattle.dd_file.proofs.Scanning.{dashes_line}
-use Rattle.dd_file.proofs.ReadItem.{IsHead, ReadItem, ReadComment, ReadBlank, ReadBlankHead, ReadDirective}
-use Rattle.dd_file.proofs.ScriptItems.{AreRead}
+use Rattle.dd_file.proofs.ReadItem.{IsHead, ReadItem, ReadComment, ReadBlank, ReadBlankHead, ReadDirective, given-read}
 use Rattle.dd_file.proofs.ScriptLines.{items_of, items_of-first, script_of-lines}
 use Rattle.dd_file.proofs.WrittenItem.{read-again, directive-again, directive-text, directive_lines, directive_lines-are, output_behind}
 
@@ -27,15 +26,15 @@ use Rattle.dd_file.proofs.WrittenItem.{read-again, directive-again, directive-te
 abbrev IsAgain : List Entry → Script Item → Type 0
 IsAgain entries script = (script.fault ≡ None) × AreReadAgain entries script.items
 
--- entries of items that were read, with outputs
+-- entries of items that the grammar gives, with outputs
 abbrev AreWritten : List Entry → Type 0
 AreWritten [] = Unit {0}
 AreWritten (e ∷ entries) = ReadItem e.item × (is_output e.found ≡ true) × AreWritten entries
 
-are-written : (entries : List Entry) → AreRead (map (λ e. e.item) entries) → list_all (λ e. is_output e.found) entries ≡ true → AreWritten entries
-are-written [] read output = tt
-are-written (e ∷ entries) read output =
-    let k = both (is_output e.found) (list_all (λ e. is_output e.found) entries) output in (read.0, k.0, are-written entries read.1 k.1)
+are-written : (entries : List Entry) → AreGiven (map (λ e. e.item) entries) → list_all (λ e. is_output e.found) entries ≡ true → AreWritten entries
+are-written [] given output = tt
+are-written (e ∷ entries) given output =
+    let k = both (is_output e.found) (list_all (λ e. is_output e.found) entries) output in (given-read e.item given.0, k.0, are-written entries given.1 k.1)
 
 -- a text of whole lines
 abbrev HasLines : List ℕ → Type 0
@@ -197,9 +196,9 @@ rest-left before lines is e (next ∷ entries) written short =
     )
 
 -- all of it
-pub written-again : (entries : List Entry) → AreRead (map (λ e. e.item) entries) → list_all (λ e. is_output e.found) entries ≡ true → ends_in_long_blank (map (λ e. e.item) entries) ≡ false →
+pub written-again : (entries : List Entry) → AreGiven (map (λ e. e.item) entries) → list_all (λ e. is_output e.found) entries ≡ true → ends_in_long_blank (map (λ e. e.item) entries) ≡ false →
     length (rewritten_text entries) ≤ longest_input → IsAgain entries (script_of (rewritten_text entries))
-written-again [] read output short fits = subst (IsAgain []) (sym (script_of-lines [] fits)) (no-entries 1)
-written-again (e ∷ entries) read output short fits =
-    let left = rest-left [] [] refl e entries (are-written (e ∷ entries) read output) short in
+written-again [] given output short fits = subst (IsAgain []) (sym (script_of-lines [] fits)) (no-entries 1)
+written-again (e ∷ entries) given output short fits =
+    let left = rest-left [] [] refl e entries (are-written (e ∷ entries) given output) short in
     subst (IsAgain (e ∷ entries)) (sym (script_of-lines (rewritten_text (e ∷ entries)) fits ∙ ap (λ (t : List ℕ). items_of 1 (lines_of t)) left.1)) (left.2 1)

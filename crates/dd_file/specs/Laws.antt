@@ -1,18 +1,25 @@
--- Laws of scripts that are written again and of scripts that are joined.
-use Rattle.std.specs.Prelude.{◌≡◌, ℕ, ◌+◌, ◌≤◌, Bool, true, false, not, ◌==◌, nat_lt, List, [], ◌∷◌, ◌++◌, length, drop, map, flat_map, Some, option_map, None, Result, Ok, Err, if◌then◌else◌}
-use Rattle.std.specs.List.{list_all}
-use Rattle.dd_file.specs.Bytes.{newline, without_trailing_space}
+-- Laws of scripts: told by what comes next, written again, and joined.
+use Rattle.std.specs.Prelude.{◌≡◌, ℕ, ◌+◌, ◌≤◌, Bool, true, false, not, ◌==◌, nat_lt, List, [], ◌∷◌, ◌++◌, length, drop, map, flat_map, Option, Some, option_map, None, Result, Ok, Err, ⊤, if◌then◌else◌}
+use Rattle.std.specs.List.{list_all, list_any}
+use Rattle.dd_file.specs.Bytes.{newline, is_blank, trimmed, without_trailing_space}
 use Rattle.dd_file.specs.Lines.{lines_of}
 use Rattle.dd_file.specs.DirectiveText.{DirectiveText}
-use Rattle.dd_file.specs.Words.{has_keys}
-use Rattle.dd_file.specs.Script.{Front, front, first_of}
-use Rattle.dd_file.specs.Place.{longest_input}
-use Rattle.dd_file.specs.Reading.{script_of}
+use Rattle.dd_file.specs.Words.{CommandText, command_of, has_keys}
+use Rattle.dd_file.specs.Script.{Front, front, first_of, directive, is_comment, is_continued, is_separator}
+use Rattle.dd_file.specs.Place.{Place, longest_input}
+use Rattle.dd_file.specs.Reading.{followed, next_item, next_line, items_from, lines_from, script_of}
 use Rattle.dd_file.specs.Rewritten.{Entry, entry, entry_text, rewritten_text, is_output, is_directive, raw_lines_of}
 use Rattle.dd_file.specs.declared.item.Item.{Item}
 use Rattle.dd_file.specs.declared.item.Item.TheVariants.{Comment, Blank, Directive}
 use Rattle.dd_file.specs.declared.fault.FileFault.{FileFault}
 use Rattle.dd_file.specs.declared.fault.FileFault.TheVariants.{Read, NoMemory, BadDirective, AfterDouble, UnclosedDouble, InputTooLong}
+
+-- What is read from a place on is told by what comes next: nothing, something and what is read behind it, or a fault.
+abbrev pub ItemsByNext : Type 0
+ItemsByNext = (place : Place) (bytes : List ℕ) → items_from place bytes ≡ followed items_from (next_item longest_input place bytes)
+
+abbrev pub LinesByNext : Type 0
+LinesByNext = (place : Place) (bytes : List ℕ) → lines_from place bytes ≡ followed lines_from (next_line longest_input place bytes)
 
 -- bytes without a newline
 abbrev pub is_line : List ℕ → Bool
@@ -61,14 +68,38 @@ ends_in_long_blank (Blank lines ∷ []) = nat_lt 1 (length lines)
 ends_in_long_blank (Directive directive ∷ []) = false
 ends_in_long_blank (item ∷ next ∷ items) = ends_in_long_blank (next ∷ items)
 
--- The items of a script, those before its fault where it has one, written again with outputs that were found, are read
--- again, and without a fault. (Where they end in a blank of several lines, the newline that is dropped may leave a lone
--- backslash on the last line.)
+-- an item that the grammar gives for some lines
+pub record IsGiven (item : Item) : Type 0 where
+  pub number : ℕ
+  pub lines : List (List ℕ)
+  pub are_lines : list_all is_line lines ≡ true
+  pub count : ℕ
+  pub is_ended : Bool
+  pub first : first_of number lines ≡ Some (front (Ok item) count is_ended)
+
+abbrev pub AreGiven : List Item → Type 0
+AreGiven [] = ⊤
+AreGiven (item ∷ items) = IsGiven item × AreGiven items
+
+-- The items of a script, those before its fault where it has one, are given by the grammar.
+abbrev pub ItemsAreGiven : Type 0
+ItemsAreGiven = (input : List ℕ) → AreGiven (script_of input).items
+
+-- The grammar gives a directive with a head of one line, lines of input, and no output expected.
+abbrev pub DirectiveIsGiven : Type 0
+DirectiveIsGiven =
+    (n : ℕ) (line : List ℕ) (input : List (List ℕ)) (command : CommandText) →
+    is_comment line ≡ false → is_blank line ≡ false → is_continued line ≡ false → command_of (trimmed line) ≡ Some command →
+    list_any is_separator input ≡ false → list_all is_line (line ∷ input) ≡ true → IsGiven (directive n command (line ∷ []) input [])
+
+-- Items that the grammar gives, written with outputs that were found, are read again, and without a fault. (Where they end
+-- in a blank of several lines, the newline that is dropped may leave a lone backslash on the last line.)
 abbrev pub WrittenScript : Type 0
 WrittenScript =
-    (input : List ℕ) (entries : List Entry) →
-    map (λ entry. entry.item) entries ≡ (script_of input).items → list_all (λ entry. is_output entry.found) entries ≡ true →
-    ends_in_long_blank (script_of input).items ≡ false → length (rewritten_text entries) ≤ longest_input →
+    (entries : List Entry) →
+    let items = map (λ entry. entry.item) entries in
+    AreGiven items → list_all (λ entry. is_output entry.found) entries ≡ true → ends_in_long_blank items ≡ false →
+    length (rewritten_text entries) ≤ longest_input →
     let again = script_of (rewritten_text entries) in (again.fault ≡ None) × AreReadAgain entries again.items
 
 -- the keys of a directive's arguments are keys
@@ -91,6 +122,19 @@ pub data IsComplete : ℕ → List (List ℕ) → Type 0 where
   Done : (n : ℕ) → IsComplete n []
   More : (n : ℕ) (lines : List (List ℕ)) (item : Front) → first_of n lines ≡ Some item → has_separator item.count item.found ≡ true →
       IsComplete (n + item.count) (drop item.count lines) → IsComplete n lines
+
+-- complete, told by what the lines begin with: nothing, an item with its separator before complete lines, or a fault
+abbrev pub IsCompleteWith : ℕ → List (List ℕ) → ℕ → Result Item FileFault → Type 0
+IsCompleteWith n lines count (Ok item) = (has_separator count (Ok item) ≡ true) × IsComplete (n + count) (drop count lines)
+IsCompleteWith n lines count (Err fault) = ⊥
+
+abbrev pub IsCompleteBy : ℕ → List (List ℕ) → Option Front → Type 0
+IsCompleteBy n lines None = ⊤
+IsCompleteBy n lines (Some item) = IsCompleteWith n lines item.count item.found
+
+abbrev pub CompleteByFirst : Type 0
+CompleteByFirst = (n : ℕ) (lines : List (List ℕ)) →
+    (IsComplete n lines → IsCompleteBy n lines (first_of n lines)) × (IsCompleteBy n lines (first_of n lines) → IsComplete n lines)
 
 -- the directive so many lines further down
 abbrev pub moved : ℕ → DirectiveText → DirectiveText

@@ -18,3 +18,4 @@ pub mod PieceRead
 pub mod Laws
 pub mod Wrapped
 pub mod Gathered
+pub mod InTurn

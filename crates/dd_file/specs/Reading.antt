@@ -83,10 +83,18 @@ first_items next (suc count) place bytes = followed (first_items next count) (ne
 abbrev pub script_from : {A : Type 0} → (Place → List ℕ → Next A) → Place → List ℕ → Script A
 script_from next place bytes = first_items next (length bytes + 1) place bytes
 
+-- the items from a place on
+abbrev pub items_from : Place → List ℕ → Script Item
+items_from = script_from (next_item longest_input)
+
+-- the lines from a place on
+abbrev pub lines_from : Place → List ℕ → Script (List ℕ)
+lines_from = script_from (next_line longest_input)
+
 -- the items of a script
 abbrev pub script_of : List ℕ → Script Item
-script_of input = script_from (next_item longest_input) start input
+script_of = items_from start
 
 -- the lines of an input
 abbrev pub listing_of : List ℕ → Script (List ℕ)
-listing_of input = script_from (next_line longest_input) start input
+listing_of = lines_from start

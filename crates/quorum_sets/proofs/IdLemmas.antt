@@ -10,7 +10,7 @@ use Rattle.std.specs.Map.{lookup}
 use Rattle.std.specs.List.{list_any, AllByRecursion}
 use Rattle.std.specs.List.Sorted.{IsStrictlySortedBy}
 use Rattle.std.specs.FinMap as finite
-use Rattle.std.specs.FinMap.{nat_cmp-IsAntisymmetric, is_sorted, find, put}
+use Rattle.std.specs.FinMap.{nat_cmp-IsAntisymmetric, is_sorted, find}
 use Rattle.quorum_sets.specs.Ids.{Ids, no_ids, has, with_id, without_id, ascending, ids_of, ids_where}
 
 -- an id as an entry of the finite map
@@ -184,19 +184,3 @@ find_lookup q (e ∷ es) = ap (cond (eq_by_cmp nat_cmp q e.0) (Some e.1)) (find_
 -- what a tree has at an id, the finite map of its entries has
 pub lookup-from_entries : {X : Type 0} (q : ℕ) (es : List (ℕ × X)) → lookup (is_at (nat_cmp q)) es ≡ finite.get (finite.from_entries {R = nat_cmp} es) q
 lookup-from_entries q es = sym (finite.get-from_entries nat_cmp_total es q ∙ find_lookup q es)
-
--- ---- at numbers that are written out
-abbrev placed : List ℕ → List (ℕ × Unit {0})
-placed [] = []
-placed (x ∷ xs) = put nat_cmp x tt (placed xs)
-
--- the ids of a list in ascending order, each once; it computes
-abbrev pub sorted_ids : List ℕ → List ℕ
-sorted_ids xs = map (λ e. e.0) (placed xs)
-
-entries-placed : (xs : List ℕ) → finite.entries (ids_of xs) ≡ placed xs
-entries-placed [] = entries-no_ids
-entries-placed (x ∷ xs) = finite.entries-insert nat_cmp_total (ids_of xs) x tt ∙ ap (put nat_cmp x tt) (entries-placed xs)
-
-pub ascending-computes : (xs : List ℕ) → ascending (ids_of xs) ≡ sorted_ids xs
-ascending-computes xs = ap (map (λ e. e.0)) (entries-placed xs)

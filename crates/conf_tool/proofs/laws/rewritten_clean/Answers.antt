@@ -2,4 +2,4 @@ use Rattle.conf_tool.proofs.RewrittenClean.{rewritten-clean}
 use Rattle.conf_tool.proofs.laws.rewritten_clean.Goals as goal
 
 pub returns : goal.returns
-returns c = rewritten-clean c.written_script.ensures c.items_have_keys.ensures c.found_text_stands.ensures
+returns c = rewritten-clean c.written_script.ensures c.items_are_given.ensures c.items_have_keys.ensures c.found_text_stands.ensures

@@ -1,0 +1,8 @@
+use Rattle.dd_file.specs.Place.{longest_input}
+use Rattle.dd_file.specs.Reading.{next_item}
+use Rattle.dd_file.proofs.InOrder.{script_from-followed}
+use Rattle.dd_file.proofs.Takes.{next_item-takes}
+use Rattle.dd_file.proofs.laws.items_by_next.Goals as goal
+
+pub returns : goal.returns
+returns c = script_from-followed (next_item longest_input) (next_item-takes longest_input)
