@@ -1,5 +1,5 @@
 -- What a step on a copy, or a saved form, gives as the reply of a command.
-use Rattle.std.proofs.Common.{◌≡◌, ◌≢◌, ℕ, zero, suc, ◌+◌, true, false, List, [], ◌∷◌, ◌++◌, length, take, refl, sym, ap, ◌∙◌, add-one}
+use Rattle.std.proofs.Common.{◌≡◌, ◌≢◌, ℕ, zero, suc, ◌+◌, true, false, List, [], ◌∷◌, ◌++◌, length, take, refl, sym, ap, ◌∙◌, subst, add-one}
 use Rattle.std.specs.Prelude.{◌==◌, Option, Some, None, unwrap_or, Result, Ok, Err, IfOk, MatchResult, flat_map, slice_get}
 use Rattle.std.proofs.lemmas.Bool.{eqb-true}
 use Rattle.std.proofs.lemmas.List.{nil_from_length, append_assoc, append-nil}
@@ -15,6 +15,7 @@ use Rattle.conf_change.specs.declared.step.Step.{Step}
 use Rattle.conf_change.specs.declared.step.Step.TheVariants.{LeaveJoint}
 use Rattle.conf_tool.specs.SessionState.{SessionState, index_after}
 use Rattle.conf_tool.specs.Texts.{line, member_line}
+use Rattle.conf_tool.specs.Told.{CanStand}
 use Rattle.conf_tool.specs.Reply.{Reply, told, changed}
 use Rattle.conf_tool.specs.Commands.{no_input_text, with_no_input, after_outcome, on_step, leave_with, answered}
 
@@ -75,3 +76,8 @@ pub members_more : (old now new : List ℕ) (members : List (ℕ × Progress)) (
 members_more old now new members i id p at so_far more =
     more ∙ ap (λ t. t ++ member_line (id, p)) so_far ∙ append_assoc old (flat_map member_line (take i members)) (member_line (id, p))
     ∙ ap (λ t. old ++ t) (sym (flat_map-front member_line members i (id, p) at))
+
+-- what is found can stand, where it can for the reply
+pub reply-stands : {E : Type 0} (r : Result Reply E) {a b : Reply} → a ≡ b → CanStand b.found → IfOk r (λ reply. reply ≡ a) → IfOk r (λ reply. CanStand reply.found)
+reply-stands (Ok reply) e stands h = let P : Reply → Type 0 = λ x. CanStand x.found in subst P (sym (h ∙ e)) stands
+reply-stands (Err fault) e stands h = tt

@@ -1,24 +1,25 @@
 -- A directive whose input is the same but for white space at line ends is answered the same.
-use Rattle.std.proofs.Common.{◌≡◌, ℕ, Bool, true, false, cond, List, [], ◌∷◌, map, refl, sym, ap, ◌∙◌, subst, arith}
-use Rattle.std.specs.Prelude.{Option, Some, None, codes, bytes_eq, flat_map}
+use Rattle.std.proofs.Common.{◌≡◌, ℕ, Bool, true, false, List, [], ◌∷◌, map, refl, sym, ap, ◌∙◌, subst, arith}
+use Rattle.std.specs.Prelude.{Option, Some, None, codes, flat_map}
 use Rattle.std.specs.List.{list_all}
 use Rattle.dd_file.specs.DirectiveText.{DirectiveText}
 use Rattle.dd_file.specs.Bytes.{without_trailing_space}
 use Rattle.dd_file.specs.Lines.{line_of}
+use Rattle.dd_file.specs.Words.{ArgumentText}
 use Rattle.dd_file.specs.Laws.{IsSameDirective}
 use Rattle.dd_file.proofs.Pieces.{pieces-first}
 use Rattle.conf_change.specs.ChangerState.{ChangerState}
 use Rattle.conf_change.specs.Words.{words, trimmed}
 use Rattle.conf_change.specs.ChangeList.{changes_in, changes_in_words}
-use Rattle.conf_change.specs.ConfState.{ConfStateLists, lists_of}
-use Rattle.conf_change.specs.ConfStateLine.{line_in, conf_state_in, conf_state_text}
-use Rattle.conf_change.specs.declared.step.Step.TheVariants.{Simple}
+use Rattle.conf_change.specs.ConfState.{ConfStateLists}
+use Rattle.conf_change.specs.ConfStateLine.{line_in, conf_state_in}
+use Rattle.conf_change.specs.declared.step.Step.TheVariants.{Simple as SimpleStep}
 use Rattle.conf_change.proofs.LineLemmas.{StandsForConfState-from_some}
 use Rattle.conf_tool.specs.SessionState.{SessionState}
 use Rattle.conf_tool.specs.Reply.{Reply, told}
-use Rattle.conf_tool.specs.Commands.{with_changes, with_no_input, with_arguments, on_step, enter_with, leave_with, restore_with, reply_to, answered, answer}
-use Rattle.conf_tool.specs.Arguments.{bad_argument}
-use Rattle.conf_tool.specs.declared.arguments.Takes.TheVariants.{Nothing}
+use Rattle.conf_tool.specs.Commands.{command_in, with_changes, with_no_input, on_step, enter_with, leave_with, restore_with, reply_of, reply_to, answered, answer}
+use Rattle.conf_tool.specs.declared.commands.Command.{Command}
+use Rattle.conf_tool.specs.declared.commands.Command.TheVariants.{Simple, EnterJoint, LeaveJoint, ConfState, Restore, Unknown}
 use Rattle.conf_tool.specs.Told.{is_line_byte}
 use Rattle.conf_tool.proofs.ToldLines.{saved-bytes}
 use Rattle.conf_tool.proofs.InputLines.{IsOneLine, has_one, first_line, ends_of, words-told, trimmed-told}
@@ -50,22 +51,20 @@ no_input-same reply [] (b ∷ other) same = absurd (some-line b other same)
 no_input-same reply (b ∷ input) [] same = absurd (some-line b input (sym same))
 no_input-same reply (b ∷ input) (c ∷ other) same = refl
 
-either-same : (b c : Bool) (x y z w : Reply) → b ≡ c → x ≡ y → z ≡ w → cond b x z ≡ cond c y w
-either-same b c x y z w p q r = cc
+command-same : (command : Command) (changer : ChangerState) (input other : List ℕ) (arguments : List ArgumentText) → ends_of input ≡ ends_of other → reply_of command changer input arguments ≡ reply_of command changer other arguments
+command-same Simple changer input other arguments same = ap (with_changes (λ changes. on_step changer (SimpleStep changes))) (changes-same input other same)
+command-same EnterJoint changer input other arguments same = ap (with_changes (enter_with changer arguments)) (changes-same input other same)
+command-same LeaveJoint changer input other arguments same = ap (with_changes (leave_with changer)) (changes-same input other same)
+command-same ConfState changer input other arguments same = no_input-same _ input other same
+command-same Restore changer input other arguments same = ap (restore_with changer arguments) (conf_state-same input other same)
+command-same Unknown changer input other arguments same = ap (with_changes (λ changes. told (codes "unknown command"))) (changes-same input other same)
 
 reply-same : (changer : ChangerState) (again directive : DirectiveText) → again.command ≡ directive.command → again.arguments ≡ directive.arguments → ends_of again.input ≡ ends_of directive.input →
     reply_to changer again ≡ reply_to changer directive
 reply-same changer again directive command arguments input =
-    let changes : changes_in again.input ≡ changes_in directive.input = changes-same again.input directive.input input in
-    let is = λ (name : List ℕ). ap (λ c. bytes_eq c name) command in
-    either-same _ _ _ _ _ _ (is (codes "simple")) (ap (with_changes (λ changes. on_step changer (Simple changes))) changes)
-    (either-same _ _ _ _ _ _ (is (codes "enter-joint")) (ap (λ given. with_changes (enter_with changer given) (changes_in again.input)) arguments ∙ ap (with_changes (enter_with changer directive.arguments)) changes)
-    (either-same _ _ _ _ _ _ (is (codes "leave-joint")) (ap (with_changes (leave_with changer)) changes)
-    (either-same _ _ _ _ _ _ (is (codes "conf-state"))
-    (ap (λ given. with_no_input (with_arguments (told (conf_state_text (lists_of changer.tracker.config))) (bad_argument Nothing given)) again.input) arguments ∙ no_input-same _ again.input directive.input input)
-    (either-same _ _ _ _ _ _ (is (codes "restore"))
-    (ap (λ given. restore_with changer given (conf_state_in again.input)) arguments ∙ ap (restore_with changer directive.arguments) (conf_state-same again.input directive.input input))
-    (ap (with_changes (λ changes. told (codes "unknown command"))) changes)))))
+    ap (λ name. reply_of (command_in name) changer again.input again.arguments) command
+    ∙ ap (reply_of (command_in directive.command) changer again.input) arguments
+    ∙ command-same (command_in directive.command) changer again.input directive.input directive.arguments input
 
 pub same-answer : (n : ℕ) (found : List ℕ) (directive again : DirectiveText) (session : SessionState) → IsSameDirective n found directive again → answer session again ≡ answer session directive
 same-answer n found directive again session same = ap (answered session) (reply-same session.changer again directive same.command same.arguments same.input)

@@ -1,15 +1,18 @@
 -- Which texts are told lines.
 use Rattle.std.proofs.Common.{◌≡◌, ℕ, zero, suc, ◌/◌, ◌%◌, ◌≤◌, Bool, true, false, cond, not, ◌&&◌, List, [], ◌∷◌, ◌++◌, map, refl, sym, ap, ◌∙◌, arith}
-use Rattle.std.specs.Prelude.{◌==◌, nat_le, codes, decimal, flat_map}
-use Rattle.std.specs.List.{AllZip, list_all, join_with_byte}
+use Rattle.std.specs.Prelude.{◌==◌, ◌||◌, nat_le, codes, decimal, flat_map}
+use Rattle.std.specs.List.{AllZip, list_all, list_any, join_with_byte}
 use Rattle.std.specs.Fmt.{digit_glyph, digits_onto, digits}
 use Rattle.std.specs.FinMap as finite
 use Rattle.std.specs.Str.Parse.{AllDigits}
 use Rattle.std.proofs.lemmas.List.{append-nil}
 use Rattle.std.proofs.lemmas.Bool.Decides.{nat_tests}
+use Rattle.std.proofs.lemmas.Slice.Eq.{bytes_eq-Decides}
 use Rattle.std.proofs.lemmas.Str.Parse.{digit_at}
 use Rattle.quorum_sets.specs.Ids.{Ids, ascending, is_empty}
+use Rattle.dd_file.specs.Bytes.{is_space, is_blank}
 use Rattle.dd_file.specs.Lines.{text_of}
+use Rattle.dd_file.specs.Script.{is_dashes}
 use Rattle.conf_change.specs.Configuration.{Configuration, is_joint}
 use Rattle.conf_change.specs.ConfState.{ConfStateLists}
 use Rattle.conf_change.specs.Number.{SpellsNumber}
@@ -43,12 +46,40 @@ abbrev IsBytes : List ℕ → Type 0
 IsBytes text = list_all is_line_byte text ≡ true
 
 pub told-bytes : (text : List ℕ) → is_told_line text ≡ true → list_all is_line_byte text ≡ true
-told-bytes [] h = cc
-told-bytes (b ∷ bs) h = second _ _ h
+told-bytes text h = second (not (is_blank text || is_dashes text)) _ h
 
-pub told-append : (front back : List ℕ) → is_told_line front ≡ true → IsBytes back → is_told_line (front ++ back) ≡ true
-told-append [] back h k = cc
-told-append (b ∷ bs) back h k = both _ _ (first _ _ h) (all-append is_line_byte (b ∷ bs) back (second _ _ h) k)
+-- a byte that makes a line neither blank nor dashes
+abbrev is_mark : ℕ → Bool
+is_mark b = not (is_space b || b == 45)
+
+any-step : (this some more : Bool) → (this || some) ≡ true → (some ≡ true → more ≡ true) → (this || more) ≡ true
+any-step true some more h k = refl
+any-step false some more h k = k h
+
+any-front : {X : Type 0} (p : X → Bool) (xs ys : List X) → list_any p xs ≡ true → list_any p (xs ++ ys) ≡ true
+any-front p [] ys h = cc
+any-front p (x ∷ xs) ys h = any-step (p x) (list_any p xs) (list_any p (xs ++ ys)) h (any-front p xs ys)
+
+space-step : (space dash some all : Bool) → (not (space || dash) || some) ≡ true → (some ≡ true → all ≡ false) → (space && all) ≡ false
+space-step true dash some all h k = k h
+space-step false dash some all h k = refl
+
+no_blank : (bytes : List ℕ) → list_any is_mark bytes ≡ true → is_blank bytes ≡ false
+no_blank [] h = cc
+no_blank (b ∷ bs) h = space-step (is_space b) (b == 45) (list_any is_mark bs) (is_blank bs) h (no_blank bs)
+
+no_dashes-if : (bytes : List ℕ) (dashes : Bool) → is_dashes bytes ≡ dashes → list_any is_mark bytes ≡ true → dashes ≡ false
+no_dashes-if bytes true e h =
+    let same : bytes ≡ codes "----" = (bytes_eq-Decides bytes (codes "----")).0 e in
+    let none : list_any is_mark bytes ≡ false = ap (list_any is_mark) same in cc
+no_dashes-if bytes false e h = refl
+
+pub marked-told : (text : List ℕ) → list_any is_mark text ≡ true → IsBytes text → is_told_line text ≡ true
+marked-told text h k =
+    both _ _ (ap not (ap (λ t. t || is_dashes text) (no_blank text h) ∙ no_dashes-if text (is_dashes text) refl h)) k
+
+pub told-append : (front back : List ℕ) → list_any is_mark front ≡ true → IsBytes front → IsBytes back → is_told_line (front ++ back) ≡ true
+told-append front back h k l = marked-told (front ++ back) (any-front is_mark front back h) (all-append is_line_byte front back k l)
 
 where-bytes : (there : Bool) (text : List ℕ) → IsBytes text → IsBytes (where_there there text)
 where-bytes true text h = h
@@ -70,9 +101,16 @@ abbrev is_high : List ℕ → Bool
 is_high [] = false
 is_high (b ∷ bs) = list_all (nat_le 48) (b ∷ bs)
 
-high-told : (bs : List ℕ) → is_high bs ≡ true → is_told_line bs ≡ true
-high-told [] h = cc
-high-told (b ∷ bs) h = both _ _ (first _ _ h) (bytes-high (b ∷ bs) h)
+mark-high : (b : ℕ) → nat_le 48 b ≡ true → is_mark b ≡ true
+mark-high b h = grind (arith, nat_tests)
+
+high-mark : (bs : List ℕ) → is_high bs ≡ true → list_any is_mark bs ≡ true
+high-mark [] h = cc
+high-mark (b ∷ bs) h = ap (λ t. t || list_any is_mark bs) (mark-high b (first _ _ h))
+
+high-bytes : (bs : List ℕ) → is_high bs ≡ true → IsBytes bs
+high-bytes [] h = cc
+high-bytes (b ∷ bs) h = bytes-high (b ∷ bs) h
 
 either : (b : Bool) (xs ys : List ℕ) → is_high xs ≡ true → is_high ys ≡ true → is_high (cond b xs ys) ≡ true
 either true xs ys h k = h
@@ -89,12 +127,12 @@ number-high k n =
     let one : is_high (digit_glyph false (n % 10) ∷ []) ≡ true = both _ _ (glyph-high (n % 10)) refl in
     either (n / 10 == 0) _ _ one (digits_onto-high k (n / 10) (digit_glyph false (n % 10)) [] one)
 
-decimal-told : (n : ℕ) → is_told_line (decimal n) ≡ true
+decimal-high : (n : ℕ) → is_high (decimal n) ≡ true
 unfolding digits
-decimal-told n = high-told (decimal n) (number-high 63 n)
+decimal-high n = number-high 63 n
 
 decimal-bytes : (n : ℕ) → IsBytes (decimal n)
-decimal-bytes n = told-bytes (decimal n) (decimal-told n)
+decimal-bytes n = high-bytes (decimal n) (decimal-high n)
 
 spaced-bytes : (numbers : List ℕ) → IsBytes (spaced_numbers numbers)
 spaced-bytes [] = refl
@@ -103,20 +141,24 @@ spaced-bytes (n ∷ m ∷ numbers) = all-append is_line_byte (decimal n) (32 ∷
 
 -- ---- the texts of a configuration, of a member, of a refusal and of a saved form
 record IsLine (text : List ℕ) : Type 0 where
-  line : is_told_line text ≡ true
+  mark : list_any is_mark text ≡ true
+  bytes : list_all is_line_byte text ≡ true
 
 record IsTail (text : List ℕ) : Type 0 where
   tail : list_all is_line_byte text ≡ true
 
-starts : (text : List ℕ) → is_told_line text ≡ true → IsLine text
-starts text h = record { line = h }
+starts : (text : List ℕ) → list_any is_mark text ≡ true → IsBytes text → IsLine text
+starts text h k = record { mark = h; bytes = k }
+
+told : {text : List ℕ} → IsLine text → is_told_line text ≡ true
+told {text} h = marked-told text h.mark h.bytes
 
 goes : (text : List ℕ) → IsBytes text → IsTail text
 goes text h = record { tail = h }
 
 infixl 60 ◌▸◌
 ◌▸◌ : {front back : List ℕ} → IsLine front → IsTail back → IsLine (front ++ back)
-◌▸◌ {front} {back} h k = record { line = told-append front back h.line k.tail }
+◌▸◌ {front} {back} h k = record { mark = any-front is_mark front back h.mark; bytes = all-append is_line_byte front back h.bytes k.tail }
 
 infixl 61 ◌▹◌
 ◌▹◌ : {front back : List ℕ} → IsTail front → IsTail back → IsTail (front ++ back)
@@ -136,22 +178,22 @@ named there name ids h = goes _ (where-bytes there (name ++ set_text ids) (all-a
 
 config-line : (c : Configuration) → IsLine (config_text c)
 config-line c =
-    starts (codes "voters=") refl ▸ set c.incoming
+    starts (codes "voters=") refl refl ▸ set c.incoming
     ▸ named (is_joint c) (codes "&&") c.outgoing refl
     ▸ named (not (is_empty c.learners)) (codes " learners=") c.learners refl
     ▸ named (not (is_empty c.learners_next)) (codes " learners_next=") c.learners_next refl
     ▸ goes (where_there c.auto_leave (codes " autoleave")) (where-bytes c.auto_leave (codes " autoleave") refl)
 
 pub config-told : (c : Configuration) → is_told_line (config_text c) ≡ true
-config-told c = (config-line c).line
+config-told c = told (config-line c)
 
 progress-line : (id : ℕ) (p : Progress) → IsLine (progress_text id p)
 progress-line id p =
-    starts (decimal id) (decimal-told id) ▸ goes (codes ": StateProbe match=") refl ▸ number p.matched ▸ goes (codes " next=") refl ▸ number p.next
+    starts (decimal id) (high-mark (decimal id) (decimal-high id)) (decimal-bytes id) ▸ goes (codes ": StateProbe match=") refl ▸ number p.matched ▸ goes (codes " next=") refl ▸ number p.next
     ▸ goes (where_there p.learner (codes " learner")) (where-bytes p.learner (codes " learner") refl)
 
 pub progress-told : (id : ℕ) (p : Progress) → is_told_line (progress_text id p) ≡ true
-progress-told id p = (progress-line id p).line
+progress-told id p = told (progress-line id p)
 
 pub refused-told : (refused : Refused) → is_told_line (refused_text refused) ≡ true
 refused-told AlreadyJoint = refl
@@ -168,13 +210,13 @@ truth-bytes false = refl
 
 saved-line : (a b c d : List ℕ) (auto_leave : Bool) → IsTail a → IsTail b → IsTail c → IsTail d → IsLine (line_text a b c d auto_leave)
 saved-line a b c d auto_leave voters voters_outgoing learners learners_next =
-    starts (codes "Voters:[") refl ▸ voters ▸ goes (codes "] VotersOutgoing:[") refl ▸ voters_outgoing
+    starts (codes "Voters:[") refl refl ▸ voters ▸ goes (codes "] VotersOutgoing:[") refl ▸ voters_outgoing
     ▸ goes (codes "] Learners:[") refl ▸ learners ▸ goes (codes "] LearnersNext:[") refl ▸ learners_next
     ▸ goes (codes "] AutoLeave:") refl ▸ goes (truth_text auto_leave) (truth-bytes auto_leave)
 
 pub conf_state-told : (saved : ConfStateLists) → is_told_line (conf_state_text saved) ≡ true
 conf_state-told saved =
-    (saved-line _ _ _ _ saved.auto_leave (numbers saved.voters) (numbers saved.voters_outgoing) (numbers saved.learners) (numbers saved.learners_next)).line
+    told (saved-line _ _ _ _ saved.auto_leave (numbers saved.voters) (numbers saved.voters_outgoing) (numbers saved.learners) (numbers saved.learners_next))
 
 -- numbers that were read, with any zeros before them
 byte-from_zero : (b : ℕ) → 48 ≤ b → is_line_byte b ≡ true
@@ -199,7 +241,7 @@ pub saved-bytes : (text : List ℕ) (saved : ConfStateLists) → StandsForConfSt
 saved-bytes text saved h =
     let whole : IsLine (line_text h.voters h.voters_outgoing h.learners h.learners_next saved.auto_leave) = saved-line _ _ _ _ saved.auto_leave
     (spelled-tail _ _ h.spells_voters) (spelled-tail _ _ h.spells_voters_outgoing) (spelled-tail _ _ h.spells_learners) (spelled-tail _ _ h.spells_learners_next) in
-    ap (list_all is_line_byte) h.line ∙ told-bytes (line_text h.voters h.voters_outgoing h.learners h.learners_next saved.auto_leave) whole.line
+    ap (list_all is_line_byte) h.line ∙ whole.bytes
 
 -- ---- texts of such lines
 pub line-told : (text : List ℕ) → is_told_line text ≡ true → IsTold (line text)

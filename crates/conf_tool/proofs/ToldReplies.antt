@@ -1,6 +1,7 @@
 -- What each directive is answered is told lines.
 use Rattle.std.proofs.Common.{◌≡◌, ℕ, Bool, true, false, cond, not, List, [], ◌∷◌, ◌++◌, filter, refl, sym, ap, ◌∙◌, arith}
-use Rattle.std.specs.Prelude.{◌==◌, Option, Some, None, Result, Ok, Err, codes}
+use Rattle.std.specs.Prelude.{◌==◌, Option, Some, None, option_map, unwrap_or, Result, Ok, Err, codes}
+use Rattle.std.specs.Option.{option_or}
 use Rattle.std.specs.List.{list_all, slice_split, onto_first}
 use Rattle.std.proofs.lemmas.Bool.{eqb-true}
 use Rattle.std.proofs.lemmas.Bool.Decides.{nat_tests}
@@ -17,15 +18,18 @@ use Rattle.conf_change.specs.Text.{refused_text}
 use Rattle.conf_change.specs.Changer.{moved_to, begun_with}
 use Rattle.conf_change.specs.declared.change.Change.{Change}
 use Rattle.conf_change.specs.declared.step.Step.{Step}
-use Rattle.conf_change.specs.declared.step.Step.TheVariants.{Simple, EnterJoint, LeaveJoint}
-use Rattle.conf_tool.specs.Arguments.{is_good, first_bad, bad_argument, asks_auto_leave}
+use Rattle.conf_change.specs.declared.step.Step.TheVariants.{Simple as SimpleStep, EnterJoint as EnterStep, LeaveJoint as LeaveStep}
+use Rattle.conf_tool.specs.Parameter.{key_of}
+use Rattle.conf_tool.specs.Arguments.{is_good, first_bad, bad_argument, missing_argument}
 use Rattle.conf_tool.specs.Texts.{bad_token_text}
 use Rattle.conf_tool.specs.Reply.{Reply, told, changed}
-use Rattle.conf_tool.specs.Commands.{with_changes, with_no_input, with_arguments, after_outcome, on_step, leave_with, after_restored, restore_with, reply_to}
+use Rattle.conf_tool.specs.Commands.{command_in, parameters_of, with_changes, with_no_input, with_arguments, after_outcome, on_step, asks_auto_leave, leave_with, after_restored, restore_with, reply_of, reply_to}
 use Rattle.conf_tool.specs.Told.{is_line_byte, is_told_line, IsTold}
 use Rattle.dd_file.specs.Words.{has_keys}
-use Rattle.conf_tool.specs.declared.arguments.Takes.{Takes}
-use Rattle.conf_tool.specs.declared.arguments.Takes.TheVariants.{Nothing, AutoLeave}
+use Rattle.conf_tool.specs.declared.parameter.Parameter.{Parameter}
+use Rattle.conf_tool.specs.declared.parameter.Parameter.TheVariants.{AutoLeave}
+use Rattle.conf_tool.specs.declared.commands.Command.{Command}
+use Rattle.conf_tool.specs.declared.commands.Command.TheVariants.{Simple, EnterJoint, LeaveJoint, ConfState, Restore, Unknown}
 use Rattle.conf_tool.proofs.ToldLines.{first, second, both, told-append, refused-told, conf_state-told, line-told, tracker-told}
 
 abbrev Tells : Reply → Type 0
@@ -33,10 +37,6 @@ Tells reply = IsTold reply.found
 
 tells : (text : List ℕ) → is_told_line text ≡ true → Tells (told text)
 tells text h = line-told text h
-
-either : (b : Bool) (x y : Reply) → Tells x → Tells y → Tells (cond b x y)
-either true x y h k = h
-either false x y h k = k
 
 -- ---- the words of an input
 unequal : (b : Bool) → (b ≡ true → ⊥) → not b ≡ true
@@ -81,9 +81,9 @@ bytes-black [] h = refl
 bytes-black (b ∷ word) h = both _ _ (byte-black b (first _ _ h)) (bytes-black word (second _ _ h))
 
 token-told : (bad : BadToken) → list_all is_line_byte (token_of bad) ≡ true → is_told_line (bad_token_text bad) ≡ true
-token-told (unknown_token token) h = told-append (codes "unknown token ") token refl h
-token-told (unknown_input token) h = told-append (codes "unknown input: ") token refl h
-token-told (bad_number token) h = told-append (codes "bad number: ") token refl h
+token-told (unknown_token token) h = told-append (codes "unknown token ") token refl refl h
+token-told (unknown_input token) h = told-append (codes "unknown input: ") token refl refl h
+token-told (bad_number token) h = told-append (codes "bad number: ") token refl refl h
 
 -- the first bad token of a text is one of its words
 abbrev FirstBads : Type 0
@@ -116,15 +116,26 @@ bad-step : (argument : ArgumentText) (rest : Option (List ℕ)) (good : Bool) (k
 bad-step argument rest true key h k e = k e
 bad-step argument rest false key h k e = let same : argument.key ≡ key = cc in ap is_key (sym same) ∙ h
 
-bad-key : (takes : Takes) (before arguments : List ArgumentText) (key : List ℕ) → are_keys arguments ≡ true → first_bad takes before arguments ≡ Some key → is_key key ≡ true
-bad-key takes before [] key h e = cc
-bad-key takes before (argument ∷ arguments) key h e =
-    bad-step argument (first_bad takes (before ++ argument ∷ []) arguments) (is_good takes before argument) key (first _ _ h) (bad-key takes (before ++ argument ∷ []) arguments key (second _ _ h)) e
+bad-key : (parameters : List Parameter) (before arguments : List ArgumentText) (key : List ℕ) → are_keys arguments ≡ true → first_bad parameters before arguments ≡ Some key → is_key key ≡ true
+bad-key parameters before [] key h e = cc
+bad-key parameters before (argument ∷ arguments) key h e =
+    bad-step argument (first_bad parameters (before ++ argument ∷ []) arguments) (is_good parameters before argument) key (first _ _ h) (bad-key parameters (before ++ argument ∷ []) arguments key (second _ _ h)) e
 
-arguments-tell : (takes : Takes) (arguments : List ArgumentText) (reply : Reply) (bad : Option (List ℕ)) → are_keys arguments ≡ true → bad_argument takes arguments ≡ bad → Tells reply → Tells (with_arguments reply bad)
-arguments-tell takes arguments reply None h e t = t
-arguments-tell takes arguments reply (Some key) h e t =
-    tells (codes "bad argument: " ++ key) (told-append (codes "bad argument: ") key refl (bytes-key key (second _ _ (bad-key takes [] arguments key h e))))
+parameter-bytes : (parameter : Parameter) → list_all is_line_byte (key_of parameter) ≡ true
+parameter-bytes AutoLeave = refl
+
+fault-tells : (bad : Option (List ℕ)) (missing : Option Parameter) (reply : Reply) → ((key : List ℕ) → bad ≡ Some key → is_key key ≡ true) → Tells reply →
+    Tells (unwrap_or (option_or (option_map (λ key. told (codes "bad argument: " ++ key)) bad) (option_map (λ parameter. told (codes "missing argument: " ++ key_of parameter)) missing)) reply)
+fault-tells (Some key) missing reply h t =
+    tells (codes "bad argument: " ++ key) (told-append (codes "bad argument: ") key refl refl (bytes-key key (second _ _ (h key refl))))
+fault-tells None (Some parameter) reply h t =
+    tells (codes "missing argument: " ++ key_of parameter) (told-append (codes "missing argument: ") (key_of parameter) refl refl (parameter-bytes parameter))
+fault-tells None None reply h t = t
+
+arguments-tell : (command : Command) (arguments : List ArgumentText) (reply : Reply) → are_keys arguments ≡ true → Tells reply → Tells (with_arguments command arguments reply)
+arguments-tell command arguments reply h t =
+    fault-tells (bad_argument (parameters_of command) arguments) (missing_argument (parameters_of command) arguments) reply
+    (λ key e. bad-key (parameters_of command) [] arguments key h e) t
 
 -- ---- the commands
 changed-tells : (changer : ChangerState) → Tells (changed changer)
@@ -138,7 +149,7 @@ step-tells : (changer : ChangerState) (step : Step) → Tells (on_step changer s
 step-tells changer step = outcome-tells changer step (outcome changer.tracker.config step)
 
 leave-tells : (changer : ChangerState) (changes : List Change) → Tells (leave_with changer changes)
-leave-tells changer [] = step-tells changer LeaveJoint
+leave-tells changer [] = step-tells changer LeaveStep
 leave-tells changer (change ∷ changes) = tells (codes "this command takes no input") refl
 
 no_input-tells : (reply : Reply) (input : List ℕ) → Tells reply → Tells (with_no_input reply input)
@@ -151,15 +162,17 @@ restored-tells changer (Some c) = changed-tells (begun_with changer.last_index c
 
 restore-tells : (changer : ChangerState) (arguments : List ArgumentText) (read : Option ConfStateLists) → are_keys arguments ≡ true → Tells (restore_with changer arguments read)
 restore-tells changer arguments None h = tells (codes "bad conf state") refl
-restore-tells changer arguments (Some saved) h = arguments-tell Nothing arguments _ _ h refl (restored-tells changer (restored saved))
+restore-tells changer arguments (Some saved) h = arguments-tell Restore arguments _ h (restored-tells changer (restored saved))
+
+command-tells : FirstBads → (command : Command) (changer : ChangerState) (input : List ℕ) (arguments : List ArgumentText) → are_keys arguments ≡ true → Tells (reply_of command changer input arguments)
+command-tells first_bads Simple changer input arguments keys = changes-tell first_bads _ input _ refl (λ changes. step-tells changer (SimpleStep changes))
+command-tells first_bads EnterJoint changer input arguments keys =
+    changes-tell first_bads _ input _ refl (λ changes. arguments-tell EnterJoint arguments _ keys (step-tells changer (EnterStep (asks_auto_leave arguments) changes)))
+command-tells first_bads LeaveJoint changer input arguments keys = changes-tell first_bads _ input _ refl (leave-tells changer)
+command-tells first_bads ConfState changer input arguments keys =
+    no_input-tells _ input (arguments-tell ConfState arguments _ keys (tells (conf_state_text (lists_of changer.tracker.config)) (conf_state-told (lists_of changer.tracker.config))))
+command-tells first_bads Restore changer input arguments keys = restore-tells changer arguments (conf_state_in input) keys
+command-tells first_bads Unknown changer input arguments keys = changes-tell first_bads _ input _ refl (λ changes. tells (codes "unknown command") refl)
 
 pub reply-told : FirstBads → (changer : ChangerState) (directive : DirectiveText) → has_keys directive.arguments ≡ true → IsTold (reply_to changer directive).found
-reply-told first_bads changer directive keys =
-    either _ _ _ (changes-tell first_bads _ directive.input _ refl (λ changes. step-tells changer (Simple changes)))
-    (either _ _ _ (changes-tell first_bads _ directive.input _ refl (λ changes.
-    arguments-tell AutoLeave directive.arguments _ _ keys refl (step-tells changer (EnterJoint (asks_auto_leave directive.arguments) changes))))
-    (either _ _ _ (changes-tell first_bads _ directive.input _ refl (leave-tells changer))
-    (either _ _ _ (no_input-tells _ directive.input (arguments-tell Nothing directive.arguments _ _ keys refl
-    (tells (conf_state_text (lists_of changer.tracker.config)) (conf_state-told (lists_of changer.tracker.config)))))
-    (either _ _ _ (restore-tells changer directive.arguments (conf_state_in directive.input) keys)
-    (changes-tell first_bads _ directive.input _ refl (λ changes. tells (codes "unknown command") refl))))))
+reply-told first_bads changer directive keys = command-tells first_bads (command_in directive.command) changer directive.input directive.arguments keys

@@ -1,11 +1,11 @@
 -- A text of told lines can stand as an output.
 use Rattle.std.proofs.Common.{◌≡◌, ℕ, suc, ◌-◌, ◌<◌, Bool, true, false, cond, not, ◌&&◌, ◌||◌, List, [], ◌∷◌, ◌++◌, length, drop, map, refl, ap, ◌∙◌, arith}
-use Rattle.std.specs.Prelude.{◌==◌, nat_le, nat_eq, codes, bytes_eq}
+use Rattle.std.specs.Prelude.{◌==◌, nat_eq}
 use Rattle.std.specs.List.{list_all, list_any, ends_with}
 use Rattle.std.specs.Cmp.Lexicographic.{pointwise}
 use Rattle.std.proofs.lemmas.List.{append-nil}
 use Rattle.std.proofs.lemmas.Bool.Decides.{nat_tests}
-use Rattle.dd_file.specs.Bytes.{newline, is_space, is_blank}
+use Rattle.dd_file.specs.Bytes.{newline, is_blank}
 use Rattle.dd_file.specs.Lines.{pieces, line_of, text_of, without_last, before_first_piece}
 use Rattle.dd_file.specs.Script.{is_dashes}
 use Rattle.dd_file.specs.Rewritten.{is_output_line}
@@ -38,12 +38,6 @@ without_return [] h = refl
 without_return (x ∷ []) h = ap (λ t. cond t [] (x ∷ [])) (no _ (second _ _ (first _ _ h)))
 without_return (x ∷ y ∷ bytes) h = ap (λ rest. x ∷ rest) (without_return (y ∷ bytes) (second _ _ h))
 
-high-no-dash : (b : ℕ) (bs : List ℕ) → nat_le 48 b ≡ true → bytes_eq (b ∷ bs) (codes "----") ≡ false
-high-no-dash b bs h = let e : (b == 45) ≡ false = grind (arith, nat_tests) in ap (λ t. t && bytes_eq bs (codes "---")) e
-
-high-no-space : (b : ℕ) → nat_le 48 b ≡ true → is_space b ≡ false
-high-no-space b h = grind (arith, nat_tests)
-
 -- ---- the end of a text
 ends-more : (c x y : ℕ) (bytes : List ℕ) → ends_with nat_eq (x ∷ y ∷ bytes) (c ∷ []) ≡ ends_with nat_eq (y ∷ bytes) (c ∷ [])
 ends-more c x y bytes =
@@ -75,13 +69,18 @@ ends-text bytes ([] ∷ lines) h = let e : false ≡ true = second (is_told_line
 ends-text bytes ((b ∷ bs) ∷ lines) h = ends-behind (line bytes) b (bs ++ newline ++ text_of lines) (ends-text (b ∷ bs) lines (second _ _ h))
 
 -- ---- each line
+neither : (a b : Bool) → (a || b) ≡ false → (a ≡ false) × (b ≡ false)
+neither true b h = cc
+neither false b h = (refl, h)
+
+is_none : (bytes : List ℕ) → is_told_line bytes ≡ true → (is_blank bytes ≡ false) × (is_dashes bytes ≡ false)
+is_none bytes h = neither _ _ (no (is_blank bytes || is_dashes bytes) (first _ _ h))
+
 no_dashes : (bytes : List ℕ) → is_told_line bytes ≡ true → is_dashes bytes ≡ false
-no_dashes [] h = cc
-no_dashes (b ∷ bs) h = high-no-dash b bs (first _ _ h)
+no_dashes bytes h = (is_none bytes h).1
 
 no_blank : (bytes : List ℕ) → is_told_line bytes ≡ true → is_blank bytes ≡ false
-no_blank [] h = cc
-no_blank (b ∷ bs) h = ap (λ t. t && is_blank bs) (high-no-space b (first _ _ h))
+no_blank bytes h = (is_none bytes h).0
 
 output-line : (bytes : List ℕ) → is_told_line bytes ≡ true → is_output_line bytes ≡ true
 output-line bytes h = ap not (ap (λ t. t || ends_with nat_eq bytes (13 ∷ [])) (no_dashes bytes h) ∙ no_return_at_end bytes (told-bytes bytes h))

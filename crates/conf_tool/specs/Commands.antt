@@ -1,5 +1,6 @@
 -- What a session answers to a directive.
-use Rattle.std.specs.Prelude.{ℕ, List, [], ◌∷◌, ◌++◌, Option, Some, None, Result, Ok, Err, if◌then◌else◌, unwrap_or, codes, bytes_eq}
+use Rattle.std.specs.Prelude.{ℕ, Bool, false, List, [], ◌∷◌, ◌++◌, Option, Some, None, option_map, Result, Ok, Err, if◌then◌else◌, unwrap_or, codes, bytes_eq}
+use Rattle.std.specs.Option.{option_or}
 use Rattle.dd_file.specs.DirectiveText.{DirectiveText}
 use Rattle.dd_file.specs.Words.{ArgumentText}
 use Rattle.conf_change.specs.ChangerState.{ChangerState}
@@ -12,12 +13,36 @@ use Rattle.conf_change.specs.ConfStateLine.{conf_state_in, conf_state_text}
 use Rattle.conf_change.specs.Text.{refused_text}
 use Rattle.conf_change.specs.declared.change.Change.{Change}
 use Rattle.conf_change.specs.declared.step.Step.{Step}
-use Rattle.conf_change.specs.declared.step.Step.TheVariants.{Simple, EnterJoint, LeaveJoint}
+use Rattle.conf_change.specs.declared.step.Step.TheVariants.{Simple as SimpleStep, EnterJoint as EnterStep, LeaveJoint as LeaveStep}
 use Rattle.conf_tool.specs.SessionState.{SessionState, after_directive}
-use Rattle.conf_tool.specs.Arguments.{bad_argument, asks_auto_leave}
+use Rattle.conf_tool.specs.Parameter.{key_of, has_only}
+use Rattle.conf_tool.specs.Arguments.{bad_argument, missing_argument, argument_of}
 use Rattle.conf_tool.specs.Texts.{bad_token_text}
 use Rattle.conf_tool.specs.Reply.{Reply, told, changed}
-use Rattle.conf_tool.specs.declared.arguments.Takes.TheVariants.{Nothing, AutoLeave}
+use Rattle.conf_tool.specs.declared.parameter.Parameter.{Parameter}
+use Rattle.conf_tool.specs.declared.parameter.Parameter.TheVariants.{AutoLeave}
+use Rattle.conf_tool.specs.declared.commands.Command.{Command}
+use Rattle.conf_tool.specs.declared.commands.Command.TheVariants.{Simple, EnterJoint, LeaveJoint, ConfState, Restore, Unknown}
+
+-- the command of a name
+abbrev pub command_in : List ℕ → Command
+command_in name =
+    if bytes_eq name (codes "simple") then Simple
+    else (if bytes_eq name (codes "enter-joint") then EnterJoint
+    else (if bytes_eq name (codes "leave-joint") then LeaveJoint
+    else (if bytes_eq name (codes "conf-state") then ConfState
+    else (if bytes_eq name (codes "restore") then Restore
+    else Unknown))))
+
+-- the arguments that it has, required ones in the order in which they are missed; those of simple, of leave-joint and of
+-- what is no command are not looked at
+abbrev pub parameters_of : Command → List Parameter
+parameters_of Simple = []
+parameters_of EnterJoint = AutoLeave ∷ []
+parameters_of LeaveJoint = []
+parameters_of ConfState = []
+parameters_of Restore = []
+parameters_of Unknown = []
 
 -- First the input is looked at. It is read as a list of changes ..
 abbrev pub with_changes : (List Change → Reply) → Result (List Change) BadToken → Reply
@@ -32,10 +57,14 @@ abbrev pub with_no_input : Reply → List ℕ → Reply
 with_no_input reply [] = reply
 with_no_input reply (byte ∷ input) = told no_input_text
 
--- .. then the arguments are.
-abbrev pub with_arguments : Reply → Option (List ℕ) → Reply
-with_arguments reply None = reply
-with_arguments reply (Some key) = told (codes "bad argument: " ++ key)
+-- .. then the arguments are: the first bad one is told, or else the first that is missing
+abbrev pub argument_fault : Command → List ArgumentText → Option Reply
+argument_fault command arguments =
+    option_or (option_map (λ key. told (codes "bad argument: " ++ key)) (bad_argument (parameters_of command) arguments))
+    (option_map (λ parameter. told (codes "missing argument: " ++ key_of parameter)) (missing_argument (parameters_of command) arguments))
+
+abbrev pub with_arguments : Command → List ArgumentText → Reply → Reply
+with_arguments command arguments reply = unwrap_or (argument_fault command arguments) reply
 
 -- a step that is made, or refused
 abbrev pub after_outcome : ChangerState → Step → Outcome → Reply
@@ -45,27 +74,31 @@ after_outcome changer step (Err refused) = told (refused_text refused)
 abbrev pub on_step : ChangerState → Step → Reply
 on_step changer step = after_outcome changer step (outcome changer.tracker.config step)
 
-abbrev pub on_simple : ChangerState → DirectiveText → Reply
-on_simple changer directive = with_changes (λ changes. on_step changer (Simple changes)) (changes_in directive.input)
+abbrev pub on_simple : ChangerState → List ℕ → Reply
+on_simple changer input = with_changes (λ changes. on_step changer (SimpleStep changes)) (changes_in input)
+
+-- autoleave is true
+abbrev pub asks_auto_leave : List ArgumentText → Bool
+asks_auto_leave arguments = unwrap_or (option_map (λ argument. has_only (codes "true") argument.values) (argument_of AutoLeave arguments)) false
 
 abbrev pub enter_with : ChangerState → List ArgumentText → List Change → Reply
 enter_with changer arguments changes =
-    with_arguments (on_step changer (EnterJoint (asks_auto_leave arguments) changes)) (bad_argument AutoLeave arguments)
+    with_arguments EnterJoint arguments (on_step changer (EnterStep (asks_auto_leave arguments) changes))
 
-abbrev pub on_enter_joint : ChangerState → DirectiveText → Reply
-on_enter_joint changer directive = with_changes (enter_with changer directive.arguments) (changes_in directive.input)
+abbrev pub on_enter_joint : ChangerState → List ℕ → List ArgumentText → Reply
+on_enter_joint changer input arguments = with_changes (enter_with changer arguments) (changes_in input)
 
 -- leaving takes no change
 abbrev pub leave_with : ChangerState → List Change → Reply
-leave_with changer [] = on_step changer LeaveJoint
+leave_with changer [] = on_step changer LeaveStep
 leave_with changer (change ∷ changes) = told no_input_text
 
-abbrev pub on_leave_joint : ChangerState → DirectiveText → Reply
-on_leave_joint changer directive = with_changes (leave_with changer) (changes_in directive.input)
+abbrev pub on_leave_joint : ChangerState → List ℕ → Reply
+on_leave_joint changer input = with_changes (leave_with changer) (changes_in input)
 
-abbrev pub on_conf_state : ChangerState → DirectiveText → Reply
-on_conf_state changer directive =
-    with_no_input (with_arguments (told (conf_state_text (lists_of changer.tracker.config))) (bad_argument Nothing directive.arguments)) directive.input
+abbrev pub on_conf_state : ChangerState → List ℕ → List ArgumentText → Reply
+on_conf_state changer input arguments =
+    with_no_input (with_arguments ConfState arguments (told (conf_state_text (lists_of changer.tracker.config)))) input
 
 -- a saved form that is restored, or stands for no configuration
 abbrev pub after_restored : ChangerState → Option Configuration → Reply
@@ -74,23 +107,26 @@ after_restored changer (Some c) = changed (begun_with changer.last_index c)
 
 abbrev pub restore_with : ChangerState → List ArgumentText → Option ConfStateLists → Reply
 restore_with changer arguments None = told (codes "bad conf state")
-restore_with changer arguments (Some saved) = with_arguments (after_restored changer (restored saved)) (bad_argument Nothing arguments)
+restore_with changer arguments (Some saved) = with_arguments Restore arguments (after_restored changer (restored saved))
 
-abbrev pub on_restore : ChangerState → DirectiveText → Reply
-on_restore changer directive = restore_with changer directive.arguments (conf_state_in directive.input)
+abbrev pub on_restore : ChangerState → List ℕ → List ArgumentText → Reply
+on_restore changer input arguments = restore_with changer arguments (conf_state_in input)
 
-abbrev pub on_unknown : DirectiveText → Reply
-on_unknown directive = with_changes (λ changes. told (codes "unknown command")) (changes_in directive.input)
+abbrev pub on_unknown : List ℕ → Reply
+on_unknown input = with_changes (λ changes. told (codes "unknown command")) (changes_in input)
+
+-- the reply of a command to this input and these arguments
+abbrev pub reply_of : Command → ChangerState → List ℕ → List ArgumentText → Reply
+reply_of Simple changer input arguments = on_simple changer input
+reply_of EnterJoint changer input arguments = on_enter_joint changer input arguments
+reply_of LeaveJoint changer input arguments = on_leave_joint changer input
+reply_of ConfState changer input arguments = on_conf_state changer input arguments
+reply_of Restore changer input arguments = on_restore changer input arguments
+reply_of Unknown changer input arguments = on_unknown input
 
 -- the reply to a directive
 abbrev pub reply_to : ChangerState → DirectiveText → Reply
-reply_to changer directive =
-    if bytes_eq directive.command (codes "simple") then on_simple changer directive
-    else (if bytes_eq directive.command (codes "enter-joint") then on_enter_joint changer directive
-    else (if bytes_eq directive.command (codes "leave-joint") then on_leave_joint changer directive
-    else (if bytes_eq directive.command (codes "conf-state") then on_conf_state changer directive
-    else (if bytes_eq directive.command (codes "restore") then on_restore changer directive
-    else on_unknown directive))))
+reply_to changer directive = reply_of (command_in directive.command) changer directive.input directive.arguments
 
 -- the text that is found, and the session afterwards
 pub record Answer : Type 0 where

@@ -3,6 +3,7 @@ pub mod Ranges
 pub mod Texts
 pub mod LineReply
 pub mod SessionState
+pub mod Parameter
 pub mod Arguments
 pub mod Reply
 pub mod Commands

@@ -1,19 +1,18 @@
 -- Texts that are told line by line.
-use Rattle.std.specs.Prelude.{◌≡◌, ℕ, ◌<◌, Bool, true, false, not, ◌&&◌, ◌==◌, List, [], ◌∷◌, length, nat_le}
+use Rattle.std.specs.Prelude.{◌≡◌, ℕ, ◌<◌, Bool, true, false, not, ◌&&◌, ◌||◌, ◌==◌, List, length, nat_eq}
 use Rattle.std.specs.List.{list_all, ends_with}
-use Rattle.std.specs.Prelude.{nat_eq}
-use Rattle.dd_file.specs.Bytes.{newline}
+use Rattle.dd_file.specs.Bytes.{newline, is_blank}
 use Rattle.dd_file.specs.Lines.{text_of}
+use Rattle.dd_file.specs.Script.{is_dashes}
 use Rattle.dd_file.specs.Rewritten.{is_output, has_blank_line}
 
 -- a byte that stands in a line and ends none
 abbrev pub is_line_byte : ℕ → Bool
 is_line_byte b = not (b == 10) && not (b == 13)
 
--- A line that begins with a letter or a digit, or with what stands behind 0 in ASCII. So it is neither blank nor dashes.
+-- a line that is neither blank nor four dashes
 abbrev pub is_told_line : List ℕ → Bool
-is_told_line [] = false
-is_told_line (b ∷ bs) = nat_le 48 b && list_all is_line_byte (b ∷ bs)
+is_told_line bytes = not (is_blank bytes || is_dashes bytes) && list_all is_line_byte bytes
 
 -- one such line or more, each with a newline
 pub record IsTold (text : List ℕ) : Type 0 where

@@ -1,83 +1,63 @@
-//! The arguments of a command, and which of them are bad.
-ghost use Rattle.std.specs.Prelude.{◌≡◌, option_map};
+//! The arguments of a directive, held against those that its command has.
+ghost use Rattle.std.specs.Prelude.{◌≡◌, option_map, option_copied};
 ghost use Rattle.conf_tool.specs.Arguments as says;
 
+use crate::parameter::Parameter;
 use dd_file::item::Argument;
 
-/// Which arguments a command takes.
-#[derive(Clone, Copy, Debug, PartialEq, Eq)]
-pub(crate) enum Takes {
-    Nothing,
-    /// `autoleave`, with the value `true` or `false`.
-    AutoLeave,
-}
-
-/// The key of the first argument that the command does not take with these values, or whose key came before.
-pub(crate) fn bad_argument(takes: Takes, arguments: &[Argument]) -> Option<&[u8]>
-    ensures { option_map (λ key. key.now) result ≡ says.bad_argument takes arguments.now }
+/// The key of the first argument that is none of these with values that it may have, or whose key came before.
+pub(crate) fn bad_argument<'a>(
+    parameters: &[Parameter],
+    arguments: &'a [Argument],
+) -> Option<&'a [u8]>
+    ensures { option_map (λ key. key.now) result ≡ says.bad_argument parameters.now arguments.now }
 {
     for (place, argument) in arguments.iter().enumerate() {
-        if !is_good(takes, &arguments[..place], argument) {
+        if !is_good(parameters, &arguments[..place], argument) {
             return Some(argument.key());
         }
     }
     None
 }
 
-// Whether the command takes the argument, and no argument before it has its key.
-fn is_good(takes: Takes, before: &[Argument], argument: &Argument) -> bool
-    ensures { result ≡ says.is_good takes before.now argument.now }
+/// The first of these that is required and left out.
+pub(crate) fn missing_argument<'a>(
+    parameters: &'a [Parameter],
+    arguments: &[Argument],
+) -> Option<&'a Parameter>
+    ensures { option_copied result ≡ says.missing_argument parameters.now arguments.now }
 {
-    allows(takes, argument) && !has_key(before, argument.key())
+    parameters.iter().find(|parameter| parameter.is_required()
+        && !has_key(arguments, parameter.key()))
 }
 
-// Whether the command takes the argument with these values.
-fn allows(takes: Takes, argument: &Argument) -> bool
-    ensures { result ≡ says.allows takes argument.now }
+/// The argument that stands for this one, if there is one.
+pub(crate) fn argument_of(parameter: Parameter, arguments: &[Argument]) -> Option<&Argument>
+    ensures { option_copied result ≡ says.argument_of parameter arguments.now }
 {
-    match takes {
-        Takes::Nothing => false,
-        Takes::AutoLeave => argument.key() == b"autoleave".as_slice() && is_truth(argument),
-    }
+    arguments
+        .iter()
+        .find(|argument| argument.key() == parameter.key())
 }
 
-// Whether the value is `true` or `false`.
-fn is_truth(argument: &Argument) -> bool
-    ensures { result ≡ says.is_truth argument.now.values }
+// Whether the argument is one of these, and no argument before it has its key.
+fn is_good(parameters: &[Parameter], before: &[Argument], argument: &Argument) -> bool
+    ensures { result ≡ says.is_good parameters.now before.now argument.now }
 {
-    has_only(argument, b"true") || has_only(argument, b"false")
+    is_allowed(parameters, argument) && !has_key(before, argument.key())
 }
 
-// Whether the argument has this value and no other.
-fn has_only(argument: &Argument, value: &[u8]) -> bool
-    ensures { result ≡ says.has_only value.now argument.now.values }
+// Whether the argument is one of these, with values that it may have.
+fn is_allowed(parameters: &[Parameter], argument: &Argument) -> bool
+    ensures { result ≡ says.is_allowed parameters.now argument.now }
 {
-    match argument.value(0) {
-        Some(first) => first == value && argument.value(1).is_none(),
-        None => false,
-    }
+    parameters.iter().any(|parameter| argument.key() == parameter.key()
+        && parameter.allows(argument))
 }
 
 // Whether one of the arguments has the key.
 fn has_key(arguments: &[Argument], key: &[u8]) -> bool
     ensures { result ≡ says.has_key arguments.now key.now }
 {
-    for argument in arguments {
-        if argument.key() == key {
-            return true;
-        }
-    }
-    false
-}
-
-/// Whether an argument has the value `true`. Where no argument of `enter-joint` is bad, that is `autoleave`.
-pub(crate) fn asks_auto_leave(arguments: &[Argument]) -> bool
-    ensures { result ≡ says.asks_auto_leave arguments.now }
-{
-    for argument in arguments {
-        if has_only(argument, b"true") {
-            return true;
-        }
-    }
-    false
+    arguments.iter().any(|argument| argument.key() == key)
 }

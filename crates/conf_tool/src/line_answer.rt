@@ -6,17 +6,18 @@ ghost use Rattle.conf_tool.specs.LineReply as says;
 ghost use Rattle.conf_tool.specs.LineReply.{line_reply, reply_to_changes};
 ghost use Rattle.conf_tool.specs.Texts.{bad_token_text};
 
+use crate::session_ids::SessionIds;
 use conf_change::{
     Change, Changer, Refused, TokenFault, next_token, read_changes, write_config, write_refused,
 };
-use quorum_sets::{NoMemory, TreeIds};
+use quorum_sets::NoMemory;
 use std::alloc::Global;
 
 /// Makes the change that a line holds, and appends the answer to it with a newline. After want of memory the text may
 /// have a part of the answer.
 pub(crate) fn answer_line(
     alloc: Global,
-    changer: &mut Changer<TreeIds>,
+    changer: &mut Changer<SessionIds>,
     line: &[u8],
     text: &mut Vec<u8>,
 ) -> Result<(), NoMemory>
@@ -31,7 +32,7 @@ pub(crate) fn answer_line(
 // The same without the newline.
 fn reply(
     alloc: Global,
-    changer: &mut Changer<TreeIds>,
+    changer: &mut Changer<SessionIds>,
     line: &[u8],
     text: &mut Vec<u8>,
 ) -> Result<(), NoMemory>
@@ -60,7 +61,7 @@ fn has_one_word(line: &[u8]) -> bool
 
 // Makes the one change, and appends the configuration after it or why it was refused.
 fn make_change(
-    changer: &mut Changer<TreeIds>,
+    changer: &mut Changer<SessionIds>,
     changes: &[Change],
     text: &mut Vec<u8>,
 ) -> Result<(), NoMemory>

@@ -3,15 +3,15 @@ ghost use Rattle.std.specs.Prelude.{◌≡◌, IfOk};
 ghost use Rattle.conf_tool.specs.Texts.{line};
 ghost use Rattle.conf_tool.specs.Reply as says;
 
+use crate::session_ids::SessionIds;
 use conf_change::Changer;
-use quorum_sets::TreeIds;
 use std::marker::Model;
 
 /// The text that is found, and the changer that takes the place of the session's, where one does.
 #[derive(Drop)]
 pub(crate) struct Reply {
     found: Vec<u8>,
-    changer: Option<Changer<TreeIds>>,
+    changer: Option<Changer<SessionIds>>,
 }
 
 impl Model for Reply {
@@ -36,7 +36,7 @@ impl Reply {
     }
 
     /// A text in lines, and the changer afterwards.
-    pub(crate) fn changed(found: Vec<u8>, changer: Changer<TreeIds>) -> Reply
+    pub(crate) fn changed(found: Vec<u8>, changer: Changer<SessionIds>) -> Reply
         ensures { result ≡ record { found = found.items; changer = Some changer } }
     {
         Reply {
@@ -46,7 +46,7 @@ impl Reply {
     }
 
     /// Both parts.
-    pub(crate) fn into_parts(self) -> (Vec<u8>, Option<Changer<TreeIds>>)
+    pub(crate) fn into_parts(self) -> (Vec<u8>, Option<Changer<SessionIds>>)
         ensures found { result.0.items ≡ self.found }
         ensures changer { result.1 ≡ self.changer }
     {

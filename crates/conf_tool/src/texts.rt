@@ -8,11 +8,12 @@ ghost use Rattle.conf_tool.specs.Texts as says;
 ghost use Rattle.conf_tool.specs.Texts.{line, bad_token_text, member_lines};
 
 use crate::line_answer::tell_fault;
+use crate::session_ids::SessionIds;
 use conf_change::{
     Config, Progress, Refused, TokenFault, Tracker, conf_state, write_conf_state, write_config,
     write_progress, write_refused,
 };
-use quorum_sets::{NoMemory, TreeIds};
+use quorum_sets::NoMemory;
 use std::alloc::Global;
 
 // Ends a text, so that it is whole lines.
@@ -54,7 +55,10 @@ pub(crate) fn refused_line(alloc: Global, refused: Refused) -> Result<Vec<u8>, N
 }
 
 /// The saved form of a configuration.
-pub(crate) fn conf_state_line(alloc: Global, config: &Config<TreeIds>) -> Result<Vec<u8>, NoMemory>
+pub(crate) fn conf_state_line(
+    alloc: Global,
+    config: &Config<SessionIds>,
+) -> Result<Vec<u8>, NoMemory>
     ensures { IfOk result (λ text. text.items ≡ line (conf_state_text (lists_of config.now))) }
 {
     let mut text = Vec::new(alloc);
@@ -64,7 +68,10 @@ pub(crate) fn conf_state_line(alloc: Global, config: &Config<TreeIds>) -> Result
 }
 
 /// A configuration, and behind it each member with its progress, in ascending order of the ids.
-pub(crate) fn tracker_text(alloc: Global, tracker: &Tracker<TreeIds>) -> Result<Vec<u8>, NoMemory>
+pub(crate) fn tracker_text(
+    alloc: Global,
+    tracker: &Tracker<SessionIds>,
+) -> Result<Vec<u8>, NoMemory>
     ensures { IfOk result (λ text. text.items ≡ says.tracker_text tracker.now) }
 {
     let mut text = Vec::new(alloc);
@@ -75,7 +82,7 @@ pub(crate) fn tracker_text(alloc: Global, tracker: &Tracker<TreeIds>) -> Result<
 }
 
 // Appends each member with its progress. After want of memory only some may be appended.
-fn append_members(tracker: &Tracker<TreeIds>, text: &mut Vec<u8>) -> Result<(), NoMemory>
+fn append_members(tracker: &Tracker<SessionIds>, text: &mut Vec<u8>) -> Result<(), NoMemory>
     ensures { OnOk result (text.new.items ≡ text.old.items ++ member_lines tracker.now) }
 {
     for place in 0..tracker.member_count() {

@@ -3,4 +3,4 @@ use Rattle.conf_tool.specs.Arguments.{first_bad, bad_argument}
 use Rattle.conf_tool.proofs.arguments.bad_argument.Given as goal
 
 abbrev pub invariant-loop-place : goal.invariant-loop-place
-invariant-loop-place l = first_bad l.takes (take l.place l.arguments) (drop l.place l.arguments) ≡ bad_argument l.takes l.arguments
+invariant-loop-place l = first_bad l.parameters (take l.place l.arguments) (drop l.place l.arguments) ≡ bad_argument l.parameters l.arguments

@@ -10,7 +10,7 @@ use Rattle.conf_tool.proofs.session.Session.step.Goals.{in-Some, in_default}
 
 pub returns-clause-found : goal.returns-clause-found
 returns-clause-found c =
-    c.into_parts-found.ensures.found ∙ ap (λ (r : Reply). r.found) c.in_ok-obey.ensures
+    c.into_parts-found.ensures.found ∙ ap (λ (r : Reply). r.found) c.in_ok-obey.ensures.reply
     ∙ ap (λ (s : SessionState). (reply_to s.changer c.args.directive.now).found) c.self.view_is
 
 pub returns-clause-session : goal.returns-clause-session
@@ -21,7 +21,7 @@ returns-clause-session c =
     let kept : inside.history ≡ c.self.inside.history =
     elim c.match-changed.branch [ in-Some w ↦ grind arith | in_default w ↦ grind arith ] in
     stepped c.args.self.now (reply_to c.args.self.now.changer c.args.directive.now) inside.changer c.set_last_index.new.self inside.history c.saturating_add.result
-    (changed ∙ ap (λ (o : Option ChangerState). unwrap_or o c.self.inside.changer) (c.into_parts-found.ensures.changer ∙ ap (λ (r : Reply). r.changer) c.in_ok-obey.ensures)
+    (changed ∙ ap (λ (o : Option ChangerState). unwrap_or o c.self.inside.changer) (c.into_parts-found.ensures.changer ∙ ap (λ (r : Reply). r.changer) c.in_ok-obey.ensures.reply)
     ∙ ap (λ (s : SessionState). unwrap_or (reply_to s.changer c.args.directive.now).changer s.changer) c.self.view_is)
     (kept ∙ ap (λ (s : SessionState). s.history) c.self.view_is)
     c.set_last_index.ensures.set

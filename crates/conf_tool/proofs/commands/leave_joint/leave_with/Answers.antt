@@ -2,7 +2,7 @@ use Rattle.std.proofs.Common.{sym, ap, ◌∙◌}
 use Rattle.conf_change.specs.declared.step.Step.TheVariants.{LeaveJoint}
 use Rattle.conf_tool.specs.Commands.{on_step, leave_with}
 use Rattle.conf_tool.proofs.CommandReplies.{same-step, leave-none}
-use Rattle.conf_tool.proofs.commands.leave_with.Goals as goal
+use Rattle.conf_tool.proofs.commands.leave_joint.leave_with.Goals as goal
 
 pub returns : goal.returns
 returns c =

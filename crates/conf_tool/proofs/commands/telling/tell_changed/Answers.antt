@@ -2,7 +2,7 @@ use Rattle.std.proofs.Common.{ap, ◌∙◌, List, ℕ}
 use Rattle.std.specs.Prelude.{Some}
 use Rattle.conf_tool.specs.Texts.{tracker_text}
 use Rattle.conf_tool.specs.Reply.{Reply}
-use Rattle.conf_tool.proofs.commands.tell_changed.Goals as goal
+use Rattle.conf_tool.proofs.commands.telling.tell_changed.Goals as goal
 
 pub returns : goal.returns
 returns c =

@@ -1,6 +1,6 @@
 use Rattle.std.proofs.Common.{rules, refl}
 use Rattle.conf_tool.proofs.CommandReplies.{not_restored}
-use Rattle.conf_tool.proofs.commands.restore_with.Goals as goal
+use Rattle.conf_tool.proofs.commands.restore.restore_with.Goals as goal
 
 pub returns-in-Err-NotAConfiguration : goal.returns-in-Err-NotAConfiguration
 returns-in-Err-NotAConfiguration c =
