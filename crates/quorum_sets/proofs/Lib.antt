@@ -6,3 +6,5 @@ pub mod CommitLemmas
 pub mod SortedLemmas
 pub mod RisingLemmas
 pub mod Rows
+pub mod RankingLemmas
+pub mod UnionLemmas

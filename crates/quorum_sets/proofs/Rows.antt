@@ -1,13 +1,15 @@
 -- Small cases, worked out by hand.
 use Rattle.std.proofs.Common.{◌≡◌, ℕ, true, false, List, [], ◌∷◌, refl, ◌^◌, ◌-◌, cond}
-use Rattle.std.specs.Prelude.{Some, None}
+use Rattle.std.specs.Prelude.{Some, None, codes}
 use Rattle.std.specs.Ordering.{nat_cmp, eq_by_cmp}
 use Rattle.std.specs.Cmp.{nat_cmp_total}
+use Rattle.std.specs.Fmt.{digits}
 use Rattle.std.specs.FinMap as finite
 use Rattle.std.specs.FinMap.{put, find}
 use Rattle.quorum_sets.specs.Ids.{Ids, ids_of, difference_count}
 use Rattle.quorum_sets.specs.Voters.{pair, is_quorum, majority}
 use Rattle.quorum_sets.specs.Committed.{Acks, IsCommitted, IsJointCommitted, committed_index, joint_committed_index}
+use Rattle.quorum_sets.specs.Chart.{chart_text}
 use Rattle.quorum_sets.specs.Votes.{Votes, vote_result, joint_vote_result}
 use Rattle.quorum_sets.specs.declared.voting.VoteResult.TheVariants.{VotePending, VoteLost, VoteWon}
 use Rattle.quorum_sets.proofs.IdLemmas.{entries-no_ids}
@@ -151,3 +153,24 @@ half_is_pending = simp of_maps refl
 
 half_is_lost : vote_result (ids_of (2 ∷ 4 ∷ [])) some_votes ≡ VoteLost
 half_is_lost = simp of_maps refl
+
+-- ---- charts
+chart_of_four : chart_text (1 ∷ 2 ∷ 3 ∷ 4 ∷ []) by_all ≡ codes "        idx\n>         1    (id=1)\nx>        2    (id=2)\nxx>       3    (id=3)\nxxx>      4    (id=4)\n"
+unfolding digits
+chart_of_four = simp of_maps refl
+
+chart_with_unknown : chart_text (1 ∷ 2 ∷ []) (acks_of ((1, 100) ∷ [])) ≡ codes "      idx\nx>    100    (id=1)\n?       0    (id=2)\n"
+unfolding digits
+chart_with_unknown = simp of_maps refl
+
+chart_with_a_tie : chart_text (1 ∷ 2 ∷ []) (acks_of ((1, 3) ∷ (2, 3) ∷ [])) ≡ codes "      idx\n>       3    (id=1)\n>       3    (id=2)\n"
+unfolding digits
+chart_with_a_tie = simp of_maps refl
+
+-- a known 0 ties with an unknown index
+chart_of_zero : chart_text (1 ∷ 2 ∷ []) (acks_of ((2, 0) ∷ [])) ≡ codes "      idx\n?       0    (id=1)\n>       0    (id=2)\n"
+unfolding digits
+chart_of_zero = simp of_maps refl
+
+chart_of_nobody : chart_text [] by_all ≡ codes "<empty majority quorum>"
+chart_of_nobody = refl

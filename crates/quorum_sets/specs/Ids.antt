@@ -1,6 +1,6 @@
 -- A finite set of ids, as a value: `FinSet nat_cmp`, which is `FinMap` with nothing at each key.
 -- The words of `FinSet` say nothing of the order of its items, so these stand on those of `FinMap`.
-use Rattle.std.specs.Prelude.{ℕ, ◌+◌, ◌*◌, Bool, not, List, map, length, is_some, nat_eq, nat_lt, count_by, filter}
+use Rattle.std.specs.Prelude.{ℕ, ◌+◌, ◌*◌, Bool, not, List, ◌++◌, map, length, is_some, nat_eq, nat_lt, count_by, filter}
 use Rattle.std.specs.Ordering.{nat_cmp}
 use Rattle.std.specs.FinSet.{FinSet}
 use Rattle.std.specs.FinMap as finite
@@ -36,6 +36,10 @@ size ids = length (ascending ids)
 -- the set of the ids that a list has
 abbrev pub ids_of : List ℕ → Ids
 ids_of list = finite.from_entries (map (λ id. (id, tt)) list)
+
+-- the ids of both sets
+abbrev pub union : Ids → Ids → Ids
+union a b = ids_of (ascending a ++ ascending b)
 
 -- those ids of a list that pass a test
 abbrev pub ids_where : (ℕ → Bool) → List ℕ → Ids

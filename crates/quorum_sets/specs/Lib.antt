@@ -4,3 +4,4 @@ pub mod Voters
 pub mod Counting
 pub mod Committed
 pub mod Votes
+pub mod Chart

@@ -4,15 +4,16 @@ ghost use Rattle.std.specs.Prelude.{◌≡◌, ℕ, false, not, ◌&&◌, ◌||�
 ghost use Rattle.std.specs.Ordering.{nat_cmp};
 ghost use Rattle.std.specs.List.{list_any};
 ghost use Rattle.std.specs.List.Sorted.{IsStrictlySortedBy};
-ghost use Rattle.quorum_sets.specs.Ids.{Ids, no_ids, has, with_id, without_id, ascending};
+ghost use Rattle.quorum_sets.specs.Ids.{Ids, no_ids, has, with_id, without_id, union, ascending};
 ghost use Rattle.quorum_sets.specs.Committed.{Acks, IsCommitted, committed_index};
 
-/// What the words on a set of ids say member by member: which ids a set has after a change, that
-/// its list has just its ids and rises strictly, and that two sets with the same ids are equal.
+/// What the words on a set of ids say member by member: which ids a set has after a change, which
+/// two sets have together, that a set's list has just its ids and rises strictly, and that two sets with the same ids are equal.
 pub fn sets_by_member()
     ensures empty { (id : ℕ) → has no_ids id ≡ false }
     ensures with_one { (ids : Ids) (new id : ℕ) → has (with_id ids new) id ≡ ((id == new) || has ids id) }
     ensures without_one { (ids : Ids) (old id : ℕ) → has (without_id ids old) id ≡ (not (id == old) && has ids id) }
+    ensures united { (one other : Ids) (id : ℕ) → has (union one other) id ≡ (has one id || has other id) }
     ensures listed { (ids : Ids) (id : ℕ) → has ids id ≡ list_any (λ listed. id == listed) (ascending ids) }
     ensures rises { (ids : Ids) → IsStrictlySortedBy nat_cmp (ascending ids) }
     ensures equal { (one other : Ids) → ((id : ℕ) → has one id ≡ has other id) → one ≡ other }

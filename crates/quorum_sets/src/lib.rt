@@ -1,10 +1,12 @@
 //! Finite sets of server ids and what raft decides by them: majorities and quorums, the committed
-//! index, the result of a vote. The rules are those of etcd's package `quorum`; a pair of sets is
-//! a joint configuration as in section 4.3 of Ongaro's dissertation. Each call works over any
-//! [`MemberSet`].
+//! index, the result of a vote; and a chart of what each id has acknowledged. The rules are those of
+//! etcd's package `quorum`, the chart's form is own; a pair of sets is a joint configuration as in
+//! section 4.3 of Ongaro's dissertation. Each call works over any [`MemberSet`].
 #![tactic(auto)]
 
 mod acknowledgement;
+mod append;
+mod charting;
 mod commit;
 mod counting;
 mod difference;
@@ -13,10 +15,12 @@ pub mod laws;
 mod majority;
 mod member_set;
 mod no_memory;
+mod ranking;
 mod tree_ids;
 mod voting;
 
 pub use acknowledgement::AckSource;
+pub use charting::{chart, joint_chart};
 pub use commit::{committed, joint_committed};
 pub use difference::symdiff;
 pub use inline_ids::InlineIds;

@@ -1,7 +1,7 @@
 //! Sets of ids, and the worked values of quorums, committed indexes, votes and differences.
 use quorum_sets::{
-    AckSource, MemberSet, NoMemory, TreeIds, VoteResult, committed, is_quorum, joint_committed,
-    joint_vote, quorum, symdiff, vote,
+    AckSource, MemberSet, NoMemory, TreeIds, VoteResult, chart, committed, is_quorum, joint_chart,
+    joint_committed, joint_vote, quorum, symdiff, vote,
 };
 use std::alloc::Global;
 use std::collections::BTreeMap;
@@ -138,6 +138,90 @@ fn acknowledgements(rt: HostRuntime) -> Result<(), Fail> {
     let acks = acks_of(rt.alloc(), &[(1, 5), (3, 0)])?;
     for (id, index) in [(1, Some(5)), (2, None), (3, Some(0))] {
         assert_eq!(rt; acks.acked(id), index, "of {id}");
+    }
+    Ok(())
+}
+
+fn chart_of(alloc: Global, ids: &[u64], entries: &[(u64, u64)]) -> Result<Vec<u8>, NoMemory> {
+    let ids = set_of(alloc, ids)?;
+    let acks = acks_of(alloc, entries)?;
+    let mut text = Vec::new(alloc);
+    text.extend_from_slice(b"-")?;
+    chart(&mut text, &ids, &acks)?;
+    Ok(text)
+}
+
+fn joint_chart_of(
+    alloc: Global,
+    incoming: &[u64],
+    outgoing: &[u64],
+    entries: &[(u64, u64)],
+) -> Result<Vec<u8>, NoMemory> {
+    let incoming = set_of(alloc, incoming)?;
+    let outgoing = set_of(alloc, outgoing)?;
+    let acks = acks_of(alloc, entries)?;
+    let mut text = Vec::new(alloc);
+    text.extend_from_slice(b"-")?;
+    joint_chart(&mut text, &incoming, &outgoing, &acks)?;
+    Ok(text)
+}
+
+// Ids, what they acknowledged, and the chart behind a text of one byte.
+static CHARTS: [(&[u64], &[(u64, u64)], &[u8]); 6] = [
+    (
+        &[1, 2, 3, 4],
+        BY_NINE,
+        b"-        idx\n>         1    (id=1)\nx>        2    (id=2)\nxx>       3    (id=3)\nxxx>      4    (id=4)\n",
+    ),
+    (&[1], &[(1, 7)], b"-     idx\n>      7    (id=1)\n"),
+    (
+        &[1, 2],
+        &[(1, 3), (2, 3)],
+        b"-      idx\n>       3    (id=1)\n>       3    (id=2)\n",
+    ),
+    (
+        &[1, 2],
+        &[(2, 0)],
+        b"-      idx\n?       0    (id=1)\n>       0    (id=2)\n",
+    ),
+    (
+        &[1, 2, 3, 4, 5],
+        &[(1, 3), (2, 1), (3, 3), (5, u64::MAX)],
+        b"-         idx\nxx>        3    (id=1)\nx>         1    (id=2)\n>          3    (id=3)\n?          0    (id=4)\nxxxx>  18446744073709551615    (id=5)\n",
+    ),
+    (&[], BY_TWO, b"-<empty majority quorum>"),
+];
+
+// The same for the ids of two sets.
+static JOINT_CHARTS: [(&[u64], &[u64], &[(u64, u64)], &[u8]); 3] = [
+    (
+        &[1],
+        &[2],
+        &[(1, 100)],
+        b"-      idx\nx>    100    (id=1)\n?       0    (id=2)\n",
+    ),
+    (
+        &[2, 3],
+        &[1, 2],
+        &[(1, 5), (2, 5), (3, 2)],
+        b"-       idx\nx>       5    (id=1)\n>        5    (id=2)\n>        2    (id=3)\n",
+    ),
+    (&[], &[], &[], b"-<empty majority quorum>"),
+];
+
+#[test]
+fn charts(rt: HostRuntime) -> Result<(), Fail> {
+    for (ids, entries, wanted) in &CHARTS {
+        let found = chart_of(rt.alloc(), *ids, *entries)?;
+        assert_eq!(rt; found.as_slice(), *wanted, "of {ids:?} by {entries:?}");
+    }
+    for (incoming, outgoing, entries, wanted) in &JOINT_CHARTS {
+        let found = joint_chart_of(rt.alloc(), *incoming, *outgoing, *entries)?;
+        assert_eq!(rt;
+            found.as_slice(),
+            *wanted,
+            "of {incoming:?} and {outgoing:?} by {entries:?}"
+        );
     }
     Ok(())
 }

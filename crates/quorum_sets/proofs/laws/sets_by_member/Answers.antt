@@ -1,4 +1,5 @@
 use Rattle.quorum_sets.proofs.IdLemmas.{has-no_ids, has-with_id, has-without_id, has-ascending, ascending-is_sorted, same_ids}
+use Rattle.quorum_sets.proofs.UnionLemmas.{has-union}
 use Rattle.quorum_sets.proofs.laws.sets_by_member.Goals as goal
 
 pub returns : goal.returns
@@ -6,6 +7,7 @@ returns c = record {
   empty = has-no_ids;
   with_one = has-with_id;
   without_one = has-without_id;
+  united = has-union;
   listed = has-ascending;
   rises = ascending-is_sorted;
   equal = same_ids;
