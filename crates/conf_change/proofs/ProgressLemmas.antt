@@ -27,7 +27,7 @@ find-of_each of q (x ∷ xs) =
     ∙ same_value of q x (q == x) (list_any (λ y. q == y) xs) refl
 
 -- the list of the members has the members
-any-members : (c : Configuration) (q : ℕ) → list_any (λ x. q == x) (members c) ≡ is_member c q
+pub any-members : (c : Configuration) (q : ℕ) → list_any (λ x. q == x) (members c) ≡ is_member c q
 any-members c q =
     list_any-append _ (ascending c.incoming ++ ascending c.outgoing) (ascending c.learners)
     ∙ ap (λ b. b || list_any (λ x. q == x) (ascending c.learners)) (list_any-append _ (ascending c.incoming) (ascending c.outgoing))

@@ -45,7 +45,7 @@ same_sets a b e =
     let none : difference_count a b ≡ 0 = eqb-true (difference_count a b) 0 e in
     same_ids a b (λ q. alike (has a q) (has b q) (each_in a b (omega arith) q) (each_in b a (omega arith) q))
 
-is_same_set-refl : (a : Ids) → is_same_set a a ≡ true
+pub is_same_set-refl : (a : Ids) → is_same_set a a ≡ true
 is_same_set-refl a =
     let none : count_by (λ id. not (has a id)) (ascending a) ≡ 0 = count_by-none _ (ascending a) (λ q here. not_from_true (has a q) (has-ascending a q ∙ here)) in
     eq-eqb (difference_count a a) 0 (λ i. none i + none i)

@@ -190,14 +190,14 @@ abbrev is_ahead : Progress → Type 0
 is_ahead p = p.matched < p.next
 
 -- what an id has after the step, if it is a member then
-abbrev own_progress : ChangerState → Step → Configuration → ℕ → Progress
+abbrev pub own_progress : ChangerState → Step → Configuration → ℕ → Progress
 own_progress before step after id =
     let fresh = fresh_progress before.last_index (has after.learners id) in
     if keeps_progress before.tracker.config step after id
     then with_mark (has after.learners id) (unwrap_or (finite.get before.tracker.progress id) fresh)
     else fresh
 
-get-after : (before : ChangerState) (step : Step) (after : Configuration) (id : ℕ)
+pub get-after : (before : ChangerState) (step : Step) (after : Configuration) (id : ℕ)
     → finite.get (progress_after before step after) id ≡ cond (is_member after id) (Some (own_progress before step after id)) None
 get-after before step after id = get-progress_by after (own_progress before step after) id
 

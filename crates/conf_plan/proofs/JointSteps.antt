@@ -1,7 +1,6 @@
 -- The steps from a configuration that is not joint to a joint one.
-use Rattle.std.proofs.Common.{◌≡◌, ℕ, ◌≤◌, Bool, true, false, not, ◌&&◌, ◌||◌, ◌==◌, List, length, refl, sym, ap, subst, ◌∙◌, arith}
+use Rattle.std.proofs.Common.{◌≡◌, ℕ, ◌≤◌, Bool, true, false, not, ◌&&◌, ◌||◌, List, length, refl, sym, ap, subst, ◌∙◌, arith}
 use Rattle.std.specs.Prelude.{Ok}
-use Rattle.std.specs.List.{list_any}
 use Rattle.std.proofs.lemmas.Bool.{cond_both, not-true, true≢false, or_from, and_right, false_from_ne_true}
 use Rattle.std.proofs.lemmas.List.{length-append}
 use Rattle.quorum_sets.specs.Ids.{has, is_empty}
@@ -11,11 +10,12 @@ use Rattle.conf_change.specs.Change.{result_of}
 use Rattle.conf_change.specs.Outcome.{outcome, with_outgoing}
 use Rattle.conf_change.specs.declared.step.Step.{Step}
 use Rattle.conf_change.proofs.Outcomes.{enter_accepted}
+use Rattle.conf_change.proofs.ProgressLemmas.{any-members}
 use Rattle.conf_change.proofs.ResultLemmas.{same_configuration}
 use Rattle.conf_change.proofs.Validity.{members_from_valid, is_empty-no_ids}
-use Rattle.conf_plan.specs.Run.{IsValidWithVoter, IsRun}
+use Rattle.conf_plan.specs.Run.{IsValidWithVoter, Gives, IsRun}
 use Rattle.conf_plan.specs.Planned.{single_with, moves, union_of, shared_members, inserted_steps, configuration_after, entering_step, joint_steps}
-use Rattle.conf_plan.proofs.Runs.{run-is_settled, IsRun-append, IsRun-one, configuration_after-run}
+use Rattle.conf_plan.proofs.Runs.{run-is_settled, IsChain-append, IsRun-one, configuration_after-run}
 use Rattle.conf_plan.proofs.Moves.{has-union_of}
 use Rattle.conf_plan.proofs.Moved.{IsSingle, AreWanted, moves-has_wanted}
 use Rattle.conf_plan.proofs.SingleSteps.{single_steps-is_run, single_steps-at_most_two}
@@ -26,10 +26,14 @@ apart_from : (a b : Bool) → (b ≡ true → a ≡ false) → a ≡ true → b 
 apart_from a b f e = false_from_ne_true b (λ here. true≢false (sym e ∙ f here))
 
 -- ---- up to the target's outgoing voters
+pub has-shared_members : (c target : Configuration) (q : ℕ) → has (shared_members c target) q ≡ (is_member target q && not (has target.outgoing q) && is_member c q)
+has-shared_members c target q =
+    has-ids_where (λ id. is_member target id && not (has target.outgoing id)) (members c) q
+    ∙ ap (λ b. is_member target q && not (has target.outgoing q) && b) (any-members c q)
+
 -- the test of `shared_members` does not pass
 not_shared : (c target : Configuration) (q : ℕ) → (is_member target q && not (has target.outgoing q)) ≡ false → has (shared_members c target) q ≡ false
-not_shared c target q e =
-    has-ids_where (λ id. is_member target id && not (has target.outgoing id)) (members c) q ∙ ap (λ b. b && list_any (λ x. q == x) (members c)) e
+not_shared c target q e = has-shared_members c target q ∙ ap (λ b. b && is_member c q) e
 
 pub outgoing-are_wanted : (c target : Configuration) → IsValidWithVoter target → is_joint target ≡ true → AreWanted target.outgoing (shared_members c target)
 outgoing-are_wanted c target settled joint =
@@ -41,17 +45,23 @@ outgoing-are_wanted c target settled joint =
       apart = λ q here. not_shared c target q (ap (λ b. is_member target q && not b) here ∙ and_right (is_member target q) false refl);
     }
 
+-- the configuration that is reached there
+pub at_outgoing-is_single : (c target : Configuration) → IsSingle c → IsValidWithVoter target → is_joint target ≡ true
+    → IsSingle (single_with target.outgoing (shared_members c target))
+at_outgoing-is_single c target single settled joint =
+    let run = single_steps-is_run c target.outgoing (shared_members c target) single (outgoing-are_wanted c target settled joint) in
+    record { settled = run-is_settled c (single_with target.outgoing (shared_members c target)) _ single.settled run; single = ap not is_empty-no_ids }
+
 -- the inserted steps lead to a configuration whose incoming voters are the target's outgoing ones
 abbrev Inserted : Configuration → Configuration → List Step → Type 0
 Inserted c target steps = (reached : Configuration) × IsRun c steps reached × IsSingle reached × (reached.incoming ≡ target.outgoing)
 
 inserted : (c target : Configuration) → IsSingle c → IsValidWithVoter target → is_joint target ≡ true → Inserted c target (inserted_steps c target)
 inserted c target single settled joint =
-    let reached = single_with target.outgoing (shared_members c target) in
     let run = single_steps-is_run c target.outgoing (shared_members c target) single (outgoing-are_wanted c target settled joint) in
     cond_both (is_same_set c.incoming target.outgoing) _ _ (Inserted c target)
     (λ same. (c, refl, single, same_sets c.incoming target.outgoing same))
-    (λ other. (reached, run, record { settled = run-is_settled c reached _ single.settled run; single = ap not is_empty-no_ids }, refl))
+    (λ other. (single_with target.outgoing (shared_members c target), run, at_outgoing-is_single c target single settled joint, refl))
 
 inserted_steps-at_most_two : (c target : Configuration) → length (inserted_steps c target) ≤ 2
 inserted_steps-at_most_two c target =
@@ -69,7 +79,7 @@ next_kept true n o learns waits apart = learns refl ∙ sym (apart refl)
 next_kept false true o learns waits apart = waits refl
 next_kept false false o learns waits apart = refl
 
-incoming-are_wanted : (target : Configuration) → IsValidWithVoter target → AreWanted target.incoming (union_of target.learners target.learners_next)
+pub incoming-are_wanted : (target : Configuration) → IsValidWithVoter target → AreWanted target.incoming (union_of target.learners target.learners_next)
 incoming-are_wanted target settled =
     let valid = members_from_valid target settled.valid in
     record {
@@ -81,7 +91,7 @@ incoming-are_wanted target settled =
           ∙ or_from _ _ (apart_from (has target.incoming q) _ (valid.learner_incoming q) here) (apart_from (has target.incoming q) _ (valid.next_incoming q) here);
     }
 
-entering-reaches : (c target : Configuration) → IsSingle c → IsValidWithVoter target → c.incoming ≡ target.outgoing → outcome c (entering_step c target) ≡ Ok target
+pub entering-reaches : (c target : Configuration) → IsSingle c → IsValidWithVoter target → c.incoming ≡ target.outgoing → outcome c (entering_step c target) ≡ Ok target
 entering-reaches c target single settled same =
     let valid = members_from_valid target settled.valid in
     let wanted = union_of target.learners target.learners_next in
@@ -105,7 +115,7 @@ joint_steps-is_run c target single settled joint =
     let first = inserted c target single settled joint in
     let is = configuration_after-run c first.0 (inserted_steps c target) first.1 in
     let P : Configuration → Type 0 = λ d. outcome first.0 (entering_step d target) ≡ Ok target in
-    IsRun-append c first.0 target (inserted_steps c target) _ first.1
+    IsChain-append Gives c first.0 target (inserted_steps c target) _ first.1
     (IsRun-one first.0 target (entering_step (configuration_after c (inserted_steps c target)) target) (subst P (sym is) (entering-reaches first.0 target first.2 settled first.3)))
 
 pub joint_steps-at_most_three : (c target : Configuration) → length (joint_steps c target) ≤ 3

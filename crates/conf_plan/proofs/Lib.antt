@@ -4,6 +4,7 @@ pub mod Parts
 pub mod Moved
 pub mod SingleSteps
 pub mod JointSteps
+pub mod RunEnds
 pub mod PlannedRun
 pub mod Rows
 pub mod Taking
@@ -12,6 +13,13 @@ pub mod Rising
 pub mod OneWalk
 pub mod Sharing
 pub mod PlanCases
+pub mod Shapes
+pub mod Shortest
+pub mod Sparing
+pub mod Naming
+pub mod Plain
+pub mod Best
+pub mod KeptProgress
 pub mod Lines
 pub mod StepWords
 pub mod PlanLines

@@ -71,7 +71,7 @@ pub record HasWanted (made : Configuration) (voters learning : Ids) : Type 0 whe
 abbrev pub with_out : Configuration → Ids → Bool → Configuration
 with_out c out flag = record c { outgoing = out; auto_leave = flag }
 
-zero_stays : (c : Configuration) (voters learners : Ids) → ValidByMember c → AreWanted voters learners → kind_of_move c voters learners 0 ≡ None
+pub zero_stays : (c : Configuration) (voters learners : Ids) → ValidByMember c → AreWanted voters learners → kind_of_move c voters learners 0 ≡ None
 zero_stays c voters learners valid wanted = rw (wanted.zero_voters, wanted.zero_learners, valid.zero_incoming, valid.zero_learners) refl
 
 pub moves-has_wanted : (c : Configuration) (out voters learners : Ids) (flag : Bool) → IsSingle c → AreWanted voters learners

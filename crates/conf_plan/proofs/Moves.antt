@@ -17,7 +17,7 @@ use Rattle.conf_change.proofs.ResultLemmas.{last_word-one}
 use Rattle.conf_plan.specs.Planned.{kind_by, kind_of_move, union_of, moves}
 
 -- ---- a list with one change per id
-abbrev change_of : ℕ → Kind → Change
+abbrev pub change_of : ℕ → Kind → Change
 change_of id kind = record { kind = kind; id = id }
 
 kind_or : (a b : Option Change) → option_map (λ change. change.kind) (option_or a b) ≡ option_or (option_map (λ change. change.kind) a) (option_map (λ change. change.kind) b)
@@ -72,7 +72,7 @@ pub has-union_of : (a b : Ids) (q : ℕ) → has (union_of a b) q ≡ (has a q |
 has-union_of a b q =
     has-ids_of _ q ∙ list_any-append (λ x. q == x) (ascending a) (ascending b) ∙ sym (λ i. has-ascending a q i || has-ascending b q i)
 
-no_update : (v m i l : Bool) → IfSome (kind_by v m i l) (λ kind. is_update kind ≡ false)
+pub no_update : (v m i l : Bool) → IfSome (kind_by v m i l) (λ kind. is_update kind ≡ false)
 no_update true m true l = tt
 no_update true m false l = refl
 no_update false true i true = tt

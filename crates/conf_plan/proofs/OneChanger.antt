@@ -3,8 +3,7 @@ use Rattle.std.proofs.Common.{◌≡◌, List, [], ◌∷◌, refl, ap, ◌∙�
 use Rattle.std.specs.Prelude.{Result, Ok, Err, Some, option_and_then}
 use Rattle.std.specs.Result.{result_ok}
 use Rattle.conf_change.specs.Configuration.{Configuration}
-use Rattle.conf_change.specs.Outcome.{Outcome}
-use Rattle.conf_change.specs.Changer.{ChangerState, Accepts, moved_by, moved_to, changer_after}
+use Rattle.conf_change.specs.Changer.{ChangerState, moved_by, moved_to, changer_after}
 use Rattle.conf_change.specs.declared.refused.Refused.{Refused}
 use Rattle.conf_change.specs.declared.step.Step.{Step}
 use Rattle.conf_change.proofs.StepLaws.{accepted_is_given, given_is_accepted}

@@ -2,7 +2,7 @@
 use Rattle.std.proofs.Common.{◌≡◌, ◌≤◌, true, false, not, ◌&&◌, List, [], ◌∷◌, length, refl, sym, ap, subst, ◌∙◌, inl, inr, arith}
 use Rattle.std.specs.Prelude.{Ok}
 use Rattle.std.proofs.lemmas.Bool.{cond_both, not-true, true≢false, false_from_ne_true, and_left, and_right}
-use Rattle.quorum_sets.specs.Ids.{no_ids, is_empty}
+use Rattle.quorum_sets.specs.Ids.{is_empty}
 use Rattle.quorum_sets.proofs.IdLemmas.{has-no_ids}
 use Rattle.conf_change.specs.Configuration.{Configuration, is_joint, is_same}
 use Rattle.conf_change.specs.Outcome.{outcome, after_leave}
@@ -17,6 +17,7 @@ use Rattle.conf_plan.specs.Planned.{single_with, single_steps, planned_from_sing
 use Rattle.conf_plan.proofs.Runs.{run-is_settled, IsRun-one}
 use Rattle.conf_plan.proofs.Moved.{IsSingle, AreWanted, no_next}
 use Rattle.conf_plan.proofs.SingleSteps.{single_steps-is_run, single_steps-at_most_two}
+use Rattle.conf_plan.proofs.RunEnds.{no_joint}
 use Rattle.conf_plan.proofs.JointSteps.{joint_steps-is_run, joint_steps-at_most_three}
 use Rattle.conf_change.proofs.SameSets.{same_configurations}
 
@@ -27,7 +28,7 @@ single_with-own c single =
     same_configuration (single_with c.incoming c.learners) c (λ q. refl) (sym (no_outgoing c single.single)) (λ q. refl)
     (λ q. has-no_ids q ∙ sym (no_next c single q)) (sym ((members_from_valid c single.settled.valid).auto_leave single.single))
 
-own-are_wanted : (c : Configuration) → IsValidWithVoter c → AreWanted c.incoming c.learners
+pub own-are_wanted : (c : Configuration) → IsValidWithVoter c → AreWanted c.incoming c.learners
 own-are_wanted c settled =
     let valid = members_from_valid c settled.valid in
     record {
@@ -93,9 +94,6 @@ planned-at_most_three now target one =
     (λ _. planned_from_single-at_most_three now target))
 
 -- ---- back over one step
-no_joint : (c : Configuration) → c.outgoing ≡ no_ids → is_joint c ≡ false
-no_joint c none = ap (λ s. not (is_empty s)) none ∙ ap not is_empty-no_ids
-
 -- which does not lead from one joint configuration to another
 one_is_single : (before after : Configuration) (step : Step) → outcome before step ≡ Ok after → (is_joint after && is_joint before) ≡ false
 one_is_single before after step e =

@@ -15,7 +15,7 @@ abbrev pub holds : ℕ → List ℕ → Bool
 holds q xs = list_any (λ x. q == x) xs
 
 -- those behind the first are above it
-above : (z q : ℕ) (zs : List ℕ) → AllByRecursion (λ y. nat_cmp z y ≡ Less) zs → holds q zs ≡ true → z < q
+pub above : (z q : ℕ) (zs : List ℕ) → AllByRecursion (λ y. nat_cmp z y ≡ Less) zs → holds q zs ≡ true → z < q
 above z q [] up here = cc
 above z q (y ∷ ys) up here = elim (or_cases (q == y) (holds q ys) here) [
   | inl same ↦ subst (λ k. z < k) (sym (eqb-true q y same)) (less z y up.0)

@@ -7,7 +7,7 @@ use Rattle.conf_change.specs.Configuration.{Configuration, is_valid, has_voter, 
 use Rattle.conf_change.specs.Outcome.{outcome}
 use Rattle.conf_change.specs.declared.step.Step.{Step}
 use Rattle.conf_change.proofs.Soundness.{outcome-is_restorable, outcome-has_voter}
-use Rattle.conf_plan.specs.Run.{IsValidWithVoter, IsRun}
+use Rattle.conf_plan.specs.Run.{IsValidWithVoter, IsChain, IsRun, IsRunWith}
 use Rattle.conf_plan.specs.Planned.{configuration_after}
 
 outcome-is_settled : (c after : Configuration) (step : Step) → IsValidWithVoter c → outcome c step ≡ Ok after → IsValidWithVoter after
@@ -19,10 +19,16 @@ pub run-is_settled : (before after : Configuration) (steps : List Step) → IsVa
 run-is_settled before after [] settled run = subst IsValidWithVoter run settled
 run-is_settled before after (step ∷ steps) settled run = run-is_settled run.0 after steps (outcome-is_settled before run.0 step settled run.1) run.2
 
--- one run after another
-pub IsRun-append : (a b c : Configuration) (xs ys : List Step) → IsRun a xs b → IsRun b ys c → IsRun a (xs ++ ys) c
-IsRun-append a b c [] ys first second = let P : Configuration → Type 0 = λ d. IsRun d ys c in subst P (sym first) second
-IsRun-append a b c (x ∷ xs) ys first second = (first.0, first.1, IsRun-append first.0 b c xs ys first.2 second)
+-- one chain after another
+pub IsChain-append : {S : Type 0} (Leads : S → Step → S → Type 0) (a b c : S) (xs ys : List Step)
+    → IsChain Leads a xs b → IsChain Leads b ys c → IsChain Leads a (xs ++ ys) c
+IsChain-append {S} Leads a b c [] ys first second = let P : S → Type 0 = λ d. IsChain Leads d ys c in subst P (sym first) second
+IsChain-append Leads a b c (x ∷ xs) ys first second = (first.0, first.1, IsChain-append Leads first.0 b c xs ys first.2 second)
+
+-- a run at each step of which something holds is a run
+pub run_of_with : (Holds : Configuration → Step → Configuration → Type 0) (a b : Configuration) (steps : List Step) → IsRunWith Holds a steps b → IsRun a steps b
+run_of_with Holds a b [] run = run
+run_of_with Holds a b (step ∷ steps) run = (run.0, run.1.0, run_of_with Holds run.0 b steps run.2)
 
 -- a run of one step
 pub IsRun-one : (a b : Configuration) (step : Step) → outcome a step ≡ Ok b → IsRun a (step ∷ []) b

@@ -1,17 +1,19 @@
 -- The steps between two configurations that are not joint.
-use Rattle.std.proofs.Common.{◌≡◌, ℕ, ◌≤◌, Bool, true, false, not, ◌&&◌, ◌||◌, length, refl, sym, ap, ◌∙◌, arith}
+use Rattle.std.proofs.Common.{◌≡◌, ℕ, ◌≤◌, Bool, true, false, not, ◌&&◌, ◌||◌, List, length, refl, sym, ap, subst, ◌∙◌, arith}
 use Rattle.std.specs.Prelude.{Ok, nat_le}
-use Rattle.std.proofs.lemmas.Bool.{cond_both, leb-true, not_from_false, and_right}
+use Rattle.std.proofs.lemmas.Bool.{cond_both, cond-true, leb-true, le-leb, not_from_false, and_right}
 use Rattle.quorum_sets.specs.Ids.{Ids, has, is_empty, difference_count}
 use Rattle.quorum_sets.proofs.IdLemmas.{has-no_ids}
-use Rattle.conf_change.specs.Configuration.{Configuration, has_voter}
+use Rattle.conf_change.specs.Configuration.{Configuration}
 use Rattle.conf_change.specs.Change.{result_of}
 use Rattle.conf_change.specs.Outcome.{with_outgoing, after_leave}
+use Rattle.conf_change.specs.declared.step.Step.{Step}
+use Rattle.conf_change.specs.declared.step.Step.TheVariants.{Simple, EnterJoint, LeaveJoint}
 use Rattle.conf_change.proofs.Outcomes.{no_outgoing, simple_accepted, enter_accepted, leave_accepted}
 use Rattle.conf_change.proofs.ResultLemmas.{same_configuration}
 use Rattle.conf_change.proofs.Soundness.{has-after_leave}
 use Rattle.conf_change.proofs.Validity.{members_from_valid}
-use Rattle.conf_plan.specs.Run.{IsRun}
+use Rattle.conf_plan.specs.Run.{Gives, IsChain, IsRun}
 use Rattle.conf_plan.specs.Planned.{single_with, moves, single_steps}
 use Rattle.conf_plan.proofs.Moved.{IsSingle, AreWanted, moves-has_wanted}
 
@@ -49,21 +51,48 @@ leave_moves c voters learners single wanted =
     (λ q. refl) refl
 
 -- ---- the steps
+-- the joint configuration between the two
+abbrev pub entered_by : Configuration → Ids → Ids → Configuration
+entered_by c voters learners = result_of (with_outgoing c false) (moves c voters learners)
+
+pub simple_moves-accepted : (c : Configuration) (voters learners : Ids) → IsSingle c → AreWanted voters learners → difference_count c.incoming voters ≤ 1
+    → Gives c (Simple (moves c voters learners)) (single_with voters learners)
+simple_moves-accepted c voters learners single wanted few =
+    simple_accepted c (single_with voters learners) (moves c voters learners) single.single (simple_moves c voters learners single wanted) (not_from_false _ wanted.voter) few
+
+pub enter_moves-accepted : (c : Configuration) (voters learners : Ids) → IsSingle c → AreWanted voters learners
+    → Gives c (EnterJoint false (moves c voters learners)) (entered_by c voters learners)
+enter_moves-accepted c voters learners single wanted =
+    let moved = moves-has_wanted c c.incoming voters learners false single wanted (members_from_valid c single.settled.valid).learner_incoming in
+    enter_accepted c (entered_by c voters learners) false (moves c voters learners) single.single single.settled.voter refl
+    (ap (λ s. not (is_empty s)) moved.incoming ∙ not_from_false _ wanted.voter)
+
+pub leave_moves-accepted : (c : Configuration) (voters learners : Ids) → IsSingle c → AreWanted voters learners
+    → Gives (entered_by c voters learners) LeaveJoint (single_with voters learners)
+leave_moves-accepted c voters learners single wanted =
+    leave_accepted (entered_by c voters learners) single.settled.voter ∙ ap Ok (leave_moves c voters learners single wanted)
+
+pub single_steps-is_chain : (Leads : Configuration → Step → Configuration → Type 0) (c : Configuration) (voters learners : Ids)
+    → (difference_count c.incoming voters ≤ 1 → Leads c (Simple (moves c voters learners)) (single_with voters learners))
+    → Leads c (EnterJoint false (moves c voters learners)) (entered_by c voters learners)
+    → Leads (entered_by c voters learners) LeaveJoint (single_with voters learners)
+    → IsChain Leads c (single_steps c voters learners) (single_with voters learners)
+single_steps-is_chain Leads c voters learners simple enters leaves =
+    let target = single_with voters learners in
+    cond_both (nat_le (difference_count c.incoming voters) 1) _ _ (λ steps. IsChain Leads c steps target)
+    (λ few. (target, simple (leb-true _ 1 few), refl))
+    (λ many. (entered_by c voters learners, enters, (target, leaves, refl)))
+
 pub single_steps-is_run : (c : Configuration) (voters learners : Ids) → IsSingle c → AreWanted voters learners
     → IsRun c (single_steps c voters learners) (single_with voters learners)
 single_steps-is_run c voters learners single wanted =
-    let target = single_with voters learners in
-    let entered = result_of (with_outgoing c false) (moves c voters learners) in
-    let valid = members_from_valid c single.settled.valid in
-    let moved = moves-has_wanted c c.incoming voters learners false single wanted valid.learner_incoming in
-    let voter : has_voter target ≡ true = not_from_false _ wanted.voter in
-    cond_both (nat_le (difference_count c.incoming voters) 1) _ _ (λ steps. IsRun c steps target)
-    (λ few. (target, simple_accepted c target (moves c voters learners) single.single (simple_moves c voters learners single wanted) voter (leb-true _ 1 few), refl))
-    (λ many. (
-      entered,
-      enter_accepted c entered false (moves c voters learners) single.single single.settled.voter refl (ap (λ s. not (is_empty s)) moved.incoming ∙ voter),
-      (target, leave_accepted entered single.settled.voter ∙ ap Ok (leave_moves c voters learners single wanted), refl),
-    ))
+    single_steps-is_chain Gives c voters learners (simple_moves-accepted c voters learners single wanted) (enter_moves-accepted c voters learners single wanted)
+    (leave_moves-accepted c voters learners single wanted)
+
+pub single_steps-one : (c : Configuration) (voters learners : Ids) → difference_count c.incoming voters ≤ 1 → length (single_steps c voters learners) ≤ 1
+single_steps-one c voters learners few =
+    let P : List Step → Type 0 = λ steps. length steps ≤ 1 in
+    subst P (sym (cond-true (nat_le (difference_count c.incoming voters) 1) _ _ (le-leb _ 1 few))) (omega arith)
 
 pub single_steps-at_most_two : (c : Configuration) (voters learners : Ids) → length (single_steps c voters learners) ≤ 2
 single_steps-at_most_two c voters learners =

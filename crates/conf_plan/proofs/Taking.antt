@@ -11,8 +11,9 @@ use Rattle.conf_change.specs.declared.refused.Refused.TheVariants.{AlreadyJoint,
 use Rattle.conf_change.specs.declared.step.Step.{Step}
 use Rattle.conf_change.specs.declared.step.Step.TheVariants.{LeaveJoint}
 use Rattle.conf_plan.specs.Run.{IsRun, Takes}
+use Rattle.conf_plan.proofs.Runs.{IsChain-append}
 
-same_ok : (a b : Configuration) → ◌≡◌ {A = Outcome} (Ok a) (Ok b) → a ≡ b
+pub same_ok : (a b : Configuration) → ◌≡◌ {A = Outcome} (Ok a) (Ok b) → a ≡ b
 same_ok a b e = ap (λ o. or_else o) e
   where
     or_else : Outcome → Configuration
@@ -24,8 +25,7 @@ ok_err a why e = cc
 
 -- one more step
 pub takes_push : (a b c : ChangerState) (xs : List Step) (x : Step) → Takes a xs b → Accepts b x c → Takes a (xs ++ x ∷ []) c
-takes_push a b c [] x t accepts = let P : ChangerState → Type 0 = λ s. Accepts s x c in (c, subst P (sym t) accepts, refl)
-takes_push a b c (y ∷ ys) x t accepts = (t.0, t.1, takes_push t.0 b c ys x t.2 accepts)
+takes_push a b c xs x t accepts = IsChain-append Accepts a b c xs (x ∷ []) t (c, accepts, refl)
 
 -- what is taken along a run ends at its target
 pub takes_to_target : (a b : ChangerState) (xs : List Step) (target : Configuration) → Takes a xs b → IsRun a.tracker.config xs target → b.tracker.config ≡ target

@@ -1,13 +1,19 @@
 -- What makes a plan the best there is.
-use Rattle.std.specs.Prelude.{◌≡◌, ℕ, Bool, true, ◌||◌, List, sum_by, count_by}
+use Rattle.std.specs.Prelude.{◌≡◌, ◌≢◌, ℕ, ◌≤◌, Bool, true, ◌&&◌, ◌||◌, ◌↔◌, List, [], ◌∷◌, length, sum_by, count_by}
+use Rattle.std.specs.List.{All}
 use Rattle.quorum_sets.specs.Ids.{has}
 use Rattle.conf_change.specs.Configuration.{Configuration, is_member}
 use Rattle.conf_change.specs.Change.{names}
+use Rattle.conf_change.specs.Outcome.{after_leave}
 use Rattle.conf_change.specs.Progress.{keeps_progress}
-use Rattle.conf_change.specs.declared.step.Step.{Step}
 use Rattle.conf_change.specs.Step.{changes_of}
-use Rattle.conf_plan.specs.Run.{IsRunWith}
+use Rattle.conf_change.specs.declared.change.Change.{Change}
+use Rattle.conf_change.specs.declared.change.Kind.TheVariants.{Update}
+use Rattle.conf_change.specs.declared.step.Step.{Step}
+use Rattle.conf_change.specs.declared.step.Step.TheVariants.{Simple, EnterJoint, LeaveJoint}
+use Rattle.conf_plan.specs.Run.{IsRun, IsRunWith}
 
+-- ---- an id, along a run
 -- the run spares the id: it is a member before, and keeps its progress at each step
 abbrev pub Spares : Configuration → List Step → Configuration → ℕ → Type 0
 Spares before steps after id =
@@ -25,3 +31,25 @@ is_any_learner c id = has c.learners id || has c.learners_next id
 pub record HasSamePart (before after : Configuration) (id : ℕ) : Type 0 where
   pub voter : has after.incoming id ≡ has before.incoming id
   pub learner : is_any_learner after id ≡ is_any_learner before id
+
+-- ---- the best run
+-- where the steps begin by leaving a joint configuration, the id is still a member then
+abbrev pub outlasts_leave : Configuration → List Step → ℕ → Bool
+outlasts_leave now [] id = true
+outlasts_leave now (Simple _ ∷ _) id = true
+outlasts_leave now (EnterJoint _ _ ∷ _) id = true
+outlasts_leave now (LeaveJoint ∷ _) id = is_member (after_leave now) id
+
+-- the change names an id that is not 0, and is no update
+pub record IsPlain (change : Change) : Type 0 where
+  pub named : change.id ≢ 0
+  pub no_update : change.kind ≢ Update
+
+-- The steps lead to the target. No run there is shorter, spares an id that they do not spare, or names an id in fewer changes; and they spare whoever is a member of both configurations and of what a first leave gives.
+pub record IsBest (now : Configuration) (steps : List Step) (target : Configuration) : Type 0 where
+  pub run : IsRun now steps target
+  pub shortest : (other : List Step) → IsRun now other target → length steps ≤ length other
+  pub sparing : (other : List Step) (id : ℕ) → Spares now other target id → Spares now steps target id
+  pub spared : (id : ℕ) → (Spares now steps target id) ↔ ((is_member now id && is_member target id && outlasts_leave now steps id) ≡ true)
+  pub fewest : (other : List Step) (id : ℕ) → IsRun now other target → times_named id steps ≤ times_named id other
+  pub plain : All (λ step. All IsPlain (changes_of step)) steps

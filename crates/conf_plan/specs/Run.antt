@@ -1,9 +1,11 @@
 -- Runs: steps that lead from one configuration to another.
 use Rattle.std.specs.Prelude.{◌≡◌, ℕ, ◌-◌, ◌<◌, true, List, [], ◌∷◌, take, Ok, Option, Some, option_and_then, slice_get}
 use Rattle.std.specs.Result.{result_ok}
+use Rattle.std.specs.FinMap as finite
 use Rattle.conf_change.specs.Configuration.{Configuration, is_valid, has_voter}
 use Rattle.conf_change.specs.Outcome.{outcome}
 use Rattle.conf_change.specs.Changer.{ChangerState, Accepts, Refuses, changer_after}
+use Rattle.conf_change.specs.declared.progress.Progress.{Progress}
 use Rattle.conf_change.specs.declared.refused.Refused.{Refused}
 use Rattle.conf_change.specs.declared.step.Step.{Step}
 
@@ -12,28 +14,40 @@ pub record IsValidWithVoter (c : Configuration) : Type 0 where
   pub valid : is_valid c ≡ true
   pub voter : has_voter c ≡ true
 
--- the steps lead from the one configuration to the other, each of them in this way
-abbrev pub IsChain : (Configuration → Step → Configuration → Type 0) → Configuration → List Step → Configuration → Type 0
+-- the steps lead from the one state to the other, each of them in this way
+abbrev pub IsChain : {S : Type 0} → (S → Step → S → Type 0) → S → List Step → S → Type 0
 IsChain Leads before [] after = before ≡ after
-IsChain Leads before (step ∷ steps) after = (next : Configuration) × Leads before step next × IsChain Leads next steps after
+IsChain {S} Leads before (step ∷ steps) after = (next : S) × Leads before step next × IsChain Leads next steps after
+
+-- the step is accepted in the one configuration, and gives the other
+abbrev pub Gives : Configuration → Step → Configuration → Type 0
+Gives before step after = outcome before step ≡ Ok after
 
 -- the steps lead from the one configuration to the other: each is accepted where those before it lead
 abbrev pub IsRun : Configuration → List Step → Configuration → Type 0
-IsRun = IsChain (λ before step next. outcome before step ≡ Ok next)
+IsRun = IsChain Gives
 
--- a run at each step of which something holds of the step and of the configurations before and after it
+-- a run, at each step of which something holds of the step and of the configurations before and after it
 abbrev pub IsRunWith : (Configuration → Step → Configuration → Type 0) → Configuration → List Step → Configuration → Type 0
-IsRunWith Holds = IsChain (λ before step next. (outcome before step ≡ Ok next) × Holds before step next)
+IsRunWith Holds = IsChain (λ before step after. Gives before step after × Holds before step after)
 
 -- a changer takes the steps in order
 abbrev pub Takes : ChangerState → List Step → ChangerState → Type 0
-Takes before [] after = before ≡ after
-Takes before (step ∷ steps) after = (next : ChangerState) × Accepts before step next × Takes next steps after
+Takes = IsChain Accepts
 
 -- the changer after the steps in order, if each is accepted
 abbrev pub after_steps : ChangerState → List Step → Option ChangerState
 after_steps before [] = Some before
 after_steps before (step ∷ steps) = option_and_then (λ next. after_steps next steps) (result_ok (changer_after before step))
+
+-- the id has progress before and after, with the same match and next
+pub record HasKeptProgress (before after : ChangerState) (id : ℕ) : Type 0 where
+  pub had : Progress
+  pub kept : Progress
+  pub entry_before : finite.get before.tracker.progress id ≡ Some had
+  pub entry_after : finite.get after.tracker.progress id ≡ Some kept
+  pub same_match : kept.matched ≡ had.matched
+  pub same_next : kept.next ≡ had.next
 
 -- it takes the steps before the one of this number, counted from 1, which is refused for this reason, want of memory aside
 pub record StopsAt (before : ChangerState) (steps : List Step) (number : ℕ) (why : Refused) (after : ChangerState) : Type 0 where

@@ -4,7 +4,7 @@ ghost use Rattle.conf_change.specs.Configuration.{Configuration};
 ghost use Rattle.conf_change.specs.Changer.{ChangerState};
 ghost use Rattle.conf_change.specs.declared.step.Step.{Step};
 ghost use Rattle.conf_plan.specs.declared.text.PlanTextFault.{PlanTextFault};
-ghost use Rattle.conf_plan.specs.Best.{times_named, HasSamePart};
+ghost use Rattle.conf_plan.specs.Best.{times_named, HasSamePart, IsBest};
 ghost use Rattle.conf_plan.specs.Planned.{planned};
 ghost use Rattle.conf_plan.specs.PlanSteps.{IsPlan};
 ghost use Rattle.conf_plan.specs.PlanText.{StandsForPlan, HasFault, plan_text};
@@ -26,6 +26,11 @@ pub fn unnamed_stays()
 pub fn planned_is_run()
     ensures run { (now target : Configuration) → IsValidWithVoter now → IsValidWithVoter target → IsRun now (planned now target) target }
     ensures at_most_four { (now target : Configuration) → IsValidWithVoter now → IsValidWithVoter target → length (planned now target) ≤ 4 }
+{}
+
+/// The plan is the best there is: the shortest run, which spares most and names each id in the fewest changes.
+pub fn planned_is_best()
+    ensures { (now target : Configuration) → IsValidWithVoter now → IsValidWithVoter target → IsBest now (planned now target) target }
 {}
 
 /// Whatever run was made, the plan is a run back, of at most four steps, and of at most three where one step is undone.

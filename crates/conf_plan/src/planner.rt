@@ -2,7 +2,8 @@
 ghost use Rattle.std.specs.Prelude.{◌≡◌, ◌↔◌, true, false, [], ◌∷◌, Err, IfOk, OnOk};
 ghost use Rattle.conf_change.specs.Configuration.{is_joint, is_valid, has_voter};
 ghost use Rattle.conf_plan.specs.Planned.{single_with, single_steps, entering_step, joint_steps, planned_from_single, planned};
-ghost use Rattle.conf_plan.specs.Run.{IsRun, IsValidWithVoter};
+ghost use Rattle.conf_plan.specs.Best.{IsBest};
+ghost use Rattle.conf_plan.specs.Run.{IsValidWithVoter};
 ghost use Rattle.conf_plan.specs.Walking.{IsAdded};
 
 use crate::plan_steps::Plan;
@@ -34,8 +35,9 @@ impl From<NoMemory> for PlanFault {
     }
 }
 
-/// The plan from one configuration to another: its steps lead from the one to the other. There is one between any two
-/// configurations with voters, and without voters there is none, which is found before any memory is taken.
+/// The plan from one configuration to another: its steps lead from the one to the other, and no other steps do it
+/// better. There is one between any two configurations with voters, and without voters there is none, which is found
+/// before any memory is taken.
 pub fn plan<S: MemberSet>(
     alloc: Global,
     now: &Config<S>,
@@ -44,7 +46,7 @@ pub fn plan<S: MemberSet>(
     requires valid_now { is_valid now.now ≡ true }
     requires valid_target { is_valid target.now ≡ true }
     ensures planned { IfOk result (λ plan. plan ≡ planned now.now target.now) }
-    ensures run { IfOk result (λ plan. IsRun now.now plan target.now) }
+    ensures best { IfOk result (λ plan. IsBest now.now plan target.now) }
     ensures no_voter_now { (result ≡ Err PlanFault.NoVoterNow) ↔ (has_voter now.now ≡ false) }
     ensures no_voter_target { (result ≡ Err PlanFault.NoVoterTarget) ↔ ((has_voter now.now ≡ true) × (has_voter target.now ≡ false)) }
 {

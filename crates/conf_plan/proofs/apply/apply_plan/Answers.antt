@@ -1,8 +1,9 @@
-use Rattle.std.proofs.Common.{◌≤◌, ◌+◌, List, take, length, sym, subst}
+use Rattle.std.proofs.Common.{◌≡◌, ℕ, ◌≤◌, ◌+◌, List, take, length, sym, subst}
 use Rattle.std.proofs.lemmas.List.{take_all}
 use Rattle.conf_change.specs.Changer.{ChangerState}
 use Rattle.conf_change.specs.declared.step.Step.{Step}
 use Rattle.conf_plan.specs.Run.{IsRun, Takes}
+use Rattle.conf_plan.proofs.KeptProgress.{takes-is_sound, takes-keep, takes-keep_planned}
 use Rattle.conf_plan.proofs.Taking.{takes_push, takes_to_target, refused_for_memory, split_at, take_one_more, not_past}
 use Rattle.conf_plan.proofs.apply.apply_plan.Goals as goal
 use Rattle.conf_plan.proofs.apply.apply_plan.Goals.{in-Some+in-Ok, in_default}
@@ -19,11 +20,29 @@ loop-place-preserved g c = elim c.match-step.branch [
   | in_default w ↦ not_past c.args.plan.now c.loop-place.place c.len-place-end.result w.in_default.ensures c.len-place-end.ensures.len c.loop-place-test.true
 ]
 
+-- the whole plan was taken
+all_taken : (old now : ChangerState) (plan : List Step) (place n : ℕ) → n ≡ length plan → n ≤ place → Takes old (take place plan) now → Takes old plan now
+all_taken old now plan place n is past taken =
+    let P : List Step → Type 0 = λ xs. Takes old xs now in
+    subst P (take_all place plan (subst (λ k. k ≤ place) is past)) taken
+
+pub returns-clause-sound : goal.returns-clause-sound
+returns-clause-sound g c = takes-is_sound _ _ _ c.tracker-tracker.ensures.sound c.loop-place.invariant
+
+pub returns-clause-spared : goal.returns-clause-spared
+returns-clause-spared g c = λ id spares.
+    takes-keep _ _ c.args.plan.now _ id c.tracker-tracker.ensures.sound
+    (all_taken _ _ c.args.plan.now c.loop-place.place _ c.len-place-end.ensures.len c.loop-place-test.false c.loop-place.invariant) spares
+
+pub returns-clause-sparing : goal.returns-clause-sparing
+returns-clause-sparing g c = λ target other id made spares.
+    takes-keep_planned _ _ c.args.plan.now other target id c.tracker-tracker.ensures.sound
+    (all_taken _ _ c.args.plan.now c.loop-place.place _ c.len-place-end.ensures.len c.loop-place-test.false c.loop-place.invariant) made spares
+
 pub returns-clause-reached : goal.returns-clause-reached
 returns-clause-reached g c = λ target run.
-    let P : List Step → Type 0 = λ xs. Takes c.args.changer.now xs c.loop-place.changer in
-    let past : length c.args.plan.now ≤ c.loop-place.place = subst (λ n. n ≤ c.loop-place.place) c.len-place-end.ensures.len c.loop-place-test.false in
-    takes_to_target _ _ c.args.plan.now target (subst P (take_all c.loop-place.place c.args.plan.now past) c.loop-place.invariant) run
+    takes_to_target _ _ c.args.plan.now target
+    (all_taken _ _ c.args.plan.now c.loop-place.place _ c.len-place-end.ensures.len c.loop-place-test.false c.loop-place.invariant) run
 
 pub returns-in-Err-clause-memory_alone : goal.returns-in-Err-clause-memory_alone
 returns-in-Err-clause-memory_alone g c = λ target run.

@@ -1,11 +1,11 @@
 use Rattle.std.proofs.Common.{List, sym, ap, subst, ◌∙◌}
 use Rattle.quorum_sets.specs.Ids.{size}
 use Rattle.conf_change.specs.declared.step.Step.{Step}
+use Rattle.conf_plan.specs.Best.{IsBest}
 use Rattle.conf_plan.specs.Planned.{planned}
-use Rattle.conf_plan.specs.Run.{IsRun}
 use Rattle.conf_plan.specs.Walking.{IsAdded}
+use Rattle.conf_plan.proofs.Best.{planned-is_best}
 use Rattle.conf_plan.proofs.PlanCases.{voter_from_count, added-is_plan}
-use Rattle.conf_plan.proofs.PlannedRun.{planned-is_run}
 use Rattle.conf_plan.proofs.planner.plan.Goals as goal
 
 pub of_steps-requires : goal.of_steps-requires
@@ -15,13 +15,13 @@ of_steps-requires g c =
     let P : List Step → Type 0 = λ before. IsAdded before (planned now target) c.add_plan.new.steps.items in
     (added-is_plan now target c.add_plan.new.steps.items (subst P c.new-steps.ensures.items c.in_ok-add_plan.ensures)).1
 
-pub returns-clause-run : goal.returns-clause-run
-returns-clause-run g c =
+pub returns-clause-best : goal.returns-clause-best
+returns-clause-best g c =
     let now = c.args.now.now in
     let target = c.args.target.now in
     let P : List Step → Type 0 = λ before. IsAdded before (planned now target) c.add_plan.new.steps.items in
     let is = c.of_steps.ensures ∙ (added-is_plan now target c.add_plan.new.steps.items (subst P c.new-steps.ensures.items c.in_ok-add_plan.ensures)).0 in
-    subst (λ steps. IsRun now steps target) (sym is)
-    (planned-is_run now target
+    subst (λ steps. IsBest now steps target) (sym is)
+    (planned-is_best now target
     (record { valid = c.requires.valid_now; voter = voter_from_count now c.len.result (c.len.ensures ∙ ap (λ d. size d.incoming) c.now.view_is) c.if-len-eq0.false })
     (record { valid = c.requires.valid_target; voter = voter_from_count target c.len-2.result (c.len-2.ensures ∙ ap (λ d. size d.incoming) c.target.view_is) c.if-len-eq0-2.false }))
