@@ -19,7 +19,7 @@ abbrev pub HasUpdated : List (ℕ × Progress) → List (ℕ × Progress) → �
 HasUpdated es fs id w = (q : ℕ) → lookup (is_at (nat_cmp q)) fs ≡ cond (is_at (nat_cmp id) q) w (lookup (is_at (nat_cmp q)) es)
 
 -- the same of the finite maps of the entries
-get-updated : (es fs : List (ℕ × Progress)) (id : ℕ) (w : Option Progress) → HasUpdated es fs id w
+pub get-updated : (es fs : List (ℕ × Progress)) (id : ℕ) (w : Option Progress) → HasUpdated es fs id w
     → (q : ℕ) → finite.get (finite.from_entries {R = nat_cmp} fs) q ≡ cond (q == id) w (finite.get (finite.from_entries {R = nat_cmp} es) q)
 get-updated es fs id w u q =
     sym (lookup-from_entries q fs) ∙ u q

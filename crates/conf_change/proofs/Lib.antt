@@ -12,6 +12,7 @@ pub mod Following
 pub mod ListSteps
 pub mod Making
 pub mod StepLaws
+pub mod Acknowledging
 pub mod SameForms
 pub mod Passing
 pub mod WordLemmas

@@ -8,6 +8,7 @@ pub mod ChangerState
 pub mod Progress
 pub mod TrackerEdits
 pub mod Changer
+pub mod Acknowledgement
 pub mod ConfState
 pub mod Text
 pub mod Words

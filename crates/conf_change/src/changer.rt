@@ -1,11 +1,17 @@
 //! The changer: a tracker, and the three changes of its configuration. Each change makes the next changer out of one copy,
 //! and the calls that change in place assign it; so a refused change leaves nothing altered.
-ghost use Rattle.std.specs.Prelude.{◌≡◌, [], ◌∷◌, IfOk};
+ghost use Rattle.std.specs.Prelude.{◌≡◌, ◌-◌, ◌^◌, ◌↔◌, [], ◌∷◌, true, false, Some, Err, IfOk, OnErr};
+ghost use Rattle.std.specs.FinMap as finite;
+ghost use Rattle.conf_change.specs.Configuration.{is_member};
+ghost use Rattle.conf_change.specs.Acknowledgement.{acknowledged, ack_answer, changer_with_progress};
+ghost use Rattle.conf_change.specs.declared.progress.Progress.{Progress};
 ghost use Rattle.conf_change.specs.declared.step.Step.TheVariants.{Simple, EnterJoint, LeaveJoint};
 ghost use Rattle.conf_change.specs.Changer.{IsSound, GivesNext, Makes, new_changer, changer_of, with_last_index};
 
+use crate::acknowledgement::AckFault;
 use crate::change::Change;
 use crate::config::Config;
+use crate::progress::Progress;
 use crate::refused::Refused;
 use crate::step::Step;
 use crate::tracker::Tracker;
@@ -222,5 +228,29 @@ impl<S: MemberSet> Changer<S> {
     {
         *self = self.after_step(step)?;
         Ok(())
+    }
+
+    /// Takes the acknowledgement of an index by a member, and answers its progress then: an index above match becomes match,
+    /// and next is then above it; any other index alters nothing (etcd's `MaybeUpdate` of `tracker.Progress`).
+    ///
+    /// Refused with NotMember where the id is no member, else with IndexTooLarge where the index is 2^64-1.
+    pub fn ack(&mut self, id: u64, index: u64) -> Result<Progress, AckFault>
+        ensures answer { result ≡ ack_answer self.old.tracker id index }
+        ensures acknowledged { IfOk result (λ p. (was : Progress) × (finite.get self.old.tracker.progress id ≡ Some was) × (p ≡ acknowledged index was)) }
+        ensures taken { IfOk result (λ p. self.new ≡ changer_with_progress self.old id p) }
+        ensures not_member { (result ≡ Err AckFault.NotMember) ↔ (is_member self.old.tracker.config id ≡ false) }
+        ensures too_large { (result ≡ Err AckFault.IndexTooLarge) ↔ ((is_member self.old.tracker.config id ≡ true) × (index ≡ 2 ^ 64 - 1)) }
+        ensures unchanged { OnErr result (self.new ≡ self.old) }
+        ensures sound { IsSound self.new.tracker }
+    {
+        let Some(known) = self.tracker.progress(id) else {
+            return Err(AckFault::NotMember);
+        };
+        if index == u64::MAX {
+            return Err(AckFault::IndexTooLarge);
+        }
+        let progress = known.acknowledged(index);
+        self.tracker.set_progress(id, progress);
+        Ok(progress)
     }
 }

@@ -1,6 +1,7 @@
 //! Configurations of a replicated log's members, the changes of them, and the progress of the members.
 #![tactic(auto)]
 
+pub mod acknowledgement;
 mod append;
 pub mod change;
 pub mod change_list;
@@ -19,6 +20,7 @@ pub mod text;
 pub mod tracker;
 pub mod words;
 
+pub use acknowledgement::AckFault;
 pub use change::{Change, Changes, Kind};
 pub use change_list::{TokenFault, read_changes};
 pub use changer::Changer;

@@ -1,6 +1,7 @@
 //! Progress of a member.
-ghost use Rattle.std.specs.Prelude.{◌≡◌, false};
+ghost use Rattle.std.specs.Prelude.{◌≡◌, ◌<◌, ◌-◌, ◌^◌, false};
 ghost use Rattle.conf_change.specs.Progress.{fresh_progress};
+ghost use Rattle.conf_change.specs.Acknowledgement.{acknowledged};
 
 /// How far a member has come in taking over the log (etcd's `tracker.Progress`). Match is below next.
 #[derive(Clone, Copy, Debug, PartialEq, Eq)]
@@ -22,6 +23,21 @@ impl Progress {
             matched: 0,
             next: last_index.max(1),
             learner: false,
+        }
+    }
+
+    // The progress after an index is acknowledged.
+    pub(crate) fn acknowledged(self, index: u64) -> Progress
+        requires { index < 2 ^ 64 - 1 }
+        ensures { result ≡ acknowledged index self }
+    {
+        if index <= self.matched {
+            return self;
+        }
+        Progress {
+            matched: index,
+            next: self.next.max(index + 1),
+            ..self
         }
     }
 }

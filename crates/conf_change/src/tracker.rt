@@ -1,6 +1,6 @@
 //! The tracker: a configuration, and the progress of its members. It is edited by the changer alone, which works on a
 //! copy and puts that in place once nothing can be refused any more.
-ghost use Rattle.std.specs.Prelude.{◌≡◌, ◌-◌, ◌^◌, min, [], ◌∷◌, false, length, slice_get, IfOk, OnOk};
+ghost use Rattle.std.specs.Prelude.{◌≡◌, ◌-◌, ◌^◌, min, [], ◌∷◌, true, false, is_some, length, slice_get, IfOk, OnOk};
 ghost use Rattle.std.specs.Ordering.{nat_cmp};
 ghost use Rattle.std.specs.BTreeMap.{IsOrdered};
 ghost use Rattle.std.specs.FinMap as finite;
@@ -10,6 +10,7 @@ ghost use Rattle.conf_change.specs.Configuration.{is_member, is_joint, has_voter
 ghost use Rattle.conf_change.specs.Outcome.{with_outgoing, after_leave};
 ghost use Rattle.conf_change.specs.TrackerEdits.{IsInLine, Follows, FollowsAll, Applies};
 ghost use Rattle.conf_change.specs.Changer.{nobody, tracker_of};
+ghost use Rattle.conf_change.specs.Acknowledgement.{with_progress};
 
 use crate::change::Change;
 use crate::config::Config;
@@ -203,6 +204,16 @@ impl<S: MemberSet> Tracker<S> {
         let learner = self.config.learners.contains(id);
         self.progress.insert(id, Progress { learner, ..known })?;
         Ok(())
+    }
+
+    // Sets the progress of a member.
+    pub(crate) fn set_progress(&mut self, id: u64, progress: Progress)
+        requires { is_some (finite.get self.old.progress id) ≡ true }
+        ensures { self.new ≡ with_progress self.old id progress }
+    {
+        if let Some(known) = self.progress.get_mut(&id) {
+            *known = progress;
+        }
     }
 
     // Whether the id is a voter of either kind, or a learner.

@@ -3,6 +3,8 @@
 #![tactic(auto)]
 
 #[cfg(test)]
+mod acknowledgements;
+#[cfg(test)]
 mod blocks;
 #[cfg(test)]
 mod changes;
@@ -14,6 +16,8 @@ mod configurations;
 mod devices;
 #[cfg(test)]
 mod modes;
+#[cfg(test)]
+mod next_changers;
 #[cfg(test)]
 mod plans;
 #[cfg(test)]

@@ -1,0 +1,34 @@
+-- Acknowledgements: what one makes of a member's progress, and who has acknowledged which index.
+use Rattle.std.specs.Prelude.{ℕ, ◌+◌, max, ◌==◌, Option, Some, None, Result, Ok, Err, map, nat_lt, if◌then◌else◌}
+use Rattle.std.specs.FinMap as finite
+use Rattle.quorum_sets.specs.Committed.{Acks, greatest_index}
+use Rattle.conf_change.specs.Changer.{TrackerState, ChangerState, tracker_of, changer_of}
+use Rattle.conf_change.specs.declared.acknowledgement.AckFault.{AckFault}
+use Rattle.conf_change.specs.declared.acknowledgement.AckFault.TheVariants.{NotMember, IndexTooLarge}
+use Rattle.conf_change.specs.declared.progress.Progress.{Progress}
+
+-- the progress after an index is acknowledged: one above match becomes match, and next is then above it; any other alters nothing
+abbrev pub acknowledged : ℕ → Progress → Progress
+acknowledged index p =
+    if nat_lt p.matched index then record { matched = index; next = max p.next (index + 1); learner = p.learner } else p
+
+-- the same where there is progress, which only members have; nothing follows the greatest index, so that one is refused
+abbrev pub acknowledged_by : Option Progress → ℕ → Result Progress AckFault
+acknowledged_by None index = Err NotMember
+acknowledged_by (Some was) index = if index == greatest_index then Err IndexTooLarge else Ok (acknowledged index was)
+
+-- the progress of an id after it acknowledges an index, or why that is refused
+abbrev pub ack_answer : TrackerState → ℕ → ℕ → Result Progress AckFault
+ack_answer tracker id index = acknowledged_by (finite.get tracker.progress id) index
+
+-- the tracker where the id has this progress
+abbrev pub with_progress : TrackerState → ℕ → Progress → TrackerState
+with_progress tracker id p = tracker_of tracker.config (finite.insert tracker.progress id p)
+
+-- the changer where the id has this progress, and nothing else differs
+abbrev pub changer_with_progress : ChangerState → ℕ → Progress → ChangerState
+changer_with_progress changer id p = changer_of (with_progress changer.tracker id p) changer.last_index
+
+-- the match of each member
+abbrev pub matches : TrackerState → Acks
+matches tracker = finite.from_entries (map (λ entry. (entry.0, entry.1.matched)) (finite.entries tracker.progress))

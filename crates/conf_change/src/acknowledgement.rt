@@ -1,0 +1,26 @@
+//! Acknowledgements of the members.
+use crate::tracker::Tracker;
+use quorum_sets::{AckSource, MemberSet};
+use thiserror::Error;
+
+/// Why an acknowledgement is refused (own).
+#[derive(Clone, Copy, Debug, PartialEq, Eq, Error)]
+pub enum AckFault {
+    /// The id is no member.
+    #[error("not a member")]
+    NotMember,
+    /// The index is 2^64-1, behind which there is none to be sent next.
+    #[error("index too large")]
+    IndexTooLarge,
+}
+
+/// Each member has acknowledged its match, and nobody else has acknowledged anything.
+impl<S: MemberSet> AckSource for Tracker<S> {
+    ghost use Rattle.conf_change.specs.Acknowledgement.{matches};
+
+    ghost acks = { matches };
+
+    fn acked(&self, id: u64) -> Option<u64> {
+        Some(self.progress(id)?.matched)
+    }
+}
