@@ -8,3 +8,4 @@ pub mod RisingLemmas
 pub mod Rows
 pub mod RankingLemmas
 pub mod UnionLemmas
+pub mod Overlapping

@@ -5,3 +5,4 @@ pub mod Counting
 pub mod Committed
 pub mod Votes
 pub mod Chart
+pub mod Overlap

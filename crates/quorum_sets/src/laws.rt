@@ -5,7 +5,9 @@ ghost use Rattle.std.specs.Ordering.{nat_cmp};
 ghost use Rattle.std.specs.List.{list_any};
 ghost use Rattle.std.specs.List.Sorted.{IsStrictlySortedBy};
 ghost use Rattle.quorum_sets.specs.Ids.{Ids, no_ids, has, with_id, without_id, union, ascending};
+ghost use Rattle.quorum_sets.specs.Voters.{Voters, AreNeighbours};
 ghost use Rattle.quorum_sets.specs.Committed.{Acks, IsCommitted, committed_index};
+ghost use Rattle.quorum_sets.specs.Overlap.{QuorumsMeet, CommittedMeetsWon};
 
 /// What the words on a set of ids say member by member: which ids a set has after a change, which
 /// two sets have together, that a set's list has just its ids and rises strictly, and that two sets with the same ids are equal.
@@ -23,4 +25,17 @@ pub fn sets_by_member()
 pub fn committed_by_counting()
     ensures fits { (ids : Ids) (acks : Acks) → IsCommitted ids acks (committed_index ids acks) }
     ensures alone { (ids : Ids) (acks : Acks) (k : ℕ) → IsCommitted ids acks k → k ≡ committed_index ids acks }
+{}
+
+/// Where two pairs of voter sets are neighbours, each quorum of one shares an id with each quorum of the other.
+pub fn neighbours_overlap()
+    ensures before { (before after : Voters) → AreNeighbours before after → QuorumsMeet before after }
+    ensures after { (before after : Voters) → AreNeighbours before after → QuorumsMeet after before }
+{}
+
+/// Where two pairs of voter sets are neighbours and one of them has committed an index, each vote that is won on the other
+/// has a yes of an id that acknowledged that index.
+pub fn committed_meets_won()
+    ensures before { (before after : Voters) → AreNeighbours before after → CommittedMeetsWon before after }
+    ensures after { (before after : Voters) → AreNeighbours before after → CommittedMeetsWon after before }
 {}
