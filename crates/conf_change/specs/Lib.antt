@@ -2,6 +2,7 @@ pub mod Configuration
 pub mod ConfigurationCode
 pub mod Change
 pub mod Step
+pub mod Transition
 pub mod Outcome
 pub mod TrackerState
 pub mod ChangerState

@@ -6,6 +6,7 @@ ghost use Rattle.conf_change.specs.Configuration.{is_member};
 ghost use Rattle.conf_change.specs.Acknowledgement.{acknowledged, ack_answer, changer_with_progress};
 ghost use Rattle.conf_change.specs.declared.progress.Progress.{Progress};
 ghost use Rattle.conf_change.specs.declared.step.Step.TheVariants.{Simple, EnterJoint, LeaveJoint};
+ghost use Rattle.conf_change.specs.Transition.{step_taken};
 ghost use Rattle.conf_change.specs.Changer.{IsSound, GivesNext, Makes, new_changer, changer_of, with_last_index};
 
 use crate::acknowledgement::AckFault;
@@ -13,8 +14,9 @@ use crate::change::Change;
 use crate::config::Config;
 use crate::progress::Progress;
 use crate::refused::Refused;
-use crate::step::Step;
+use crate::step::{Step, Taken};
 use crate::tracker::Tracker;
+use crate::transition::{Transition, taken};
 use quorum_sets::{MemberSet, NoMemory};
 use std::alloc::Global;
 use std::marker::Model;
@@ -191,6 +193,21 @@ impl<S: MemberSet> Changer<S> {
         }
     }
 
+    /// The changer after the change that a list takes, as `taken` names it, with its refusals.
+    pub fn after_change(
+        &self,
+        transition: Transition,
+        changes: &[Change],
+    ) -> Result<Changer<S>, Refused>
+        ensures { GivesNext self.now (step_taken transition changes.now) result }
+    {
+        match taken(transition, changes) {
+            Taken::Simple => self.after_simple(changes),
+            Taken::Enter(auto_leave) => self.after_enter_joint(auto_leave, changes),
+            Taken::Leave => self.after_leave_joint(),
+        }
+    }
+
     /// Makes one change, as `simple` does a list of one.
     pub fn simple_one(&mut self, change: Change) -> Result<(), Refused>
         ensures { Makes self.old (Simple (change ∷ [])) result self.new }
@@ -227,6 +244,14 @@ impl<S: MemberSet> Changer<S> {
         ensures { Makes self.old step.now result self.new }
     {
         *self = self.after_step(step)?;
+        Ok(())
+    }
+
+    /// Makes the change that a list takes: `after_change` in place.
+    pub fn change(&mut self, transition: Transition, changes: &[Change]) -> Result<(), Refused>
+        ensures { Makes self.old (step_taken transition changes.now) result self.new }
+    {
+        *self = self.after_change(transition, changes)?;
         Ok(())
     }
 

@@ -18,6 +18,7 @@ pub mod saved_line;
 pub mod step;
 pub mod text;
 pub mod tracker;
+pub mod transition;
 pub mod words;
 
 pub use acknowledgement::AckFault;
@@ -31,7 +32,8 @@ pub use refused::Refused;
 pub use restore::RestoreFault;
 pub use saved::{ConfState, ConfStateFault, conf_state};
 pub use saved_line::{read_conf_state, write_conf_state};
-pub use step::Step;
+pub use step::{Step, Taken};
 pub use text::{write_config, write_progress, write_refused};
 pub use tracker::Tracker;
+pub use transition::{Transition, taken};
 pub use words::next_token;

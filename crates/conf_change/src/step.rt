@@ -13,6 +13,17 @@ pub enum Step {
     LeaveJoint,
 }
 
+/// The step that a list of changes takes, without the list.
+#[derive(Clone, Copy, Debug, PartialEq, Eq)]
+pub enum Taken {
+    /// A simple one.
+    Simple,
+    /// Entering a joint configuration, with or without auto-leave.
+    Enter(bool),
+    /// Leaving it.
+    Leave,
+}
+
 impl Step {
     /// Its changes in order; leaving a joint configuration has none.
     pub fn changes(&self) -> &[Change]

@@ -2,7 +2,10 @@
 ghost use Rattle.std.specs.Prelude.{◌≡◌, ◌≤◌, ◌↔◌, ◌⊎◌, ℕ, true, List, length, Ok, Err, Some};
 ghost use Rattle.conf_change.specs.Configuration.{Configuration};
 ghost use Rattle.conf_change.specs.Changer.{ChangerState};
+ghost use Rattle.conf_change.specs.Transition.{steps_taken};
+ghost use Rattle.conf_change.specs.declared.change.Change.{Change};
 ghost use Rattle.conf_change.specs.declared.step.Step.{Step};
+ghost use Rattle.conf_change.specs.declared.transition.Transition.{Transition};
 ghost use Rattle.conf_plan.specs.declared.text.PlanTextFault.{PlanTextFault};
 ghost use Rattle.conf_plan.specs.Best.{times_named, HasSamePart, IsBest};
 ghost use Rattle.conf_plan.specs.Planned.{planned};
@@ -41,6 +44,16 @@ pub fn undo_of_run()
         → length (planned after before) ≤ 4 }
     ensures at_most_three { (before after : Configuration) (steps : List Step) → IsValidWithVoter before → IsRun before steps after
         → length steps ≡ 1 → length (planned after before) ≤ 3 }
+{}
+
+/// The same for lists of changes, each taken by its transition.
+pub fn undo_of_changes()
+    ensures back { (before after : Configuration) (lists : List (Transition × List Change)) → IsValidWithVoter before → IsRun before (steps_taken lists) after
+        → IsRun after (planned after before) before }
+    ensures at_most_four { (before after : Configuration) (lists : List (Transition × List Change)) → IsValidWithVoter before → IsRun before (steps_taken lists) after
+        → length (planned after before) ≤ 4 }
+    ensures at_most_three { (before after : Configuration) (lists : List (Transition × List Change)) → IsValidWithVoter before → IsRun before (steps_taken lists) after
+        → length lists ≡ 1 → length (planned after before) ≤ 3 }
 {}
 
 /// Steps lead a changer to one changer at most, and it is the one that the function gives, which it does wherever they are

@@ -32,3 +32,5 @@ mod sessions;
 mod sets_and_quorums;
 #[cfg(test)]
 mod texts;
+#[cfg(test)]
+mod transitions;

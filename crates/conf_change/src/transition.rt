@@ -1,0 +1,31 @@
+//! Which of the three changes a list of changes takes.
+ghost use Rattle.std.specs.Prelude.{◌≡◌};
+ghost use Rattle.conf_change.specs.Transition.{taken_of};
+
+use crate::change::Change;
+use crate::step::Taken;
+
+/// How a list of changes is taken (etcd's `raftpb.ConfChangeTransition`).
+#[derive(Clone, Copy, Debug, PartialEq, Eq)]
+pub enum Transition {
+    /// One voter at a time where the list allows it, else by a joint configuration that is left by itself.
+    Auto,
+    /// Always by a joint configuration, which is left by itself.
+    Implicit,
+    /// Always by a joint configuration, which is left where it is asked.
+    Explicit,
+}
+
+/// The change that a list takes: no change and Auto leaves; else more than one change, or a transition that is not Auto,
+/// enters, with auto-leave unless it is Explicit; else it is simple (etcd's `raftpb.ConfChangeV2`). Each change of the
+/// list counts, also one of the id 0, an update or a repeated one.
+pub fn taken(transition: Transition, changes: &[Change]) -> Taken
+    ensures { result ≡ taken_of transition changes.now }
+{
+    match (transition, changes.len()) {
+        (Transition::Auto, 0) => Taken::Leave,
+        (Transition::Auto, 1) => Taken::Simple,
+        (Transition::Auto | Transition::Implicit, _) => Taken::Enter(true),
+        (Transition::Explicit, _) => Taken::Enter(false),
+    }
+}
