@@ -11,10 +11,11 @@ use Rattle.quorum_sets.proofs.IdLemmas.{entries-no_ids}
 use Rattle.conf_change.specs.Configuration.{Configuration, is_joint, members, is_same_set, is_same}
 use Rattle.conf_change.specs.declared.change.Change.{Change}
 use Rattle.conf_change.specs.declared.change.Kind.{Kind}
-use Rattle.conf_change.specs.declared.change.Kind.TheVariants.{Voter, Learner, Remove}
+use Rattle.conf_change.specs.declared.change.Kind.TheVariants.{Voter, Learner, Remove, Update}
 use Rattle.conf_change.specs.Outcome.{after_leave}
 use Rattle.conf_change.specs.declared.step.Step.{Step}
 use Rattle.conf_change.specs.declared.step.Step.TheVariants.{Simple, EnterJoint, LeaveJoint}
+use Rattle.conf_plan.specs.Best.{times_named, is_any_learner, outlasts_leave}
 use Rattle.conf_plan.specs.Planned.{is_shared, shared_members, single_with, single_steps, entering_step, planned_from_single, planned}
 use Rattle.conf_plan.specs.Run.{IsValidWithVoter}
 use Rattle.conf_plan.proofs.Moved.{IsSingle}
@@ -111,6 +112,18 @@ back_into_joint =
     cond-false (is_same three three_and_one) _ _ (simp (get_at, entries_with, entries_none) refl) ∙ cond-false (is_joint three) _ _ (simp entries_none refl)
     ∙ from_three
 
+-- 1 and 3 are named in two changes each, and 2 in none, which stays a learner all the while
+named_in_row : (times_named 1 into_row ≡ 2) × (times_named 2 into_row ≡ 0) × (times_named 3 into_row ≡ 2)
+named_in_row = (refl, refl, refl)
+
+-- an update names nobody, and nothing names the id 0
+named_by_none : (times_named 5 (Simple (change Update 5 ∷ change Learner 5 ∷ []) ∷ []) ≡ 1) × (times_named 0 (Simple (change Voter 0 ∷ []) ∷ []) ≡ 0)
+named_by_none = (refl, refl)
+
+-- 1, which goes out and waits, is any learner, and 3 is none
+any_learner_row : (is_any_learner three_and_one 1 ≡ true) × (is_any_learner three_and_one 3 ≡ false)
+any_learner_row = (simp (get_at, entries_with, entries_none) refl, simp (get_at, entries_with, entries_none) refl)
+
 -- four steps, from voters=(3)&&(4) learners=(1 2) to the same
 back_from_joint_to_joint : planned (config (3 ∷ []) (4 ∷ []) (1 ∷ 2 ∷ []) []) three_and_one ≡ LeaveJoint ∷ into_row
 back_from_joint_to_joint =
@@ -158,3 +171,8 @@ back_by_one_voter =
     ∙ into_joint one one_and_two (ids_of []) one-is_single one_and_two-is_settled (simp (entries_with, entries_none) refl)
     (simp (get_at, entries_with, entries_none) refl) (simp (get_at, entries_with, entries_none) refl) none_shared
     ∙ simp (get_at, entries_with, entries_none) refl
+
+-- the outgoing voter 4 is gone when the joint configuration is left, and 1 is not
+outlasts_row : (outlasts_leave (config (3 ∷ []) (4 ∷ []) (1 ∷ 2 ∷ []) []) (LeaveJoint ∷ into_row) 4 ≡ false)
+    × (outlasts_leave (config (3 ∷ []) (4 ∷ []) (1 ∷ 2 ∷ []) []) (LeaveJoint ∷ into_row) 1 ≡ true) × (outlasts_leave three into_row 4 ≡ true)
+outlasts_row = (simp (get_at, entries_with, entries_none) refl, simp (get_at, entries_with, entries_none) refl, refl)

@@ -94,6 +94,45 @@ fn gets_there(alloc: Global, now: Sets, target: Sets, auto_leave: bool) -> Resul
     Ok(changer.tracker().config().same(&target))
 }
 
+// The present configuration, the earlier one, and the match and next of its members once the plan is taken. Before, 3 has
+// acknowledged 7, and next is 1 for the others; who goes and comes back begins with the last index, 4.
+static SPARED: [(Sets, Sets, &[(u64, u64, u64)]); 3] = [
+    (
+        [&[3], &[], &[1, 2], &[]],
+        [&[3], &[1], &[2], &[1]],
+        &[(1, 0, 1), (2, 0, 1), (3, 7, 8)],
+    ),
+    (
+        [&[3], &[1], &[2], &[1]],
+        [&[1], &[], &[], &[]],
+        &[(1, 0, 1)],
+    ),
+    (
+        [&[3], &[2], &[], &[]],
+        [&[2], &[1], &[], &[]],
+        &[(1, 0, 4), (2, 0, 4)],
+    ),
+];
+
+#[test]
+fn keeps_the_progress_of_those_it_spares(rt: HostRuntime) -> Result<(), Fail> {
+    for (now, target, wanted) in &SPARED {
+        let now = valid(rt.alloc(), *now, false)?;
+        let target = valid(rt.alloc(), *target, false)?;
+        let saved = conf_state(rt.alloc(), &now)?;
+        let mut changer: Changer<TreeIds> = Changer::restore(rt.alloc(), &saved, 0)?;
+        changer.set_last_index(4);
+        changer.ack(3, 7)?;
+        apply_plan(&mut changer, &plan(rt.alloc(), &now, &target)?)?;
+        for (id, matched, next) in *wanted {
+            let found = changer.tracker().progress(*id);
+            let indexes = found.map(|progress| (progress.matched, progress.next));
+            assert_eq!(rt; indexes, Some((*matched, *next)), "of {id}");
+        }
+    }
+    Ok(())
+}
+
 #[test]
 fn wants_voters_on_both_sides(rt: HostRuntime) -> Result<(), Fail> {
     let nobody = valid(rt.alloc(), [&[], &[], &[], &[]], false)?;
