@@ -1,5 +1,6 @@
 -- The plan names each id no more often than any run.
 use Rattle.std.proofs.Common.{◌≡◌, ℕ, zero, suc, ◌+◌, ◌≤◌, Bool, true, false, cond, not, ◌&&◌, ◌||◌, ◌==◌, List, [], ◌∷◌, ◌++◌, refl, sym, ap, subst, ◌∙◌, arith, eqb-true}
+use Rattle.std.proofs.Math.Bool.{or-false, and-true}
 use Rattle.std.specs.Prelude.{Option, Some, None, option_map, filter_map, count_by, nat_le}
 use Rattle.std.specs.List.{cons_option}
 use Rattle.std.specs.List.Sorted.{IsStrictlySortedBy}
@@ -30,7 +31,6 @@ use Rattle.conf_plan.proofs.PlannedRun.{single_with-own, after_leave-is_single}
 use Rattle.conf_plan.proofs.Rising.{above, holds}
 use Rattle.conf_plan.proofs.RunEnds.{leaves_first, enters_last}
 use Rattle.conf_plan.proofs.Runs.{run-is_settled, IsRun-one}
-use Rattle.conf_plan.proofs.Sparing.{nobody_between}
 use Rattle.conf_plan.proofs.Shapes.{planned_from_single-of_shapes, planned-of_shapes}
 
 -- ---- how often steps name an id
@@ -114,19 +114,15 @@ named_where_differing c d steps q run = by (times_named q steps) refl
     by (suc n) is = let one = once-le (kind_by (has d.incoming q) (is_any_learner d q) (has c.incoming q) (is_any_learner c q)) in omega arith
 
 -- ---- what the steps of the plan name
-nobody_waits : (learns : Bool) → (learns || false) ≡ learns
-nobody_waits true = refl
-nobody_waits false = refl
-
 is_any_learner-single : (c : Configuration) (q : ℕ) → IsSingle c → is_any_learner c q ≡ has c.learners q
-is_any_learner-single c q single = ap (λ b. has c.learners q || b) (no_next c single q) ∙ nobody_waits (has c.learners q)
+is_any_learner-single c q single = ap (λ b. has c.learners q || b) (no_next c single q) ∙ or-false (has c.learners q)
 
 single_steps-name : (c : Configuration) (voters learners : Ids) (q : ℕ) → IsSingle c → times_named q (single_steps c voters learners) ≤ differing c (single_with voters learners) q
 single_steps-name c voters learners q single =
     let changes = moves c voters learners in
     let few = moves-name_once c voters learners q in
     let is : differing c (single_with voters learners) q ≡ once (kind_by (has voters q) (has learners q) (has c.incoming q) (has c.learners q)) =
-    λ i. once (kind_by (has voters q) ((ap (λ b. has learners q || b) (has-no_ids q) ∙ nobody_waits (has learners q)) i) (has c.incoming q) (is_any_learner-single c q single i)) in
+    λ i. once (kind_by (has voters q) ((ap (λ b. has learners q || b) (has-no_ids q) ∙ or-false (has learners q)) i) (has c.incoming q) (is_any_learner-single c q single i)) in
     cond_both (nat_le (difference_count c.incoming voters) 1) (Simple changes ∷ []) (EnterJoint false changes ∷ LeaveJoint ∷ []) (λ steps. times_named q steps ≤ differing c (single_with voters learners) q)
     (λ one. let named = named_by q (Simple changes) [] in omega arith)
     (λ two. let named = named_by q (EnterJoint false changes) (LeaveJoint ∷ []) in omega arith)
@@ -173,20 +169,15 @@ way_by_shared true s dl ci cl ti tl tn is apart waits =
     subst (λ b. once (kind_by true s ci cl) + once (kind_by ti (tl || tn) true s) ≤ once (kind_by true b ci cl) + once (kind_by ti (tl || tn) true b)) same (omega arith)
 way_by_shared false s dl ci cl ti tl true is apart waits = let no : false ≡ true = waits refl in cc
 way_by_shared false s dl ci cl ti tl false is apart waits =
-    let shared : s ≡ ((ti || tl) && (ci || cl)) = is ∙ ap (λ b. b && (ci || cl)) (both ti tl) in
+    let shared : s ≡ ((ti || tl) && (ci || cl)) = is ∙ ap (λ b. b && (ci || cl)) (and-true (ti || false || tl) ∙ ap (λ b. b || tl) (or-false ti)) in
     subst (λ b. once (kind_by false b ci cl) + once (kind_by ti (tl || false) false b) ≤ once (kind_by false dl ci cl) + once (kind_by ti (tl || false) false dl)) (sym shared)
     (subst (λ l. once (kind_by false ((ti || tl) && (ci || cl)) ci cl) + once (kind_by ti l false ((ti || tl) && (ci || cl))) ≤ once (kind_by false dl ci cl) + once (kind_by ti l false dl))
-    (sym (nobody_waits tl)) (as_learner_if_shared dl ci cl ti tl))
-  where
-    both : (a b : Bool) → ((a || false || b) && true) ≡ (a || b)
-    both true b = refl
-    both false true = refl
-    both false false = refl
+    (sym (or-false tl)) (as_learner_if_shared dl ci cl ti tl))
 
 is_member-single : (c : Configuration) (q : ℕ) → IsSingle c → is_member c q ≡ (has c.incoming q || is_any_learner c q)
 is_member-single c q single =
     ap (λ out. has c.incoming q || has out q || has c.learners q) (no_outgoing c single.single)
-    ∙ (λ i. has c.incoming q || has-no_ids q i || sym (is_any_learner-single c q single) i) ∙ nobody_between (has c.incoming q) (is_any_learner c q)
+    ∙ (λ i. has c.incoming q || has-no_ids q i || sym (is_any_learner-single c q single) i) ∙ ap (λ b. b || is_any_learner c q) (or-false (has c.incoming q))
 
 -- no way by another configuration with those voters has less to change
 shared-is_nearest : (c d target : Configuration) (q : ℕ) → IsSingle c → IsValidWithVoter d → IsValidWithVoter target → d.incoming ≡ target.outgoing
@@ -198,7 +189,7 @@ shared-is_nearest c d target q single between settled voters =
     let waits = (members_from_valid target settled.valid).next_outgoing q in
     let here : has d.incoming q ≡ has target.outgoing q = ap (λ s. has s q) voters in
     let shared : is_any_learner reached q ≡ (is_member target q && not (has target.outgoing q) && (has c.incoming q || is_any_learner c q)) =
-    ap (λ b. has (shared_members c target) q || b) (has-no_ids q) ∙ nobody_waits _ ∙ has-shared_members c target q
+    ap (λ b. has (shared_members c target) q || b) (has-no_ids q) ∙ or-false _ ∙ has-shared_members c target q
     ∙ ap (λ b. is_member target q && not (has target.outgoing q) && b) (is_member-single c q single) in
     let apart : has target.outgoing q ≡ true → is_any_learner d q ≡ false =
     λ goes. or_from _ _

@@ -1,5 +1,6 @@
 -- What a step makes of an id: an incoming voter, a learner of either kind, or neither.
 use Rattle.std.proofs.Common.{◌≡◌, ℕ, ◌+◌, Bool, true, false, cond, ◌||◌, List, [], ◌∷◌, refl, sym, ap, subst, ◌∙◌, arith}
+use Rattle.std.proofs.Math.Bool.{or-false}
 use Rattle.std.specs.Prelude.{Option, Some, None, Ok, count_by}
 use Rattle.std.specs.Option.{option_or}
 use Rattle.std.proofs.lemmas.List.Sums.{sum_by-cons}
@@ -42,10 +43,6 @@ result_of-part c xs q = record {
       ∙ learns_or_waits (last_word xs q) (has c.outgoing q) (has c.learners q) (has c.learners_next q);
 }
 
-or_nothing : (b : Bool) → (b || false) ≡ b
-or_nothing true = refl
-or_nothing false = refl
-
 outcome-part : (c after : Configuration) (step : Step) (q : ℕ) → outcome c step ≡ Ok after → PartAfter c after (last_word (changes_of step) q) q
 outcome-part c after (Simple changes) q e =
     let P : Configuration → Type 0 = λ d. PartAfter c d (last_word changes q) q in
@@ -58,7 +55,7 @@ outcome-part c after LeaveJoint q e =
     let P : Configuration → Type 0 = λ d. PartAfter c d None q in
     subst P (leave_taken c after e).made (record {
       voter = refl;
-      learner = (λ i. has-after_leave c q i || has-no_ids q i) ∙ or_nothing (is_any_learner c q);
+      learner = (λ i. has-after_leave c q i || has-no_ids q i) ∙ or-false (is_any_learner c q);
     })
 
 -- ---- an id that is not named

@@ -1,5 +1,6 @@
 -- The shared members, found in a walk over the voters and one over the learners.
 use Rattle.std.proofs.Common.{◌≡◌, ℕ, ◌+◌, ◌≤◌, Bool, true, false, ◌&&◌, ◌||◌, ◌==◌, ◌++◌, refl, sym, ap, ◌∙◌, slice_get, eqb-true}
+use Rattle.std.proofs.Math.Bool.{or-false}
 use Rattle.std.specs.Prelude.{Some}
 use Rattle.std.specs.List.{list_any}
 use Rattle.std.proofs.lemmas.List.Folds.{list_any-append}
@@ -14,11 +15,7 @@ abbrev pub IsSharedSoFar : Ids → Ids → Configuration → ℕ → Ids → Typ
 IsSharedSoFar before ids target place now = (q : ℕ) → has now q ≡ (has before q || (is_passed ids place q && is_shared target q))
 
 pub shared_begun : (before ids : Ids) (target : Configuration) → IsSharedSoFar before ids target 0 before
-shared_begun before ids target q = sym (or_none (has before q))
-  where
-    or_none : (b : Bool) → (b || false) ≡ b
-    or_none true = refl
-    or_none false = refl
+shared_begun before ids target q = sym (or-false (has before q))
 
 -- one more is put in, where it is shared
 pub shared_more : (before ids now after : Ids) (target : Configuration) (place id : ℕ) → slice_get (ascending ids) place ≡ Some id → IsSharedSoFar before ids target place now

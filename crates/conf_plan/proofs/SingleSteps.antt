@@ -1,5 +1,6 @@
 -- The steps between two configurations that are not joint.
 use Rattle.std.proofs.Common.{◌≡◌, ℕ, ◌≤◌, Bool, true, false, not, ◌&&◌, ◌||◌, List, length, refl, sym, ap, subst, ◌∙◌, arith}
+use Rattle.std.proofs.Math.Bool.{and-true}
 use Rattle.std.specs.Prelude.{Ok, nat_le}
 use Rattle.std.proofs.lemmas.Bool.{cond_both, cond-true, leb-true, le-leb, not_from_false, and_right}
 use Rattle.quorum_sets.specs.Ids.{Ids, has, is_empty, difference_count}
@@ -18,10 +19,6 @@ use Rattle.conf_plan.specs.Planned.{single_with, moves, single_steps}
 use Rattle.conf_plan.proofs.Moved.{IsSingle, AreWanted, moves-has_wanted}
 
 -- ---- one voter at a time
-and_yes : (b : Bool) → (b && true) ≡ b
-and_yes true = refl
-and_yes false = refl
-
 simple_moves : (c : Configuration) (voters learners : Ids) → IsSingle c → AreWanted voters learners → result_of c (moves c voters learners) ≡ single_with voters learners
 simple_moves c voters learners single wanted =
     let valid = members_from_valid c single.settled.valid in
@@ -29,7 +26,7 @@ simple_moves c voters learners single wanted =
     let out : (q : ℕ) → has c.outgoing q ≡ false = λ q. ap (λ s. has s q) (no_outgoing c single.single) ∙ has-no_ids q in
     same_configuration (result_of c (moves c voters learners)) (single_with voters learners)
     (λ q. ap (λ s. has s q) moved.incoming) (no_outgoing c single.single)
-    (λ q. moved.learners q ∙ ap (λ b. has learners q && not b) (out q) ∙ and_yes (has learners q))
+    (λ q. moved.learners q ∙ ap (λ b. has learners q && not b) (out q) ∙ and-true (has learners q))
     (λ q. moved.next q ∙ ap (λ b. has learners q && b) (out q) ∙ and_right (has learners q) false refl ∙ sym (has-no_ids q))
     (valid.auto_leave single.single)
 

@@ -1,5 +1,6 @@
 -- The plan spares what any run spares.
 use Rattle.std.proofs.Common.{◌≡◌, ℕ, Bool, true, false, not, ◌&&◌, ◌||◌, ◌==◌, ◌↔◌, List, [], ◌∷◌, refl, sym, ap, subst, ◌∙◌, eqb-true}
+use Rattle.std.proofs.Math.Bool.{or-false}
 use Rattle.std.specs.Prelude.{Option, Some, None, IfSome, option_map, filter_map}
 use Rattle.std.specs.List.{cons_option}
 use Rattle.std.proofs.lemmas.Bool.{and_parts, and_from, and_left, and_right, not_from_true, not_from_false}
@@ -80,12 +81,8 @@ moves-remove_no_wanted c voters learners q wanted =
     removes-each (kind_of_move c voters learners) _ q (wanted_kind (has voters q) (has learners q) (has c.incoming q) (has c.learners q) wanted)
 
 -- ---- from a configuration that is not joint
-pub nobody_between : (a b : Bool) → (a || false || b) ≡ (a || b)
-nobody_between true b = refl
-nobody_between false b = refl
-
 is_member-single_with : (voters learners : Ids) (q : ℕ) → is_member (single_with voters learners) q ≡ (has voters q || has learners q)
-is_member-single_with voters learners q = (λ i. has voters q || has-no_ids q i || has learners q) ∙ nobody_between (has voters q) (has learners q)
+is_member-single_with voters learners q = (λ i. has voters q || has-no_ids q i || has learners q) ∙ ap (λ b. b || has learners q) (or-false (has voters q))
 
 single_steps-spare : (c : Configuration) (voters learners : Ids) (q : ℕ) → IsSingle c → AreWanted voters learners → is_member c q ≡ true → (has voters q || has learners q) ≡ true
     → Spares c (single_steps c voters learners) (single_with voters learners) q
