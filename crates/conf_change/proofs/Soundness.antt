@@ -5,8 +5,10 @@ use Rattle.std.specs.FinMap as finite
 use Rattle.std.proofs.lemmas.Bool.{or_cases, and_parts, and_from, or_left, not-true, not-false, true≢false}
 use Rattle.std.proofs.lemmas.List.Folds.{list_any-append}
 use Rattle.quorum_sets.specs.Ids.{has, ascending, is_empty, difference_count}
+use Rattle.quorum_sets.specs.Overlap.{Overlap}
 use Rattle.quorum_sets.specs.Voters.{AreNeighbours}
 use Rattle.quorum_sets.proofs.IdLemmas.{has-ascending, has-no_ids, has-ids_of}
+use Rattle.quorum_sets.proofs.Overlapping.{quorums_meet, quorums_meet_back, committed_before_meets, committed_after_meets}
 use Rattle.conf_change.specs.Configuration.{Configuration, voters_of, is_joint, has_voter, is_valid, is_restorable, is_member}
 use Rattle.conf_change.specs.Change.{names, last_word, is_update, is_incoming_after, is_learner_after, is_next_after, result_of}
 use Rattle.conf_change.specs.Outcome.{outcome, with_outgoing, after_leave}
@@ -38,6 +40,17 @@ outcome-are_neighbours c after (EnterJoint auto_leave changes) e =
 outcome-are_neighbours c after LeaveJoint e =
     let t = leave_taken c after e in
     inr (inr (record { after_single = sym (ap (λ d. d.outgoing) t.made); incoming = sym (ap (λ d. d.incoming) t.made) }))
+
+-- so they overlap
+pub outcome-overlaps : (c after : Configuration) (step : Step) → outcome c step ≡ Ok after → Overlap (voters_of c) (voters_of after)
+outcome-overlaps c after step e =
+    let near = outcome-are_neighbours c after step e in
+    record {
+      quorums = quorums_meet (voters_of c) (voters_of after) near;
+      quorums_back = quorums_meet_back (voters_of c) (voters_of after) near;
+      committed_before = committed_before_meets (voters_of c) (voters_of after) near;
+      committed_after = committed_after_meets (voters_of c) (voters_of after) near;
+    }
 
 -- ---- a voter stays
 has_voter-joint : (c : Configuration) → is_restorable c ≡ true → is_joint c ≡ true → has_voter c ≡ true

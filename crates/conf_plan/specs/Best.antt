@@ -2,7 +2,8 @@
 use Rattle.std.specs.Prelude.{◌≡◌, ◌≢◌, ℕ, ◌≤◌, Bool, true, ◌&&◌, ◌||◌, ◌↔◌, List, [], ◌∷◌, length, sum_by, count_by}
 use Rattle.std.specs.List.{All}
 use Rattle.quorum_sets.specs.Ids.{has}
-use Rattle.conf_change.specs.Configuration.{Configuration, is_member}
+use Rattle.quorum_sets.specs.Overlap.{Overlap}
+use Rattle.conf_change.specs.Configuration.{Configuration, is_member, voters_of}
 use Rattle.conf_change.specs.Change.{names}
 use Rattle.conf_change.specs.Outcome.{after_leave}
 use Rattle.conf_change.specs.Progress.{keeps_progress}
@@ -45,7 +46,7 @@ pub record IsPlain (change : Change) : Type 0 where
   pub named : change.id ≢ 0
   pub no_update : change.kind ≢ Update
 
--- The steps lead to the target. No run there is shorter, spares an id that they do not spare, or names an id in fewer changes; and they spare whoever is a member of both configurations and of what a first leave gives.
+-- The steps lead to the target. No run there is shorter, spares an id that they do not spare, or names an id in fewer changes; they spare whoever is a member of both configurations and of what a first leave gives; and the voters before and after each step overlap.
 pub record IsBest (now : Configuration) (steps : List Step) (target : Configuration) : Type 0 where
   pub run : IsRun now steps target
   pub shortest : (other : List Step) → IsRun now other target → length steps ≤ length other
@@ -53,3 +54,4 @@ pub record IsBest (now : Configuration) (steps : List Step) (target : Configurat
   pub spared : (id : ℕ) → (Spares now steps target id) ↔ ((is_member now id && is_member target id && outlasts_leave now steps id) ≡ true)
   pub fewest : (other : List Step) (id : ℕ) → IsRun now other target → times_named id steps ≤ times_named id other
   pub plain : All (λ step. All IsPlain (changes_of step)) steps
+  pub overlap : IsRunWith (λ before step after. Overlap (voters_of before) (voters_of after)) now steps target
