@@ -5,6 +5,7 @@ use Rattle.std.proofs.lemmas.Bool.{or_cases, or_parts, or_from, or_left, or_righ
 use Rattle.quorum_sets.specs.Ids.{Ids, no_ids, has, ascending, size, is_empty}
 use Rattle.quorum_sets.proofs.IdLemmas.{has-ascending, has-no_ids, ascending-no_ids, same_ids}
 use Rattle.conf_change.specs.Configuration.{Configuration, is_joint, is_within, is_apart, is_valid}
+pub use Rattle.conf_change.specs.Configuration.{ValidByMember}
 
 -- ---- tests of all ids of a set
 all-passed : (test : ℕ → Bool) (xs : List ℕ) → list_all test xs ≡ true → (q : ℕ) → list_any (λ x. q == x) xs ≡ true → test q ≡ true
@@ -46,17 +47,6 @@ pub none_from_is_empty : (s : Ids) → is_empty s ≡ true → (q : ℕ) → has
 none_from_is_empty s e q = ap (λ t. has t q) (no_ids_from_is_empty s e) ∙ has-no_ids q
 
 -- ---- what validity says of each id
-pub record ValidByMember (c : Configuration) : Type 0 where
-  pub zero_incoming : has c.incoming 0 ≡ false
-  pub zero_outgoing : has c.outgoing 0 ≡ false
-  pub zero_learners : has c.learners 0 ≡ false
-  pub zero_next : has c.learners_next 0 ≡ false
-  pub next_outgoing : (q : ℕ) → has c.learners_next q ≡ true → has c.outgoing q ≡ true
-  pub next_incoming : (q : ℕ) → has c.learners_next q ≡ true → has c.incoming q ≡ false
-  pub learner_incoming : (q : ℕ) → has c.learners q ≡ true → has c.incoming q ≡ false
-  pub learner_outgoing : (q : ℕ) → has c.learners q ≡ true → has c.outgoing q ≡ false
-  pub auto_leave : is_joint c ≡ false → c.auto_leave ≡ false
-
 within_members : (a b : Ids) → is_within a b ≡ true → (q : ℕ) → has a q ≡ true → has b q ≡ true
 within_members a b e = member_passes (has b) a e
 

@@ -1,5 +1,5 @@
 -- A configuration: who votes, who learns, and what is wrong with one that is not valid.
-use Rattle.std.specs.Prelude.{ℕ, Bool, false, not, ◌&&◌, ◌||◌, List, [], ◌∷◌, ◌++◌, Option, find, nat_eq}
+use Rattle.std.specs.Prelude.{◌≡◌, ℕ, Bool, true, false, not, ◌&&◌, ◌||◌, List, [], ◌∷◌, ◌++◌, Option, find, nat_eq}
 use Rattle.std.specs.Bool.{beq}
 use Rattle.std.specs.List.{list_all}
 use Rattle.quorum_sets.specs.Ids.{Ids, no_ids, has, ascending, is_empty, difference_count}
@@ -67,6 +67,18 @@ first_broken c = find (λ invariant. not (keeps c invariant)) invariants
 -- no invariant is broken
 abbrev pub is_valid : Configuration → Bool
 is_valid c = list_all (keeps c) invariants
+
+-- what is true of each id of a valid configuration
+pub record ValidByMember (c : Configuration) : Type 0 where
+  pub zero_incoming : has c.incoming 0 ≡ false
+  pub zero_outgoing : has c.outgoing 0 ≡ false
+  pub zero_learners : has c.learners 0 ≡ false
+  pub zero_next : has c.learners_next 0 ≡ false
+  pub next_outgoing : (q : ℕ) → has c.learners_next q ≡ true → has c.outgoing q ≡ true
+  pub next_incoming : (q : ℕ) → has c.learners_next q ≡ true → has c.incoming q ≡ false
+  pub learner_incoming : (q : ℕ) → has c.learners q ≡ true → has c.incoming q ≡ false
+  pub learner_outgoing : (q : ℕ) → has c.learners q ≡ true → has c.outgoing q ≡ false
+  pub auto_leave : is_joint c ≡ false → c.auto_leave ≡ false
 
 -- it has an incoming voter, or nobody is in it
 abbrev pub has_voter_or_nobody : Configuration → Bool

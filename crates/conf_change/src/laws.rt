@@ -1,6 +1,10 @@
 //! Laws of this crate's definitions, each the contract of a function that does nothing.
 ghost use Rattle.std.specs.Prelude.{◌≡◌, ◌↔◌, ℕ, List, Ok, Err, Some, true};
+ghost use Rattle.quorum_sets.specs.Ids.{has};
+ghost use Rattle.quorum_sets.specs.Voters.{AreNeighbours};
 ghost use Rattle.conf_change.specs.declared.change.Change.{Change};
+ghost use Rattle.conf_change.specs.Change.{last_word, is_incoming_after, is_learner_after, is_next_after, result_of};
+ghost use Rattle.conf_change.specs.Configuration.{ValidByMember, is_valid, voters_of};
 ghost use Rattle.conf_change.specs.Words.{words};
 ghost use Rattle.conf_change.specs.ChangeList.{StandsFor, BadToken, IsFirstBad, changes_in};
 ghost use Rattle.conf_change.specs.declared.refused.Refused.{Refused};
@@ -53,4 +57,24 @@ pub fn one_changer_after_a_step()
 /// The test whether two configurations are the same is equality.
 pub fn same_is_equality()
     ensures { (a b : Configuration) → (is_same a b ≡ true) ↔ (a ≡ b) }
+{}
+
+/// A configuration is valid exactly where all this is true of each id.
+pub fn valid_by_member()
+    ensures { (c : Configuration) → (is_valid c ≡ true) ↔ ValidByMember c }
+{}
+
+/// In what a list of changes makes of a configuration, each id goes by the last word on it.
+pub fn result_by_member()
+    ensures incoming { (c : Configuration) (changes : List Change) (id : ℕ)
+        → has (result_of c changes).incoming id ≡ is_incoming_after (last_word changes id) (has c.incoming id) }
+    ensures learners { (c : Configuration) (changes : List Change) (id : ℕ)
+        → has (result_of c changes).learners id ≡ is_learner_after (last_word changes id) (has c.outgoing id) (has c.learners id) }
+    ensures learners_next { (c : Configuration) (changes : List Change) (id : ℕ)
+        → has (result_of c changes).learners_next id ≡ is_next_after (last_word changes id) (has c.outgoing id) (has c.learners_next id) }
+{}
+
+/// The voters before and after an accepted step are neighbours.
+pub fn steps_lead_to_neighbours()
+    ensures { (before after : Configuration) (step : Step) → outcome before step ≡ Ok after → AreNeighbours (voters_of before) (voters_of after) }
 {}
