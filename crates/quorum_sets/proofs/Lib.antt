@@ -9,3 +9,4 @@ pub mod Rows
 pub mod RankingLemmas
 pub mod UnionLemmas
 pub mod Overlapping
+pub mod CommonWalk

@@ -1,7 +1,7 @@
 -- What two pairs of voter sets share while one gives way to the other.
-use Rattle.std.specs.Prelude.{◌≡◌, ℕ, ◌≤◌, false, IsTrue}
+use Rattle.std.specs.Prelude.{◌≡◌, ℕ, ◌≤◌, false, IsTrue, Option, IsSome, IfSome, IfNone, OnSome}
 use Rattle.quorum_sets.specs.Ids.{Ids, has, is_empty}
-use Rattle.quorum_sets.specs.Voters.{Voters, is_quorum}
+use Rattle.quorum_sets.specs.Voters.{Voters, is_quorum, AreNeighbours}
 use Rattle.quorum_sets.specs.Committed.{Acks, acked_index, joint_committed_index}
 use Rattle.quorum_sets.specs.Votes.{Votes, is_yes, joint_vote_result}
 use Rattle.quorum_sets.specs.declared.voting.VoteResult.TheVariants.{VoteWon}
@@ -29,6 +29,13 @@ QuorumsMeet before after = (first second : Ids) → AreQuorums before after firs
 pub record CarriesOn (acks : Acks) (votes : Votes) (index id : ℕ) : Type 0 where
   pub acknowledged : index ≤ acked_index acks id
   pub voted : IsTrue (is_yes votes id)
+
+-- the answer is the least id of both sets where they are quorums, and none where they are not or have no id in common; quorums of neighbours have one
+pub record IsSharedMember (before after : Voters) (first second : Ids) (answer : Option ℕ) : Type 0 where
+  pub quorums : OnSome answer (AreQuorums before after first second)
+  pub least : IfSome answer (IsLeastCommon first second)
+  pub none : IfNone answer (AreQuorums before after first second → (id : ℕ) → ¬ IsCommon first second id)
+  pub neighbours : AreNeighbours before after → AreQuorums before after first second → IsSome answer
 
 -- there are voters in both pairs; the first has committed the index, and the vote of the second is won
 pub record CommitsAndWins (one other : Voters) (acks : Acks) (votes : Votes) (index : ℕ) : Type 0 where

@@ -1,7 +1,7 @@
 //! Sets of ids, and the worked values of quorums, committed indexes, votes and differences.
 use quorum_sets::{
-    AckSource, MemberSet, NoMemory, TreeIds, VoteResult, chart, committed, is_quorum, joint_chart,
-    joint_committed, joint_vote, quorum, symdiff, vote,
+    AckSource, MemberSet, NoMemory, TreeIds, VoteResult, chart, committed, common_member,
+    is_quorum, joint_chart, joint_committed, joint_vote, quorum, symdiff, vote,
 };
 use std::alloc::Global;
 use std::collections::BTreeMap;
@@ -65,6 +65,71 @@ fn quorums(rt: HostRuntime) -> Result<(), Fail> {
     for (incoming, outgoing, ids, wanted) in &QUORUMS {
         let found = has_quorum(rt.alloc(), *incoming, *outgoing, *ids)?;
         assert_eq!(rt; found, *wanted, "{ids:?} of {incoming:?} and {outgoing:?}");
+    }
+    Ok(())
+}
+
+// The voters of one pair, those of another, a set for each, and the least id that both have where both are quorums.
+struct Sharing {
+    before: (&'static [u64], &'static [u64]),
+    after: (&'static [u64], &'static [u64]),
+    first: &'static [u64],
+    second: &'static [u64],
+    least: Option<u64>,
+}
+
+static SHARED: [Sharing; 4] = [
+    Sharing {
+        before: (&[1, 2, 3], &[]),
+        after: (&[1, 2, 3, 4], &[]),
+        first: &[1, 2],
+        second: &[2, 3, 4],
+        least: Some(2),
+    },
+    Sharing {
+        before: (&[1, 2, 3], &[]),
+        after: (&[1, 2, 3, 4], &[]),
+        first: &[1],
+        second: &[2, 3, 4],
+        least: None,
+    },
+    Sharing {
+        before: (&[3], &[1]),
+        after: (&[1], &[]),
+        first: &[1, 3],
+        second: &[1],
+        least: Some(1),
+    },
+    Sharing {
+        before: (&[1], &[]),
+        after: (&[2], &[]),
+        first: &[1],
+        second: &[2],
+        least: None,
+    },
+];
+
+fn shared_member(alloc: Global, row: &Sharing) -> Result<Option<u64>, NoMemory> {
+    let before = (set_of(alloc, row.before.0)?, set_of(alloc, row.before.1)?);
+    let after = (set_of(alloc, row.after.0)?, set_of(alloc, row.after.1)?);
+    let first = set_of(alloc, row.first)?;
+    let second = set_of(alloc, row.second)?;
+    Ok(common_member(
+        (&before.0, &before.1),
+        (&after.0, &after.1),
+        &first,
+        &second,
+    ))
+}
+
+#[test]
+fn common_members(rt: HostRuntime) -> Result<(), Fail> {
+    for (number, row) in SHARED.iter().enumerate() {
+        assert_eq!(rt;
+            shared_member(rt.alloc(), row)?,
+            row.least,
+            "of row {number}"
+        );
     }
     Ok(())
 }

@@ -1,0 +1,49 @@
+//! What two quorums share.
+ghost use Rattle.std.specs.Prelude.{◌≡◌, ℕ, IfSome, IfNone};
+ghost use Rattle.quorum_sets.specs.Voters.{pair};
+ghost use Rattle.quorum_sets.specs.Overlap.{IsCommon, IsLeastCommon, IsSharedMember};
+
+use crate::majority::is_quorum;
+use crate::member_set::MemberSet;
+
+/// The least id in both sets, where the first is a quorum of the pair of incoming and outgoing voters `before` and the
+/// second a quorum of the pair `after`; else `None`. Where the pairs are neighbours there is one (own; that quorums
+/// overlap is from Ongaro's dissertation, 4.1 and 4.3).
+pub fn common_member<S: MemberSet>(
+    before: (&S, &S),
+    after: (&S, &S),
+    first: &S,
+    second: &S,
+) -> Option<u64>
+    ensures { let was = pair (S.ids before.entry.0.now) (S.ids before.entry.1.now) in
+        let is = pair (S.ids after.entry.0.now) (S.ids after.entry.1.now) in
+        IsSharedMember was is (S.ids first.now) (S.ids second.now) result }
+{
+    if is_quorum(before, first) && is_quorum(after, second) {
+        least_common(first, second)
+    } else {
+        None
+    }
+}
+
+// The least id in both sets, found in one walk in ascending order.
+fn least_common<S: MemberSet>(a: &S, b: &S) -> Option<u64>
+    ensures least { IfSome result (IsLeastCommon (S.ids a.now) (S.ids b.now)) }
+    ensures none { IfNone result ((id : ℕ) → ¬ IsCommon (S.ids a.now) (S.ids b.now) id) }
+{
+    let mut place = 0;
+    let mut other_place = 0;
+    while place < a.len() && other_place < b.len() {
+        let id = a.at(place);
+        let other = b.at(other_place);
+        if id == other {
+            return id;
+        }
+        if id < other {
+            place += 1;
+        } else {
+            other_place += 1;
+        }
+    }
+    None
+}
