@@ -10,8 +10,8 @@ ghost use Rattle.conf_change.specs.ChangeList.{StandsFor, BadToken, IsFirstBad, 
 ghost use Rattle.conf_change.specs.declared.refused.Refused.{Refused};
 ghost use Rattle.conf_change.specs.declared.step.Step.{Step};
 ghost use Rattle.conf_change.specs.Outcome.{outcome};
-ghost use Rattle.conf_change.specs.Changer.{ChangerState, Accepts, changer_after};
-ghost use Rattle.conf_change.specs.Configuration.{Configuration, is_restorable, is_same};
+ghost use Rattle.conf_change.specs.Changer.{ChangerState, Accepts, IsSound, begun_with, changer_after, moved_to};
+ghost use Rattle.conf_change.specs.Configuration.{Configuration, has_voter, is_restorable, is_same};
 ghost use Rattle.conf_change.specs.ConfState.{ConfStateLists, Describes, is_same_form, lists_of, restored};
 ghost use Rattle.conf_change.specs.ConfStateLine.{StandsForConfState, conf_state_in};
 
@@ -52,6 +52,16 @@ pub fn equal_conf_states_are_the_same()
 pub fn one_changer_after_a_step()
     ensures ok { (before after : ChangerState) (step : Step) → (Accepts before step after) ↔ (changer_after before step ≡ Ok after) }
     ensures err { (before : ChangerState) (step : Step) (why : Refused) → (outcome before.tracker.config step ≡ Err why) ↔ (changer_after before step ≡ Err why) }
+{}
+
+/// An accepted step leads from a sound tracker to a sound one, and from a configuration that can be restored to one with
+/// an incoming voter that can be restored. What begins with such a configuration is sound.
+pub fn trackers_stay_sound()
+    ensures step { (before : ChangerState) (step : Step) (after : Configuration) → IsSound before.tracker → outcome before.tracker.config step ≡ Ok after
+        → IsSound (moved_to before step after).tracker }
+    ensures restorable { (before after : Configuration) (step : Step) → is_restorable before ≡ true → outcome before step ≡ Ok after → is_restorable after ≡ true }
+    ensures voter { (before after : Configuration) (step : Step) → is_restorable before ≡ true → outcome before step ≡ Ok after → has_voter after ≡ true }
+    ensures begun { (last_index : ℕ) (c : Configuration) → is_restorable c ≡ true → IsSound (begun_with last_index c).tracker }
 {}
 
 /// The test whether two configurations are the same is equality.

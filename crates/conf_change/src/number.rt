@@ -2,8 +2,9 @@
 ghost use Rattle.std.specs.Prelude.{◌≡◌};
 ghost use Rattle.conf_change.specs.Number.{number_in};
 
-// The number that the bytes spell: one or more decimal digits, leading zeros allowed, below 2 ^ 64.
-pub(crate) fn read_number(digits: &[u8]) -> Option<u64>
+/// The number that the bytes spell: one or more decimal digits, leading zeros allowed, below 2^64. Anything else spells
+/// none (own).
+pub fn read_number(digits: &[u8]) -> Option<u64>
     ensures { result ≡ number_in digits.now }
 {
     if digits.is_empty() {
