@@ -1,30 +1,31 @@
 -- What a step on a copy, or a saved form, gives as the reply of a command.
 use Rattle.std.proofs.Common.{◌≡◌, ◌≢◌, ℕ, zero, suc, ◌+◌, true, false, List, [], ◌∷◌, ◌++◌, length, take, refl, sym, ap, ◌∙◌, subst, add-one}
-use Rattle.std.specs.Prelude.{◌==◌, Option, Some, None, unwrap_or, Result, Ok, Err, IfOk, MatchResult, flat_map, slice_get}
+use Rattle.std.specs.Prelude.{◌==◌, Option, Some, None, unwrap_or, Result, Ok, Err, IfOk, MatchResult, OnOk, flat_map, slice_get}
 use Rattle.std.proofs.lemmas.Bool.{eqb-true}
 use Rattle.std.proofs.lemmas.List.{nil_from_length, append_assoc, append-nil}
 use Rattle.conf_change.specs.Configuration.{Configuration}
 use Rattle.conf_change.specs.ConfState.{ConfStateLists, restored}
 use Rattle.conf_change.specs.declared.change.Change.{Change}
-use Rattle.conf_change.specs.Text.{refused_text, progress_text}
-use Rattle.conf_change.specs.Changer.{ChangerState, Makes, with_last_index}
+use Rattle.conf_change.specs.Text.{refused_text, config_text, progress_text}
+use Rattle.conf_change.specs.TrackerState.{TrackerState}
+use Rattle.dd_file.specs.Bytes.{newline}
+use Rattle.conf_change.specs.Changer.{ChangerState, GivesNext, moved_by}
 use Rattle.conf_change.specs.declared.progress.Progress.{Progress}
 use Rattle.conf_change.specs.declared.refused.Refused.{Refused}
 use Rattle.conf_change.specs.declared.refused.Refused.TheVariants.{NoMemory}
 use Rattle.conf_change.specs.declared.step.Step.{Step}
 use Rattle.conf_change.specs.declared.step.Step.TheVariants.{LeaveJoint}
-use Rattle.conf_tool.specs.SessionState.{SessionState, index_after}
-use Rattle.conf_tool.specs.Texts.{line, member_line}
+use Rattle.conf_tool.specs.Texts.{line, member_line, member_lines, tracker_text}
 use Rattle.conf_tool.specs.Told.{CanStand}
-use Rattle.conf_tool.specs.Reply.{Reply, told, changed}
-use Rattle.conf_tool.specs.Commands.{no_input_text, with_no_input, after_outcome, on_step, leave_with, answered}
+use Rattle.conf_tool.specs.Reply.{Reply, told, stepped}
+use Rattle.conf_tool.specs.Commands.{no_input_text, with_no_input, after_step, on_step, leave_with}
 
--- the reply after a step that was made on a copy
-pub step_reply : (before : ChangerState) (step : Step) (made : Result (Unit {0}) Refused) (after : ChangerState) (reply : Reply) → Makes before step made after →
-    MatchResult made (λ _. reply ≡ changed after) (λ refused. (refused ≢ NoMemory) × (reply ≡ told (refused_text refused))) → reply ≡ on_step before step
-step_reply before step (Ok u) after reply makes h =
-    h ∙ ap changed makes.accepted.whole ∙ sym (ap (after_outcome before step) makes.accepted.configuration)
-step_reply before step (Err refused) after reply makes h = h.1 ∙ sym (ap (after_outcome before step) (makes.refused h.0))
+-- the reply after a step
+pub step_reply : (before : ChangerState) (step : Step) (made : Result ChangerState Refused) (reply : Reply) → GivesNext before step made →
+    MatchResult made (λ after. reply ≡ stepped after) (λ refused. (refused ≢ NoMemory) × (reply ≡ told (refused_text refused))) → reply ≡ on_step before step
+step_reply before step (Ok after) reply gives h =
+    h ∙ ap stepped gives.accepted.whole ∙ sym (ap (λ o. after_step (moved_by before step o)) gives.accepted.configuration)
+step_reply before step (Err refused) reply gives h = h.1 ∙ sym (ap (λ o. after_step (moved_by before step o)) (gives.refused h.0))
 
 pub leave-none : (before : ChangerState) (changes : List Change) → (length changes == 0) ≡ true → leave_with before changes ≡ on_step before LeaveJoint
 leave-none before changes e = ap (leave_with before) (nil_from_length changes (eqb-true (length changes) 0 e))
@@ -56,19 +57,11 @@ same-reply (Ok reply) a b e h = h ∙ e
 same-reply (Err fault) a b e h = tt
 
 -- the same of the reply to a step
-pub same-step : {E : Type 0} (r : Result Reply E) (before : ChangerState) (step : Step) (made : Result (Unit {0}) Refused) (after : ChangerState) (whole : Reply) → Makes before step made after →
+pub same-step : {E : Type 0} (r : Result Reply E) (before : ChangerState) (step : Step) (made : Result ChangerState Refused) (whole : Reply) → GivesNext before step made →
     on_step before step ≡ whole →
-    IfOk r (λ reply. MatchResult made (λ _. reply ≡ changed after) (λ refused. (refused ≢ NoMemory) × (reply ≡ told (refused_text refused)))) → IfOk r (λ reply. reply ≡ whole)
-same-step (Ok reply) before step made after whole makes e h = step_reply before step made after reply makes h ∙ e
-same-step (Err fault) before step made after whole makes e h = tt
-
--- the session after a directive, from its parts
-pub stepped : (before : SessionState) (reply : Reply) (changer after : ChangerState) (history index : ℕ) → changer ≡ unwrap_or reply.changer before.changer → history ≡ before.history →
-    after ≡ with_last_index changer index → index ≡ index_after changer.last_index →
-    let session : SessionState = record { changer = after; history = history } in session ≡ (answered before reply).session
-stepped before reply changer after history index ec eh ea ei =
-    let session : ChangerState → ℕ → SessionState = λ c h. record { changer = c; history = h } in
-    ap (session after) eh ∙ ap (λ c. session c before.history) (ea ∙ ap (with_last_index changer) ei ∙ ap (λ c. with_last_index c (index_after c.last_index)) ec)
+    IfOk r (λ reply. MatchResult made (λ after. reply ≡ stepped after) (λ refused. (refused ≢ NoMemory) × (reply ≡ told (refused_text refused)))) → IfOk r (λ reply. reply ≡ whole)
+same-step (Ok reply) before step made whole gives e h = step_reply before step made reply gives h ∙ e
+same-step (Err fault) before step made whole gives e h = tt
 
 -- one member more is told
 pub members_more : (old now new : List ℕ) (members : List (ℕ × Progress)) (i id : ℕ) (p : Progress) → slice_get members i ≡ Some (id, p) → now ≡ old ++ flat_map member_line (take i members) →
@@ -81,3 +74,13 @@ members_more old now new members i id p at so_far more =
 pub reply-stands : {E : Type 0} (r : Result Reply E) {a b : Reply} → a ≡ b → CanStand b.found → IfOk r (λ reply. reply ≡ a) → IfOk r (λ reply. CanStand reply.found)
 reply-stands (Ok reply) e stands h = let P : Reply → Type 0 = λ x. CanStand x.found in subst P (sym (h ∙ e)) stands
 reply-stands (Err fault) e stands h = tt
+
+-- a configuration, a newline and the members behind a text
+pub tracker-appended : {E : Type 0} (r : Result (Unit {0}) E) (old one two new : List ℕ) (tracker : TrackerState) (config : Configuration) → config ≡ tracker.config →
+    one ≡ old ++ config_text config → two ≡ one ++ newline → OnOk r (new ≡ two ++ member_lines tracker) → OnOk r (new ≡ old ++ tracker_text tracker)
+tracker-appended (Ok u) old one two new tracker config same first second third =
+    let text = config_text tracker.config in
+    let members = member_lines tracker in
+    let begun : one ≡ old ++ text = first ∙ ap (λ c. old ++ config_text c) same in
+    third ∙ ap (λ t. t ++ members) (second ∙ ap (λ t. t ++ newline) begun ∙ append_assoc old text newline) ∙ append_assoc old (text ++ newline) members
+tracker-appended (Err fault) old one two new tracker config same first second third = tt

@@ -14,4 +14,5 @@ pub mod ToldReplies
 pub mod WhiteEnds
 pub mod InputLines
 pub mod SameAnswer
+pub mod Kept
 pub mod RewrittenClean

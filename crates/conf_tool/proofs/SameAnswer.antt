@@ -8,7 +8,6 @@ use Rattle.dd_file.specs.Lines.{line_of}
 use Rattle.dd_file.specs.Words.{ArgumentText}
 use Rattle.dd_file.specs.Laws.{IsSameDirective}
 use Rattle.dd_file.proofs.Pieces.{pieces-first}
-use Rattle.conf_change.specs.ChangerState.{ChangerState}
 use Rattle.conf_change.specs.Words.{words, trimmed}
 use Rattle.conf_change.specs.ChangeList.{changes_in, changes_in_words}
 use Rattle.conf_change.specs.ConfState.{ConfStateLists}
@@ -19,7 +18,7 @@ use Rattle.conf_tool.specs.SessionState.{SessionState}
 use Rattle.conf_tool.specs.Reply.{Reply, told}
 use Rattle.conf_tool.specs.Commands.{command_in, with_changes, with_no_input, on_step, enter_with, leave_with, restore_with, reply_of, reply_to, answered, answer}
 use Rattle.conf_tool.specs.declared.commands.Command.{Command}
-use Rattle.conf_tool.specs.declared.commands.Command.TheVariants.{Simple, EnterJoint, LeaveJoint, ConfState, Restore, Unknown}
+use Rattle.conf_tool.specs.declared.commands.Command.TheVariants.{Simple, EnterJoint, LeaveJoint, ConfState, Restore, Undo, Unknown}
 use Rattle.conf_tool.specs.Told.{is_line_byte}
 use Rattle.conf_tool.proofs.ToldLines.{saved-bytes}
 use Rattle.conf_tool.proofs.InputLines.{IsOneLine, has_one, first_line, ends_of, words-told, trimmed-told}
@@ -51,20 +50,21 @@ no_input-same reply [] (b ∷ other) same = absurd (some-line b other same)
 no_input-same reply (b ∷ input) [] same = absurd (some-line b input (sym same))
 no_input-same reply (b ∷ input) (c ∷ other) same = refl
 
-command-same : (command : Command) (changer : ChangerState) (input other : List ℕ) (arguments : List ArgumentText) → ends_of input ≡ ends_of other → reply_of command changer input arguments ≡ reply_of command changer other arguments
-command-same Simple changer input other arguments same = ap (with_changes (λ changes. on_step changer (SimpleStep changes))) (changes-same input other same)
-command-same EnterJoint changer input other arguments same = ap (with_changes (enter_with changer arguments)) (changes-same input other same)
-command-same LeaveJoint changer input other arguments same = ap (with_changes (leave_with changer)) (changes-same input other same)
-command-same ConfState changer input other arguments same = no_input-same _ input other same
-command-same Restore changer input other arguments same = ap (restore_with changer arguments) (conf_state-same input other same)
-command-same Unknown changer input other arguments same = ap (with_changes (λ changes. told (codes "unknown command"))) (changes-same input other same)
+command-same : (command : Command) (session : SessionState) (input other : List ℕ) (arguments : List ArgumentText) → ends_of input ≡ ends_of other → reply_of command session input arguments ≡ reply_of command session other arguments
+command-same Simple session input other arguments same = ap (with_changes (λ changes. on_step session.changer (SimpleStep changes))) (changes-same input other same)
+command-same EnterJoint session input other arguments same = ap (with_changes (enter_with session.changer arguments)) (changes-same input other same)
+command-same LeaveJoint session input other arguments same = ap (with_changes (leave_with session.changer)) (changes-same input other same)
+command-same ConfState session input other arguments same = no_input-same _ input other same
+command-same Restore session input other arguments same = ap (restore_with session.changer arguments) (conf_state-same input other same)
+command-same Undo session input other arguments same = no_input-same _ input other same
+command-same Unknown session input other arguments same = ap (with_changes (λ changes. told (codes "unknown command"))) (changes-same input other same)
 
-reply-same : (changer : ChangerState) (again directive : DirectiveText) → again.command ≡ directive.command → again.arguments ≡ directive.arguments → ends_of again.input ≡ ends_of directive.input →
-    reply_to changer again ≡ reply_to changer directive
-reply-same changer again directive command arguments input =
-    ap (λ name. reply_of (command_in name) changer again.input again.arguments) command
-    ∙ ap (reply_of (command_in directive.command) changer again.input) arguments
-    ∙ command-same (command_in directive.command) changer again.input directive.input directive.arguments input
+reply-same : (session : SessionState) (again directive : DirectiveText) → again.command ≡ directive.command → again.arguments ≡ directive.arguments → ends_of again.input ≡ ends_of directive.input →
+    reply_to session again ≡ reply_to session directive
+reply-same session again directive command arguments input =
+    ap (λ name. reply_of (command_in name) session again.input again.arguments) command
+    ∙ ap (reply_of (command_in directive.command) session again.input) arguments
+    ∙ command-same (command_in directive.command) session again.input directive.input directive.arguments input
 
 pub same-answer : (n : ℕ) (found : List ℕ) (directive again : DirectiveText) (session : SessionState) → IsSameDirective n found directive again → answer session again ≡ answer session directive
-same-answer n found directive again session same = ap (answered session) (reply-same session.changer again directive same.command same.arguments same.input)
+same-answer n found directive again session same = ap (answered session) (reply-same session again directive same.command same.arguments same.input)

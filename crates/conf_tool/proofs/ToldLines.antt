@@ -1,11 +1,11 @@
 -- Which texts are told lines.
-use Rattle.std.proofs.Common.{◌≡◌, ℕ, zero, suc, ◌/◌, ◌%◌, ◌≤◌, Bool, true, false, cond, not, ◌&&◌, List, [], ◌∷◌, ◌++◌, map, refl, sym, ap, ◌∙◌, arith}
+use Rattle.std.proofs.Common.{◌≡◌, ℕ, zero, suc, ◌/◌, ◌%◌, ◌≤◌, Bool, true, false, cond, not, ◌&&◌, List, [], ◌∷◌, ◌++◌, length, map, refl, sym, ap, ◌∙◌, arith}
 use Rattle.std.specs.Prelude.{◌==◌, ◌||◌, nat_le, codes, decimal, flat_map}
 use Rattle.std.specs.List.{AllZip, list_all, list_any, join_with_byte}
 use Rattle.std.specs.Fmt.{digit_glyph, digits_onto, digits}
 use Rattle.std.specs.FinMap as finite
 use Rattle.std.specs.Str.Parse.{AllDigits}
-use Rattle.std.proofs.lemmas.List.{append-nil}
+use Rattle.std.proofs.lemmas.List.{append_assoc, append-nil, length-append}
 use Rattle.std.proofs.lemmas.Bool.Decides.{nat_tests}
 use Rattle.std.proofs.lemmas.Slice.Eq.{bytes_eq-Decides}
 use Rattle.std.proofs.lemmas.Str.Parse.{digit_at}
@@ -23,6 +23,16 @@ use Rattle.conf_change.specs.ConfStateLine.{truth_text, line_text, conf_state_te
 use Rattle.conf_change.specs.declared.progress.Progress.{Progress}
 use Rattle.conf_change.specs.declared.refused.Refused.{Refused}
 use Rattle.conf_change.specs.declared.refused.Refused.TheVariants.{AlreadyJoint, ZeroVoterJoint, NotJoint, SimpleInJoint, RemovedAllVoters, MoreThanOneVoter, NoMemory}
+use Rattle.conf_change.specs.ChangeList.{letter_of}
+use Rattle.conf_change.specs.declared.change.Change.{Change}
+use Rattle.conf_change.specs.declared.change.Kind.{Kind}
+use Rattle.conf_change.specs.declared.change.Kind.TheVariants.{Voter, Learner, Remove, Update}
+use Rattle.conf_change.specs.declared.step.Step.{Step}
+use Rattle.conf_change.specs.declared.step.Step.TheVariants.{Simple, EnterJoint, LeaveJoint}
+use Rattle.conf_plan.specs.PlanText.{change_text, flag_word, line_and_newline, plan_text, line_text as step_text}
+use Rattle.conf_tool.specs.Undo.{undo_fault_text}
+use Rattle.conf_tool.specs.declared.undo_fault.UndoFault.{UndoFault}
+use Rattle.conf_tool.specs.declared.undo_fault.UndoFault.TheVariants.{NotKept, NoVoterTarget, NoMemory as NoMemoryToUndo}
 use Rattle.conf_tool.specs.Texts.{line, member_line, tracker_text}
 use Rattle.conf_tool.specs.Told.{is_line_byte, is_told_line, IsTold}
 
@@ -204,6 +214,11 @@ refused-told RemovedAllVoters = refl
 refused-told MoreThanOneVoter = refl
 refused-told NoMemory = refl
 
+pub undo_fault-told : (fault : UndoFault) → is_told_line (undo_fault_text fault) ≡ true
+undo_fault-told (NotKept kept) = told (starts (codes "no plan: ") refl refl ▸ number kept ▸ goes (codes " earlier configurations are kept") refl)
+undo_fault-told NoVoterTarget = refl
+undo_fault-told NoMemoryToUndo = refl
+
 truth-bytes : (truth : Bool) → IsBytes (truth_text truth)
 truth-bytes true = refl
 truth-bytes false = refl
@@ -264,3 +279,69 @@ tracker-told tracker =
       whole = ap (λ rest. line (config_text tracker.config) ++ rest) (members-whole members);
       told = both _ _ (config-told tracker.config) (members-told members);
     }
+
+-- one text behind another
+texts-append : (xs ys : List (List ℕ)) → text_of xs ++ text_of ys ≡ text_of (xs ++ ys)
+texts-append [] ys = refl
+texts-append (x ∷ xs) ys = append_assoc (line x) (text_of xs) (text_of ys) ∙ ap (λ rest. line x ++ rest) (texts-append xs ys)
+
+pub told-after : (a b : List ℕ) → IsTold a → IsTold b → IsTold (a ++ b)
+told-after a b h k = record {
+  lines = h.lines ++ k.lines;
+  some = let n = length-append h.lines k.lines in let some = h.some in omega arith;
+  whole = ap (λ text. text ++ b) h.whole ∙ ap (λ text. text_of h.lines ++ text) k.whole ∙ texts-append h.lines k.lines;
+  told = all-append is_told_line h.lines k.lines h.told k.told;
+}
+
+-- ---- the lines of a plan
+kind-bytes : (kind : Kind) → IsBytes (letter_of kind ∷ [])
+kind-bytes Voter = refl
+kind-bytes Learner = refl
+kind-bytes Remove = refl
+kind-bytes Update = refl
+
+change-bytes : (change : Change) → IsBytes (change_text change)
+change-bytes change = all-append is_line_byte (letter_of change.kind ∷ []) (decimal change.id) (kind-bytes change.kind) (decimal-bytes change.id)
+
+-- words with one space between
+spaced-words : (words : List (List ℕ)) → list_all (λ word. list_all is_line_byte word) words ≡ true → IsBytes (join_with_byte 32 words)
+spaced-words [] h = refl
+spaced-words (word ∷ []) h = first _ _ h
+spaced-words (word ∷ next ∷ words) h = all-append is_line_byte word (32 ∷ join_with_byte 32 (next ∷ words)) (first _ _ h) (spaced-words (next ∷ words) (second _ _ h))
+
+changes-words : (changes : List Change) → list_all (λ word. list_all is_line_byte word) (map change_text changes) ≡ true
+changes-words [] = refl
+changes-words (change ∷ changes) = both _ _ (change-bytes change) (changes-words changes)
+
+-- a word, and others behind it
+words-line : (word : List ℕ) (words : List (List ℕ)) → IsLine word → list_all (λ w. list_all is_line_byte w) words ≡ true → IsLine (join_with_byte 32 (word ∷ words))
+words-line word [] h k = h
+words-line word (next ∷ words) h k = h ▸ goes (32 ∷ join_with_byte 32 (next ∷ words)) (spaced-words (next ∷ words) k)
+
+flag-bytes : (auto_leave : Bool) → IsBytes (flag_word auto_leave)
+flag-bytes true = refl
+flag-bytes false = refl
+
+step-line : (step : Step) → IsLine (step_text step)
+step-line (Simple changes) = words-line (codes "simple") (map change_text changes) (starts (codes "simple") refl refl) (changes-words changes)
+step-line (EnterJoint auto_leave changes) =
+    words-line (codes "enter-joint") (flag_word auto_leave ∷ map change_text changes) (starts (codes "enter-joint") refl refl)
+    (both _ _ (flag-bytes auto_leave) (changes-words changes))
+step-line LeaveJoint = words-line (codes "leave-joint") [] (starts (codes "leave-joint") refl refl) refl
+
+step-lines : (steps : List Step) → list_all is_told_line (map step_text steps) ≡ true
+step-lines [] = refl
+step-lines (step ∷ steps) = both _ _ (told (step-line step)) (step-lines steps)
+
+steps-whole : (steps : List Step) → flat_map line_and_newline steps ≡ text_of (map step_text steps)
+steps-whole [] = refl
+steps-whole (step ∷ steps) = ap (λ rest. line_and_newline step ++ rest) (steps-whole steps)
+
+pub plan-told : (steps : List Step) → IsTold (plan_text steps)
+plan-told [] = line-told (codes "nothing to do") refl
+plan-told (step ∷ steps) = record {
+  lines = step_text step ∷ map step_text steps;
+  some = omega arith;
+  whole = steps-whole (step ∷ steps);
+  told = step-lines (step ∷ steps);
+}

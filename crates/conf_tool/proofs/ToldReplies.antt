@@ -9,28 +9,31 @@ use Rattle.dd_file.specs.DirectiveText.{DirectiveText}
 use Rattle.dd_file.specs.Words.{ArgumentText, is_key, is_key_byte}
 use Rattle.conf_change.specs.ChangerState.{ChangerState}
 use Rattle.conf_change.specs.Configuration.{Configuration}
-use Rattle.conf_change.specs.Outcome.{Outcome, outcome}
 use Rattle.conf_change.specs.Words.{is_white, has_bytes, words}
 use Rattle.conf_change.specs.ChangeList.{BadToken, unknown_token, unknown_input, bad_number, token_of, IsFirstBad, changes_in}
 use Rattle.conf_change.specs.ConfState.{ConfStateLists, lists_of, restored}
 use Rattle.conf_change.specs.ConfStateLine.{conf_state_in, conf_state_text}
 use Rattle.conf_change.specs.Text.{refused_text}
-use Rattle.conf_change.specs.Changer.{moved_to, begun_with}
+use Rattle.conf_change.specs.Changer.{begun_with, changer_after}
 use Rattle.conf_change.specs.declared.change.Change.{Change}
+use Rattle.conf_change.specs.declared.refused.Refused.{Refused}
 use Rattle.conf_change.specs.declared.step.Step.{Step}
 use Rattle.conf_change.specs.declared.step.Step.TheVariants.{Simple as SimpleStep, EnterJoint as EnterStep, LeaveJoint as LeaveStep}
 use Rattle.conf_tool.specs.Parameter.{key_of}
 use Rattle.conf_tool.specs.Arguments.{is_good, first_bad, bad_argument, missing_argument}
 use Rattle.conf_tool.specs.Texts.{bad_token_text}
-use Rattle.conf_tool.specs.Reply.{Reply, told, changed}
-use Rattle.conf_tool.specs.Commands.{command_in, parameters_of, with_changes, with_no_input, with_arguments, after_outcome, on_step, asks_auto_leave, leave_with, after_restored, restore_with, reply_of, reply_to}
+use Rattle.conf_tool.specs.SessionState.{SessionState}
+use Rattle.conf_tool.specs.Reply.{Reply, told}
+use Rattle.conf_tool.specs.Undo.{undo_plan_of, undo_fault_text, undone_changer}
+use Rattle.conf_tool.specs.declared.undo_fault.UndoFault.{UndoFault}
+use Rattle.conf_tool.specs.Commands.{command_in, parameters_of, with_changes, with_no_input, with_arguments, after_step, asks_auto_leave, leave_with, after_restored, restore_with, steps_of, after_planned, reply_of, reply_to}
 use Rattle.conf_tool.specs.Told.{is_line_byte, is_told_line, IsTold}
 use Rattle.dd_file.specs.Words.{has_keys}
 use Rattle.conf_tool.specs.declared.parameter.Parameter.{Parameter}
-use Rattle.conf_tool.specs.declared.parameter.Parameter.TheVariants.{AutoLeave}
+use Rattle.conf_tool.specs.declared.parameter.Parameter.TheVariants.{AutoLeave, Steps}
 use Rattle.conf_tool.specs.declared.commands.Command.{Command}
-use Rattle.conf_tool.specs.declared.commands.Command.TheVariants.{Simple, EnterJoint, LeaveJoint, ConfState, Restore, Unknown}
-use Rattle.conf_tool.proofs.ToldLines.{first, second, both, told-append, refused-told, conf_state-told, line-told, tracker-told}
+use Rattle.conf_tool.specs.declared.commands.Command.TheVariants.{Simple, EnterJoint, LeaveJoint, ConfState, Restore, Undo, Unknown}
+use Rattle.conf_tool.proofs.ToldLines.{first, second, both, told-append, refused-told, undo_fault-told, conf_state-told, line-told, told-after, plan-told, tracker-told}
 
 abbrev Tells : Reply → Type 0
 Tells reply = IsTold reply.found
@@ -123,6 +126,7 @@ bad-key parameters before (argument ∷ arguments) key h e =
 
 parameter-bytes : (parameter : Parameter) → list_all is_line_byte (key_of parameter) ≡ true
 parameter-bytes AutoLeave = refl
+parameter-bytes Steps = refl
 
 fault-tells : (bad : Option (List ℕ)) (missing : Option Parameter) (reply : Reply) → ((key : List ℕ) → bad ≡ Some key → is_key key ≡ true) → Tells reply →
     Tells (unwrap_or (option_or (option_map (λ key. told (codes "bad argument: " ++ key)) bad) (option_map (λ parameter. told (codes "missing argument: " ++ key_of parameter)) missing)) reply)
@@ -138,18 +142,12 @@ arguments-tell command arguments reply h t =
     (λ key e. bad-key (parameters_of command) [] arguments key h e) t
 
 -- ---- the commands
-changed-tells : (changer : ChangerState) → Tells (changed changer)
-changed-tells changer = tracker-told changer.tracker
-
-outcome-tells : (changer : ChangerState) (step : Step) (o : Outcome) → Tells (after_outcome changer step o)
-outcome-tells changer step (Ok after) = changed-tells (moved_to changer step after)
-outcome-tells changer step (Err refused) = tells (refused_text refused) (refused-told refused)
-
-step-tells : (changer : ChangerState) (step : Step) → Tells (on_step changer step)
-step-tells changer step = outcome-tells changer step (outcome changer.tracker.config step)
+step-tells : (made : Result ChangerState Refused) → Tells (after_step made)
+step-tells (Ok after) = tracker-told after.tracker
+step-tells (Err refused) = tells (refused_text refused) (refused-told refused)
 
 leave-tells : (changer : ChangerState) (changes : List Change) → Tells (leave_with changer changes)
-leave-tells changer [] = step-tells changer LeaveStep
+leave-tells changer [] = step-tells (changer_after changer LeaveStep)
 leave-tells changer (change ∷ changes) = tells (codes "this command takes no input") refl
 
 no_input-tells : (reply : Reply) (input : List ℕ) → Tells reply → Tells (with_no_input reply input)
@@ -158,21 +156,29 @@ no_input-tells reply (b ∷ input) h = tells (codes "this command takes no input
 
 restored-tells : (changer : ChangerState) (c : Option Configuration) → Tells (after_restored changer c)
 restored-tells changer None = tells (codes "not a configuration") refl
-restored-tells changer (Some c) = changed-tells (begun_with changer.last_index c)
+restored-tells changer (Some c) = tracker-told (begun_with changer.last_index c).tracker
 
 restore-tells : (changer : ChangerState) (arguments : List ArgumentText) (read : Option ConfStateLists) → are_keys arguments ≡ true → Tells (restore_with changer arguments read)
 restore-tells changer arguments None h = tells (codes "bad conf state") refl
 restore-tells changer arguments (Some saved) h = arguments-tell Restore arguments _ h (restored-tells changer (restored saved))
 
-command-tells : FirstBads → (command : Command) (changer : ChangerState) (input : List ℕ) (arguments : List ArgumentText) → are_keys arguments ≡ true → Tells (reply_of command changer input arguments)
-command-tells first_bads Simple changer input arguments keys = changes-tell first_bads _ input _ refl (λ changes. step-tells changer (SimpleStep changes))
-command-tells first_bads EnterJoint changer input arguments keys =
-    changes-tell first_bads _ input _ refl (λ changes. arguments-tell EnterJoint arguments _ keys (step-tells changer (EnterStep (asks_auto_leave arguments) changes)))
-command-tells first_bads LeaveJoint changer input arguments keys = changes-tell first_bads _ input _ refl (leave-tells changer)
-command-tells first_bads ConfState changer input arguments keys =
-    no_input-tells _ input (arguments-tell ConfState arguments _ keys (tells (conf_state_text (lists_of changer.tracker.config)) (conf_state-told (lists_of changer.tracker.config))))
-command-tells first_bads Restore changer input arguments keys = restore-tells changer arguments (conf_state_in input) keys
-command-tells first_bads Unknown changer input arguments keys = changes-tell first_bads _ input _ refl (λ changes. tells (codes "unknown command") refl)
+undo-tells : (session : SessionState) (count : ℕ) (plan : Result (List Step) UndoFault) → Tells (after_planned session count plan)
+undo-tells session count (Ok steps) = told-after _ _ (plan-told steps) (tracker-told (undone_changer session steps).tracker)
+undo-tells session count (Err fault) = tells (undo_fault_text fault) (undo_fault-told fault)
 
-pub reply-told : FirstBads → (changer : ChangerState) (directive : DirectiveText) → has_keys directive.arguments ≡ true → IsTold (reply_to changer directive).found
-reply-told first_bads changer directive keys = command-tells first_bads (command_in directive.command) changer directive.input directive.arguments keys
+command-tells : FirstBads → (command : Command) (session : SessionState) (input : List ℕ) (arguments : List ArgumentText) → are_keys arguments ≡ true → Tells (reply_of command session input arguments)
+command-tells first_bads Simple session input arguments keys = changes-tell first_bads _ input _ refl (λ changes. step-tells (changer_after session.changer (SimpleStep changes)))
+command-tells first_bads EnterJoint session input arguments keys =
+    changes-tell first_bads _ input _ refl (λ changes. arguments-tell EnterJoint arguments _ keys (step-tells (changer_after session.changer (EnterStep (asks_auto_leave arguments) changes))))
+command-tells first_bads LeaveJoint session input arguments keys = changes-tell first_bads _ input _ refl (leave-tells session.changer)
+command-tells first_bads ConfState session input arguments keys =
+    let saved = lists_of session.changer.tracker.config in
+    no_input-tells _ input (arguments-tell ConfState arguments _ keys (tells (conf_state_text saved) (conf_state-told saved)))
+command-tells first_bads Restore session input arguments keys = restore-tells session.changer arguments (conf_state_in input) keys
+command-tells first_bads Undo session input arguments keys =
+    let count = steps_of arguments in
+    no_input-tells _ input (arguments-tell Undo arguments _ keys (undo-tells session count (undo_plan_of session count)))
+command-tells first_bads Unknown session input arguments keys = changes-tell first_bads _ input _ refl (λ changes. tells (codes "unknown command") refl)
+
+pub reply-told : FirstBads → (session : SessionState) (directive : DirectiveText) → has_keys directive.arguments ≡ true → IsTold (reply_to session directive).found
+reply-told first_bads session directive keys = command-tells first_bads (command_in directive.command) session directive.input directive.arguments keys

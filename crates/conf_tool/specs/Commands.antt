@@ -1,28 +1,30 @@
 -- What a session answers to a directive.
-use Rattle.std.specs.Prelude.{ℕ, Bool, false, List, [], ◌∷◌, ◌++◌, Option, Some, None, option_map, Result, Ok, Err, if◌then◌else◌, unwrap_or, codes, bytes_eq}
+use Rattle.std.specs.Prelude.{ℕ, Bool, false, List, [], ◌∷◌, ◌++◌, Option, Some, None, option_map, option_and_then, Result, Ok, Err, if◌then◌else◌, unwrap_or, codes, bytes_eq}
 use Rattle.std.specs.Option.{option_or}
 use Rattle.dd_file.specs.DirectiveText.{DirectiveText}
 use Rattle.dd_file.specs.Words.{ArgumentText}
 use Rattle.conf_change.specs.ChangerState.{ChangerState}
 use Rattle.conf_change.specs.Configuration.{Configuration}
-use Rattle.conf_change.specs.Outcome.{Outcome, outcome}
-use Rattle.conf_change.specs.Changer.{moved_to, begun_with}
+use Rattle.conf_change.specs.Changer.{changer_after, begun_with}
 use Rattle.conf_change.specs.ChangeList.{BadToken, changes_in}
 use Rattle.conf_change.specs.ConfState.{ConfStateLists, lists_of, restored}
 use Rattle.conf_change.specs.ConfStateLine.{conf_state_in, conf_state_text}
 use Rattle.conf_change.specs.Text.{refused_text}
 use Rattle.conf_change.specs.declared.change.Change.{Change}
+use Rattle.conf_change.specs.declared.refused.Refused.{Refused}
 use Rattle.conf_change.specs.declared.step.Step.{Step}
 use Rattle.conf_change.specs.declared.step.Step.TheVariants.{Simple as SimpleStep, EnterJoint as EnterStep, LeaveJoint as LeaveStep}
 use Rattle.conf_tool.specs.SessionState.{SessionState, after_directive}
-use Rattle.conf_tool.specs.Parameter.{key_of, has_only}
+use Rattle.conf_tool.specs.Parameter.{key_of, has_only, number_from}
 use Rattle.conf_tool.specs.Arguments.{bad_argument, missing_argument, argument_of}
 use Rattle.conf_tool.specs.Texts.{bad_token_text}
-use Rattle.conf_tool.specs.Reply.{Reply, told, changed}
+use Rattle.conf_tool.specs.Reply.{Reply, told, stepped, begun_again}
+use Rattle.conf_tool.specs.Undo.{undo_plan_of, undo_fault_text, undone}
 use Rattle.conf_tool.specs.declared.parameter.Parameter.{Parameter}
-use Rattle.conf_tool.specs.declared.parameter.Parameter.TheVariants.{AutoLeave}
+use Rattle.conf_tool.specs.declared.parameter.Parameter.TheVariants.{AutoLeave, Steps}
+use Rattle.conf_tool.specs.declared.undo_fault.UndoFault.{UndoFault}
 use Rattle.conf_tool.specs.declared.commands.Command.{Command}
-use Rattle.conf_tool.specs.declared.commands.Command.TheVariants.{Simple, EnterJoint, LeaveJoint, ConfState, Restore, Unknown}
+use Rattle.conf_tool.specs.declared.commands.Command.TheVariants.{Simple, EnterJoint, LeaveJoint, ConfState, Restore, Undo, Unknown}
 
 -- the command of a name
 abbrev pub command_in : List ℕ → Command
@@ -32,7 +34,8 @@ command_in name =
     else (if bytes_eq name (codes "leave-joint") then LeaveJoint
     else (if bytes_eq name (codes "conf-state") then ConfState
     else (if bytes_eq name (codes "restore") then Restore
-    else Unknown))))
+    else (if bytes_eq name (codes "undo") then Undo
+    else Unknown)))))
 
 -- the arguments that it has, required ones in the order in which they are missed; those of simple, of leave-joint and of
 -- what is no command are not looked at
@@ -42,6 +45,7 @@ parameters_of EnterJoint = AutoLeave ∷ []
 parameters_of LeaveJoint = []
 parameters_of ConfState = []
 parameters_of Restore = []
+parameters_of Undo = Steps ∷ []
 parameters_of Unknown = []
 
 -- First the input is looked at. It is read as a list of changes ..
@@ -67,12 +71,12 @@ abbrev pub with_arguments : Command → List ArgumentText → Reply → Reply
 with_arguments command arguments reply = unwrap_or (argument_fault command arguments) reply
 
 -- a step that is made, or refused
-abbrev pub after_outcome : ChangerState → Step → Outcome → Reply
-after_outcome changer step (Ok after) = changed (moved_to changer step after)
-after_outcome changer step (Err refused) = told (refused_text refused)
+abbrev pub after_step : Result ChangerState Refused → Reply
+after_step (Ok after) = stepped after
+after_step (Err refused) = told (refused_text refused)
 
 abbrev pub on_step : ChangerState → Step → Reply
-on_step changer step = after_outcome changer step (outcome changer.tracker.config step)
+on_step changer step = after_step (changer_after changer step)
 
 abbrev pub on_simple : ChangerState → List ℕ → Reply
 on_simple changer input = with_changes (λ changes. on_step changer (SimpleStep changes)) (changes_in input)
@@ -103,7 +107,7 @@ on_conf_state changer input arguments =
 -- a saved form that is restored, or stands for no configuration
 abbrev pub after_restored : ChangerState → Option Configuration → Reply
 after_restored changer None = told (codes "not a configuration")
-after_restored changer (Some c) = changed (begun_with changer.last_index c)
+after_restored changer (Some c) = begun_again (begun_with changer.last_index c)
 
 abbrev pub restore_with : ChangerState → List ArgumentText → Option ConfStateLists → Reply
 restore_with changer arguments None = told (codes "bad conf state")
@@ -112,31 +116,47 @@ restore_with changer arguments (Some saved) = with_arguments Restore arguments (
 abbrev pub on_restore : ChangerState → List ℕ → List ArgumentText → Reply
 on_restore changer input arguments = restore_with changer arguments (conf_state_in input)
 
+-- how many changes are undone: one, where steps is left out
+abbrev pub steps_of : List ArgumentText → ℕ
+steps_of arguments = unwrap_or (option_and_then (λ argument. number_from 1 argument.values) (argument_of Steps arguments)) 1
+
+-- the plan is carried out, or it is told why there is none
+abbrev pub after_planned : SessionState → ℕ → Result (List Step) UndoFault → Reply
+after_planned session count (Ok steps) = undone session count steps
+after_planned session count (Err fault) = told (undo_fault_text fault)
+
+abbrev pub undo_last : SessionState → ℕ → Reply
+undo_last session count = after_planned session count (undo_plan_of session count)
+
+abbrev pub on_undo : SessionState → List ℕ → List ArgumentText → Reply
+on_undo session input arguments = with_no_input (with_arguments Undo arguments (undo_last session (steps_of arguments))) input
+
 abbrev pub on_unknown : List ℕ → Reply
 on_unknown input = with_changes (λ changes. told (codes "unknown command")) (changes_in input)
 
 -- the reply of a command to this input and these arguments
-abbrev pub reply_of : Command → ChangerState → List ℕ → List ArgumentText → Reply
-reply_of Simple changer input arguments = on_simple changer input
-reply_of EnterJoint changer input arguments = on_enter_joint changer input arguments
-reply_of LeaveJoint changer input arguments = on_leave_joint changer input
-reply_of ConfState changer input arguments = on_conf_state changer input arguments
-reply_of Restore changer input arguments = on_restore changer input arguments
-reply_of Unknown changer input arguments = on_unknown input
+abbrev pub reply_of : Command → SessionState → List ℕ → List ArgumentText → Reply
+reply_of Simple session input arguments = on_simple session.changer input
+reply_of EnterJoint session input arguments = on_enter_joint session.changer input arguments
+reply_of LeaveJoint session input arguments = on_leave_joint session.changer input
+reply_of ConfState session input arguments = on_conf_state session.changer input arguments
+reply_of Restore session input arguments = on_restore session.changer input arguments
+reply_of Undo session input arguments = on_undo session input arguments
+reply_of Unknown session input arguments = on_unknown input
 
 -- the reply to a directive
-abbrev pub reply_to : ChangerState → DirectiveText → Reply
-reply_to changer directive = reply_of (command_in directive.command) changer directive.input directive.arguments
+abbrev pub reply_to : SessionState → DirectiveText → Reply
+reply_to session directive = reply_of (command_in directive.command) session directive.input directive.arguments
 
 -- the text that is found, and the session afterwards
 pub record Answer : Type 0 where
   pub found : List ℕ
   pub session : SessionState
 
--- A changer that a reply has takes the place of the session's. After a refused directive nothing alters but the last index.
+-- the session takes on what the reply makes of it
 abbrev pub answered : SessionState → Reply → Answer
-answered session reply = record { found = reply.found; session = after_directive session (unwrap_or reply.changer session.changer) }
+answered session reply = record { found = reply.found; session = after_directive session reply.effect }
 
--- the answer to a directive
+-- The answer to a directive. After a refused one nothing alters but the last index.
 abbrev pub answer : SessionState → DirectiveText → Answer
-answer session directive = answered session (reply_to session.changer directive)
+answer session directive = answered session (reply_to session directive)

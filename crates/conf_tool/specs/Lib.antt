@@ -2,10 +2,12 @@ pub mod Program
 pub mod Ranges
 pub mod Texts
 pub mod LineReply
+pub mod History
 pub mod SessionState
 pub mod Parameter
 pub mod Arguments
 pub mod Reply
+pub mod Undo
 pub mod Commands
 pub mod Reports
 pub mod Told

@@ -1,23 +1,58 @@
 -- What a command replies.
-use Rattle.std.specs.Prelude.{ℕ, List, Option, Some, None, refl}
-use Rattle.std.specs.Coded.{Coded, coded_ℕ, coded_list, coded_option, coded×, code_by}
+use Rattle.std.specs.Prelude.{◌≡◌, ℕ, ◌⊎◌, List, Option, Some, None, refl}
+use Rattle.std.specs.Coded.{Coded, coded_ℕ, coded_list, coded_option, coded×, coded⊎, code_by}
+use Rattle.std.proofs.Common.{inl, inr}
 use Rattle.conf_change.specs.ChangerState.{ChangerState, changer_code}
 use Rattle.conf_tool.specs.Texts.{line, tracker_text}
+use Rattle.conf_tool.specs.declared.effect.Effect.{Effect}
+use Rattle.conf_tool.specs.declared.effect.Effect.TheVariants.{Nothing, Stepped, Restored, Undone}
 
--- the text that is found, and the changer that takes the place of the session's, where one does
+-- the text that is found, and what becomes of the session
 pub record Reply : Type 0 where
   pub found : List ℕ
-  pub changer : Option ChangerState
+  pub effect : Effect
+
+-- an effect as a sum of its cases, by which it is stored
+abbrev pub Cases : Type 0
+Cases = Option (ChangerState ⊎ (ChangerState ⊎ (ChangerState × ℕ)))
+
+abbrev pub cases_of : Effect → Cases
+cases_of Nothing = None
+cases_of (Stepped after) = Some (inl after)
+cases_of (Restored after) = Some (inr (inl after))
+cases_of (Undone after count) = Some (inr (inr (after, count)))
+
+abbrev pub effect_in : ChangerState ⊎ (ChangerState ⊎ (ChangerState × ℕ)) → Effect
+effect_in (inl after) = Stepped after
+effect_in (inr (inl after)) = Restored after
+effect_in (inr (inr undone)) = Undone undone.0 undone.1
+
+abbrev pub effect_of : Cases → Effect
+effect_of None = Nothing
+effect_of (Some some) = effect_in some
+
+pub effect-again : (effect : Effect) → effect_of (cases_of effect) ≡ effect
+effect-again Nothing = refl
+effect-again (Stepped after) = refl
+effect-again (Restored after) = refl
+effect-again (Undone after count) = refl
+
+abbrev pub effect_code : Coded Effect
+effect_code = code_by Cases (coded_option (coded⊎ changer_code (coded⊎ changer_code (coded× changer_code coded_ℕ)))) cases_of effect_of effect-again
 
 abbrev pub reply_code : Coded Reply
 reply_code =
-    code_by (List ℕ × Option ChangerState) (coded× (coded_list coded_ℕ) (coded_option changer_code))
-    (λ r. (r.found, r.changer)) (λ p. record { found = p.0; changer = p.1 }) (λ _. refl)
+    code_by (List ℕ × Effect) (coded× (coded_list coded_ℕ) effect_code)
+    (λ r. (r.found, r.effect)) (λ p. record { found = p.0; effect = p.1 }) (λ _. refl)
 
--- a text is told, and the changer stays
+-- a text is told, and the session stays
 abbrev pub told : List ℕ → Reply
-told text = record { found = line text; changer = None }
+told text = record { found = line text; effect = Nothing }
 
--- the changer becomes this one, and is told
-abbrev pub changed : ChangerState → Reply
-changed changer = record { found = tracker_text changer.tracker; changer = Some changer }
+-- the changer after an accepted change is told
+abbrev pub stepped : ChangerState → Reply
+stepped after = record { found = tracker_text after.tracker; effect = Stepped after }
+
+-- the changer that begins again is told
+abbrev pub begun_again : ChangerState → Reply
+begun_again after = record { found = tracker_text after.tracker; effect = Restored after }

@@ -1,5 +1,5 @@
 //! The commands of a script: how each is called, which arguments it has, and where it is carried out. A command reads
-//! its input first and then its arguments, and leaves the changer as it is: what it makes of it is part of the reply.
+//! its input first and then its arguments, and leaves the session as it is: what it makes of it is part of the reply.
 ghost use Rattle.std.specs.Prelude.{◌≡◌, IfOk};
 ghost use Rattle.conf_tool.specs.Told.{CanStand};
 ghost use Rattle.conf_tool.specs.Commands as says;
@@ -10,13 +10,13 @@ mod leave_joint;
 mod restore;
 mod simple;
 mod telling;
+mod undo;
 mod unknown;
 
 use crate::laws::found_text_stands;
 use crate::parameter::Parameter;
 use crate::reply::Reply;
-use crate::session_ids::SessionIds;
-use conf_change::Changer;
+use crate::session::Session;
 use dd_file::item::{Argument, Directive};
 use quorum_sets::NoMemory;
 use std::alloc::Global;
@@ -29,6 +29,7 @@ pub(crate) enum Command {
     LeaveJoint,
     ConfState,
     Restore,
+    Undo,
     Unknown,
 }
 
@@ -46,6 +47,8 @@ fn command_in(name: &[u8]) -> Command
         Command::ConfState
     } else if name == b"restore".as_slice() {
         Command::Restore
+    } else if name == b"undo".as_slice() {
+        Command::Undo
     } else {
         Command::Unknown
     }
@@ -58,6 +61,7 @@ fn parameters_of(command: Command) -> &'static [Parameter]
 {
     match command {
         Command::EnterJoint => &[Parameter::AutoLeave],
+        Command::Undo => &[Parameter::Steps],
         _ => &[],
     }
 }
@@ -65,17 +69,17 @@ fn parameters_of(command: Command) -> &'static [Parameter]
 /// Carries out a directive.
 pub(crate) fn obey(
     alloc: Global,
-    changer: &Changer<SessionIds>,
+    session: &Session,
     directive: &Directive,
 ) -> Result<Reply, NoMemory>
-    ensures reply { IfOk result (λ reply. reply ≡ says.reply_to changer.now directive.now) }
+    ensures reply { IfOk result (λ reply. reply ≡ says.reply_to session.now directive.now) }
     ensures stands { IfOk result (λ reply. CanStand reply.found) }
 {
     found_text_stands();
     let command = command_in(directive.command());
     carry_out(
         alloc,
-        changer,
+        session,
         command,
         directive.input(),
         directive.arguments(),
@@ -84,19 +88,21 @@ pub(crate) fn obey(
 
 fn carry_out(
     alloc: Global,
-    changer: &Changer<SessionIds>,
+    session: &Session,
     command: Command,
     input: &[u8],
     arguments: &[Argument],
 ) -> Result<Reply, NoMemory>
-    ensures { IfOk result (λ reply. reply ≡ says.reply_of command changer.now input.now arguments.now) }
+    ensures { IfOk result (λ reply. reply ≡ says.reply_of command session.now input.now arguments.now) }
 {
+    let changer = session.changer();
     match command {
         Command::Simple => simple::obey(alloc, changer, input),
         Command::EnterJoint => enter_joint::obey(alloc, changer, input, arguments),
         Command::LeaveJoint => leave_joint::obey(alloc, changer, input),
         Command::ConfState => conf_state::obey(alloc, changer, input, arguments),
         Command::Restore => restore::obey(alloc, changer, input, arguments),
+        Command::Undo => undo::obey(alloc, session, input, arguments),
         Command::Unknown => unknown::obey(alloc, input),
     }
 }

@@ -4,6 +4,8 @@
 mod arguments;
 pub mod command_line;
 mod commands;
+mod effect;
+mod history;
 pub mod invocation;
 pub mod laws;
 mod line_answer;
@@ -18,6 +20,7 @@ pub mod session_ids;
 pub mod status;
 mod texts;
 pub mod tool_fault;
+pub mod undo_fault;
 
 pub use invocation::Invocation;
 pub use mode::Mode;
@@ -26,3 +29,4 @@ pub use session::Session;
 pub use session_ids::SessionIds;
 pub use status::Status;
 pub use tool_fault::ToolFault;
+pub use undo_fault::UndoFault;

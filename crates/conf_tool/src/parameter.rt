@@ -2,6 +2,7 @@
 ghost use Rattle.std.specs.Prelude.{◌≡◌};
 ghost use Rattle.conf_tool.specs.Parameter as says;
 
+use conf_change::read_number;
 use dd_file::item::Argument;
 
 /// An argument that a command has.
@@ -9,6 +10,8 @@ use dd_file::item::Argument;
 pub(crate) enum Parameter {
     /// `autoleave`: `true` or `false`.
     AutoLeave,
+    /// `steps`: a number from 1.
+    Steps,
 }
 
 impl Parameter {
@@ -21,6 +24,7 @@ impl Parameter {
     {
         match self {
             Parameter::AutoLeave => b"autoleave",
+            Parameter::Steps => b"steps",
         }
     }
 
@@ -29,7 +33,7 @@ impl Parameter {
         ensures { result ≡ says.is_required self }
     {
         match self {
-            Parameter::AutoLeave => false,
+            Parameter::AutoLeave | Parameter::Steps => false,
         }
     }
 
@@ -39,6 +43,7 @@ impl Parameter {
     {
         match self {
             Parameter::AutoLeave => has_only(argument, b"true") || has_only(argument, b"false"),
+            Parameter::Steps => number_from(1, argument).is_some(),
         }
     }
 }
@@ -51,4 +56,19 @@ pub(crate) fn has_only(argument: &Argument, value: &[u8]) -> bool
         Some(first) => first == value && argument.value(1).is_none(),
         None => false,
     }
+}
+
+/// The number that is its only value, where it is at least this one.
+pub(crate) fn number_from(least: u64, argument: &Argument) -> Option<u64>
+    ensures { result ≡ says.number_from least argument.now.values }
+{
+    let digits = argument.value(0)?;
+    if argument.value(1).is_some() {
+        return None;
+    }
+    let number = read_number(digits)?;
+    if number < least {
+        return None;
+    }
+    Some(number)
 }

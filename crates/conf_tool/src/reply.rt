@@ -1,17 +1,15 @@
 //! What a command replies.
-ghost use Rattle.std.specs.Prelude.{◌≡◌, IfOk};
-ghost use Rattle.conf_tool.specs.Texts.{line};
+ghost use Rattle.std.specs.Prelude.{◌≡◌};
 ghost use Rattle.conf_tool.specs.Reply as says;
 
-use crate::session_ids::SessionIds;
-use conf_change::Changer;
+use crate::effect::Effect;
 use std::marker::Model;
 
-/// The text that is found, and the changer that takes the place of the session's, where one does.
+/// The text that is found, and what becomes of the session.
 #[derive(Drop)]
 pub(crate) struct Reply {
     found: Vec<u8>,
-    changer: Option<Changer<SessionIds>>,
+    effect: Effect,
 }
 
 impl Model for Reply {
@@ -21,36 +19,30 @@ impl Model for Reply {
 
     ghost coded = { says.reply_code };
 
-    ghost view = { λ r. record { found = r.found.items; changer = r.changer } };
+    ghost view = { λ r. record { found = r.found.items; effect = r.effect } };
 }
 
 impl Reply {
-    /// A text in lines, after which the changer stays.
-    pub(crate) fn told(found: Vec<u8>) -> Reply
-        ensures { result ≡ record { found = found.items; changer = None } }
+    /// A text in lines, with an effect.
+    pub(crate) fn new(found: Vec<u8>, effect: Effect) -> Reply
+        ensures { result ≡ record { found = found.items; effect = effect } }
     {
-        Reply {
-            found,
-            changer: None,
-        }
+        Reply { found, effect }
     }
 
-    /// A text in lines, and the changer afterwards.
-    pub(crate) fn changed(found: Vec<u8>, changer: Changer<SessionIds>) -> Reply
-        ensures { result ≡ record { found = found.items; changer = Some changer } }
+    /// A text in lines, after which the session stays.
+    pub(crate) fn told(found: Vec<u8>) -> Reply
+        ensures { result ≡ record { found = found.items; effect = Effect.Nothing } }
     {
-        Reply {
-            found,
-            changer: Some(changer),
-        }
+        Reply::new(found, Effect::Nothing)
     }
 
     /// Both parts.
-    pub(crate) fn into_parts(self) -> (Vec<u8>, Option<Changer<SessionIds>>)
+    pub(crate) fn into_parts(self) -> (Vec<u8>, Effect)
         ensures found { result.0.items ≡ self.found }
-        ensures changer { result.1 ≡ self.changer }
+        ensures effect { result.1 ≡ self.effect }
     {
-        let Reply { found, changer } = self;
-        (found, changer)
+        let Reply { found, effect } = self;
+        (found, effect)
     }
 }

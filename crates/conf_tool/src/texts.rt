@@ -4,15 +4,17 @@ ghost use Rattle.conf_change.specs.ChangeList.{bad_token};
 ghost use Rattle.conf_change.specs.ConfState.{lists_of};
 ghost use Rattle.conf_change.specs.Text.{refused_text, progress_text};
 ghost use Rattle.conf_change.specs.ConfStateLine.{conf_state_text};
-ghost use Rattle.conf_tool.specs.Texts as says;
-ghost use Rattle.conf_tool.specs.Texts.{line, bad_token_text, member_lines};
+ghost use Rattle.conf_tool.specs.Texts.{line, bad_token_text, member_lines, tracker_text};
+ghost use Rattle.conf_tool.specs.Undo.{undo_fault_text};
 
 use crate::line_answer::tell_fault;
 use crate::session_ids::SessionIds;
+use crate::undo_fault::UndoFault;
 use conf_change::{
     Config, Progress, Refused, TokenFault, Tracker, conf_state, write_conf_state, write_config,
     write_progress, write_refused,
 };
+use itoa::Buffer;
 use quorum_sets::NoMemory;
 use std::alloc::Global;
 
@@ -67,18 +69,52 @@ pub(crate) fn conf_state_line(
     end_line(text)
 }
 
+/// Why there is no plan. Want of memory is no reason that a session has.
+pub(crate) fn undo_fault_line(alloc: Global, fault: UndoFault) -> Result<Vec<u8>, NoMemory>
+    ensures { IfOk result (λ text. text.items ≡ line (undo_fault_text fault)) }
+{
+    match fault {
+        UndoFault::NotKept(kept) => {
+            let mut digits = Buffer::new();
+            let mut text = Vec::new(alloc);
+            text.extend_from_slice(b"no plan: ")?;
+            text.extend_from_slice(digits.format(kept).as_bytes())?;
+            text.extend_from_slice(b" earlier configurations are kept")?;
+            end_line(text)
+        }
+        UndoFault::NoVoterTarget => {
+            line_of(
+                alloc,
+                b"no plan: the earlier configuration has no voter",
+                b"",
+            )
+        }
+        UndoFault::NoMemory => line_of(alloc, b"out of memory", b""),
+    }
+}
+
 /// A configuration, and behind it each member with its progress, in ascending order of the ids.
-pub(crate) fn tracker_text(
+pub(crate) fn tracker_lines(
     alloc: Global,
     tracker: &Tracker<SessionIds>,
 ) -> Result<Vec<u8>, NoMemory>
-    ensures { IfOk result (λ text. text.items ≡ says.tracker_text tracker.now) }
+    ensures { IfOk result (λ text. text.items ≡ tracker_text tracker.now) }
 {
     let mut text = Vec::new(alloc);
-    write_config(&mut text, tracker.config())?;
-    let mut text = end_line(text)?;
-    append_members(tracker, &mut text)?;
+    append_tracker(&mut text, tracker)?;
     Ok(text)
+}
+
+/// Appends the same. After want of memory only a part may be appended.
+pub(crate) fn append_tracker(
+    text: &mut Vec<u8>,
+    tracker: &Tracker<SessionIds>,
+) -> Result<(), NoMemory>
+    ensures { OnOk result (text.new.items ≡ text.old.items ++ tracker_text tracker.now) }
+{
+    write_config(text, tracker.config())?;
+    text.push(b'\n')?;
+    append_members(tracker, text)
 }
 
 // Appends each member with its progress. After want of memory only some may be appended.

@@ -1,5 +1,7 @@
 //! Sessions: what each directive finds.
-use conf_tool::Session;
+use conf_change::write_config;
+use conf_plan::print_plan;
+use conf_tool::{Session, UndoFault};
 use dd_file::device::FromRead;
 use dd_file::item::Item;
 use dd_file::reader::Reader;
@@ -175,6 +177,119 @@ const WORDS: &[Row] = &[
     ("frob\nv", "unknown token v"),
 ];
 
+const UNDONE_SIMPLE_CHANGES: &[Row] = &[
+    ("simple\nv1", "voters=(1)\n1: StateProbe match=0 next=1"),
+    (
+        "simple\nv2 r2 v2 l3",
+        "voters=(1 2) learners=(3)\n1: StateProbe match=0 next=1\n2: StateProbe match=0 next=1\n3: StateProbe match=0 next=1 learner",
+    ),
+    (
+        "undo",
+        "simple r2 r3\nvoters=(1)\n1: StateProbe match=0 next=1",
+    ),
+    ("undo", "no plan: the earlier configuration has no voter"),
+];
+
+const UNDONE_ENTERING: &[Row] = &[
+    ("simple\nv1", "voters=(1)\n1: StateProbe match=0 next=1"),
+    (
+        "enter-joint\nr1 r2 r9 v2 v3 v4 v2 v3 v4 l2 l2 r4 r4 l1 l1",
+        "voters=(3)&&(1) learners=(2) learners_next=(1)\n1: StateProbe match=0 next=1\n2: StateProbe match=0 next=1 learner\n3: StateProbe match=0 next=1",
+    ),
+    (
+        "undo",
+        "leave-joint\nenter-joint autoleave=false v1 r2 r3\nleave-joint\nvoters=(1)\n1: StateProbe match=0 next=1",
+    ),
+];
+
+const UNDONE_LEAVING: &[Row] = &[
+    ("simple\nv1", "voters=(1)\n1: StateProbe match=0 next=1"),
+    (
+        "simple\nv2",
+        "voters=(1 2)\n1: StateProbe match=0 next=1\n2: StateProbe match=0 next=1",
+    ),
+    (
+        "enter-joint\nr2 l2",
+        "voters=(1)&&(1 2) learners_next=(2)\n1: StateProbe match=0 next=1\n2: StateProbe match=0 next=1",
+    ),
+    (
+        "leave-joint",
+        "voters=(1) learners=(2)\n1: StateProbe match=0 next=1\n2: StateProbe match=0 next=1 learner",
+    ),
+    (
+        "undo",
+        "simple v2\nenter-joint autoleave=false l2\nvoters=(1)&&(1 2) learners_next=(2)\n1: StateProbe match=0 next=1\n2: StateProbe match=0 next=1",
+    ),
+];
+
+// All steps of one undo see the last index that the directive has, which is 4.
+const UNDONE_TWICE: &[Row] = &[
+    ("simple\nv1", "voters=(1)\n1: StateProbe match=0 next=1"),
+    (
+        "enter-joint\nr1 v2",
+        "voters=(2)&&(1)\n1: StateProbe match=0 next=1\n2: StateProbe match=0 next=1",
+    ),
+    ("leave-joint", "voters=(2)\n2: StateProbe match=0 next=1"),
+    (
+        "enter-joint\nr2 v3",
+        "voters=(3)&&(2)\n2: StateProbe match=0 next=1\n3: StateProbe match=0 next=3",
+    ),
+    (
+        "undo steps=2",
+        "leave-joint\nenter-joint autoleave=false v1 r3\nleave-joint\nenter-joint autoleave=false r1 v2\nvoters=(2)&&(1)\n1: StateProbe match=0 next=4\n2: StateProbe match=0 next=4",
+    ),
+    (
+        "undo steps=(3)",
+        "no plan: 2 earlier configurations are kept",
+    ),
+];
+
+const NOTHING_TO_UNDO: &[Row] = &[
+    ("simple\nv1", "voters=(1)\n1: StateProbe match=0 next=1"),
+    ("simple\nu1", "voters=(1)\n1: StateProbe match=0 next=1"),
+    ("undo steps=0", "bad argument: steps"),
+    ("undo steps=0\nx", "this command takes no input"),
+    ("undo steps=3", "no plan: 2 earlier configurations are kept"),
+    (
+        "undo",
+        "nothing to do\nvoters=(1)\n1: StateProbe match=0 next=1",
+    ),
+    ("undo", "no plan: the earlier configuration has no voter"),
+];
+
+const REFUSED_IS_NOT_KEPT: &[Row] = &[
+    ("simple\nv1", "voters=(1)\n1: StateProbe match=0 next=1"),
+    ("simple\nr1", "removed all voters"),
+    ("undo", "no plan: the earlier configuration has no voter"),
+];
+
+const RESTORED_IS_NOT_UNDONE: &[Row] = &[
+    ("simple\nv1", "voters=(1)\n1: StateProbe match=0 next=1"),
+    (
+        "simple\nl2",
+        "voters=(1) learners=(2)\n1: StateProbe match=0 next=1\n2: StateProbe match=0 next=1 learner",
+    ),
+    (
+        "restore\nVoters:[1] VotersOutgoing:[] Learners:[] LearnersNext:[] AutoLeave:false",
+        "voters=(1)\n1: StateProbe match=0 next=2",
+    ),
+    ("undo", "no plan: 0 earlier configurations are kept"),
+];
+
+const ONE_IS_KEPT: &[Row] = &[
+    ("simple\nv1", "voters=(1)\n1: StateProbe match=0 next=1"),
+    (
+        "simple\nv2",
+        "voters=(1 2)\n1: StateProbe match=0 next=1\n2: StateProbe match=0 next=1",
+    ),
+    ("undo steps=2", "no plan: 1 earlier configurations are kept"),
+];
+
+const NONE_IS_KEPT: &[Row] = &[
+    ("simple\nv1", "voters=(1)\n1: StateProbe match=0 next=1"),
+    ("undo", "no plan: 0 earlier configurations are kept"),
+];
+
 // Gives a session the directive that a text holds.
 fn found_for(alloc: Global, session: &mut Session, text: &str) -> Result<Vec<u8>, Fail> {
     let mut source = FromRead::new(text.as_bytes());
@@ -184,9 +299,14 @@ fn found_for(alloc: Global, session: &mut Session, text: &str) -> Result<Vec<u8>
     }
 }
 
-// Gives a session each directive in turn. The last index counts them.
+// Gives a session each directive in turn.
 fn finds(rt: &impl Abort, alloc: Global, rows: &[Row]) -> Result<(), Fail> {
-    let mut session = Session::new(alloc, 100)?;
+    finds_keeping(rt, alloc, 100, rows)
+}
+
+// The same of a session that keeps so many earlier configurations. The last index counts the directives.
+fn finds_keeping(rt: &impl Abort, alloc: Global, history: usize, rows: &[Row]) -> Result<(), Fail> {
+    let mut session = Session::new(alloc, history)?;
     let mut directives: u64 = 0;
     for (text, want) in rows {
         let mut found = found_for(alloc, &mut session, *text)?;
@@ -225,4 +345,60 @@ fn saves_and_restores(rt: HostRuntime) -> Result<(), Fail> {
 #[test]
 fn tells_what_it_does_not_know(rt: HostRuntime) -> Result<(), Fail> {
     finds(&rt, rt.alloc(), WORDS)
+}
+
+#[test]
+fn undoes_the_last_changes(rt: HostRuntime) -> Result<(), Fail> {
+    finds(&rt, rt.alloc(), UNDONE_SIMPLE_CHANGES)?;
+    finds(&rt, rt.alloc(), UNDONE_ENTERING)?;
+    finds(&rt, rt.alloc(), UNDONE_LEAVING)?;
+    finds(&rt, rt.alloc(), UNDONE_TWICE)?;
+    finds(&rt, rt.alloc(), NOTHING_TO_UNDO)
+}
+
+#[test]
+fn keeps_the_configurations_of_before(rt: HostRuntime) -> Result<(), Fail> {
+    finds(&rt, rt.alloc(), REFUSED_IS_NOT_KEPT)?;
+    finds(&rt, rt.alloc(), RESTORED_IS_NOT_UNDONE)?;
+    finds_keeping(&rt, rt.alloc(), 1, ONE_IS_KEPT)?;
+    finds_keeping(&rt, rt.alloc(), 0, NONE_IS_KEPT)
+}
+
+#[test]
+fn plans_what_undoes_changes(rt: HostRuntime) -> Result<(), Fail> {
+    let mut session = Session::new(rt.alloc(), 100)?;
+    let _ = found_for(rt.alloc(), &mut session, "simple\nv1")?;
+    let _ = found_for(rt.alloc(), &mut session, "simple\nv2")?;
+    assert_eq!(rt; session.kept(), 2);
+    let mut text = Vec::new(rt.alloc());
+    write_config(&mut text, session.kept_at(0).ok_or("kept")?)?;
+    write_config(&mut text, session.kept_at(1).ok_or("kept")?)?;
+    assert_eq!(rt; text.as_slice(), b"voters=(1)voters=()".as_slice());
+    assert!(rt; session.kept_at(2).is_none());
+    text.clear();
+    print_plan(&mut text, &session.undo_plan(1)?)?;
+    assert_eq!(rt; text.as_slice(), b"simple r2\n".as_slice());
+    assert_eq!(rt; session.undo_plan(2).err(), Some(UndoFault::NoVoterTarget));
+    assert_eq!(rt; session.undo_plan(3).err(), Some(UndoFault::NotKept(2)));
+    Ok(())
+}
+
+#[test]
+fn says_why_changes_are_not_undone(rt: HostRuntime) -> Result<(), Fail> {
+    let faults = [
+        (
+            UndoFault::NotKept(2),
+            "no plan: 2 earlier configurations are kept",
+        ),
+        (
+            UndoFault::NoVoterTarget,
+            "no plan: the earlier configuration has no voter",
+        ),
+        (UndoFault::NoMemory, "out of memory"),
+    ];
+    for (fault, message) in faults.iter() {
+        let told = format!(in rt.alloc(); "{fault}")?;
+        assert_eq!(rt; told.as_str(), *message);
+    }
+    Ok(())
 }

@@ -39,9 +39,8 @@ fn enter_with(
     if let Some(fault) = tell_arguments(alloc, Command::EnterJoint, arguments)? {
         return Ok(fault);
     }
-    let mut after = changer.try_clone()?;
-    let made = after.enter_joint(asks_auto_leave(arguments), changes);
-    tell_step(alloc, after, made)
+    let auto_leave = asks_auto_leave(arguments);
+    tell_step(alloc, changer.after_enter_joint(auto_leave, changes))
 }
 
 // Whether `autoleave` is `true`.

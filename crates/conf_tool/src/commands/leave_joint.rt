@@ -33,7 +33,5 @@ fn leave_with(
     if !changes.is_empty() {
         return tell_no_input(alloc);
     }
-    let mut after = changer.try_clone()?;
-    let made = after.leave_joint();
-    tell_step(alloc, after, made)
+    tell_step(alloc, changer.after_leave_joint())
 }

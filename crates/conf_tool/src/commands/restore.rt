@@ -1,11 +1,14 @@
 //! `restore`: begins again with the configuration of a saved form, all progress being fresh.
 ghost use Rattle.std.specs.Prelude.{◌≡◌, Some, IfOk};
+ghost use Rattle.conf_tool.specs.Reply.{begun_again};
 ghost use Rattle.conf_tool.specs.Commands as says;
 
 use super::Command;
-use super::telling::{tell, tell_arguments, tell_changed};
+use super::telling::{tell, tell_arguments};
+use crate::effect::Effect;
 use crate::reply::Reply;
 use crate::session_ids::SessionIds;
+use crate::texts::tracker_lines;
 use conf_change::{Changer, ConfState, ConfStateFault, RestoreFault, laws, read_conf_state};
 use dd_file::item::Argument;
 use quorum_sets::NoMemory;
@@ -40,8 +43,16 @@ fn restore_with(
     }
     laws::restored_is_described();
     match Changer::restore(alloc, state, changer.last_index()) {
-        Ok(after) => tell_changed(alloc, after),
+        Ok(after) => tell_restored(alloc, after),
         Err(RestoreFault::NotAConfiguration) => tell(alloc, b"not a configuration", b""),
         Err(RestoreFault::NoMemory) => Err(NoMemory),
     }
+}
+
+// Tells the changer that begins again.
+fn tell_restored(alloc: Global, after: Changer<SessionIds>) -> Result<Reply, NoMemory>
+    ensures { IfOk result (λ reply. reply ≡ begun_again after) }
+{
+    let found = tracker_lines(alloc, after.tracker())?;
+    Ok(Reply::new(found, Effect::Restored(after)))
 }

@@ -18,11 +18,7 @@ pub(super) fn obey(
     ensures { IfOk result (λ reply. reply ≡ on_simple changer.now input.now) }
 {
     match read_changes(alloc, input) {
-        Ok(changes) => {
-            let mut after = changer.try_clone()?;
-            let made = after.simple(changes.as_slice());
-            tell_step(alloc, after, made)
-        }
+        Ok(changes) => tell_step(alloc, changer.after_simple(changes.as_slice())),
         Err(fault) => tell_token(alloc, fault),
     }
 }

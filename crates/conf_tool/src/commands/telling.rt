@@ -3,15 +3,16 @@ ghost use Rattle.std.specs.Prelude.{◌≡◌, ◌≢◌, ◌++◌, IfOk, MatchR
 ghost use Rattle.conf_change.specs.ChangeList.{bad_token};
 ghost use Rattle.conf_change.specs.Text.{refused_text};
 ghost use Rattle.conf_tool.specs.Texts.{bad_token_text};
-ghost use Rattle.conf_tool.specs.Reply.{told, changed};
+ghost use Rattle.conf_tool.specs.Reply.{told, stepped};
 ghost use Rattle.conf_tool.specs.Commands as says;
 ghost use Rattle.conf_tool.specs.Commands.{no_input_text};
 
 use super::{Command, parameters_of};
 use crate::arguments::{bad_argument, missing_argument};
+use crate::effect::Effect;
 use crate::reply::Reply;
 use crate::session_ids::SessionIds;
-use crate::texts::{bad_token_line, line_of, refused_line, tracker_text};
+use crate::texts::{bad_token_line, line_of, refused_line, tracker_lines};
 use conf_change::{Changer, Refused, TokenFault};
 use dd_file::item::Argument;
 use quorum_sets::NoMemory;
@@ -56,25 +57,24 @@ pub(super) fn tell_arguments(
     Ok(None)
 }
 
-/// Tells the changer after a step that was made on a copy, or why the step was refused.
+/// Tells the changer after a step, or why the step was refused.
 pub(super) fn tell_step(
     alloc: Global,
-    after: Changer<SessionIds>,
-    made: Result<(), Refused>,
+    made: Result<Changer<SessionIds>, Refused>,
 ) -> Result<Reply, NoMemory>
-    ensures { IfOk result (λ reply. MatchResult made (λ _. reply ≡ changed after) (λ refused. (refused ≢ Refused.NoMemory) × (reply ≡ told (refused_text refused)))) }
+    ensures { IfOk result (λ reply. MatchResult made (λ after. reply ≡ stepped after) (λ refused. (refused ≢ Refused.NoMemory) × (reply ≡ told (refused_text refused)))) }
 {
     match made {
-        Ok(()) => tell_changed(alloc, after),
+        Ok(after) => tell_stepped(alloc, after),
         Err(Refused::NoMemory) => Err(NoMemory),
         Err(refused) => Ok(Reply::told(refused_line(alloc, refused)?)),
     }
 }
 
-/// Tells the changer, which takes the place of the session's.
-pub(super) fn tell_changed(alloc: Global, after: Changer<SessionIds>) -> Result<Reply, NoMemory>
-    ensures { IfOk result (λ reply. reply ≡ changed after) }
+// Tells the changer after an accepted step.
+fn tell_stepped(alloc: Global, after: Changer<SessionIds>) -> Result<Reply, NoMemory>
+    ensures { IfOk result (λ reply. reply ≡ stepped after) }
 {
-    let found = tracker_text(alloc, after.tracker())?;
-    Ok(Reply::changed(found, after))
+    let found = tracker_lines(alloc, after.tracker())?;
+    Ok(Reply::new(found, Effect::Stepped(after)))
 }
