@@ -20,7 +20,7 @@ use Rattle.conf_change.specs.declared.step.Step.TheVariants.{Simple, EnterJoint,
 use Rattle.conf_change.proofs.ProgressLemmas.{get-progress_by}
 use Rattle.conf_change.proofs.Validity.{ValidByMember, members_from_valid, none_from_is_empty}
 use Rattle.conf_change.proofs.Outcomes.{simple_accepted, enter_accepted, leave_accepted}
-use Rattle.conf_change.proofs.Soundness.{has-after_leave, moved_to-is_sound, outcome-are_neighbours, outcome-has_voter}
+use Rattle.conf_change.proofs.Soundness.{has-after_leave, moved_to-is_sound, outcome-are_neighbours, outcome-overlaps, outcome-has_voter}
 
 -- ---- progress
 -- the entry of an id, in the words of the step
@@ -64,6 +64,7 @@ made before step after sound e entries =
       sound = sound;
       sound_after = subst Sound (λ i. record { config = after.config; progress = sym progress i }) (moved_to-is_sound before step after.config sound e);
       neighbours = outcome-are_neighbours before.tracker.config after.config step e;
+      overlap = outcome-overlaps before.tracker.config after.config step e;
       voter = λ _. outcome-has_voter before.tracker.config after.config step sound.restorable e;
     }
 

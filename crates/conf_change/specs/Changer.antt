@@ -2,6 +2,7 @@
 use Rattle.std.specs.Prelude.{◌≡◌, ◌≢◌, ℕ, ◌<◌, true, is_some, IfSome, IfOk, IfErr, OnOk, OnErr, Result, Ok, Err}
 use Rattle.std.specs.FinMap as finite
 use Rattle.quorum_sets.specs.Ids.{has}
+use Rattle.quorum_sets.specs.Overlap.{Overlap}
 use Rattle.quorum_sets.specs.Voters.{AreNeighbours}
 use Rattle.conf_change.specs.Configuration.{Configuration, empty_configuration, voters_of, is_member, has_voter, is_restorable}
 use Rattle.conf_change.specs.Outcome.{Outcome, outcome}
@@ -71,13 +72,18 @@ Refuses before step why = why ≢ NoMemory → outcome before.tracker.config ste
 abbrev pub NeighboursAcross : ChangerState → ChangerState → Type 0
 NeighboursAcross before after = AreNeighbours (voters_of before.tracker.config) (voters_of after.tracker.config)
 
--- What a call answers that gives the changer after a step: the defined configuration and progress, or the defined refusal (or want of memory). The tracker is sound before and after, the voters of before and after are neighbours, and where there was a voter there still is one.
+-- quorums of before and after meet, and what is committed on one side meets every vote that is won on the other
+abbrev pub OverlapAcross : ChangerState → ChangerState → Type 0
+OverlapAcross before after = Overlap (voters_of before.tracker.config) (voters_of after.tracker.config)
+
+-- What a call answers that gives the changer after a step: the defined configuration and progress, or the defined refusal (or want of memory). The tracker is sound before and after, the voters of before and after are neighbours and overlap, and where there was a voter there still is one.
 pub record GivesNext (before : ChangerState) (step : Step) (result : Result ChangerState Refused) : Type 0 where
   pub accepted : IfOk result (Accepts before step)
   pub refused : IfErr result (Refuses before step)
   pub sound : IsSound before.tracker
   pub sound_after : IfOk result (λ after. IsSound after.tracker)
   pub neighbours : IfOk result (NeighboursAcross before)
+  pub overlap : IfOk result (OverlapAcross before)
   pub voter : has_voter before.tracker.config ≡ true → IfOk result (λ after. has_voter after.tracker.config ≡ true)
 
 -- What a call answers and leaves that makes a step in place: the same, and nothing is altered by a refusal (or want of memory).
@@ -87,4 +93,5 @@ pub record Makes (before : ChangerState) (step : Step) (result : Result (Unit {0
   pub unchanged : OnErr result (after ≡ before)
   pub sound : IsSound after.tracker
   pub neighbours : OnOk result (NeighboursAcross before after)
+  pub overlap : OnOk result (OverlapAcross before after)
   pub voter : has_voter before.tracker.config ≡ true → has_voter after.tracker.config ≡ true
