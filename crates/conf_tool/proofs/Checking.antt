@@ -1,40 +1,22 @@
 -- The mode `check` between two items.
-use Rattle.std.proofs.Common.{◌≡◌, ℕ, ◌+◌, ◌≤◌, ◌<◌, Bool, true, false, cond, ◌||◌, List, [], ◌∷◌, ◌++◌, flat_map, refl, sym, ◌∙◌, ap, arith, rules}
-use Rattle.std.specs.Prelude.{count_by, nat_lt, Option, Some, None, Ok, Err}
+use Rattle.std.proofs.Common.{◌≡◌, ℕ, ◌+◌, ◌≤◌, Bool, true, false, cond, ◌||◌, List, [], ◌∷◌, ◌++◌, length, flat_map, refl, sym, ◌∙◌, ap, arith, rules, length-append}
+use Rattle.std.specs.Prelude.{count_by, nat_lt, Option, Some, None, Ok}
 use Rattle.std.specs.List.{list_any}
+use Rattle.std.specs.Io.KnownBytes.{Appends}
 use Rattle.std.proofs.lemmas.List.{append_assoc}
 use Rattle.std.proofs.lemmas.List.Sums.{sum_by-cons}
-use Rattle.dd_file.specs.Place.{Place, longest_input, start}
-use Rattle.dd_file.specs.Reading.{Script, with_first, followed, next_item}
+use Rattle.dd_file.specs.Device.{AppendsPart}
+use Rattle.dd_file.specs.Reading.{Script}
 use Rattle.dd_file.specs.Rewritten.{Entry, entry, is_directive}
 use Rattle.dd_file.specs.declared.item.Item.{Item}
 use Rattle.dd_file.specs.declared.fault.FileFault.{FileFault}
 use Rattle.conf_tool.specs.SessionState.{SessionState, new_session}
 use Rattle.conf_tool.specs.Reports.{found_for, session_after, entries_of, differs, report, counts_line}
-use Rattle.conf_tool.specs.Outputs.{Output, checked, checked_entries, status_of}
-use Rattle.conf_tool.proofs.Script.{items_from, items_from-next}
-use Rattle.conf_tool.proofs.Reached.{Walk, with_front}
+use Rattle.conf_tool.specs.Outputs.{Output, checked_script, checked_entries, status_of}
+use Rattle.conf_tool.specs.Answered.{script, behind, with_front, rest_checked, check_left, HasChecked}
+use Rattle.conf_tool.specs.Run.{Wrote}
+use Rattle.conf_tool.proofs.WrittenFront.{wrote-nothing, wrote-part, wrote-broken, wrote-end, wrote-end-part}
 use Rattle.conf_tool.proofs.Faults.{or-false}
-
--- the session, and the counts so far
-pub record CheckState : Type 0 where
-  pub session : SessionState
-  pub directives : ℕ
-  pub mismatches : ℕ
-
-abbrev pub check_state : SessionState → ℕ → ℕ → CheckState
-check_state session directives mismatches = record { session = session; directives = directives; mismatches = mismatches }
-
--- the output for the entries that are left
-abbrev rest_checked : ℕ → ℕ → List Entry → Option FileFault → Output
-rest_checked directives mismatches entries None = record {
-  text = flat_map report entries ++ counts_line (directives + count_by (λ entry. is_directive entry.item) entries) (mismatches + count_by differs entries);
-  outcome = Ok (status_of (nat_lt 0 mismatches || list_any differs entries));
-}
-rest_checked directives mismatches entries (Some fault) = record { text = flat_map report entries; outcome = Err fault }
-
-abbrev pub check_rest : CheckState → Script Item → Output
-check_rest s script = rest_checked s.directives s.mismatches (entries_of s.session script.items) script.fault
 
 -- one mismatch more
 positive : (mismatches : ℕ) (c d : Bool) → (nat_lt 0 mismatches || (c || d)) ≡ (nat_lt 0 (mismatches + cond c 1 0) || d)
@@ -65,24 +47,9 @@ rest-first directives mismatches e entries None =
     ∙ ap (λ t. record { text = t; outcome = Ok (status_of (nat_lt 0 (mismatches + m) || list_any differs entries)) })
     (append_assoc (report e) (flat_map report entries) (counts_line (directives + n + ns) (mismatches + m + ms)))
 
--- the state after an item, and the report on it
-abbrev pub after_item : CheckState → Item → CheckState
-after_item s item =
-    check_state (session_after s.session item) (s.directives + cond (is_directive item) 1 0) (s.mismatches + cond (differs (entry item (found_for s.session item))) 1 0)
-
-abbrev pub walk : ℕ → Walk CheckState Item
-walk history = record {
-  total = λ input. checked input history;
-  next = next_item longest_input;
-  rest = λ s place bytes. check_rest s (items_from place bytes);
-  turn = λ s next. check_rest s (followed items_from next);
-  turns = λ s place bytes. ap (check_rest s) (items_from-next place bytes);
-}
-
-pub check-item : (s : CheckState) (item : Item) (place : Place) (bytes : List ℕ) →
-    check_rest s (with_first item (items_from place bytes)) ≡ with_front (report (entry item (found_for s.session item))) (check_rest (after_item s item) (items_from place bytes))
-check-item s item place bytes =
-    rest-first s.directives s.mismatches (entry item (found_for s.session item)) (entries_of (session_after s.session item) (items_from place bytes).items) (items_from place bytes).fault
+-- the same states are left with the same
+same-left : (s t : SessionState) (d e m n : ℕ) (rest : Script Item) → s ≡ t → d ≡ e → m ≡ n → check_left s d m rest ≡ check_left t e n rest
+same-left s t d e m n rest st de mn = ap (λ x. check_left x d m rest) st ∙ ap (λ x. check_left t x m rest) de ∙ ap (λ x. check_left t e x rest) mn
 
 -- all of it
 check-whole : (entries : List Entry) (fault : Option FileFault) → checked_entries entries fault ≡ rest_checked 0 0 entries fault
@@ -93,36 +60,62 @@ check-whole entries None =
     ap (λ k. output k (count_by differs entries)) n ∙ ap (output (0 + count_by (λ (entry : Entry). is_directive entry.item) entries)) m
 check-whole entries (Some fault) = refl
 
-pub check-begin : (history : ℕ) (input : List ℕ) → checked input history ≡ check_rest (check_state (new_session history) 0 0) (items_from start input)
-check-begin history input = check-whole (entries_of (new_session history) (items_from start input).items) (items_from start input).fault
+pub checked-nothing : (history : ℕ) (session : SessionState) (directives mismatches : ℕ) (held : Option (List ℕ)) → session ≡ new_session history → directives ≡ 0 → mismatches ≡ 0 →
+    HasChecked session directives mismatches (checked_script history) [] held held
+checked-nothing history session directives mismatches held is_new no_directives no_mismatches = record {
+  front = wrote-nothing (checked_script history) (check_left session directives mismatches) held (λ rest.
+      check-whole (entries_of (new_session history) rest.items) rest.fault
+      ∙ sym (same-left session (new_session history) directives 0 mismatches 0 rest is_new no_directives no_mismatches));
+  few = omega (arith, no_directives);
+}
 
-same-state : (s t : SessionState) (d e m n : ℕ) → s ≡ t → d ≡ e → m ≡ n → check_state s d m ≡ check_state t e n
-same-state s t d e m n st de mn = ap (λ x. check_state x d m) st ∙ ap (λ x. check_state t x m) de ∙ ap (check_state t e) mn
+-- what an item leaves
+check-item : (s t : SessionState) (d e m n : ℕ) (item : Item) → t ≡ session_after s item → e ≡ d + cond (is_directive item) 1 0 → n ≡ m + cond (differs (entry item (found_for s item))) 1 0 →
+    (rest : Script Item) → check_left s d m (behind (item ∷ []) rest) ≡ with_front (report (entry item (found_for s item))) (check_left t e n rest)
+check-item s t d e m n item session directives mismatches rest =
+    rest-first d m (entry item (found_for s item)) (entries_of (session_after s item) rest.items) rest.fault
+    ∙ ap (with_front (report (entry item (found_for s item)))) (sym (same-left t _ e _ n _ rest session directives mismatches))
 
--- the state before the first item, and after one
-pub check-start : (history : ℕ) (session : SessionState) (directives mismatches : ℕ) → session ≡ new_session history → directives ≡ 0 → mismatches ≡ 0 →
-    (input : List ℕ) → checked input history ≡ check_rest (check_state session directives mismatches) (items_from start input)
-check-start history session directives mismatches is_new no_directives no_mismatches input =
-    check-begin history input ∙ ap (λ s. check_rest s (items_from start input)) (sym (same-state session (new_session history) directives 0 mismatches 0 is_new no_directives no_mismatches))
+few-more : (directives more count after : ℕ) (c : Bool) → directives ≤ count → after ≡ count + 1 → more ≡ directives + cond c 1 0 → more ≤ after
+few-more directives more count after true few forward is = omega (arith, few, forward, is)
+few-more directives more count after false few forward is = omega (arith, few, forward, is)
 
-pub check-on : (s : CheckState) (item : Item) (session : SessionState) (directives mismatches : ℕ) → session ≡ session_after s.session item →
-    directives ≡ s.directives + cond (is_directive item) 1 0 → mismatches ≡ s.mismatches + cond (differs (entry item (found_for s.session item))) 1 0 → (place : Place) (bytes : List ℕ) →
-    check_rest s (with_first item (items_from place bytes)) ≡ with_front (report (entry item (found_for s.session item))) (check_rest (check_state session directives mismatches) (items_from place bytes))
-check-on s item session directives mismatches session_is directives_is mismatches_is place bytes =
-    check-item s item place bytes
-    ∙ ap (λ t. with_front (report (entry item (found_for s.session item))) (check_rest t (items_from place bytes))) (sym (same-state session _ directives _ mismatches _ session_is directives_is mismatches_is))
+pub checked-part : (s t : SessionState) (d e m n : ℕ) (item : Item) (total : Script Item → Output) (parts : List Item) (bytes : List ℕ) (before mid new : Option (List ℕ)) →
+    HasChecked s d m total parts before mid → t ≡ session_after s item → e ≡ d + cond (is_directive item) 1 0 → n ≡ m + cond (differs (entry item (found_for s item))) 1 0 →
+    bytes ≡ report (entry item (found_for s item)) → Appends mid new bytes → HasChecked t e n total (parts ++ item ∷ []) before new
+checked-part s t d e m n item total parts bytes before mid new checked session directives mismatches same appends = record {
+  front = wrote-part total (check_left s d m) (check_left t e n) parts item (report (entry item (found_for s item))) bytes before mid new checked.front
+      (check-item s t d e m n item session directives mismatches) same appends;
+  few = few-more d e (length parts) (length (parts ++ item ∷ [])) (is_directive item) checked.few (length-append parts (item ∷ [])) directives;
+}
 
--- each directive has a line
-pub few-more : (directives more lines after : ℕ) (c : Bool) → directives ≤ lines → lines < after → more ≡ directives + cond c 1 0 → more ≤ after
-few-more directives more lines after true few forward is = omega (arith, few, forward, is)
-few-more directives more lines after false few forward is = omega (arith, few, forward, is)
+pub checked-broken : (s : SessionState) (d m : ℕ) (item : Item) (total : Script Item → Output) (parts more : List Item) (fault : Option FileFault) (bytes : List ℕ) (before mid new : Option (List ℕ)) →
+    HasChecked s d m total parts before mid → bytes ≡ report (entry item (found_for s item)) → AppendsPart mid new bytes →
+    AppendsPart before new (total (script (parts ++ item ∷ more) fault)).text
+checked-broken s d m item total parts more fault bytes before mid new checked same cut =
+    wrote-broken total (check_left s d m) _ parts item (report (entry item (found_for s item))) bytes before mid new checked.front
+    (check-item s _ d _ m _ item refl refl refl) same cut more fault
 
 -- the end of the input
-pub check-over : (session : SessionState) (directives mismatches : ℕ) →
-    check_rest (check_state session directives mismatches) (record { items = []; fault = None }) ≡ record { text = counts_line directives mismatches; outcome = Ok (status_of (nat_lt 0 mismatches)) }
+check-over : (session : SessionState) (directives mismatches : ℕ) →
+    check_left session directives mismatches (script [] None) ≡ record { text = counts_line directives mismatches; outcome = Ok (status_of (nat_lt 0 mismatches)) }
 check-over session directives mismatches =
     let d : directives + 0 ≡ directives = omega arith in
     let m : mismatches + 0 ≡ mismatches = omega arith in
     ap (λ k. record { text = counts_line k (mismatches + 0); outcome = Ok (status_of (nat_lt 0 mismatches || false)) }) d
     ∙ ap (λ k. record { text = counts_line directives k; outcome = Ok (status_of (nat_lt 0 mismatches || false)) }) m
     ∙ ap (λ b. record { text = counts_line directives mismatches; outcome = Ok (status_of b) }) (or-false (nat_lt 0 mismatches))
+
+pub checked-end : (session : SessionState) (directives mismatches : ℕ) (total : Script Item → Output) (parts : List Item) (bytes : List ℕ) (before mid new : Option (List ℕ)) →
+    HasChecked session directives mismatches total parts before mid → bytes ≡ counts_line directives mismatches → Appends mid new bytes →
+    Wrote (total (script parts None)) (Ok (status_of (nat_lt 0 mismatches))) before new
+checked-end session directives mismatches total parts bytes before mid new checked same appends =
+    wrote-end total (check_left session directives mismatches) parts None (counts_line directives mismatches) bytes (Ok (status_of (nat_lt 0 mismatches))) before mid new checked.front
+    (check-over session directives mismatches) same appends
+
+pub checked-end-part : (session : SessionState) (directives mismatches : ℕ) (total : Script Item → Output) (parts : List Item) (bytes : List ℕ) (before mid new : Option (List ℕ)) →
+    HasChecked session directives mismatches total parts before mid → bytes ≡ counts_line directives mismatches → AppendsPart mid new bytes →
+    AppendsPart before new (total (script parts None)).text
+checked-end-part session directives mismatches total parts bytes before mid new checked same cut =
+    wrote-end-part total (check_left session directives mismatches) parts None (counts_line directives mismatches) bytes (Ok (status_of (nat_lt 0 mismatches))) before mid new checked.front
+    (check-over session directives mismatches) same cut

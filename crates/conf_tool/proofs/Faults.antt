@@ -1,75 +1,79 @@
--- Faults of a reader that end a run.
-use Rattle.std.proofs.Common.{◌≡◌, ℕ, Bool, true, false, ◌||◌, List, [], refl, sym, ◌∙◌, ap, inl, inr}
+-- Faults that end a run.
+use Rattle.std.proofs.Common.{◌≡◌, ℕ, Bool, true, false, ◌||◌, List, refl, sym, ◌∙◌, ap, subst, inl, inr}
 use Rattle.std.specs.Prelude.{Option, Err}
 use Rattle.dd_file.specs.Device.{AppendsPart}
-use Rattle.dd_file.specs.Place.{Place}
-use Rattle.dd_file.specs.Reading.{Faulty}
-use Rattle.dd_file.specs.ReaderState.{ReaderState, fresh}
-use Rattle.dd_file.specs.Answer.{Agrees, ReadsOn, IsCutShort, is_read_fault}
+use Rattle.dd_file.specs.Answer.{IsCutShort}
+use Rattle.dd_file.specs.Answer as reader
 use Rattle.dd_file.specs.declared.fault.FileFault.{FileFault}
 use Rattle.dd_file.specs.declared.fault.FileFault.TheVariants.{Read, NoMemory, InputTooLong, BadDirective, AfterDouble, UnclosedDouble}
-use Rattle.conf_tool.specs.Run.{Answers, Wrote, as_tool_fault, IsScriptFault}
-use Rattle.conf_tool.proofs.Reached.{Walk}
-use Rattle.conf_tool.proofs.Written.{Written, written-part, written-end, appends-nothing}
+use Rattle.conf_tool.specs.Outputs.{Output}
+use Rattle.conf_tool.specs.Run.{Means, IsAnswerFault, as_tool_fault, is_read_fault, is_write_fault}
+use Rattle.conf_tool.specs.declared.status.Status.{Status}
+use Rattle.conf_tool.specs.declared.tool_fault.ToolFault.{ToolFault}
+use Rattle.conf_tool.specs.declared.tool_fault.ToolFault.TheVariants.{Script, Read as CannotRead, Write as CannotWrite, NoMemory as OutOfMemory}
 
--- a fault of the input is not one that cuts a reading short
-uncut : (X : Type 0) (fault : FileFault) → IsScriptFault fault → IsCutShort {X = X} (Err fault) → ⊥
-uncut X Read told cut = absurd told
-uncut X NoMemory told cut = absurd told
-uncut X (InputTooLong line) told cut = elim cut [ inl e ↦ cc | inr e ↦ cc ]
-uncut X (BadDirective line) told cut = elim cut [ inl e ↦ cc | inr e ↦ cc ]
-uncut X (AfterDouble line) told cut = elim cut [ inl e ↦ cc | inr e ↦ cc ]
-uncut X (UnclosedDouble line) told cut = elim cut [ inl e ↦ cc | inr e ↦ cc ]
+-- a fault of the reader as one of the run: of the input ..
+pub record IsOfInput (fault told : FileFault) : Type 0 where
+  pub same : fault ≡ told
+  pub not_read : fault ≡ Read → ⊥
+  pub not_memory : fault ≡ NoMemory → ⊥
 
--- a fault that is no want of memory and of no device is one of the input
-pub record IsTold (X : Type 0) (fault : FileFault) : Type 0 where
-  pub uncut : IsCutShort {X = X} (Err fault) → ⊥
-  pub can_be : IsScriptFault fault
-  pub unread : is_read_fault {X = X} (Err fault) ≡ false
+pub input-fault : (fault told : FileFault) → Script told ≡ as_tool_fault fault → IsOfInput fault told
+input-fault Read told is = let bad : ⊥ = cc in absurd bad
+input-fault NoMemory told is = let bad : ⊥ = cc in absurd bad
+input-fault (InputTooLong line) told is = record { same = cc; not_read = λ e. cc; not_memory = λ e. cc }
+input-fault (BadDirective line) told is = record { same = cc; not_read = λ e. cc; not_memory = λ e. cc }
+input-fault (AfterDouble line) told is = record { same = cc; not_read = λ e. cc; not_memory = λ e. cc }
+input-fault (UnclosedDouble line) told is = record { same = cc; not_read = λ e. cc; not_memory = λ e. cc }
 
-pub script-fault : (X : Type 0) (fault : FileFault) → (fault ≡ Read → ⊥) → (fault ≡ NoMemory → ⊥) → IsTold X fault
-script-fault X Read not_read not_memory = absurd (not_read refl)
-script-fault X NoMemory not_read not_memory = absurd (not_memory refl)
-script-fault X (InputTooLong line) not_read not_memory = record { uncut = uncut X (InputTooLong line) tt; can_be = tt; unread = refl }
-script-fault X (BadDirective line) not_read not_memory = record { uncut = uncut X (BadDirective line) tt; can_be = tt; unread = refl }
-script-fault X (AfterDouble line) not_read not_memory = record { uncut = uncut X (AfterDouble line) tt; can_be = tt; unread = refl }
-script-fault X (UnclosedDouble line) not_read not_memory = record { uncut = uncut X (UnclosedDouble line) tt; can_be = tt; unread = refl }
+pub input-uncut : {X : Type 0} (fault told : FileFault) → IsOfInput fault told → IsCutShort {X = X} (Err fault) → ⊥
+input-uncut fault told is (inl e) = is.not_read cc
+input-uncut fault told is (inr e) = is.not_memory cc
 
--- what was written where a reader answers a fault: of the input, then the output is whole, or else a part of it
-pub fault-output : {S A R X : Type 0} (walk : Walk S A) (remaining : R → Option (List ℕ)) (has_failed : R → Bool) (view : X → A) (IsFault : Place → FileFault → Type 0)
-    (begin before mid : Option (List ℕ)) (state after : ReaderState) (now later : R) (s : S) (fault : FileFault) →
-    Written walk begin (remaining now) before mid state s → ReadsOn remaining has_failed view walk.next IsFault state after now later (Err fault) →
-    walk.turn s (Faulty fault) ≡ record { text = []; outcome = Err fault } → Answers walk.total begin (remaining later) before mid (Err (as_tool_fault fault))
-fault-output {S} {A} {R} {X} walk remaining has_failed view IsFault begin before mid state after now later s fault written reads ends = at fault reads ends where
-  Reads : FileFault → Type 0
-  Reads f = ReadsOn remaining has_failed view walk.next IsFault state after now later (Err f)
+pub input-unread : (fault told : FileFault) → IsOfInput fault told → reader.is_read_fault {X = Status} (Err fault) ≡ false
+input-unread Read told is = absurd (is.not_read refl)
+input-unread NoMemory told is = refl
+input-unread (InputTooLong line) told is = refl
+input-unread (BadDirective line) told is = refl
+input-unread (AfterDouble line) told is = refl
+input-unread (UnclosedDouble line) told is = refl
 
-  Ends : FileFault → Type 0
-  Ends f = walk.turn s (Faulty f) ≡ record { text = []; outcome = Err f }
+-- .. or one that cuts the run short
+pub data IsOfReader : FileFault → ToolFault → Type 0 where
+  CutByRead : IsOfReader Read CannotRead
+  CutByMemory : IsOfReader NoMemory OutOfMemory
 
-  part : (f : FileFault) → Reads f → (input more : List ℕ) → Agrees fresh begin (remaining later) input more → AppendsPart before mid (walk.total input).text
-  part f reads = written-part walk begin (remaining now) (remaining later) before mid state s written reads.moves.taken
+pub reader-fault : (fault : FileFault) (told : ToolFault) → told ≡ as_tool_fault fault → ((f : FileFault) → told ≡ Script f → ⊥) → IsOfReader fault told
+reader-fault Read told is other = subst (IsOfReader Read) (sym is) CutByRead
+reader-fault NoMemory told is other = subst (IsOfReader NoMemory) (sym is) CutByMemory
+reader-fault (InputTooLong line) told is other = absurd (other (InputTooLong line) is)
+reader-fault (BadDirective line) told is other = absurd (other (BadDirective line) is)
+reader-fault (AfterDouble line) told is other = absurd (other (AfterDouble line) is)
+reader-fault (UnclosedDouble line) told is other = absurd (other (UnclosedDouble line) is)
 
-  whole : (f : FileFault) → IsScriptFault f → Reads f → Ends f → (input more : List ℕ) → Agrees fresh begin (remaining later) input more → Wrote (walk.total input) (Err f) before mid
-  whole f told reads ends =
-      written-end walk remaining has_failed view IsFault begin before mid mid state after now later [] [] s (Err f) (Err f) written reads (uncut (Option X) f told) (λ more. ends) refl (appends-nothing mid)
+pub reader-means : (fault : FileFault) (told : ToolFault) → IsOfReader fault told → (output : Output) (before after : Option (List ℕ)) → AppendsPart before after output.text → Means output (Err told) before after
+reader-means fault told CutByRead output before after part = part
+reader-means fault told CutByMemory output before after part = part
 
-  at : (f : FileFault) → Reads f → Ends f → Answers walk.total begin (remaining later) before mid (Err (as_tool_fault f))
-  at Read reads ends = part Read reads
-  at NoMemory reads ends = part NoMemory reads
-  at (InputTooLong line) reads ends = whole (InputTooLong line) tt reads ends
-  at (BadDirective line) reads ends = whole (BadDirective line) tt reads ends
-  at (AfterDouble line) reads ends = whole (AfterDouble line) tt reads ends
-  at (UnclosedDouble line) reads ends = whole (UnclosedDouble line) tt reads ends
+pub reader-read : (fault : FileFault) (told : ToolFault) → IsOfReader fault told → is_read_fault {X = Status} (Err told) ≡ reader.is_read_fault {X = Status} (Err fault)
+reader-read fault told CutByRead = refl
+reader-read fault told CutByMemory = refl
+
+pub reader-unwritten : (fault : FileFault) (told : ToolFault) → IsOfReader fault told → is_write_fault {X = Status} (Err told) ≡ false
+reader-unwritten fault told CutByRead = refl
+reader-unwritten fault told CutByMemory = refl
+
+-- a fault of what answers an input
+pub answer-means : (told : ToolFault) → IsAnswerFault told → (output : Output) (before after : Option (List ℕ)) → AppendsPart before after output.text → Means output (Err told) before after
+answer-means (Script f) is output before after part = absurd is
+answer-means CannotRead is output before after part = absurd is
+answer-means CannotWrite is output before after part = part
+answer-means OutOfMemory is output before after part = part
 
 -- marks of failure
 pub or-false : (mark : Bool) → (mark || false) ≡ mark
 or-false true = refl
 or-false false = refl
-
-pub or-true : (mark : Bool) → (mark || true) ≡ true
-or-true true = refl
-or-true false = refl
 
 -- a call that fails so, after none did
 pub or-fault : (start now later fault told : Bool) → later ≡ (now || fault) → told ≡ fault → now ≡ start → later ≡ (start || told)

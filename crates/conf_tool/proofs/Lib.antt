@@ -1,12 +1,11 @@
 pub mod Replies
 pub mod Script
 pub mod Reached
-pub mod Written
 pub mod Faults
-pub mod LinesWalk
+pub mod WrittenFront
 pub mod Checking
-pub mod Marked
 pub mod Rewriting
+pub mod Marked
 pub mod CommandReplies
 pub mod ToldLines
 pub mod ToldTexts

@@ -12,5 +12,6 @@ pub mod Commands
 pub mod Reports
 pub mod Told
 pub mod Outputs
+pub mod Answered
 pub mod Run
 pub mod Laws

@@ -1,10 +1,11 @@
 -- The output of each mode, for a whole input.
 use Rattle.std.specs.Prelude.{ℕ, Bool, true, false, List, ◌++◌, flat_map, Option, Some, None, Result, Ok, Err}
 use Rattle.std.specs.List.{list_any}
-use Rattle.dd_file.specs.Reading.{script_of, listing_of}
+use Rattle.dd_file.specs.Reading.{Script, script_of, listing_of}
 use Rattle.dd_file.specs.Rewritten.{Entry, rewritten_text}
+use Rattle.dd_file.specs.declared.item.Item.{Item}
 use Rattle.dd_file.specs.declared.fault.FileFault.{FileFault}
-use Rattle.conf_change.specs.Configuration.{empty_configuration}
+use Rattle.conf_change.specs.Configuration.{Configuration, empty_configuration}
 use Rattle.conf_tool.specs.LineReply.{line_replies}
 use Rattle.conf_tool.specs.SessionState.{new_session}
 use Rattle.conf_tool.specs.Reports.{entries_of, differs, report, counts_text}
@@ -24,11 +25,13 @@ abbrev pub clean_unless : Option FileFault → Result Status FileFault
 clean_unless None = Ok Clean
 clean_unless (Some fault) = Err fault
 
--- of `lines`: the answers to the lines up to a fault, from the empty configuration on
+-- the answers to the lines up to a fault, from a configuration on
+abbrev pub lined_from : Configuration → Script (List ℕ) → Output
+lined_from c listing = record { text = line_replies c listing.items; outcome = clean_unless listing.fault }
+
+-- of `lines`: the answers from the empty configuration on
 abbrev pub lined : List ℕ → Output
-lined input =
-    let listing = listing_of input in
-    record { text = line_replies empty_configuration listing.items; outcome = clean_unless listing.fault }
+lined input = lined_from empty_configuration (listing_of input)
 
 abbrev pub status_of : Bool → Status
 status_of false = Clean
@@ -39,20 +42,22 @@ abbrev pub checked_entries : List Entry → Option FileFault → Output
 checked_entries entries None = record { text = flat_map report entries ++ counts_text entries; outcome = Ok (status_of (list_any differs entries)) }
 checked_entries entries (Some fault) = record { text = flat_map report entries; outcome = Err fault }
 
+abbrev pub checked_script : ℕ → Script Item → Output
+checked_script history script = checked_entries (entries_of (new_session history) script.items) script.fault
+
 -- of `check`: what differs in a script, in a session that keeps so many earlier configurations
 abbrev pub checked : List ℕ → ℕ → Output
-checked input history =
-    let script = script_of input in
-    checked_entries (entries_of (new_session history) script.items) script.fault
+checked input history = checked_script history (script_of input)
+
+abbrev pub rewritten_script : ℕ → Script Item → Output
+rewritten_script history script = record {
+  text = rewritten_text (entries_of (new_session history) script.items);
+  outcome = clean_unless script.fault;
+}
 
 -- of `rewrite`: the script up to a fault, with what was found
 abbrev pub rewritten : List ℕ → ℕ → Output
-rewritten input history =
-    let script = script_of input in
-    record {
-      text = rewritten_text (entries_of (new_session history) script.items);
-      outcome = clean_unless script.fault;
-    }
+rewritten input history = rewritten_script history (script_of input)
 
 -- of a mode with its options
 abbrev pub output_of : Mode → Options → List ℕ → Output

@@ -1,5 +1,5 @@
 -- What the answer of a run says of its input and of what was written.
-use Rattle.std.specs.Prelude.{◌≡◌, ℕ, Bool, true, false, List, Option, Result, Ok, Err, ⊤}
+use Rattle.std.specs.Prelude.{◌≡◌, ℕ, Bool, true, false, List, Option, Some, None, Result, Ok, Err, ⊤}
 use Rattle.std.specs.Io.KnownBytes.{Appends}
 use Rattle.dd_file.specs.Device.{AppendsPart}
 use Rattle.dd_file.specs.ReaderState.{fresh}
@@ -26,6 +26,11 @@ Means output (Err Read) before after = AppendsPart before after output.text
 Means output (Err Write) before after = AppendsPart before after output.text
 Means output (Err NoMemory) before after = AppendsPart before after output.text
 
+-- clean where an input has no fault, and else that fault
+abbrev pub clean_or_fault : Option FileFault → Result Status ToolFault
+clean_or_fault None = Ok Clean
+clean_or_fault (Some fault) = Err (Script fault)
+
 -- So it is for each input that agrees with what the reader gave. Where the reader or the writer does not tell its
 -- bytes, nothing is said.
 abbrev pub Answers : (List ℕ → Output) → Option (List ℕ) → Option (List ℕ) → Option (List ℕ) → Option (List ℕ) → Result Status ToolFault → Type 0
@@ -40,6 +45,13 @@ as_tool_fault (UnclosedDouble line) = Script (UnclosedDouble line)
 as_tool_fault (InputTooLong line) = Script (InputTooLong line)
 as_tool_fault ReadOfScript = Read
 as_tool_fault NoMemoryForScript = NoMemory
+
+-- a fault of what answers an input, not of the input or its reader
+abbrev pub IsAnswerFault : ToolFault → Type 0
+IsAnswerFault (Script fault) = ⊥
+IsAnswerFault Read = ⊥
+IsAnswerFault Write = ⊤
+IsAnswerFault NoMemory = ⊤
 
 -- a fault of the input
 abbrev pub IsScriptFault : FileFault → Type 0
@@ -79,17 +91,34 @@ CanAnswer mode (Err Read) = ⊤
 CanAnswer mode (Err Write) = ⊤
 CanAnswer mode (Err NoMemory) = ⊤
 
--- a read, or a write, failed in the run
-abbrev pub is_read_fault : Result Status ToolFault → Bool
-is_read_fault (Ok status) = false
+-- a read, or a write, failed in a call
+abbrev pub is_read_fault : {X : Type 0} → Result X ToolFault → Bool
+is_read_fault (Ok x) = false
 is_read_fault (Err (Script fault)) = false
 is_read_fault (Err Read) = true
 is_read_fault (Err Write) = false
 is_read_fault (Err NoMemory) = false
 
-abbrev pub is_write_fault : Result Status ToolFault → Bool
-is_write_fault (Ok status) = false
+abbrev pub is_write_fault : {X : Type 0} → Result X ToolFault → Bool
+is_write_fault (Ok x) = false
 is_write_fault (Err (Script fault)) = false
 is_write_fault (Err Read) = false
 is_write_fault (Err Write) = true
 is_write_fault (Err NoMemory) = false
+
+-- an answer that stands for the whole output: with a status, or with a fault of the input
+abbrev pub stands_for_whole : Result Status ToolFault → Bool
+stands_for_whole (Ok status) = true
+stands_for_whole (Err (Script fault)) = true
+stands_for_whole (Err Read) = false
+stands_for_whole (Err Write) = false
+stands_for_whole (Err NoMemory) = false
+
+-- What an answer says of the mark of failure of a writer, before and after. Where a read failed or memory was wanting, a
+-- write may have failed too.
+abbrev pub TellsWrite : Bool → Bool → Result Status ToolFault → Type 0
+TellsWrite before after (Ok status) = after ≡ before
+TellsWrite before after (Err (Script fault)) = after ≡ before
+TellsWrite before after (Err Read) = ⊤
+TellsWrite before after (Err Write) = after ≡ true
+TellsWrite before after (Err NoMemory) = ⊤

@@ -76,6 +76,8 @@ pub fn command_line<'a, S: AsStr>(alloc: Global, words: &'a [S]) -> Result<Invoc
     ensures mode { IfOk result (λ invocation. invocation.mode ≡ asked_mode (subcommand_of the_program (map S.text words.entry.now))) }
     ensures file { IfOk result (λ invocation. option_map (λ name. name.now) invocation.file ≡ asked_file (subcommand_of the_program (map S.text words.entry.now))) }
 
+    // No mode has options yet.
+    ensures options { IfOk result (λ invocation. invocation.options ≡ record { history = 100; steps = 1 }) }
     ensures range { IfOk result (λ invocation. IsInRange invocation.options) }
 {
     let matches = program(alloc)?.try_get_matches_from(words)?;

@@ -1,19 +1,28 @@
 //! Running a mode, over any reader and writer.
-ghost use Rattle.std.specs.Prelude.{◌≡◌, ◌||◌};
+ghost use Rattle.std.specs.Prelude.{◌≡◌, ◌||◌, true};
 ghost use Rattle.dd_file.specs.Device.{LosesFront};
+ghost use Rattle.dd_file.specs.Gathered.{gathering_writer, NothingWaits};
 ghost use Rattle.conf_tool.specs.Outputs.{output_of};
 ghost use Rattle.conf_tool.specs.Ranges.{IsInRange};
-ghost use Rattle.conf_tool.specs.Run.{Answers, CanAnswer, is_read_fault, is_write_fault};
+ghost use Rattle.conf_tool.specs.Run.{Answers, CanAnswer, TellsWrite, is_read_fault, is_write_fault, stands_for_whole};
 
 mod check;
+mod clean_unless;
 mod lines;
+mod part_by_part;
 mod rewrite;
 
+use self::check::Checking;
+use self::lines::LineByLine;
+use self::part_by_part::run_by_part;
+use self::rewrite::Rewriting;
 use crate::mode::Mode;
 use crate::options::Options;
 use crate::status::Status;
 use crate::tool_fault::ToolFault;
+use dd_file::blocks::Blocks;
 use dd_file::device::{Sink, Source};
+use dd_file::laws::nothing_waits;
 use std::alloc::Global;
 
 /// Reads the input to its end in a mode, and writes the mode's output. Nothing is tried again: after a fault of a
@@ -38,8 +47,50 @@ pub fn run<R: Source, W: Sink>(
     ensures kinds { CanAnswer mode result }
 {
     match mode {
-        Mode::Lines => lines::run_lines(alloc, reader, writer),
-        Mode::Check => check::run_check(alloc, options.history, reader, writer),
-        Mode::Rewrite => rewrite::run_rewrite(alloc, options.history, reader, writer),
+        Mode::Lines => run_by_part(LineByLine::new(alloc)?, reader, writer),
+        Mode::Check => run_by_part(Checking::new(alloc, options.history)?, reader, writer),
+        Mode::Rewrite => run_by_part(Rewriting::new(alloc, options.history)?, reader, writer),
     }
+}
+
+/// Runs over blocks in which nothing waits, and then writes what waits in the last one: after a fault too. Where that
+/// fails, an answer that stands for the whole output no longer does, and is `Write`.
+pub fn run_and_flush<R: Source, W: Sink>(
+    alloc: Global,
+    mode: Mode,
+    options: Options,
+    reader: &mut R,
+    writer: &mut Blocks<W>,
+) -> Result<Status, ToolFault>
+    requires range { IsInRange options }
+    requires empty { NothingWaits writer.old }
+
+    // The blocks hold the output for each input that agrees with what was read, or a front part of it, ..
+    ensures output { Answers (output_of mode options) (R.remaining reader.old) (R.remaining reader.new)
+        (⟦<Blocks<W> as Sink>⟧.contents writer.old) (⟦<Blocks<W> as Sink>⟧.contents writer.new) result }
+
+    // .. and their writer holds all of it, where the answer stands for the whole output.
+    ensures whole { stands_for_whole result ≡ true → NothingWaits writer.new ×
+        Answers (output_of mode options) (R.remaining reader.old) (R.remaining reader.new)
+        (W.contents (gathering_writer writer.old)) (W.contents (gathering_writer writer.new)) result }
+    ensures taken { LosesFront (R.remaining reader.old) (R.remaining reader.new) }
+
+    // A read that failed and want of memory are told before a write that failed.
+    ensures read { R.has_failed reader.new ≡ (R.has_failed reader.old || is_read_fault result) }
+    ensures write { TellsWrite (W.has_failed (gathering_writer writer.old)) (W.has_failed (gathering_writer writer.new)) result }
+    ensures kinds { CanAnswer mode result }
+{
+    let outcome = run(alloc, mode, options, reader, writer);
+    nothing_waits::<W>();
+    match writer.flush() {
+        Err(_) if is_whole(&outcome) => Err(ToolFault::Write),
+        _ => outcome,
+    }
+}
+
+/// Whether an answer stands for the whole output: with a status, or with a fault of the input.
+fn is_whole(outcome: &Result<Status, ToolFault>) -> bool
+    ensures { result ≡ stands_for_whole outcome.now }
+{
+    matches!(outcome, Ok(_) | Err(ToolFault::Script(_)))
 }

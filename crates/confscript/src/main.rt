@@ -5,11 +5,10 @@ ghost use Rattle.conf_tool.specs.Ranges.{IsInRange};
 
 use clap::error::ErrorKind;
 use conf_tool::command_line::command_line;
-use conf_tool::run::run;
+use conf_tool::run::run_and_flush;
 use conf_tool::{Invocation, Status, ToolFault};
 use dd_file::blocks::Blocks;
-use dd_file::device::{FromRead, Sink, Source, ToWrite};
-use std::alloc::Global;
+use dd_file::device::{FromRead, Source, ToWrite};
 use std::fs::File;
 use std::process::ExitCode;
 use std::{env, io};
@@ -23,7 +22,7 @@ const NO_DEVICE: u8 = 3;
 fn main(rt: HostRuntime) -> ExitCode {
     match words(&rt) {
         Ok(words) => obey(&rt, words.as_slice()),
-        Err(_) => fail(&rt, ToolFault::NoMemory),
+        Err(error) => tell_of_words(&rt, &error),
     }
 }
 
@@ -31,6 +30,15 @@ fn main(rt: HostRuntime) -> ExitCode {
 fn words(rt: &HostRuntime) -> io::Result<Vec<String>> {
     let words = env::args(rt)?.collect(rt.alloc())?;
     Ok(words)
+}
+
+// Tells why there are no words: one of them is no text, or memory is wanting.
+fn tell_of_words(rt: &HostRuntime, error: &io::Error) -> ExitCode {
+    if error.kind() != io::ErrorKind::InvalidData {
+        return fail(rt, ToolFault::NoMemory);
+    }
+    let _ = eprintln!(rt; "confscript: a word of the command line is not UTF-8");
+    ExitCode::from(BAD_INPUT)
 }
 
 // Does what the words ask for.
@@ -78,30 +86,21 @@ fn run_over<R: Source>(rt: &HostRuntime, invocation: Invocation<'_>, reader: &mu
     requires { IsInRange invocation.options }
 {
     let outcome = match Blocks::new(rt.alloc(), ToWrite::new(rt.stdout())) {
-        Ok(mut writer) => run_to_end(rt.alloc(), invocation, reader, &mut writer),
+        Ok(mut writer) => {
+            run_and_flush(
+                rt.alloc(),
+                invocation.mode,
+                invocation.options,
+                reader,
+                &mut writer,
+            )
+        }
         Err(_) => Err(ToolFault::NoMemory),
     };
     match outcome {
         Ok(Status::Clean) => ExitCode::SUCCESS,
         Ok(Status::Different) => ExitCode::FAILURE,
         Err(fault) => fail(rt, fault),
-    }
-}
-
-// Runs, and then writes what still waits in the last block: after a fault too. Where that write fails, an answer that
-// stands for the whole output no longer does.
-fn run_to_end<R: Source, W: Sink>(
-    alloc: Global,
-    invocation: Invocation<'_>,
-    reader: &mut R,
-    writer: &mut Blocks<W>,
-) -> Result<Status, ToolFault>
-    requires { IsInRange invocation.options }
-{
-    let outcome = run(alloc, invocation.mode, invocation.options, reader, writer);
-    match (outcome, writer.flush()) {
-        (Ok(_) | Err(ToolFault::Script(_)), Err(_)) => Err(ToolFault::Write),
-        (outcome, _) => outcome,
     }
 }
 

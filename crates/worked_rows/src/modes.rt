@@ -1,7 +1,8 @@
 //! The modes of the program over readers and writers of several kinds: their outputs, their statuses and their faults.
 use crate::devices::{Stop, byte_by_byte, stopping, taking};
-use conf_tool::run::run;
+use conf_tool::run::{run, run_and_flush};
 use conf_tool::{Mode, Options, Status, ToolFault};
+use dd_file::blocks::Blocks;
 use dd_file::device::{FromRead, Sink, Source, ToWrite};
 use dd_file::fault::FileFault;
 use std::alloc::Global;
@@ -296,6 +297,38 @@ fn stops_at_a_failed_write(rt: HostRuntime) {
         for cut in 0..case.2.len() + 1 {
             writes_until(&rt, rt.alloc(), *case, cut, Stop::Fault);
             writes_until(&rt, rt.alloc(), *case, cut, Stop::TakesNone);
+        }
+    }
+}
+
+// Holds a run over a block whose writer stops when it holds so many bytes: the output comes with the last block, after
+// the run.
+fn flushes_until(rt: &impl Abort, alloc: Global, case: Case, cut: usize) {
+    let (mode, input, output, status) = case;
+    let mut reader = FromRead::new(input);
+    let Ok(mut blocks) = Blocks::new(alloc, stopping(alloc, 4096, cut, Stop::Fault)) else {
+        assert!(rt; false, "no memory");
+        return;
+    };
+    let outcome = run_and_flush(alloc, mode, Options::default(), &mut reader, &mut blocks);
+    if cut < output.len() {
+        assert_eq!(rt; outcome, Err(ToolFault::Write), "at {cut}");
+    } else {
+        assert_eq!(rt; outcome, Ok(status), "at {cut}");
+    }
+    let device = blocks.into_inner().into_inner();
+    assert_eq!(rt;
+        Some(device.taken.as_slice()),
+        output.get(..cut),
+        "at {cut}"
+    );
+}
+
+#[test]
+fn writes_the_last_block(rt: HostRuntime) {
+    for case in &CASES {
+        for cut in 0..case.2.len() + 1 {
+            flushes_until(&rt, rt.alloc(), *case, cut);
         }
     }
 }

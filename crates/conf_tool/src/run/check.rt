@@ -1,77 +1,120 @@
 //! The mode `check`: a script is run, and each directive that finds another text than it expects is reported, with the
 //! counts at the end.
-ghost use Rattle.std.specs.Prelude.{◌≡◌, ◌<◌, ◌+◌, ◌^◌, ◌++◌, ◌||◌, OnOk, if◌then◌else◌};
-ghost use Rattle.dd_file.specs.Device.{LosesFront};
+ghost use Rattle.std.specs.Prelude.{◌≡◌, ◌<◌, ◌+◌, ◌^◌, ◌++◌, ℕ, List, [], Option, OnOk, IfOk, IsOkUnless, if◌then◌else◌};
+ghost use Rattle.dd_file.specs.ReaderState.{fresh};
 ghost use Rattle.dd_file.specs.Rewritten.{entry, is_directive};
-ghost use Rattle.conf_tool.specs.Outputs.{checked};
+ghost use Rattle.conf_tool.specs.Outputs.{checked_script};
 ghost use Rattle.conf_tool.specs.Reports.{found_for, session_after, differs, report};
-ghost use Rattle.conf_tool.specs.Run.{Answers, CanAnswer, is_read_fault, is_write_fault};
-ghost use Rattle.conf_tool.specs.declared.mode.Mode.TheVariants.{Check as OfCheck};
+ghost use Rattle.conf_tool.specs.declared.tool_fault.ToolFault.TheVariants.{NoMemory as OutOfMemory};
 
+use super::part_by_part::PartByPart;
 use crate::report::{Counts, append_difference};
 use crate::session::Session;
 use crate::status::Status;
 use crate::tool_fault::ToolFault;
 use dd_file::device::{Sink, Source};
+use dd_file::fault::FileFault;
 use dd_file::item::Item;
 use dd_file::reader::Reader;
 use dd_file::writing::write_all;
 use quorum_sets::NoMemory;
 use std::alloc::Global;
 
-/// Obeys an item that is a directive, counts it, and appends the report on it. After want of memory a part of the
-/// report may be appended.
-fn check_item(
-    session: &mut Session,
-    counts: &mut Counts,
-    item: Item,
-    text: &mut Vec<u8>,
-) -> Result<(), NoMemory>
-    requires { counts.old.directives < 2 ^ 30 }
-    ensures session { OnOk result (session.new ≡ session_after session.old item) }
-    ensures directives { OnOk result (counts.new.directives ≡ counts.old.directives + (if is_directive item then 1 else 0)) }
-    ensures mismatches { OnOk result (counts.new.mismatches ≡ counts.old.mismatches + (if differs (entry item (found_for session.old item)) then 1 else 0)) }
-    ensures text { OnOk result (text.new.items ≡ text.old.items ++ report (entry item (found_for session.old item))) }
-{
-    match item {
-        Item::Directive(directive) => {
-            let found = session.step(&directive)?;
-            let differs = found.as_slice() != directive.expected();
-            if differs {
-                append_difference(text, &directive, found.as_slice())?;
+/// The items of a script, the session that obeys them, and the counts so far.
+#[derive(Drop)]
+pub(super) struct Checking {
+    items: Reader,
+    session: Session,
+    counts: Counts,
+    /// The report on the last item.
+    text: Vec<u8>,
+}
+
+impl Checking {
+    /// Begins in a new session that keeps so many earlier configurations.
+    pub(super) fn new(alloc: Global, history: usize) -> Result<Checking, ToolFault>
+        ensures unread { IfOk result (λ mode. ⟦<Checking as PartByPart>⟧.reading mode ≡ fresh) }
+        ensures unwritten { IfOk result (λ mode. (held : Option (List ℕ)) → ⟦<Checking as PartByPart>⟧.HasAnswered mode (checked_script history) [] held held) }
+        ensures memory { IsOkUnless result OutOfMemory }
+    {
+        Ok(Checking {
+            items: Reader::new(alloc)?,
+            session: Session::new(alloc, history)?,
+            counts: Counts::new(),
+            text: Vec::new(alloc),
+        })
+    }
+
+    /// Obeys an item that is a directive, counts it, and takes down the report on it.
+    fn check_item(&mut self, item: &Item) -> Result<(), NoMemory>
+        requires { self.old.counts.directives < 2 ^ 30 }
+        ensures session { OnOk result (self.new.session ≡ session_after self.old.session item.now) }
+        ensures directives { OnOk result (self.new.counts.directives ≡ self.old.counts.directives + (if is_directive item.now then 1 else 0)) }
+        ensures mismatches { OnOk result (self.new.counts.mismatches ≡ self.old.counts.mismatches + (if differs (entry item.now (found_for self.old.session item.now)) then 1 else 0)) }
+        ensures text { OnOk result (self.new.text.items ≡ report (entry item.now (found_for self.old.session item.now))) }
+        ensures items { self.new.items ≡ self.old.items }
+    {
+        self.text.clear();
+        match item {
+            Item::Directive(directive) => {
+                let found = self.session.step(directive)?;
+                let differs = found.as_slice() != directive.expected();
+                if differs {
+                    append_difference(&mut self.text, directive, found.as_slice())?;
+                }
+                self.counts.add(differs);
+                Ok(())
             }
-            counts.add(differs);
-            Ok(())
+            _ => Ok(()),
         }
-        _ => Ok(()),
     }
 }
 
-/// Checks item by item, in a session that keeps so many earlier configurations.
-pub(super) fn run_check<R: Source, W: Sink>(
-    alloc: Global,
-    history: usize,
-    reader: &mut R,
-    writer: &mut W,
-) -> Result<Status, ToolFault>
-    ensures output { Answers (λ input. checked input history) (R.remaining reader.old) (R.remaining reader.new) (W.contents writer.old) (W.contents writer.new) result }
-    ensures taken { LosesFront (R.remaining reader.old) (R.remaining reader.new) }
-    ensures read { R.has_failed reader.new ≡ (R.has_failed reader.old || is_read_fault result) }
-    ensures write { W.has_failed writer.new ≡ (W.has_failed writer.old || is_write_fault result) }
-    ensures kinds { CanAnswer OfCheck result }
-{
-    let mut items = Reader::new(alloc)?;
-    let mut session = Session::new(alloc, history)?;
-    let mut counts = Counts::new();
-    let mut text = Vec::new(alloc);
-    loop {
-        let Some(item) = items.next(reader)? else {
-            counts.append_to(&mut text)?;
-            write_all(writer, text.as_slice())?;
-            return Ok(counts.status());
-        };
-        check_item(&mut session, &mut counts, item, &mut text)?;
-        write_all(writer, text.as_slice())?;
-        text.clear();
+impl PartByPart for Checking {
+    type Part = Item;
+
+    ghost use Rattle.dd_file.specs.Place.{longest_input};
+    ghost use Rattle.dd_file.specs.Reading.{next_item};
+    ghost use Rattle.dd_file.specs.Answer.{IsItemFault};
+    ghost use Rattle.dd_file.specs.declared.item.Item.{Item as ItemTold};
+    ghost use Rattle.conf_tool.specs.Answered.{HasChecked};
+    ghost use Rattle.conf_tool.specs.declared.mode.Mode.TheVariants.{Check as OfCheck};
+
+    ghost Told = { ItemTold };
+
+    ghost told = { λ item. item };
+
+    ghost coming = { next_item longest_input };
+
+    ghost IsFault = { IsItemFault };
+
+    ghost mode = { OfCheck };
+
+    ghost reading = { λ s. s.items };
+
+    ghost HasAnswered = { λ s. HasChecked s.session s.counts.directives s.counts.mismatches };
+
+    fn next<R: Source>(&mut self, reader: &mut R) -> Result<Option<Item>, FileFault> {
+        self.items.next(reader)
+    }
+
+    fn answer<W: Sink>(&mut self, item: Item, writer: &mut W) -> Result<(), ToolFault> {
+        self.check_item(&item)?;
+        write_all(writer, self.text.as_slice())?;
+        Ok(())
+    }
+
+    fn end<W: Sink>(
+        &mut self,
+        fault: Option<FileFault>,
+        writer: &mut W,
+    ) -> Result<Status, ToolFault> {
+        if let Some(fault) = fault {
+            return Err(ToolFault::Script(fault));
+        }
+        self.text.clear();
+        self.counts.append_to(&mut self.text)?;
+        write_all(writer, self.text.as_slice())?;
+        Ok(self.counts.status())
     }
 }

@@ -1,13 +1,14 @@
 //! The mode `rewrite`: a script is run, and written again with what each directive found.
-ghost use Rattle.std.specs.Prelude.{◌≡◌, ◌||◌, true, IfOk, OnOk, OnErr};
-ghost use Rattle.dd_file.specs.Device.{LosesFront};
+ghost use Rattle.std.specs.Prelude.{◌≡◌, ℕ, List, [], Option, true, IfOk, OnOk, OnErr, IsOkUnless};
+ghost use Rattle.dd_file.specs.ReaderState.{fresh};
 ghost use Rattle.dd_file.specs.Rewritten.{entry_text, is_output};
 ghost use Rattle.dd_file.specs.RewriterState.{Continues, BreaksOff};
-ghost use Rattle.conf_tool.specs.Outputs.{rewritten};
+ghost use Rattle.conf_tool.specs.Outputs.{rewritten_script};
 ghost use Rattle.conf_tool.specs.Reports.{found_for, session_after};
-ghost use Rattle.conf_tool.specs.Run.{Answers, CanAnswer, is_read_fault, is_write_fault};
-ghost use Rattle.conf_tool.specs.declared.mode.Mode.TheVariants.{Rewrite as OfRewrite};
+ghost use Rattle.conf_tool.specs.declared.tool_fault.ToolFault.TheVariants.{NoMemory as OutOfMemory};
 
+use super::clean_unless::clean_unless;
+use super::part_by_part::PartByPart;
 use crate::laws::found_text_stands;
 use crate::session::Session;
 use crate::status::Status;
@@ -63,40 +64,71 @@ fn write_entry<W: Sink>(
     }
 }
 
-/// Writes item by item again, in a session that keeps so many earlier configurations.
-pub(super) fn run_rewrite<R: Source, W: Sink>(
+/// The items of a script, the session that obeys them, and what writes them again.
+#[derive(Drop)]
+pub(super) struct Rewriting {
     alloc: Global,
-    history: usize,
-    reader: &mut R,
-    writer: &mut W,
-) -> Result<Status, ToolFault>
-    ensures output { Answers (λ input. rewritten input history) (R.remaining reader.old) (R.remaining reader.new) (W.contents writer.old) (W.contents writer.new) result }
-    ensures taken { LosesFront (R.remaining reader.old) (R.remaining reader.new) }
-    ensures read { R.has_failed reader.new ≡ (R.has_failed reader.old || is_read_fault result) }
-    ensures write { W.has_failed writer.new ≡ (W.has_failed writer.old || is_write_fault result) }
-    ensures kinds { CanAnswer OfRewrite result }
-{
-    let mut items = Reader::new(alloc)?;
-    let mut session = Session::new(alloc, history)?;
-    let mut rewriter = Rewriter::new();
-    loop {
-        match items.next(reader) {
-            Ok(Some(item)) => {
-                let found = obey(alloc, &mut session, &item)?;
-                write_entry(&mut rewriter, writer, item, found.as_slice())?;
-            }
-            Ok(None) => {
-                rewriter.end(writer)?;
-                return Ok(Status::Clean);
-            }
-            Err(fault) => match fault {
-                FileFault::Read => return Err(ToolFault::Read),
-                FileFault::NoMemory => return Err(ToolFault::NoMemory),
-                _ => {
-                    rewriter.end(writer)?;
-                    return Err(ToolFault::Script(fault));
-                }
-            },
-        }
+    items: Reader,
+    session: Session,
+    rewriter: Rewriter,
+}
+
+impl Rewriting {
+    /// Begins in a new session that keeps so many earlier configurations.
+    pub(super) fn new(alloc: Global, history: usize) -> Result<Rewriting, ToolFault>
+        ensures unread { IfOk result (λ mode. ⟦<Rewriting as PartByPart>⟧.reading mode ≡ fresh) }
+        ensures unwritten { IfOk result (λ mode. (held : Option (List ℕ)) → ⟦<Rewriting as PartByPart>⟧.HasAnswered mode (rewritten_script history) [] held held) }
+        ensures memory { IsOkUnless result OutOfMemory }
+    {
+        Ok(Rewriting {
+            alloc,
+            items: Reader::new(alloc)?,
+            session: Session::new(alloc, history)?,
+            rewriter: Rewriter::new(),
+        })
+    }
+}
+
+impl PartByPart for Rewriting {
+    type Part = Item;
+
+    ghost use Rattle.dd_file.specs.Place.{longest_input};
+    ghost use Rattle.dd_file.specs.Reading.{next_item};
+    ghost use Rattle.dd_file.specs.Answer.{IsItemFault};
+    ghost use Rattle.dd_file.specs.declared.item.Item.{Item as ItemTold};
+    ghost use Rattle.conf_tool.specs.Answered.{HasRewritten};
+    ghost use Rattle.conf_tool.specs.declared.mode.Mode.TheVariants.{Rewrite as OfRewrite};
+
+    ghost Told = { ItemTold };
+
+    ghost told = { λ item. item };
+
+    ghost coming = { next_item longest_input };
+
+    ghost IsFault = { IsItemFault };
+
+    ghost mode = { OfRewrite };
+
+    ghost reading = { λ s. s.items };
+
+    ghost HasAnswered = { λ s. HasRewritten s.session s.rewriter };
+
+    fn next<R: Source>(&mut self, reader: &mut R) -> Result<Option<Item>, FileFault> {
+        self.items.next(reader)
+    }
+
+    fn answer<W: Sink>(&mut self, item: Item, writer: &mut W) -> Result<(), ToolFault> {
+        let found = obey(self.alloc, &mut self.session, &item)?;
+        write_entry(&mut self.rewriter, writer, item, found.as_slice())?;
+        Ok(())
+    }
+
+    fn end<W: Sink>(
+        &mut self,
+        fault: Option<FileFault>,
+        writer: &mut W,
+    ) -> Result<Status, ToolFault> {
+        self.rewriter.end(writer)?;
+        clean_unless(fault)
     }
 }

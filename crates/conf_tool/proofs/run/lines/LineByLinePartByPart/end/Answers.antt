@@ -1,0 +1,7 @@
+use Rattle.std.proofs.Common.{refl, []}
+use Rattle.conf_tool.proofs.WrittenFront.{appends-nothing, wrote-end, clean-means}
+use Rattle.conf_tool.proofs.run.lines.LineByLinePartByPart.end.Goals as goal
+
+pub returns-clause-output : goal.returns-clause-output
+returns-clause-output g c = λ total parts before front.
+    rw c.clean_unless.ensures (clean-means _ _ _ _ (wrote-end total _ parts _ [] [] _ before _ _ front refl refl (appends-nothing _)))

@@ -1,0 +1,27 @@
+use Rattle.std.proofs.Common.{◌≡◌, ◌≤◌, ◌-◌, ℕ, List, []}
+use Rattle.std.specs.Prelude.{Option}
+use Rattle.dd_file.specs.Place.{longest_input}
+use Rattle.dd_file.specs.Reading.{Script}
+use Rattle.conf_tool.specs.Outputs.{Output}
+use Rattle.conf_tool.proofs.Reached.{Reached}
+use Rattle.conf_tool.proofs.run.part_by_part.run_by_part.Given as goal
+
+-- the parts so far were read and answered, and no device failed
+abbrev pub invariant-loop-part : goal.invariant-loop-part
+invariant-loop-part g l =
+    let remaining = g.R.Source.remaining in
+    let contents = g.W.Sink.contents in
+    let mode = g.M.PartByPart in
+    record {
+      parts : List mode.Told;
+      reached : Reached mode.coming (remaining l.fn.reader) (remaining l.reader) (mode.reading l.mode) parts;
+      answered : (total : Script mode.Told → Output) → ((held : Option (List ℕ)) → mode.HasAnswered l.fn.mode total [] held held) →
+          mode.HasAnswered l.mode total parts (contents l.fn.writer) (contents l.writer);
+      counted : (mode.reading l.mode).place.lines ≤ longest_input;
+      unread : g.R.Source.has_failed l.reader ≡ g.R.Source.has_failed l.fn.reader;
+      unwritten : g.W.Sink.has_failed l.writer ≡ g.W.Sink.has_failed l.fn.writer;
+    }
+
+-- an input has only so many lines, and each part has one
+abbrev pub decreases-loop-part : goal.decreases-loop-part
+decreases-loop-part g l = longest_input - (g.M.PartByPart.reading l.mode).place.lines

@@ -1,0 +1,59 @@
+-- What was written so far of an output, where an input is answered part by part, and what is left of it.
+use Rattle.std.specs.Prelude.{◌≡◌, ◌≤◌, ℕ, ◌+◌, ◌||◌, List, ◌++◌, flat_map, count_by, nat_lt, length, Option, Some, None, Ok, Err}
+use Rattle.std.specs.List.{list_any}
+use Rattle.std.specs.Io.KnownBytes.{Appends}
+use Rattle.dd_file.specs.Reading.{Script}
+use Rattle.dd_file.specs.Rewritten.{Entry, is_directive, entry_text, without_double_end}
+use Rattle.dd_file.specs.RewriterState.{RewriterState, HasWritten}
+use Rattle.dd_file.specs.declared.item.Item.{Item}
+use Rattle.dd_file.specs.declared.fault.FileFault.{FileFault}
+use Rattle.dd_file.specs.declared.stage.Stage.TheVariants.{Ready}
+use Rattle.conf_tool.specs.SessionState.{SessionState}
+use Rattle.conf_tool.specs.Reports.{entries_of, differs, report, counts_line}
+use Rattle.conf_tool.specs.Outputs.{Output, clean_unless, status_of}
+
+-- what is read: these parts, and a fault where one ends them
+abbrev pub script : {A : Type 0} → List A → Option FileFault → Script A
+script items fault = record { items = items; fault = fault }
+
+-- some parts before what is left
+abbrev pub behind : {A : Type 0} → List A → Script A → Script A
+behind parts rest = script (parts ++ rest.items) rest.fault
+
+-- a text before an output
+abbrev pub with_front : List ℕ → Output → Output
+with_front text output = record { text = text ++ output.text; outcome = output.outcome }
+
+-- Of an output these parts were answered: their text was written, and the output for what is left comes behind it.
+pub record WroteFront {A : Type 0} (total left : Script A → Output) (parts : List A) (before after : Option (List ℕ)) : Type 0 where
+  pub text : List ℕ
+  pub wrote : Appends before after text
+  pub is : (rest : Script A) → total (behind parts rest) ≡ with_front text (left rest)
+
+-- The same of `check`, with the counts so far: no more directives than parts.
+abbrev pub rest_checked : ℕ → ℕ → List Entry → Option FileFault → Output
+rest_checked directives mismatches entries None = record {
+  text = flat_map report entries ++ counts_line (directives + count_by (λ entry. is_directive entry.item) entries) (mismatches + count_by differs entries);
+  outcome = Ok (status_of (nat_lt 0 mismatches || list_any differs entries));
+}
+rest_checked directives mismatches entries (Some fault) = record { text = flat_map report entries; outcome = Err fault }
+
+abbrev pub check_left : SessionState → ℕ → ℕ → Script Item → Output
+check_left session directives mismatches rest = rest_checked directives mismatches (entries_of session rest.items) rest.fault
+
+pub record HasChecked (session : SessionState) (directives mismatches : ℕ) (total : Script Item → Output) (parts : List Item) (before after : Option (List ℕ)) : Type 0 where
+  pub front : WroteFront total (check_left session directives mismatches) parts before after
+  pub few : directives ≤ length parts
+
+-- The same of `rewrite`, where the last newline may be held back, and its end is looked at last.
+abbrev pub rewrite_left : SessionState → Script Item → Output
+rewrite_left session rest = record { text = flat_map (λ (e : Entry). entry_text e.item e.found) (entries_of session rest.items); outcome = clean_unless rest.fault }
+
+abbrev pub ended : Output → Output
+ended output = record { text = without_double_end output.text; outcome = output.outcome }
+
+pub record HasRewritten (session : SessionState) (rewriter : RewriterState) (total : Script Item → Output) (parts : List Item) (before after : Option (List ℕ)) : Type 0 where
+  pub text : List ℕ
+  pub wrote : HasWritten rewriter.newlines before after text
+  pub ready : rewriter.stage ≡ Ready
+  pub is : (rest : Script Item) → total (behind parts rest) ≡ ended (with_front text (rewrite_left session rest))
