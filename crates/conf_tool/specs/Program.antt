@@ -1,23 +1,35 @@
 -- The program as `clap` knows it.
-use Rattle.std.specs.Prelude.{true, Option, Some, None, List, codes, bytes_eq, if◌then◌else◌}
-use Rattle.clap.specs.Words.{App, Row, Text, first_of, new_app, new_rule, with_rule, with_subcommand}
+use Rattle.std.specs.Prelude.{◌≡◌, ℕ, ◌≤◌, true, Option, Some, None, List, codes, bytes_eq, if◌then◌else◌}
+use Rattle.std.specs.Str.Parse.{IsNumeral, digits_value, without_leading_plus}
+use Rattle.clap.specs.Words.{App, Row, Rule, Text, first_of, new_app, new_rule, with_rule, with_subcommand}
+use Rattle.clap.specs.declared.builder.value_parser.ValueParser.TheVariants.{Unsigned}
 use Rattle.conf_tool.specs.declared.mode.Mode.{Mode}
 use Rattle.conf_tool.specs.declared.mode.Mode.TheVariants.{Lines, Check, Rewrite}
 
--- a mode, with one argument
+-- a mode, with the file to read
 abbrev pub mode_command : Text → App
 mode_command name = with_rule (new_app name) (new_rule (codes "FILE"))
+
+-- an option with a number from the least to the most
+abbrev pub number_rule : Text → ℕ → ℕ → Rule
+number_rule id least most = record (new_rule id) { long = Some id; parser = Some (Unsigned least most); value_names = 1 }
+
+-- a mode for scripts
+abbrev pub script_command : Text → App
+script_command name = with_rule (mode_command name) (number_rule (codes "history") 0 1000)
 
 -- a mode has to be named
 abbrev pub wants_mode : App → App
 wants_mode app = record { top = record app.top { subcommand_required = true }; subs = app.subs }
 
 -- the program with one more mode
-abbrev pub with_mode : Text → App → App
-with_mode name app = with_subcommand app (mode_command name).top
+abbrev pub with_mode : App → App → App
+with_mode mode app = with_subcommand app mode.top
 
 abbrev pub program : App
-program = with_mode (codes "rewrite") (with_mode (codes "check") (with_mode (codes "lines") (wants_mode (new_app (codes "confscript")))))
+program =
+    with_mode (script_command (codes "rewrite")) (with_mode (script_command (codes "check"))
+    (with_mode (mode_command (codes "lines")) (wants_mode (new_app (codes "confscript")))))
 
 -- the mode of a name; `lines` unless it is another's
 abbrev pub mode_named : Text → Mode
@@ -28,6 +40,15 @@ abbrev pub asked_mode : Option (Text × List Row) → Mode
 asked_mode None = Lines
 asked_mode (Some found) = mode_named found.0
 
-abbrev pub asked_file : Option (Text × List Row) → Option Text
-asked_file None = None
-asked_file (Some found) = first_of (codes "FILE") found.1
+-- the value that it gives an argument
+abbrev pub asked_text : Text → Option (Text × List Row) → Option Text
+asked_text id None = None
+asked_text id (Some found) = first_of id found.1
+
+-- The number that an option asks for: the default where it is left out, and else the one that its text spells. Where that
+-- is none from the least to the most, the words are refused.
+abbrev pub IsAsked : ℕ → ℕ → ℕ → Option Text → ℕ → Type 0
+IsAsked least most default None number = number ≡ default
+IsAsked least most default (Some text) number =
+    let digits = without_leading_plus text in
+    IsNumeral 10 digits → least ≤ digits_value 10 digits → digits_value 10 digits ≤ most → number ≡ digits_value 10 digits

@@ -1,14 +1,15 @@
 //! The words of the command line.
-ghost use Rattle.std.specs.Prelude.{◌≡◌, true, map, option_map, IfOk, IfErr};
-ghost use Rattle.clap.specs.Words.{FailsBy, app_of, fault_of, kind_of, subcommand_of, takes};
-ghost use Rattle.conf_tool.specs.Program.{program as the_program, with_mode, asked_mode, mode_named, asked_file};
+ghost use Rattle.std.specs.Prelude.{◌≡◌, ◌≤◌, ◌<◌, ◌^◌, true, false, map, codes, option_map, IfOk, IfErr};
+ghost use Rattle.clap.specs.Words.{FailsBy, app_of, fault_of, first_of, found_of, kind_of, new_rule, rows_of, rule_of, subcommand_of, takes};
+ghost use Rattle.conf_tool.specs.Program.{program as the_program, with_mode, mode_command, script_command, number_rule, asked_mode, mode_named, asked_text, IsAsked};
 ghost use Rattle.conf_tool.specs.Ranges.{IsInRange};
 
 use crate::invocation::Invocation;
 use crate::mode::Mode;
 use crate::options::Options;
+use clap::builder::ValueParser;
 use clap::error::ErrorKind;
-use clap::{Arg, Command, Error};
+use clap::{Arg, ArgMatches, Command, Error};
 use std::alloc::Global;
 use std::convert::AsStr;
 
@@ -74,22 +75,54 @@ pub fn command_line<'a, S: AsStr>(alloc: Global, words: &'a [S]) -> Result<Invoc
 
     // The mode and the file are those that `clap` reads in the words.
     ensures mode { IfOk result (λ invocation. invocation.mode ≡ asked_mode (subcommand_of the_program (map S.text words.entry.now))) }
-    ensures file { IfOk result (λ invocation. option_map (λ name. name.now) invocation.file ≡ asked_file (subcommand_of the_program (map S.text words.entry.now))) }
+    ensures file { IfOk result (λ invocation. option_map (λ name. name.now) invocation.file ≡ asked_text (codes "FILE") (subcommand_of the_program (map S.text words.entry.now))) }
 
-    // No mode has options yet.
-    ensures options { IfOk result (λ invocation. invocation.options ≡ record { history = 100; steps = 1 }) }
+    // The options are the numbers in the words, and else 100 and 1.
+    ensures history { IfOk result (λ invocation. IsAsked 0 1000 100 (asked_text (codes "history") (subcommand_of the_program (map S.text words.entry.now))) invocation.options.history) }
+    ensures steps { IfOk result (λ invocation. invocation.options.steps ≡ 1) }
     ensures range { IfOk result (λ invocation. IsInRange invocation.options) }
 {
     let matches = program(alloc)?.try_get_matches_from(words)?;
-    let (mode, file) = match matches.subcommand() {
-        Some((name, found)) => (mode_of(name), found.get_str("FILE")),
-        None => (Mode::Lines, None),
+    let (mode, file, history) = match matches.subcommand() {
+        Some((name, found)) => (
+            mode_of(name),
+            found.get_str("FILE"),
+            number_of(found, "history", 0, 1000, 100),
+        ),
+        None => (Mode::Lines, None, 100),
     };
     Ok(Invocation {
         mode,
-        options: Options::default(),
+        options: Options {
+            history,
+            ..Options::default()
+        },
         file,
     })
+}
+
+// The number behind an option, or the default where it is left out. `clap` takes no number below the least or above the
+// most.
+fn number_of(found: &ArgMatches<'_>, id: &str, least: usize, most: usize, default: usize) -> usize
+    requires least { least ≤ default }
+    requires most { default ≤ most }
+    ensures asked { IsAsked least most default (first_of id.now (rows_of (found_of found.now))) result }
+    ensures least { least ≤ result }
+    ensures most { result ≤ most }
+{
+    match found.get_str(id) {
+        None => default,
+        Some(text) => match text.parse::<usize>() {
+            Ok(number) => {
+                if least <= number && number <= most {
+                    number
+                } else {
+                    default
+                }
+            }
+            Err(_) => default,
+        },
+    }
 }
 
 // The mode of a name.
@@ -118,14 +151,14 @@ fn program<'a>(alloc: Global) -> Result<Command<'a>, Error>
         "Makes one change a line",
         LINES_HELP,
     )?;
-    let program = add_mode(
+    let program = add_script_mode(
         alloc,
         program,
         "check",
         "Runs a script and reports what differs",
         CHECK_HELP,
     )?;
-    add_mode(
+    add_script_mode(
         alloc,
         program,
         "rewrite",
@@ -142,16 +175,60 @@ fn add_mode<'a>(
     about: &'a str,
     help: &'a str,
 ) -> Result<Command<'a>, Error>
-    ensures app { IfOk result (λ command. app_of command ≡ with_mode name.now (app_of program.entry)) }
+    ensures app { IfOk result (λ command. app_of command ≡ with_mode (mode_command name.now) (app_of program.entry)) }
     ensures memory { IfErr result (λ error. kind_of error ≡ ErrorKind.OutOfMemory) }
 {
-    let file = Arg::new(alloc, "FILE").help(
-        "The file to read; standard input where it is left out or -",
+    let mode = Command::new(alloc, name)
+        .about(about)
+        .long_about(help)
+        .arg(file_argument(alloc))?;
+    let program = program.subcommand(mode)?;
+    Ok(program)
+}
+
+// Adds a mode for scripts.
+fn add_script_mode<'a>(
+    alloc: Global,
+    program: Command<'a>,
+    name: &'a str,
+    about: &'a str,
+    help: &'a str,
+) -> Result<Command<'a>, Error>
+    ensures app { IfOk result (λ command. app_of command ≡ with_mode (script_command name.now) (app_of program.entry)) }
+    ensures memory { IfErr result (λ error. kind_of error ≡ ErrorKind.OutOfMemory) }
+{
+    let history = number_option(
+        alloc,
+        "history",
+        0,
+        1000,
+        "How many earlier configurations are kept, 100 where it is left out",
     );
     let mode = Command::new(alloc, name)
         .about(about)
         .long_about(help)
-        .arg(file)?;
+        .arg(file_argument(alloc))?
+        .arg(history)?;
     let program = program.subcommand(mode)?;
     Ok(program)
+}
+
+// The file to read.
+fn file_argument<'a>(alloc: Global) -> Arg<'a>
+    ensures rule { rule_of result ≡ new_rule (codes "FILE") }
+    ensures local { result.global ≡ false }
+{
+    Arg::new(alloc, "FILE").help("The file to read; standard input where it is left out or -")
+}
+
+// An option with a number from the least to the most.
+fn number_option<'a>(alloc: Global, id: &'a str, least: u64, most: u64, help: &'a str) -> Arg<'a>
+    ensures rule { rule_of result ≡ number_rule id.now least most }
+    ensures local { result.global ≡ false }
+{
+    Arg::new(alloc, id)
+        .value_parser(ValueParser::unsigned(least, most))
+        .long(id)
+        .value_name("N")
+        .help(help)
 }
