@@ -1,38 +1,45 @@
 //! Writing whole texts and whole blocks.
-use crate::devices::{Stop, stopping, taking};
+use crate::devices::{Stop, taking};
 use dd_file::blocks::Blocks;
 use dd_file::device::Sink;
 use dd_file::writing::write_all;
+use std::alloc::{AllocError, Global};
 use std::test::Fail;
+
+// Writes 10,500 bytes in parts, and answers whether a fault was told.
+fn write_parts<W: Sink>(writer: &mut W) -> bool {
+    let mut is_told = false;
+    for _ in 0..1_500 {
+        is_told |= write_all(writer, b"1234567").is_err();
+    }
+    is_told
+}
+
+// Whether a device takes so many bytes in three calls, a block in each, and a fault is told where it stops before the end.
+fn takes(alloc: Global, room: usize, stop: Stop) -> Result<bool, AllocError> {
+    let mut blocks = Blocks::new(alloc, taking(alloc, 20_000, room, stop))?;
+    let was_told = write_parts(&mut blocks);
+    let is_told = blocks.flush().is_err();
+    let failed = blocks.failed();
+    let device = blocks.into_inner().into_inner();
+    Ok(
+        (device.taken.len() == room)
+            & (device.calls == 3)
+            & (was_told == failed)
+            & (is_told == failed)
+            & (failed == (room < 10_500)),
+    )
+}
 
 #[test]
 fn writes_a_block_at_a_time(rt: HostRuntime) -> Result<(), Fail> {
-    let text = vec![in rt.alloc(); b'x'; 10_000]?;
-    let mut blocks = Blocks::new(rt.alloc(), taking(rt.alloc(), 20_000))?;
-    for part in text.chunks(7) {
-        write_all(&mut blocks, part)?;
-    }
-    blocks.flush()?;
-    blocks.flush()?;
-    assert!(rt; !blocks.failed());
-    let device = blocks.into_inner().into_inner();
-    assert_eq!(rt; device.taken.as_slice(), text.as_slice());
-    assert_eq!(rt; device.calls, 3);
+    assert!(rt; takes(rt.alloc(), 10_500, Stop::Fault)?);
     Ok(())
 }
 
 #[test]
-fn a_fault_leaves_a_front_part(rt: HostRuntime) -> Result<(), Fail> {
-    let text = vec![in rt.alloc(); b'x'; 10_000]?;
-    for stop in [Stop::Fault, Stop::TakesNone] {
-        let mut blocks = Blocks::new(rt.alloc(), stopping(rt.alloc(), 20_000, 5_000, stop))?;
-        assert!(rt; write_all(&mut blocks, text.as_slice()).is_err());
-        assert!(rt; blocks.failed());
-        assert!(rt; write_all(&mut blocks, b"y").is_err());
-        assert!(rt; blocks.flush().is_err());
-        let device = blocks.into_inner().into_inner();
-        assert_eq!(rt; device.taken.as_slice(), &text.as_slice()[..5_000]);
-        assert_eq!(rt; device.calls, 3);
-    }
+fn nothing_is_written_after_a_fault(rt: HostRuntime) -> Result<(), Fail> {
+    assert!(rt; takes(rt.alloc(), 5_000, Stop::Fault)?);
+    assert!(rt; takes(rt.alloc(), 5_000, Stop::TakesNone)?);
     Ok(())
 }

@@ -1,8 +1,37 @@
 //! Changes of a configuration, and what becomes of the members.
-use conf_change::{Change, Changer, Changes, Kind, Progress, Refused, Tracker};
-use quorum_sets::{MemberSet, TreeIds};
+use crate::sets_and_quorums::{has_ids, set_of};
+use conf_change::{
+    Change, Changer, Changes, Kind, Refused, Step, union, write_config, write_progress,
+};
+use quorum_sets::{NoMemory, TreeIds};
 use std::alloc::Global;
 use std::test::Fail;
+
+// The configuration, and behind bars each member in ascending order.
+fn shown(alloc: Global, changer: &Changer<TreeIds>) -> Result<Vec<u8>, NoMemory> {
+    let tracker = changer.tracker();
+    let mut text = Vec::new(alloc);
+    write_config(&mut text, tracker.config())?;
+    for place in 0..tracker.member_count() {
+        if let Some((id, _)) = tracker.member_at(place) {
+            text.push(b'|')?;
+            if let Some(progress) = tracker.progress(id) {
+                write_progress(&mut text, id, progress)?;
+            }
+        }
+    }
+    Ok(text)
+}
+
+/// Whether a changer is shown so.
+pub(crate) fn is_shown(
+    alloc: Global,
+    changer: &Changer<TreeIds>,
+    text: &str,
+) -> Result<bool, NoMemory> {
+    let found = shown(alloc, changer)?;
+    Ok(found.as_slice() == text.as_bytes())
+}
 
 fn voter(id: u64) -> Change {
     let kind = Kind::Voter;
@@ -19,142 +48,160 @@ fn removed(id: u64) -> Change {
     Change { kind, id }
 }
 
-// What is to be found: the sets and the flag, and each member's id, next and mark in ascending order; match is 0.
-#[derive(Clone, Copy)]
-struct Found<'a> {
-    incoming: &'a [u64],
-    outgoing: &'a [u64],
-    learners: &'a [u64],
-    learners_next: &'a [u64],
-    auto_leave: bool,
-    members: &'a [(u64, u64, bool)],
-}
+const BOTH: &str =
+    "voters=(1 2) learners=(3)|1: StateProbe match=0 next=1|2: StateProbe match=0 next=1|3: StateProbe match=0 next=1 learner";
 
-fn is_set(set: &TreeIds, ids: &[u64]) -> bool {
-    set.len() == ids.len() && ids.iter().all(|id| set.contains(*id))
-}
+const JOINT: &str =
+    "voters=(3)&&(1) learners=(2) learners_next=(1) autoleave|1: StateProbe match=0 next=1|2: StateProbe match=0 next=1 learner|3: StateProbe match=0 next=1";
 
-fn member(found: &Found<'_>, id: u64) -> Option<Progress> {
-    for (member, next, learner) in found.members {
-        if *member == id {
-            return Some(Progress {
-                matched: 0,
-                next: *next,
-                learner: *learner,
-            });
-        }
-    }
-    None
-}
+const LEFT: &str =
+    "voters=(3) learners=(1 2)|1: StateProbe match=0 next=1 learner|2: StateProbe match=0 next=1 learner|3: StateProbe match=0 next=1";
 
-fn has_members(tracker: &Tracker<TreeIds>, found: &Found<'_>) -> bool {
-    for id in 0..10 {
-        if tracker.progress(id) != member(found, id) {
-            return false;
-        }
-    }
-    for (place, (id, _, _)) in found.members.iter().enumerate() {
-        if tracker.member_at(place) != member(found, *id).map(|progress| (*id, progress)) {
-            return false;
-        }
-    }
-    tracker.member_count() == found.members.len()
-}
-
-fn is_found(changer: &Changer<TreeIds>, found: &Found<'_>) -> bool {
-    let config = changer.tracker().config();
-    has_members(changer.tracker(), found)
-        && is_set(&config.incoming, found.incoming)
-        && is_set(&config.outgoing, found.outgoing)
-        && is_set(&config.learners, found.learners)
-        && is_set(&config.learners_next, found.learners_next)
-        && config.auto_leave == found.auto_leave
-}
-
-// A changer after `v1`, about to make the next change.
-fn with_one(alloc: Global) -> Result<Changer<TreeIds>, Refused> {
-    let mut changer = Changer::new(alloc, 0);
+// Makes the voters 1 and 2 and the learner 3.
+fn make_both(changer: &mut Changer<TreeIds>) -> Result<(), Refused> {
     changer.simple_one(voter(1))?;
     changer.set_last_index(1);
-    Ok(changer)
+    changer.simple(&[voter(2), removed(2), voter(2), learner(3)])
 }
 
-#[test]
-fn a_refused_list_changes_nothing(rt: HostRuntime) -> Result<(), Fail> {
-    let mut changer = with_one(rt.alloc())?;
-    changer.simple(&[voter(2), removed(2), voter(2), learner(3)])?;
-    changer.set_last_index(2);
-    let before = changer.try_clone()?;
-    let found = Found {
-        incoming: &[1, 2],
-        outgoing: &[],
-        learners: &[3],
-        learners_next: &[],
-        auto_leave: false,
-        members: &[(1, 1, false), (2, 1, false), (3, 1, true)],
-    };
+fn enter(changer: &mut Changer<TreeIds>) -> Result<(), Refused> {
+    changer.simple_one(voter(1))?;
+    changer.enter_joint(true, &[learner(1), voter(3), learner(2), removed(9)])
+}
+
+// Whether a refused list leaves a changer as it was.
+fn stays(alloc: Global) -> bool {
+    let mut changer: Changer<TreeIds> = Changer::new(alloc, 0);
+    let made = make_both(&mut changer);
     let refused = changer.simple(&[removed(1), voter(5)]);
-    assert_eq!(rt; refused, Err(Refused::MoreThanOneVoter));
-    assert!(rt; is_found(&changer, &found) && is_found(&before, &found));
-    assert_eq!(rt; before.last_index(), 2);
-    Ok(())
+    (made == Ok(()))
+        & (refused == Err(Refused::MoreThanOneVoter))
+        & (is_shown(alloc, &changer, BOTH) == Ok(true))
+        & (changer.last_index() == 1)
+}
+
+// Whether a copy stays as it is where the changer changes.
+fn has_copy(alloc: Global, changer: &mut Changer<TreeIds>) -> Result<bool, NoMemory> {
+    let copy = changer.try_clone()?;
+    let made = make_both(changer);
+    let is_there = is_shown(alloc, changer, BOTH);
+    let has_stayed = is_shown(alloc, &copy, "voters=()");
+    Ok((made == Ok(())) & (is_there == Ok(true)) & (has_stayed == Ok(true)))
+}
+
+fn copies(alloc: Global) -> bool {
+    let mut changer: Changer<TreeIds> = Changer::new(alloc, 0);
+    has_copy(alloc, &mut changer) == Ok(true)
+}
+
+// Whether a demoted voter waits until the outgoing ones go.
+fn waits(alloc: Global) -> bool {
+    let mut changer: Changer<TreeIds> = Changer::new(alloc, 0);
+    let entered = enter(&mut changer);
+    let is_joint = is_shown(alloc, &changer, JOINT);
+    let left = changer.leave_joint();
+    let is_left = is_shown(alloc, &changer, LEFT);
+    (entered == Ok(())) & (is_joint == Ok(true)) & (left == Ok(())) & (is_left == Ok(true))
 }
 
 #[test]
-fn a_demoted_voter_waits_until_the_outgoing_ones_go(rt: HostRuntime) -> Result<(), Fail> {
-    let mut changer = with_one(rt.alloc())?;
-    let changes = [
-        removed(1),
-        removed(2),
-        removed(9),
-        voter(2),
-        voter(3),
-        voter(4),
-        voter(2),
-        voter(3),
-        voter(4),
-        learner(2),
-        learner(2),
-        removed(4),
-        removed(4),
-        learner(1),
-        learner(1),
-    ];
-    changer.enter_joint(true, &changes)?;
-    let joint = Found {
-        incoming: &[3],
-        outgoing: &[1],
-        learners: &[2],
-        learners_next: &[1],
-        auto_leave: true,
-        members: &[(1, 1, false), (2, 1, true), (3, 1, false)],
-    };
-    assert_eq!(rt; changer.simple_one(voter(2)), Err(Refused::SimpleInJoint));
-    assert!(rt; is_found(&changer, &joint));
-    changer.set_last_index(2);
-    changer.leave_joint()?;
-    let left = Found {
-        incoming: &[3],
-        outgoing: &[],
-        learners: &[1, 2],
-        learners_next: &[],
-        auto_leave: false,
-        members: &[(1, 1, true), (2, 1, true), (3, 1, false)],
-    };
-    assert!(rt; is_found(&changer, &left));
-    Ok(())
+fn changers(rt: HostRuntime) {
+    assert!(rt; stays(rt.alloc()));
+    assert!(rt; copies(rt.alloc()));
+    assert!(rt; waits(rt.alloc()));
 }
 
-#[test]
-fn gives_its_vector_back(rt: HostRuntime) -> Result<(), Fail> {
-    let change = Change {
-        kind: Kind::Learner,
-        id: 5,
-    };
-    let changes = Changes::from(vec![in rt.alloc(); change]?);
+// Whether lists of so many changes give back what they are made of, and equal their copies.
+fn keeps(alloc: Global, list: &[Change]) -> Result<bool, Fail> {
+    let changes = Changes::from(list.to_vec(alloc)?);
     let copy = changes.try_clone()?;
-    assert_eq!(rt; changes.as_slice(), copy.as_slice());
-    let list: Vec<Change> = copy.into();
-    assert_eq!(rt; list.as_slice(), [change].as_slice());
+    let is_same = (changes == copy) & (changes.as_slice() == list);
+    let vector: Vec<Change> = copy.into();
+    Ok(is_same & (vector.as_slice() == list))
+}
+
+static LIST: [Change; 4] = [
+    Change {
+        kind: Kind::Voter,
+        id: 1,
+    },
+    Change {
+        kind: Kind::Voter,
+        id: 1,
+    },
+    Change {
+        kind: Kind::Learner,
+        id: 4294967297,
+    },
+    Change {
+        kind: Kind::Remove,
+        id: 0,
+    },
+];
+
+#[test]
+fn lists_of_changes(rt: HostRuntime) -> Result<(), Fail> {
+    for count in 0..5 {
+        assert!(rt;
+            keeps(rt.alloc(), LIST.get(..count).unwrap_or(&[]))?,
+            "{count}"
+        );
+    }
+    Ok(())
+}
+
+fn list(alloc: Global, count: usize) -> Result<Changes, Fail> {
+    Ok(Changes::from(LIST.get(..count).unwrap_or(&[]).to_vec(alloc)?))
+}
+
+// One of six steps that differ.
+fn step(alloc: Global, place: usize) -> Result<Step, Fail> {
+    match place {
+        0 => Ok(Step::Simple(list(alloc, 2)?)),
+        1 => Ok(Step::Simple(list(alloc, 1)?)),
+        2 => Ok(Step::EnterJoint(true, list(alloc, 2)?)),
+        3 => Ok(Step::EnterJoint(false, list(alloc, 2)?)),
+        4 => Ok(Step::EnterJoint(true, list(alloc, 3)?)),
+        _ => Ok(Step::LeaveJoint),
+    }
+}
+
+// Whether a step equals the one at its place alone.
+fn is_told_apart(alloc: Global, place: usize, found: &Step) -> Result<bool, Fail> {
+    let mut is_so = true;
+    for at in 0..6 {
+        let other = step(alloc, at)?;
+        is_so &= (*found == other) == (place == at);
+    }
+    Ok(is_so)
+}
+
+fn tells_apart(alloc: Global, place: usize) -> Result<bool, Fail> {
+    let found = step(alloc, place)?;
+    is_told_apart(alloc, place, &found)
+}
+
+#[test]
+fn equal_lists_and_steps(rt: HostRuntime) -> Result<(), Fail> {
+    for place in 0..6 {
+        assert!(rt; tells_apart(rt.alloc(), place)?);
+    }
+    Ok(())
+}
+
+// Whether the union of two sets is the given one.
+fn is_union(alloc: Global, a: &[u64], b: &[u64], both: &[u64]) -> Result<bool, NoMemory> {
+    let a = set_of(alloc, a)?;
+    let b = set_of(alloc, b)?;
+    let union = union(&a, &b)?;
+    Ok(has_ids(&union, both))
+}
+
+#[test]
+fn unions(rt: HostRuntime) -> Result<(), Fail> {
+    assert!(rt; is_union(rt.alloc(), &[], &[], &[])?);
+    assert!(rt; is_union(rt.alloc(), &[5, 1], &[], &[1, 5])?);
+    assert!(rt; is_union(rt.alloc(), &[], &[4294967297], &[4294967297])?);
+    assert!(rt; is_union(rt.alloc(), &[1, 3, 5], &[3, 2, 5, 9], &[1, 2, 3, 5, 9])?);
     Ok(())
 }

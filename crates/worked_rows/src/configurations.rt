@@ -49,12 +49,18 @@ static CHECKED: [(Sets, bool, Result<(), Invariant>); 7] = [
     ([&[3], &[1], &[2], &[1]], true, Ok(())),
 ];
 
+fn checked(alloc: Global, sets: Sets, auto_leave: bool) -> Result<Result<(), Invariant>, NoMemory> {
+    let config = config_of(alloc, sets, auto_leave)?;
+    Ok(check(&config))
+}
+
 #[test]
 fn tells_what_is_broken(rt: HostRuntime) -> Result<(), Fail> {
     for (sets, auto_leave, want) in &CHECKED {
-        let config = config_of(rt.alloc(), *sets, *auto_leave)?;
-        assert_eq!(rt; check(&config), *want, "of {sets:?}");
-        assert_eq!(rt; check(&config.try_clone()?), *want, "of a copy of {sets:?}");
+        assert!(rt;
+            checked(rt.alloc(), *sets, *auto_leave)? == *want,
+            "{want:?}"
+        );
     }
     Ok(())
 }
@@ -68,14 +74,32 @@ static OTHERS: [(Sets, bool); 5] = [
     ([&[3], &[1], &[2], &[1]], false),
 ];
 
+fn is_same(
+    alloc: Global,
+    config: &Config<TreeIds>,
+    sets: Sets,
+    auto_leave: bool,
+) -> Result<bool, NoMemory> {
+    let other = config_of(alloc, sets, auto_leave)?;
+    Ok(config.same(&other) | other.same(config))
+}
+
+// Whether a configuration equals its copy and none of the others.
+fn is_told_apart(alloc: Global, config: &Config<TreeIds>) -> Result<bool, NoMemory> {
+    let mut is_other = false;
+    for (sets, auto_leave) in &OTHERS {
+        is_other |= is_same(alloc, config, *sets, *auto_leave)?;
+    }
+    Ok(!is_other & config.same(&config.try_clone()?))
+}
+
+fn tells_apart(alloc: Global) -> Result<bool, NoMemory> {
+    let config = config_of(alloc, [&[3], &[1], &[2], &[1]], true)?;
+    is_told_apart(alloc, &config)
+}
+
 #[test]
 fn tells_equal_configurations(rt: HostRuntime) -> Result<(), Fail> {
-    let config = config_of(rt.alloc(), [&[3], &[1], &[2], &[1]], true)?;
-    assert!(rt; config.same(&config.try_clone()?));
-    for (sets, auto_leave) in &OTHERS {
-        let other = config_of(rt.alloc(), *sets, *auto_leave)?;
-        assert!(rt; !config.same(&other), "of {sets:?}");
-        assert!(rt; !other.same(&config), "of {sets:?}");
-    }
+    assert!(rt; tells_apart(rt.alloc())?);
     Ok(())
 }

@@ -15,6 +15,8 @@ mod configurations;
 #[cfg(test)]
 mod devices;
 #[cfg(test)]
+mod messages;
+#[cfg(test)]
 mod modes;
 #[cfg(test)]
 mod next_changers;

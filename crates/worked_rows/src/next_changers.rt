@@ -1,78 +1,104 @@
 //! The changer after a step, where the one before stays as it is.
 use conf_change::{Change, Changer, Changes, Config, Kind, Refused, Step};
 use quorum_sets::{MemberSet, TreeIds};
-use std::alloc::Global;
+use std::alloc::{AllocError, Global};
 use std::test::Fail;
 
-fn change(kind: Kind, id: u64) -> Change {
+fn voter(id: u64) -> Change {
+    let kind = Kind::Voter;
     Change { kind, id }
 }
 
-// A changer after `v1`.
-fn with_one(alloc: Global) -> Result<Changer<TreeIds>, Refused> {
-    Changer::new(alloc, 0).after_simple(&[change(Kind::Voter, 1)])
+fn removed(id: u64) -> Change {
+    let kind = Kind::Remove;
+    Change { kind, id }
 }
 
 // Whether the one voter on each side is this one; 0 is nobody.
 fn has_voters(config: &Config<TreeIds>, incoming: u64, outgoing: u64) -> bool {
-    config.incoming.at(0).unwrap_or(0) == incoming
-        && config.outgoing.at(0).unwrap_or(0) == outgoing
-        && config.incoming.len() + config.outgoing.len() <= 2
+    (config.incoming.at(0).unwrap_or(0) == incoming)
+        & (config.outgoing.at(0).unwrap_or(0) == outgoing)
+        & (config.incoming.at(1).is_none())
+}
+
+// The step that puts 2 in the place of 1.
+fn replacing(alloc: Global) -> Result<Step, AllocError> {
+    let changes = [voter(2), removed(1)].to_vec(alloc)?;
+    Ok(Step::EnterJoint(false, Changes::from(changes)))
+}
+
+// Whether steps lead on from a changer with the voter 1, which stays as it is.
+fn lead_on(before: &Changer<TreeIds>, entering: &Step) -> Result<bool, Refused> {
+    let joint = before.after_step(entering)?;
+    let after = joint.after_step(&Step::LeaveJoint)?;
+    Ok(
+        has_voters(before.tracker().config(), 1, 0)
+            & has_voters(joint.tracker().config(), 2, 1)
+            & has_voters(after.tracker().config(), 2, 0),
+    )
+}
+
+// Whether a changer with the voter 1 takes the step in place.
+fn takes(mut changer: Changer<TreeIds>, entering: &Step) -> bool {
+    let taken = changer.step(entering);
+    (taken == Ok(())) & has_voters(&changer.into_config(), 2, 1)
+}
+
+fn with_one(alloc: Global) -> Result<Changer<TreeIds>, Refused> {
+    Changer::new(alloc, 0).after_simple(&[voter(1)])
+}
+
+fn steps(alloc: Global) -> Result<bool, Fail> {
+    let entering = replacing(alloc)?;
+    let before = with_one(alloc)?;
+    let leads_on = lead_on(&before, &entering);
+    Ok((leads_on == Ok(true)) & takes(before, &entering))
+}
+
+// Whether each step of a joint configuration, and out of a single one, is refused as it must be.
+fn are_refused(single: &Changer<TreeIds>) -> Result<bool, Refused> {
+    let joint = single.after_enter_joint(true, &[])?;
+    let simple = joint.after_simple(&[]).err();
+    let entering = joint.after_enter_joint(false, &[voter(2), voter(3)]).err();
+    let leaving = joint.after_leave_joint();
+    Ok(
+        (simple == Some(Refused::SimpleInJoint))
+            & (entering == Some(Refused::AlreadyJoint))
+            & leaving.is_ok_and(|left| has_voters(left.tracker().config(), 1, 0)),
+    )
+}
+
+fn refuses(single: &Changer<TreeIds>) -> bool {
+    let two = single.after_simple(&[voter(2), voter(3)]).err();
+    let nobody = single.after_simple(&[removed(1)]).err();
+    let leaving = single.after_leave_joint().err();
+    let step = single.after_step(&Step::LeaveJoint).err();
+    (two == Some(Refused::MoreThanOneVoter))
+        & (nobody == Some(Refused::RemovedAllVoters))
+        & (leaving == Some(Refused::NotJoint))
+        & (step == Some(Refused::NotJoint))
+}
+
+fn refusals(alloc: Global) -> Result<bool, Refused> {
+    let single = with_one(alloc)?;
+    let joint = are_refused(&single);
+    Ok(refuses(&single) & (joint == Ok(true)))
+}
+
+fn entering_from_nobody(alloc: Global) -> Option<Refused> {
+    let nobody: Changer<TreeIds> = Changer::new(alloc, 0);
+    nobody.after_enter_joint(true, &[voter(1)]).err()
 }
 
 #[test]
 fn a_step_leaves_the_changer_before_it(rt: HostRuntime) -> Result<(), Fail> {
-    let before = with_one(rt.alloc())?;
-    let replace = [change(Kind::Voter, 2), change(Kind::Remove, 1)];
-    let entering = Step::EnterJoint(
-        false,
-        Changes::from(vec![in rt.alloc(); replace[0], replace[1]]?),
-    );
-    assert_eq!(rt; entering.changes(), replace.as_slice());
-    assert_eq!(rt; Step::LeaveJoint.changes().len(), 0);
-    let joint = before.after_step(&entering)?;
-    let after = joint.after_step(&Step::LeaveJoint)?;
-    assert!(rt; has_voters(before.tracker().config(), 1, 0));
-    assert!(rt; has_voters(joint.tracker().config(), 2, 1));
-    assert!(rt; has_voters(after.tracker().config(), 2, 0));
-    let mut changer = before;
-    changer.step(&entering)?;
-    assert!(rt; has_voters(&changer.into_config(), 2, 1));
+    assert!(rt; steps(rt.alloc())?);
     Ok(())
 }
 
 #[test]
 fn a_refused_step_gives_no_changer(rt: HostRuntime) -> Result<(), Fail> {
-    let single = with_one(rt.alloc())?;
-    let joint = single.after_enter_joint(true, &[])?;
-    let two = [change(Kind::Voter, 2), change(Kind::Voter, 3)];
-    let refusals = [
-        (single.after_simple(&two).err(), Refused::MoreThanOneVoter),
-        (
-            single.after_simple(&[change(Kind::Remove, 1)]).err(),
-            Refused::RemovedAllVoters,
-        ),
-        (single.after_leave_joint().err(), Refused::NotJoint),
-        (
-            single.after_step(&Step::LeaveJoint).err(),
-            Refused::NotJoint,
-        ),
-        (joint.after_simple(&[]).err(), Refused::SimpleInJoint),
-        (
-            joint.after_enter_joint(false, &two).err(),
-            Refused::AlreadyJoint,
-        ),
-        (
-            Changer::<TreeIds>::new(rt.alloc(), 0)
-                .after_enter_joint(true, &two)
-                .err(),
-            Refused::ZeroVoterJoint,
-        ),
-    ];
-    for (found, refused) in &refusals {
-        assert_eq!(rt; *found, Some(*refused));
-    }
-    let left = joint.after_leave_joint()?;
-    assert!(rt; has_voters(left.tracker().config(), 1, 0));
+    assert!(rt; refusals(rt.alloc())?);
+    assert!(rt; entering_from_nobody(rt.alloc()) == Some(Refused::ZeroVoterJoint));
     Ok(())
 }

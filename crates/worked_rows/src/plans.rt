@@ -3,9 +3,11 @@ ghost use Rattle.std.specs.Prelude.{◌≡◌, true, IfOk};
 ghost use Rattle.conf_change.specs.Configuration.{is_valid};
 
 use crate::configurations::{Sets, config_of};
-use conf_change::{Changer, Config, Refused, Step, check, conf_state};
-use conf_plan::{PlanFault, PlanTextFault, StepRefused, apply_plan, plan, print_plan, read_plan};
-use quorum_sets::TreeIds;
+use conf_change::{Changer, ConfState, Config, Refused, check, conf_state};
+use conf_plan::{
+    Plan, PlanFault, PlanTextFault, StepRefused, apply_plan, plan, print_plan, read_plan,
+};
+use quorum_sets::{NoMemory, TreeIds};
 use std::alloc::Global;
 use std::test::Fail;
 
@@ -55,19 +57,6 @@ static MADE: [(Sets, Sets, bool, &str); 7] = [
     ),
 ];
 
-#[test]
-fn leads_from_the_present_to_the_earlier_configuration(rt: HostRuntime) -> Result<(), Fail> {
-    for (now, target, auto_leave, wanted) in &MADE {
-        let printed = plan_text(rt.alloc(), *now, *target, *auto_leave)?;
-        assert_eq!(rt; printed.as_slice(), wanted.as_bytes(), "from {now:?}");
-        assert!(rt;
-            gets_there(rt.alloc(), *now, *target, *auto_leave)?,
-            "from {now:?}"
-        );
-    }
-    Ok(())
-}
-
 // A configuration, which has to be valid.
 fn valid(alloc: Global, sets: Sets, auto_leave: bool) -> Result<Config<TreeIds>, Fail>
     ensures { IfOk result (λ config. is_valid config ≡ true) }
@@ -77,21 +66,55 @@ fn valid(alloc: Global, sets: Sets, auto_leave: bool) -> Result<Config<TreeIds>,
     Ok(config)
 }
 
-fn plan_text(alloc: Global, now: Sets, target: Sets, auto_leave: bool) -> Result<Vec<u8>, Fail> {
+fn planned(
+    alloc: Global,
+    now: Sets,
+    target: Sets,
+    auto_leave: bool,
+) -> Result<Result<Plan, PlanFault>, Fail> {
     let now = valid(alloc, now, false)?;
     let target = valid(alloc, target, auto_leave)?;
-    let mut text = Vec::new(alloc);
-    print_plan(&mut text, &plan(alloc, &now, &target)?)?;
-    Ok(text)
+    Ok(plan(alloc, &now, &target))
 }
 
-// Whether a changer that has the present configuration takes the plan to the earlier one.
-fn gets_there(alloc: Global, now: Sets, target: Sets, auto_leave: bool) -> Result<bool, Fail> {
-    let now = valid(alloc, now, false)?;
-    let target = valid(alloc, target, auto_leave)?;
-    let mut changer: Changer<TreeIds> = Changer::restore(alloc, &conf_state(alloc, &now)?, 0)?;
-    apply_plan(&mut changer, &plan(alloc, &now, &target)?)?;
-    Ok(changer.tracker().config().same(&target))
+fn is_printed(alloc: Global, plan: &Plan, wanted: &str) -> Result<bool, NoMemory> {
+    let mut text = Vec::new(alloc);
+    print_plan(&mut text, plan)?;
+    Ok(text.as_slice() == wanted.as_bytes())
+}
+
+fn state_of(alloc: Global, sets: Sets) -> Result<ConfState, NoMemory> {
+    let config = config_of(alloc, sets, false)?;
+    conf_state(alloc, &config)
+}
+
+fn changer_at(alloc: Global, sets: Sets) -> Result<Changer<TreeIds>, Fail> {
+    let state = state_of(alloc, sets)?;
+    Ok(Changer::restore(alloc, &state, 0)?)
+}
+
+fn is_at(
+    alloc: Global,
+    changer: &Changer<TreeIds>,
+    sets: Sets,
+    auto_leave: bool,
+) -> Result<bool, NoMemory> {
+    let config = config_of(alloc, sets, auto_leave)?;
+    Ok(changer.tracker().config().same(&config))
+}
+
+// Whether a changer takes the plan and has the configuration then.
+fn leads_to(
+    alloc: Global,
+    plan: &Plan,
+    now: Sets,
+    target: Sets,
+    auto_leave: bool,
+) -> Result<bool, Fail> {
+    let mut changer = changer_at(alloc, now)?;
+    let applied = apply_plan(&mut changer, plan);
+    let is_there = is_at(alloc, &changer, target, auto_leave);
+    Ok((applied == Ok(())) & (is_there == Ok(true)))
 }
 
 // The present configuration, the earlier one, and the match and next of its members once the plan is taken. Before, 3 has
@@ -134,37 +157,47 @@ fn keeps_the_progress_of_those_it_spares(rt: HostRuntime) -> Result<(), Fail> {
 }
 
 #[test]
-fn wants_voters_on_both_sides(rt: HostRuntime) -> Result<(), Fail> {
-    let nobody = valid(rt.alloc(), [&[], &[], &[], &[]], false)?;
-    let one = valid(rt.alloc(), [&[1], &[], &[], &[]], false)?;
-    assert_eq!(rt;
-        plan(rt.alloc(), &nobody, &one).err(),
-        Some(PlanFault::NoVoterNow)
-    );
-    assert_eq!(rt;
-        plan(rt.alloc(), &nobody, &nobody).err(),
-        Some(PlanFault::NoVoterNow)
-    );
-    assert_eq!(rt;
-        plan(rt.alloc(), &one, &nobody).err(),
-        Some(PlanFault::NoVoterTarget)
-    );
+fn leads_from_the_present_to_the_earlier_configuration(rt: HostRuntime) -> Result<(), Fail> {
+    for (now, target, auto_leave, wanted) in &MADE {
+        let plan = planned(rt.alloc(), *now, *target, *auto_leave)??;
+        let is_told = is_printed(rt.alloc(), &plan, *wanted);
+        let is_there = leads_to(rt.alloc(), &plan, *now, *target, *auto_leave)?;
+        assert!(rt; (is_told == Ok(true)) & is_there, "{wanted}");
+    }
     Ok(())
+}
+
+const NOBODY: Sets = [&[], &[], &[], &[]];
+
+const ONE: Sets = [&[1], &[], &[], &[]];
+
+#[test]
+fn wants_voters_on_both_sides(rt: HostRuntime) -> Result<(), Fail> {
+    let first = planned(rt.alloc(), NOBODY, ONE, false)?.err();
+    let second = planned(rt.alloc(), NOBODY, NOBODY, false)?.err();
+    let third = planned(rt.alloc(), ONE, NOBODY, false)?.err();
+    assert!(rt; first == Some(PlanFault::NoVoterNow));
+    assert!(rt; second == Some(PlanFault::NoVoterNow));
+    assert!(rt; third == Some(PlanFault::NoVoterTarget));
+    Ok(())
+}
+
+// What a changer at `voters=(1)` answers to the plan of a text, and whether it has the voters 1 and 2 then.
+fn applied(alloc: Global, text: &str) -> Result<(Result<(), StepRefused>, bool), Fail> {
+    let plan = read_plan(alloc, text.as_bytes())?;
+    let mut changer = changer_at(alloc, ONE)?;
+    let stopped = apply_plan(&mut changer, &plan);
+    let is_there = is_at(alloc, &changer, [&[1, 2], &[], &[], &[]], false);
+    Ok((stopped, is_there == Ok(true)))
 }
 
 #[test]
 fn stops_at_the_first_step_that_is_refused(rt: HostRuntime) -> Result<(), Fail> {
-    let one = config_of(rt.alloc(), [&[1], &[], &[], &[]], false)?;
-    let two = config_of(rt.alloc(), [&[1, 2], &[], &[], &[]], false)?;
-    let saved = conf_state(rt.alloc(), &one)?;
-    let mut changer: Changer<TreeIds> = Changer::restore(rt.alloc(), &saved, 0)?;
-    let stopped = apply_plan(
-        &mut changer,
-        &read_plan(rt.alloc(), b"simple v2\nleave-joint")?,
-    );
     let refused = Refused::NotJoint;
-    assert_eq!(rt; stopped, Err(StepRefused { step: 2, refused }));
-    assert!(rt; changer.tracker().config().same(&two));
+    let stop = Err(StepRefused { step: 2, refused });
+    assert!(rt; applied(rt.alloc(), "simple v2\nleave-joint")? == (stop, true));
+    assert!(rt; applied(rt.alloc(), "simple v2")? == (Ok(()), true));
+    assert!(rt; applied(rt.alloc(), "nothing to do")? == (Ok(()), false));
     Ok(())
 }
 
@@ -186,34 +219,23 @@ static NO_PLANS: [(&str, PlanTextFault); 8] = [
 fn the_first_line_of_no_step_or_the_fifth_decides(rt: HostRuntime) {
     for (text, wanted) in &NO_PLANS {
         let fault = read_plan(rt.alloc(), text.as_bytes()).err();
-        assert_eq!(rt; fault, Some(*wanted), "{text}");
-    }
-}
-
-#[test]
-fn a_command_alone_has_no_changes(rt: HostRuntime) -> Result<(), Fail> {
-    let plan = read_plan(rt.alloc(), b"simple")?;
-    assert_eq!(rt; plan.len(), 1);
-    assert!(rt; plan.step(0).is_some_and(is_simple_without_changes));
-    assert!(rt; plan.step(1).is_none());
-    Ok(())
-}
-
-fn is_simple_without_changes(step: &Step) -> bool {
-    match step {
-        Step::Simple(changes) => changes.as_slice().is_empty(),
-        _ => false,
+        assert!(rt; fault == Some(*wanted), "{text}");
     }
 }
 
 // Texts, and the lines of the plans for which they stand.
-static TEXTS: [(&str, &str); 5] = [
+static TEXTS: [(&str, &str); 7] = [
     ("nothing to do", "nothing to do\n"),
-    (" nothing\tto  do\r\n", "nothing to do\n"),
-    ("simple", "simple\n"),
+    (" simple\t\r\n", "simple\n"),
     (
         "  simple v02\tr3\r\nleave-joint",
         "simple v2 r3\nleave-joint\n",
+    ),
+    ("leave-joint", "leave-joint\n"),
+    ("simple v4294967297 r1", "simple v4294967297 r1\n"),
+    (
+        "simple v4294967297 r1 l4294967296",
+        "simple v4294967297 r1 l4294967296\n",
     ),
     (
         "enter-joint autoleave=false l2\nleave-joint\nenter-joint autoleave=true\nsimple u18446744073709551615\n",
@@ -221,15 +243,26 @@ static TEXTS: [(&str, &str); 5] = [
     ),
 ];
 
+// Whether a plan equals, of those that the printed texts stand for, the one at its place alone.
+fn is_told_apart(alloc: Global, place: usize, plan: &Plan) -> Result<bool, Fail> {
+    let mut is_so = true;
+    for (at, (_, text)) in TEXTS.iter().enumerate() {
+        let other = read_plan(alloc, text.as_bytes())?;
+        is_so &= (*plan == other) == (place == at);
+    }
+    Ok(is_so)
+}
+
+fn prints(alloc: Global, place: usize, text: &str, wanted: &str) -> Result<bool, Fail> {
+    let plan = read_plan(alloc, text.as_bytes())?;
+    let is_printed = is_printed(alloc, &plan, wanted);
+    Ok((is_printed == Ok(true)) & is_told_apart(alloc, place, &plan)?)
+}
+
 #[test]
 fn prints_what_it_reads(rt: HostRuntime) -> Result<(), Fail> {
-    for (text, wanted) in &TEXTS {
-        let plan = read_plan(rt.alloc(), text.as_bytes())?;
-        let mut printed = Vec::from_slice(rt.alloc(), b"> ")?;
-        print_plan(&mut printed, &plan)?;
-        assert_eq!(rt; &printed[..2], b"> ".as_slice());
-        assert_eq!(rt; &printed[2..], wanted.as_bytes(), "{text}");
-        assert_eq!(rt; read_plan(rt.alloc(), &printed[2..])?, plan, "{text}");
+    for (place, (text, wanted)) in TEXTS.iter().enumerate() {
+        assert!(rt; prints(rt.alloc(), place, *text, *wanted)?, "row {place}");
     }
     Ok(())
 }

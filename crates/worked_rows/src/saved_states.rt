@@ -1,139 +1,90 @@
 //! Saved configurations: their lines, and what is restored.
-use crate::configurations::Sets;
-use conf_change::{
-    Changer, ConfState, ConfStateFault, Progress, RestoreFault, conf_state, read_conf_state,
-    write_conf_state,
-};
-use quorum_sets::TreeIds;
-use std::alloc::{AllocError, Global};
+use crate::changes::is_shown;
+use conf_change::{Changer, RestoreFault, conf_state, read_conf_state, write_conf_state};
+use quorum_sets::{NoMemory, TreeIds};
+use std::alloc::Global;
 use std::test::Fail;
+
+fn written_again(alloc: Global, text: &str) -> Result<Vec<u8>, Fail> {
+    let state = read_conf_state(alloc, text.as_bytes())?;
+    let mut line = Vec::new(alloc);
+    write_conf_state(&mut line, &state)?;
+    Ok(line)
+}
+
+// Lines, and how they are written again. Lists stay in their order, and what is no configuration is read too.
+static LINES: [(&str, &str); 3] = [
+    (
+        "Voters:[3 1] VotersOutgoing:[] Learners:[] LearnersNext:[] AutoLeave:true",
+        "Voters:[3 1] VotersOutgoing:[] Learners:[] LearnersNext:[] AutoLeave:true",
+    ),
+    (
+        "Voters:[1 1] VotersOutgoing:[0] Learners:[] LearnersNext:[] AutoLeave:false",
+        "Voters:[1 1] VotersOutgoing:[0] Learners:[] LearnersNext:[] AutoLeave:false",
+    ),
+    (
+        " \r\nVoters:[0000000000000000000000000000000001] VotersOutgoing:[] Learners:[] LearnersNext:[018446744073709551615] AutoLeave:false\n\t",
+        "Voters:[1] VotersOutgoing:[] Learners:[] LearnersNext:[18446744073709551615] AutoLeave:false",
+    ),
+];
 
 #[test]
 fn reads_lines_and_writes_them_again(rt: HostRuntime) -> Result<(), Fail> {
-    let plain =
-        "Voters:[1 2 3] VotersOutgoing:[1 2 4 6] Learners:[5] LearnersNext:[4] AutoLeave:false";
-    let unsorted = "Voters:[3 1] VotersOutgoing:[] Learners:[] LearnersNext:[] AutoLeave:true";
-    let nobody = "Voters:[] VotersOutgoing:[] Learners:[] LearnersNext:[] AutoLeave:false";
-    let cases = [
-        (plain, plain),
-        (unsorted, unsorted),
-        (nobody, nobody),
-        (
-            "Voters:[1 1] VotersOutgoing:[0] Learners:[] LearnersNext:[] AutoLeave:false",
-            "Voters:[1 1] VotersOutgoing:[0] Learners:[] LearnersNext:[] AutoLeave:false",
-        ),
-        (
-            " \r\nVoters:[0000000000000000000000000000000001] VotersOutgoing:[] Learners:[] LearnersNext:[018446744073709551615] AutoLeave:false\n\t",
-            "Voters:[1] VotersOutgoing:[] Learners:[] LearnersNext:[18446744073709551615] AutoLeave:false",
-        ),
-    ];
-    for (text, wanted) in cases {
-        let state = read_conf_state(rt.alloc(), text.as_bytes())?;
-        let mut line = Vec::new(rt.alloc());
-        write_conf_state(&mut line, &state)?;
-        assert_eq!(rt; line.as_slice(), wanted.as_bytes());
+    for (text, wanted) in &LINES {
+        let line = written_again(rt.alloc(), *text)?;
+        assert!(rt; line.as_slice() == wanted.as_bytes(), "{text}");
     }
     Ok(())
 }
 
-#[test]
-fn refuses_every_other_text(rt: HostRuntime) {
-    let rest = " VotersOutgoing:[] Learners:[] LearnersNext:[] AutoLeave:false";
-    let cases = [
-        "",
-        "Voters: [1] VotersOutgoing:[] Learners:[] LearnersNext:[] AutoLeave:false",
-        "Voters:[1]  VotersOutgoing:[] Learners:[] LearnersNext:[] AutoLeave:false",
-        "Voters:[1 ] VotersOutgoing:[] Learners:[] LearnersNext:[] AutoLeave:false",
-        "Voters:[1,2] VotersOutgoing:[] Learners:[] LearnersNext:[] AutoLeave:false",
-        "Voters:[+1] VotersOutgoing:[] Learners:[] LearnersNext:[] AutoLeave:false",
-        "Voters:[18446744073709551616] VotersOutgoing:[] Learners:[] LearnersNext:[] AutoLeave:false",
-        "Voters:[1] VotersOutgoing:[] Learners:[] LearnersNext:[] AutoLeave:yes",
-        "Voters:[1] VotersOutgoing:[] Learners:[] LearnersNext:[]",
-        rest,
-    ];
-    for text in cases {
-        assert_eq!(rt;
-            read_conf_state(rt.alloc(), text.as_bytes()).err(),
-            Some(ConfStateFault::BadConfState),
-            "{text}"
-        );
-    }
+fn is_saved(alloc: Global, changer: &Changer<TreeIds>, text: &str) -> Result<bool, NoMemory> {
+    let state = conf_state(alloc, changer.tracker().config())?;
+    let mut line = Vec::new(alloc);
+    write_conf_state(&mut line, &state)?;
+    Ok(line.as_slice() == text.as_bytes())
 }
 
-fn state(alloc: Global, lists: Sets, auto_leave: bool) -> Result<ConfState, AllocError> {
-    let [voters, voters_outgoing, learners, learners_next] = lists;
-    Ok(ConfState {
-        voters: voters.to_vec(alloc)?,
-        voters_outgoing: voters_outgoing.to_vec(alloc)?,
-        learners: learners.to_vec(alloc)?,
-        learners_next: learners_next.to_vec(alloc)?,
-        auto_leave,
-    })
+// Whether a line is restored, saved again and shown so.
+fn restores(alloc: Global, text: &str, line: &str, wanted: &str) -> Result<bool, Fail> {
+    let state = read_conf_state(alloc, text.as_bytes())?;
+    let changer: Changer<TreeIds> = Changer::restore(alloc, &state, 0)?;
+    let is_saved = is_saved(alloc, &changer, line);
+    let is_shown = is_shown(alloc, &changer, wanted);
+    Ok((is_saved == Ok(true)) & (is_shown == Ok(true)))
 }
 
-fn restored(
-    alloc: Global,
-    lists: Sets,
-    auto_leave: bool,
-) -> Result<Result<Changer<TreeIds>, RestoreFault>, AllocError> {
-    let given = state(alloc, lists, auto_leave)?;
-    Ok(Changer::restore(alloc, &given, 0))
-}
-
-// Whether all progress is fresh: that of the members, of whom 5 is a learner.
-fn is_fresh(changer: &Changer<TreeIds>, members: &[u64]) -> bool {
-    for id in 0..8 {
-        let fresh = Progress {
-            matched: 0,
-            next: 1,
-            learner: id == 5,
-        };
-        if changer.tracker().progress(id) != members.contains(&id).then_some(fresh) {
-            return false;
-        }
-    }
-    true
-}
-
-// What is restored, what is saved again, and the members.
-static RESTORED: [(Sets, Sets, &[u64]); 3] = [
+// What is restored, how it is saved again, and how it is shown.
+static RESTORED: [(&str, &str, &str); 3] = [
     (
-        [&[1, 2, 3], &[1, 2, 4, 6], &[5], &[4]],
-        [&[1, 2, 3], &[1, 2, 4, 6], &[5], &[4]],
-        &[1, 2, 3, 4, 5, 6],
+        "Voters:[3 1 2] VotersOutgoing:[6 1 2 4] Learners:[5] LearnersNext:[4] AutoLeave:true",
+        "Voters:[1 2 3] VotersOutgoing:[1 2 4 6] Learners:[5] LearnersNext:[4] AutoLeave:true",
+        "voters=(1 2 3)&&(1 2 4 6) learners=(5) learners_next=(4) autoleave|1: StateProbe match=0 next=1|2: StateProbe match=0 next=1|3: StateProbe match=0 next=1|4: StateProbe match=0 next=1|5: StateProbe match=0 next=1 learner|6: StateProbe match=0 next=1",
     ),
-    ([&[3, 1], &[], &[], &[]], [&[1, 3], &[], &[], &[]], &[1, 3]),
-    ([&[], &[], &[], &[]], [&[], &[], &[], &[]], &[]),
+    (
+        "Voters:[12 11 10 9 8 7 6 5 4 3 2 4294967297] VotersOutgoing:[] Learners:[1] LearnersNext:[] AutoLeave:false",
+        "Voters:[2 3 4 5 6 7 8 9 10 11 12 4294967297] VotersOutgoing:[] Learners:[1] LearnersNext:[] AutoLeave:false",
+        "voters=(2 3 4 5 6 7 8 9 10 11 12 4294967297) learners=(1)|1: StateProbe match=0 next=1 learner|2: StateProbe match=0 next=1|3: StateProbe match=0 next=1|4: StateProbe match=0 next=1|5: StateProbe match=0 next=1|6: StateProbe match=0 next=1|7: StateProbe match=0 next=1|8: StateProbe match=0 next=1|9: StateProbe match=0 next=1|10: StateProbe match=0 next=1|11: StateProbe match=0 next=1|12: StateProbe match=0 next=1|4294967297: StateProbe match=0 next=1",
+    ),
+    (
+        "Voters:[] VotersOutgoing:[] Learners:[] LearnersNext:[] AutoLeave:false",
+        "Voters:[] VotersOutgoing:[] Learners:[] LearnersNext:[] AutoLeave:false",
+        "voters=()",
+    ),
 ];
 
 #[test]
 fn restores_what_is_described(rt: HostRuntime) -> Result<(), Fail> {
-    for (given, saved, members) in &RESTORED {
-        let changer = restored(rt.alloc(), *given, false)??;
-        assert!(rt; is_fresh(&changer, *members), "of {given:?}");
-        let found = conf_state(rt.alloc(), changer.tracker().config())?;
-        assert_eq!(rt; found, state(rt.alloc(), *saved, false)?, "of {given:?}");
+    for (text, line, wanted) in &RESTORED {
+        assert!(rt; restores(rt.alloc(), *text, *line, *wanted)?, "{text}");
     }
     Ok(())
 }
 
-static REFUSED: [(Sets, bool); 5] = [
-    ([&[1, 2, 3], &[1, 2, 4, 6], &[5], &[7]], false),
-    ([&[1, 1], &[], &[], &[]], false),
-    ([&[0], &[], &[], &[]], false),
-    ([&[1], &[], &[], &[]], true),
-    ([&[], &[], &[1], &[]], false),
-];
-
 #[test]
 fn refuses_what_is_no_configuration(rt: HostRuntime) -> Result<(), Fail> {
-    for (lists, auto_leave) in &REFUSED {
-        let fault = restored(rt.alloc(), *lists, *auto_leave)?.err();
-        assert_eq!(rt;
-            fault,
-            Some(RestoreFault::NotAConfiguration),
-            "of {lists:?}"
-        );
-    }
+    let line = b"Voters:[1] VotersOutgoing:[] Learners:[] LearnersNext:[2] AutoLeave:false";
+    let state = read_conf_state(rt.alloc(), line)?;
+    let found: Result<Changer<TreeIds>, RestoreFault> = Changer::restore(rt.alloc(), &state, 0);
+    assert!(rt; found.err() == Some(RestoreFault::NotAConfiguration));
     Ok(())
 }

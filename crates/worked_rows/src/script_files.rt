@@ -1,12 +1,18 @@
 //! Scripts and the items that are read of them, and the lines of inputs.
-use crate::devices::{byte_by_byte, comments_for_ever};
+use crate::devices::byte_by_byte;
 use dd_file::device::{FromRead, Source};
-use dd_file::fault::FileFault;
-use dd_file::item::{Argument, Directive, Item, RawLines};
+use dd_file::item::{Argument, Directive, Item};
 use dd_file::lines::Lines;
 use dd_file::reader::Reader;
 use std::alloc::{AllocError, Global};
 use std::test::Fail;
+
+fn show_line(shown: &mut Vec<u8>, line: &[u8]) -> Result<(), AllocError> {
+    shown.push(b'<')?;
+    shown.extend_from_slice(line)?;
+    shown.push(b'>')?;
+    Ok(())
+}
 
 fn lines_of(alloc: Global, input: &str) -> Result<Vec<u8>, Fail> {
     let mut source = FromRead::new(input.as_bytes());
@@ -20,33 +26,28 @@ fn lines_of(alloc: Global, input: &str) -> Result<Vec<u8>, Fail> {
     Ok(shown)
 }
 
+static LINES: [(&str, &str); 5] = [
+    ("", ""),
+    ("a\r\n\nb\r\r", "<a><><b\r>"),
+    ("\n", "<>"),
+    ("\r", "<>"),
+    ("a", "<a>"),
+];
+
 #[test]
 fn gives_lines(rt: HostRuntime) -> Result<(), Fail> {
-    for (input, want) in [
-        ("", ""),
-        ("a\r\n\nb\r\r", "<a><><b\r>"),
-        ("\n", "<>"),
-        ("\r", "<>"),
-        ("a", "<a>"),
-    ] {
-        let shown = lines_of(rt.alloc(), input)?;
-        assert_eq!(rt; shown.as_slice(), want.as_bytes(), "at {input}");
+    for (input, want) in &LINES {
+        let shown = lines_of(rt.alloc(), *input)?;
+        assert!(rt; shown.as_slice() == want.as_bytes(), "at {input}");
     }
     Ok(())
 }
 
-fn show_line(shown: &mut Vec<u8>, line: &[u8]) -> Result<(), AllocError> {
-    shown.push(b'<')?;
-    shown.extend_from_slice(line)?;
-    shown.push(b'>')?;
-    Ok(())
-}
-
 // The lines of a comment or of a blank.
-fn show_lines(shown: &mut Vec<u8>, lines: &RawLines) -> Result<(), AllocError> {
+fn show_lines(shown: &mut Vec<u8>, item: &Item) -> Result<(), AllocError> {
     shown.extend_from_slice(b"lines:")?;
     for i in 0..3 {
-        if let Some(line) = lines.get(i) {
+        if let Some(line) = item.raw_line(i) {
             show_line(shown, line)?;
         }
     }
@@ -84,33 +85,31 @@ fn show_directive(shown: &mut Vec<u8>, directive: &Directive) -> Result<(), Allo
 
 fn show_item(shown: &mut Vec<u8>, item: &Item) -> Result<(), AllocError> {
     match item {
-        Item::Comment(lines) => show_lines(shown, lines)?,
-        Item::Blank(lines) => show_lines(shown, lines)?,
         Item::Directive(directive) => show_directive(shown, directive)?,
+        _ => show_lines(shown, item)?,
     }
     shown.push(b'|')?;
     Ok(())
 }
 
 // Each item, and the message of the fault that ends them.
-fn shown<R: Source>(alloc: Global, source: &mut R) -> Result<String, Fail> {
+fn shown<R: Source>(alloc: Global, source: &mut R) -> Result<Vec<u8>, Fail> {
     let mut shown = Vec::new(alloc);
     let mut reader = Reader::new(alloc)?;
-    for _ in 0..100 {
+    for _ in 0..9 {
         match reader.next(source) {
             Ok(Some(item)) => show_item(&mut shown, &item)?,
-            Ok(None) => break,
+            Ok(None) => {}
             Err(fault) => {
-                let message = format!(in alloc; "{fault}")?;
-                shown.extend_from_slice(message.as_bytes())?;
-                break;
+                shown.extend_from_slice(format!(in alloc; "{fault}")?.as_bytes())?;
+                return Ok(shown);
             }
         }
     }
-    Ok(String::from_utf8(shown)?)
+    Ok(shown)
 }
 
-static SCRIPTS: [(&str, &str); 36] = [
+static SCRIPTS: [(&str, &str); 51] = [
     ("", ""),
     (
         "enter-joint \\\n  autoleave=true\n----\nno\n",
@@ -185,128 +184,43 @@ static SCRIPTS: [(&str, &str); 36] = [
     ("x a=((=#\\)", "1:x a[(=#\\]//|"),
     ("x a==1", "1:x a[=1]//|"),
     ("x a=\u{e9}", "1:x a[\u{e9}]//|"),
+    // what is no directive
+    ("subtest", "line 1: bad directive"),
+    ("subtest a", "line 1: bad directive"),
+    ("a=1", "line 1: bad directive"),
+    ("simple =1", "line 1: bad directive"),
+    ("simple a=(", "line 1: bad directive"),
+    ("simple a=(1", "line 1: bad directive"),
+    ("simple a=(1, 2)b", "line 1: bad directive"),
+    ("simple a=(1)(2)", "line 1: bad directive"),
+    ("simple a=b(c d)", "line 1: bad directive"),
+    ("simple a=b)", "line 1: bad directive"),
+    ("simple (1)", "line 1: bad directive"),
+    ("simple \\", "line 1: bad directive"),
+    ("x a=((=#\\ \\", "line 1: bad directive"),
+    ("caf\u{e9}", "line 1: bad directive"),
+    ("simple \u{e9}=1", "line 1: bad directive"),
 ];
 
 #[test]
 fn reads_items(rt: HostRuntime) -> Result<(), Fail> {
     for (script, want) in &SCRIPTS {
         let mut source = FromRead::new(script.as_bytes());
-        assert_eq!(rt;
-            shown(rt.alloc(), &mut source)?.as_str(),
-            *want,
-            "at {script}"
-        );
-        let mut slow = byte_by_byte(script.as_bytes(), None);
-        assert_eq!(rt;
-            shown(rt.alloc(), &mut slow)?.as_str(),
-            *want,
-            "at {script}"
-        );
+        let found = shown(rt.alloc(), &mut source)?;
+        assert!(rt; found.as_slice() == want.as_bytes(), "at {script}");
+        let mut slow = byte_by_byte(script.as_bytes(), usize::MAX);
+        let found = shown(rt.alloc(), &mut slow)?;
+        assert!(rt; found.as_slice() == want.as_bytes(), "at {script}");
     }
-    Ok(())
-}
-
-static NO_DIRECTIVES: [&str; 15] = [
-    "subtest",
-    "subtest a",
-    "a=1",
-    "simple =1",
-    "simple a=(",
-    "simple a=(1",
-    "simple a=(1, 2)b",
-    "simple a=(1)(2)",
-    "simple a=b(c d)",
-    "simple a=b)",
-    "simple (1)",
-    "simple \\",
-    "x a=((=#\\ \\",
-    "caf\u{e9}",
-    "simple \u{e9}=1",
-];
-
-fn fault_of(alloc: Global, script: &str) -> Result<Option<FileFault>, FileFault> {
-    let mut source = FromRead::new(script.as_bytes());
-    Ok(Reader::new(alloc)?.next(&mut source).err())
-}
-
-#[test]
-fn refuses_what_is_no_directive(rt: HostRuntime) -> Result<(), Fail> {
-    for text in &NO_DIRECTIVES {
-        let fault = fault_of(rt.alloc(), *text)?;
-        assert_eq!(rt; fault, Some(FileFault::BadDirective(1)), "at {text}");
-    }
-    Ok(())
-}
-
-fn show_raw_lines(shown: &mut Vec<u8>, item: &Item) -> Result<(), AllocError> {
-    for i in 0..9 {
-        if let Some(line) = item.raw_line(i) {
-            show_line(shown, line)?;
-        }
-    }
-    shown.push(b'|')?;
-    Ok(())
-}
-
-fn raw_lines_of(alloc: Global, script: &str) -> Result<Vec<u8>, Fail> {
-    let mut source = FromRead::new(script.as_bytes());
-    let mut reader = Reader::new(alloc)?;
-    let mut shown = Vec::new(alloc);
-    for _ in 0..9 {
-        if let Some(item) = reader.next(&mut source)? {
-            show_raw_lines(&mut shown, &item)?;
-        }
-    }
-    Ok(shown)
-}
-
-#[test]
-fn keeps_the_lines_of_each_item(rt: HostRuntime) -> Result<(), Fail> {
-    for (script, want) in [
-        (
-            "# a\r\n\\\n\t\n undo \\ \r\nsteps=2\n\n v1\n ----\n----\na \n\n----\n----\n",
-            "<# a>|<\\><\t>|< undo \\ ><steps=2><>< v1>|",
-        ),
-        ("simple\n----\na\n\n# b", "<simple>|<# b>|"),
-    ] {
-        let shown = raw_lines_of(rt.alloc(), script)?;
-        assert_eq!(rt; shown.as_slice(), want.as_bytes(), "at {script}");
-    }
-    Ok(())
-}
-
-#[test]
-fn a_failed_read_is_for_good(rt: HostRuntime) -> Result<(), Fail> {
-    let mut source = byte_by_byte(b"# a\n# b\n# c\n", Some(8));
-    let mut reader = Reader::new(rt.alloc())?;
-    for answer in [None, None, Some(FileFault::Read), Some(FileFault::Read)] {
-        assert_eq!(rt; reader.next(&mut source).err(), answer);
-    }
-    assert!(rt; source.failed());
     Ok(())
 }
 
 #[test]
 fn reads_little_ahead(rt: HostRuntime) -> Result<(), Fail> {
-    let mut script = Vec::new(rt.alloc());
-    for _ in 0..25000 {
-        script.extend_from_slice(b"# a\n")?;
-    }
+    let script = vec![in rt.alloc(); b'\n'; 100_000]?;
     let mut source = FromRead::new(script.as_slice());
     let mut reader = Reader::new(rt.alloc())?;
-    assert_eq!(rt; reader.next(&mut source)?.is_some(), true);
-    assert!(rt; source.into_inner().len() >= 100000 - 4 - 4096);
-    Ok(())
-}
-
-#[test]
-fn an_input_without_end_is_too_long(rt: HostRuntime) -> Result<(), Fail> {
-    let mut source = comments_for_ever();
-    let mut reader = Reader::new(rt.alloc())?;
-    for _ in 1..1024 {
-        assert_eq!(rt; reader.next(&mut source)?.is_some(), true);
-    }
-    let fault = reader.next(&mut source).err().ok_or("no fault")?;
-    assert_eq!(rt; fault, FileFault::InputTooLong(1024));
+    assert!(rt; reader.next(&mut source)?.is_some());
+    assert!(rt; source.into_inner().len() >= 100_000 - 1 - 4096);
     Ok(())
 }

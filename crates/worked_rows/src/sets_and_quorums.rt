@@ -35,7 +35,7 @@ fn votes_of(alloc: Global, entries: &[(u64, bool)]) -> Result<BTreeMap<u64, bool
 #[test]
 fn majorities(rt: HostRuntime) {
     for (n, majority) in [(0, 1), (1, 1), (2, 2), (3, 2), (4, 3)] {
-        assert_eq!(rt; quorum(n), majority, "of {n}");
+        assert!(rt; quorum(n) == majority, "of {n}");
     }
 }
 
@@ -62,9 +62,9 @@ static QUORUMS: [(&[u64], &[u64], &[u64], bool); 5] = [
 
 #[test]
 fn quorums(rt: HostRuntime) -> Result<(), Fail> {
-    for (incoming, outgoing, ids, wanted) in &QUORUMS {
+    for (place, (incoming, outgoing, ids, wanted)) in QUORUMS.iter().enumerate() {
         let found = has_quorum(rt.alloc(), *incoming, *outgoing, *ids)?;
-        assert_eq!(rt; found, *wanted, "{ids:?} of {incoming:?} and {outgoing:?}");
+        assert!(rt; found == *wanted, "row {place}");
     }
     Ok(())
 }
@@ -168,8 +168,9 @@ fn joint_index_of(
     joint_committed(alloc, &incoming, &outgoing, &acks)
 }
 
-static COMMITTED: [(&[u64], &[(u64, u64)], u64); 4] = [
+static COMMITTED: [(&[u64], &[(u64, u64)], u64); 5] = [
     (&[1, 2, 3], BY_TWO, 5),
+    (&[1, 2, 3, 4, 5, 6, 7, 8, 9, 10, 11, 4294967297], BY_NINE, 3),
     (NINE, BY_NINE, 5),
     (&[1, 2, 3, 4], BY_NINE, 2),
     (&[], BY_TWO, 18446744073709551615),
@@ -183,26 +184,26 @@ static JOINT_COMMITTED: [(&[u64], &[u64], &[(u64, u64)], u64); 3] = [
 
 #[test]
 fn committed_indexes(rt: HostRuntime) -> Result<(), Fail> {
-    for (ids, entries, index) in &COMMITTED {
+    for (place, (ids, entries, index)) in COMMITTED.iter().enumerate() {
         let found = index_of(rt.alloc(), *ids, *entries)?;
-        assert_eq!(rt; found, *index, "of {ids:?} by {entries:?}");
+        assert!(rt; found == *index, "row {place}");
     }
-    for (incoming, outgoing, entries, index) in &JOINT_COMMITTED {
+    for (place, (incoming, outgoing, entries, index)) in JOINT_COMMITTED.iter().enumerate() {
         let found = joint_index_of(rt.alloc(), *incoming, *outgoing, *entries)?;
-        assert_eq!(rt;
-            found,
-            *index,
-            "of {incoming:?} and {outgoing:?} by {entries:?}"
-        );
+        assert!(rt; found == *index, "row {place}");
     }
     Ok(())
 }
 
+fn acked_of(alloc: Global, id: u64) -> Result<Option<u64>, NoMemory> {
+    let acks = acks_of(alloc, &[(1, 5), (3, 0)])?;
+    Ok(acks.acked(id))
+}
+
 #[test]
 fn acknowledgements(rt: HostRuntime) -> Result<(), Fail> {
-    let acks = acks_of(rt.alloc(), &[(1, 5), (3, 0)])?;
     for (id, index) in [(1, Some(5)), (2, None), (3, Some(0))] {
-        assert_eq!(rt; acks.acked(id), index, "of {id}");
+        assert!(rt; acked_of(rt.alloc(), id)? == index, "of {id}");
     }
     Ok(())
 }
@@ -276,17 +277,13 @@ static JOINT_CHARTS: [(&[u64], &[u64], &[(u64, u64)], &[u8]); 3] = [
 
 #[test]
 fn charts(rt: HostRuntime) -> Result<(), Fail> {
-    for (ids, entries, wanted) in &CHARTS {
+    for (place, (ids, entries, wanted)) in CHARTS.iter().enumerate() {
         let found = chart_of(rt.alloc(), *ids, *entries)?;
-        assert_eq!(rt; found.as_slice(), *wanted, "of {ids:?} by {entries:?}");
+        assert!(rt; found.as_slice() == *wanted, "row {place}");
     }
-    for (incoming, outgoing, entries, wanted) in &JOINT_CHARTS {
+    for (place, (incoming, outgoing, entries, wanted)) in JOINT_CHARTS.iter().enumerate() {
         let found = joint_chart_of(rt.alloc(), *incoming, *outgoing, *entries)?;
-        assert_eq!(rt;
-            found.as_slice(),
-            *wanted,
-            "of {incoming:?} and {outgoing:?} by {entries:?}"
-        );
+        assert!(rt; found.as_slice() == *wanted, "row {place}");
     }
     Ok(())
 }
@@ -338,17 +335,13 @@ static JOINT_VOTES: [(&[u64], &[u64], &[(u64, bool)], VoteResult); 3] = [
 
 #[test]
 fn votes(rt: HostRuntime) -> Result<(), Fail> {
-    for (ids, entries, wanted) in &VOTES {
+    for (place, (ids, entries, wanted)) in VOTES.iter().enumerate() {
         let found = vote_of(rt.alloc(), *ids, *entries)?;
-        assert_eq!(rt; found, *wanted, "of {ids:?} by {entries:?}");
+        assert!(rt; found == *wanted, "row {place}");
     }
-    for (incoming, outgoing, entries, wanted) in &JOINT_VOTES {
+    for (place, (incoming, outgoing, entries, wanted)) in JOINT_VOTES.iter().enumerate() {
         let found = joint_vote_of(rt.alloc(), *incoming, *outgoing, *entries)?;
-        assert_eq!(rt;
-            found,
-            *wanted,
-            "of {incoming:?} and {outgoing:?} by {entries:?}"
-        );
+        assert!(rt; found == *wanted, "row {place}");
     }
     Ok(())
 }
@@ -368,40 +361,86 @@ static DIFFERENCES: [(&[u64], &[u64], usize); 4] = [
 
 #[test]
 fn differences(rt: HostRuntime) -> Result<(), Fail> {
-    for (a, b, count) in &DIFFERENCES {
-        assert_eq!(rt;
-            difference(rt.alloc(), *a, *b)?,
-            *count,
-            "of {a:?} and {b:?}"
-        );
+    for (place, (a, b, count)) in DIFFERENCES.iter().enumerate() {
+        assert!(rt; difference(rt.alloc(), *a, *b)? == *count, "row {place}");
     }
     Ok(())
 }
 
-// Holds what a set answers against its ids in ascending order; 7 is none of them.
-fn holds<S: MemberSet>(rt: &impl Abort, set: &S, ids: &[u64]) {
-    assert_eq!(rt; set.len(), ids.len());
-    assert_eq!(rt; set.at(ids.len()), None);
-    assert!(rt; !set.contains(7));
+/// Whether a set has just these ids in ascending order; 7 is none of them.
+pub(crate) fn has_ids<S: MemberSet>(set: &S, ids: &[u64]) -> bool {
+    let mut is_so = (set.len() == ids.len()) & set.at(ids.len()).is_none() & !set.contains(7);
     for (place, id) in ids.iter().enumerate() {
-        assert_eq!(rt; set.at(place), Some(*id), "at {place}");
-        assert!(rt; set.contains(*id), "of {id}");
+        is_so &= (set.at(place) == Some(*id)) & set.contains(*id);
     }
+    is_so
 }
 
-// Each method of a member set, through its bound.
+static INSERTED: [(u64, bool); 14] = [
+    (9, true),
+    (2, true),
+    (9, false),
+    (u64::MAX, true),
+    (4294967297, true),
+    (1, true),
+    (20, true),
+    (15, true),
+    (12, true),
+    (4294967296, true),
+    (8, true),
+    (11, true),
+    (13, true),
+    (13, false),
+];
+
+fn insert_each<S: MemberSet>(set: &mut S) -> Result<bool, NoMemory> {
+    let mut is_told = true;
+    for (id, changes) in &INSERTED {
+        is_told &= set.insert(*id)? == *changes;
+    }
+    Ok(is_told)
+}
+
+// Each method of a member set, through its bound, and whether a copy stays as it is.
+fn has_copy<S: MemberSet>(set: &mut S) -> Result<bool, NoMemory> {
+    let copy = set.try_clone()?;
+    let told = (set.remove(9), set.remove(9), set.remove(7));
+    let ids = [
+        1,
+        2,
+        8,
+        11,
+        12,
+        13,
+        15,
+        20,
+        4294967296,
+        4294967297,
+        u64::MAX,
+    ];
+    let before = [
+        1,
+        2,
+        8,
+        9,
+        11,
+        12,
+        13,
+        15,
+        20,
+        4294967296,
+        4294967297,
+        u64::MAX,
+    ];
+    Ok((told == (true, false, false)) & has_ids(set, &ids) & has_ids(&copy, &before))
+}
+
 fn walk_through<S: MemberSet>(rt: &impl Abort, alloc: Global) -> Result<(), Fail> {
     let mut set = S::empty(alloc);
-    holds(rt, &set, &[]);
-    for (id, changes) in [(9, true), (2, true), (9, false), (u64::MAX, true)] {
-        assert_eq!(rt; set.insert(id)?, changes, "insert {id}");
-    }
-    let copy = set.try_clone()?;
-    for changes in [true, false] {
-        assert_eq!(rt; set.remove(9), changes);
-    }
-    holds(rt, &set, &[2, u64::MAX]);
-    holds(rt, &copy, &[2, 9, u64::MAX]);
+    let is_empty = has_ids(&set, &[]);
+    let inserted = insert_each(&mut set);
+    let copied = has_copy(&mut set);
+    assert!(rt; is_empty & (inserted == Ok(true)) & (copied == Ok(true)));
     Ok(())
 }
 
