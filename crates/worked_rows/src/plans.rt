@@ -137,32 +137,34 @@ static SPARED: [(Sets, Sets, &[(u64, u64, u64)]); 3] = [
     ),
 ];
 
-#[test]
-fn keeps_the_progress_of_those_it_spares(rt: HostRuntime) -> Result<(), Fail> {
-    for (now, target, wanted) in &SPARED {
-        let now = valid(rt.alloc(), *now, false)?;
-        let target = valid(rt.alloc(), *target, false)?;
-        let saved = conf_state(rt.alloc(), &now)?;
-        let mut changer: Changer<TreeIds> = Changer::restore(rt.alloc(), &saved, 0)?;
-        changer.set_last_index(4);
-        changer.ack(3, 7)?;
-        apply_plan(&mut changer, &plan(rt.alloc(), &now, &target)?)?;
-        for (id, matched, next) in *wanted {
-            let found = changer.tracker().progress(*id);
-            let indexes = found.map(|progress| (progress.matched, progress.next));
-            assert_eq!(rt; indexes, Some((*matched, *next)), "of {id}");
-        }
+// Whether a changer in which 3 has acknowledged 7 has these members once it took the plan.
+fn keeps(changer: &mut Changer<TreeIds>, plan: &Plan, wanted: &[(u64, u64, u64)]) -> bool {
+    changer.set_last_index(4);
+    let acked = changer.ack(3, 7).is_ok();
+    let applied = apply_plan(changer, plan);
+    let mut is_so = acked & (applied == Ok(()));
+    for (id, matched, next) in wanted {
+        let found = changer.tracker().progress(*id);
+        is_so &= found.map(|progress| (progress.matched, progress.next)) == Some((*matched, *next));
     }
-    Ok(())
+    is_so
+}
+
+fn spares(
+    alloc: Global,
+    now: Sets,
+    target: Sets,
+    wanted: &[(u64, u64, u64)],
+) -> Result<bool, Fail> {
+    let plan = planned(alloc, now, target, false)??;
+    let mut changer = changer_at(alloc, now)?;
+    Ok(keeps(&mut changer, &plan, wanted))
 }
 
 #[test]
-fn leads_from_the_present_to_the_earlier_configuration(rt: HostRuntime) -> Result<(), Fail> {
-    for (now, target, auto_leave, wanted) in &MADE {
-        let plan = planned(rt.alloc(), *now, *target, *auto_leave)??;
-        let is_told = is_printed(rt.alloc(), &plan, *wanted);
-        let is_there = leads_to(rt.alloc(), &plan, *now, *target, *auto_leave)?;
-        assert!(rt; (is_told == Ok(true)) & is_there, "{wanted}");
+fn keeps_the_progress_of_those_it_spares(rt: HostRuntime) -> Result<(), Fail> {
+    for (now, target, wanted) in &SPARED {
+        assert!(rt; spares(rt.alloc(), *now, *target, *wanted)?);
     }
     Ok(())
 }

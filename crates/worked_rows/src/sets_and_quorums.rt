@@ -125,10 +125,9 @@ fn shared_member(alloc: Global, row: &Sharing) -> Result<Option<u64>, NoMemory> 
 #[test]
 fn common_members(rt: HostRuntime) -> Result<(), Fail> {
     for (number, row) in SHARED.iter().enumerate() {
-        assert_eq!(rt;
-            shared_member(rt.alloc(), row)?,
-            row.least,
-            "of row {number}"
+        assert!(rt;
+            shared_member(rt.alloc(), row)? == row.least,
+            "row {number}"
         );
     }
     Ok(())
