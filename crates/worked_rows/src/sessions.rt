@@ -364,22 +364,40 @@ fn keeps_the_configurations_of_before(rt: HostRuntime) -> Result<(), Fail> {
     finds_keeping(&rt, rt.alloc(), 0, NONE_IS_KEPT)
 }
 
+// Whether the configuration that is kept at a place is printed so.
+fn is_kept_at(alloc: Global, session: &Session, place: usize, want: &[u8]) -> bool {
+    let mut text = Vec::new(alloc);
+    match session.kept_at(place) {
+        Some(config) => write_config(&mut text, config).is_ok() & (text.as_slice() == want),
+        None => false,
+    }
+}
+
+// Whether the plan that undoes one change is printed so.
+fn is_undone_by(alloc: Global, session: &Session, want: &[u8]) -> bool {
+    let mut text = Vec::new(alloc);
+    match session.undo_plan(1) {
+        Ok(plan) => print_plan(&mut text, &plan).is_ok() & (text.as_slice() == want),
+        Err(_) => false,
+    }
+}
+
+// Whether two changes are not undone for want of a voter before them, and three since two are kept.
+fn refuses_more(session: &Session) -> bool {
+    matches!(session.undo_plan(2), Err(UndoFault::NoVoterTarget))
+        & matches!(session.undo_plan(3), Err(UndoFault::NotKept(2)))
+}
+
 #[test]
 fn plans_what_undoes_changes(rt: HostRuntime) -> Result<(), Fail> {
     let mut session = Session::new(rt.alloc(), 100)?;
     let _ = found_for(rt.alloc(), &mut session, "simple\nv1")?;
     let _ = found_for(rt.alloc(), &mut session, "simple\nv2")?;
-    assert_eq!(rt; session.kept(), 2);
-    let mut text = Vec::new(rt.alloc());
-    write_config(&mut text, session.kept_at(0).ok_or("kept")?)?;
-    write_config(&mut text, session.kept_at(1).ok_or("kept")?)?;
-    assert_eq!(rt; text.as_slice(), b"voters=(1)voters=()".as_slice());
-    assert!(rt; session.kept_at(2).is_none());
-    text.clear();
-    print_plan(&mut text, &session.undo_plan(1)?)?;
-    assert_eq!(rt; text.as_slice(), b"simple r2\n".as_slice());
-    assert_eq!(rt; session.undo_plan(2).err(), Some(UndoFault::NoVoterTarget));
-    assert_eq!(rt; session.undo_plan(3).err(), Some(UndoFault::NotKept(2)));
+    assert!(rt; session.kept() == 2 && session.kept_at(2).is_none());
+    assert!(rt; is_kept_at(rt.alloc(), &session, 0, b"voters=(1)"));
+    assert!(rt; is_kept_at(rt.alloc(), &session, 1, b"voters=()"));
+    assert!(rt; is_undone_by(rt.alloc(), &session, b"simple r2\n"));
+    assert!(rt; refuses_more(&session));
     Ok(())
 }
 
