@@ -15,3 +15,4 @@ pub mod InputLines
 pub mod SameAnswer
 pub mod Kept
 pub mod RewrittenClean
+pub mod QuorumValues

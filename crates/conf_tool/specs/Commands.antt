@@ -1,30 +1,37 @@
 -- What a session answers to a directive.
 use Rattle.std.specs.Prelude.{ℕ, Bool, false, List, [], ◌∷◌, ◌++◌, Option, Some, None, option_map, option_and_then, Result, Ok, Err, if◌then◌else◌, unwrap_or, codes, bytes_eq}
 use Rattle.std.specs.Option.{option_or}
+use Rattle.quorum_sets.specs.Committed.{joint_committed_index}
+use Rattle.quorum_sets.specs.Votes.{joint_vote_result}
 use Rattle.dd_file.specs.DirectiveText.{DirectiveText}
 use Rattle.dd_file.specs.Words.{ArgumentText}
 use Rattle.conf_change.specs.ChangerState.{ChangerState}
-use Rattle.conf_change.specs.Configuration.{Configuration}
+use Rattle.conf_change.specs.Configuration.{Configuration, voters_of}
 use Rattle.conf_change.specs.Changer.{changer_after, begun_with}
+use Rattle.conf_change.specs.Acknowledgement.{ack_answer, changer_with_progress, matches}
 use Rattle.conf_change.specs.ChangeList.{BadToken, changes_in}
 use Rattle.conf_change.specs.ConfState.{ConfStateLists, lists_of, restored}
 use Rattle.conf_change.specs.ConfStateLine.{conf_state_in, conf_state_text}
 use Rattle.conf_change.specs.Text.{refused_text}
+use Rattle.conf_change.specs.declared.acknowledgement.AckFault.{AckFault}
+use Rattle.conf_change.specs.declared.acknowledgement.AckFault.TheVariants.{NotMember, IndexTooLarge}
 use Rattle.conf_change.specs.declared.change.Change.{Change}
+use Rattle.conf_change.specs.declared.progress.Progress.{Progress}
 use Rattle.conf_change.specs.declared.refused.Refused.{Refused}
 use Rattle.conf_change.specs.declared.step.Step.{Step}
 use Rattle.conf_change.specs.declared.step.Step.TheVariants.{Simple as SimpleStep, EnterJoint as EnterStep, LeaveJoint as LeaveStep}
 use Rattle.conf_tool.specs.SessionState.{SessionState, after_directive}
 use Rattle.conf_tool.specs.Parameter.{key_of, has_only, number_from}
 use Rattle.conf_tool.specs.Arguments.{bad_argument, missing_argument, argument_of}
+use Rattle.conf_tool.specs.QuorumArguments.{number_given, voters_given, acks_given, votes_given, is_one_each, index_text, committed_text, vote_text}
 use Rattle.conf_tool.specs.Texts.{bad_token_text}
-use Rattle.conf_tool.specs.Reply.{Reply, told, stepped, begun_again}
+use Rattle.conf_tool.specs.Reply.{Reply, told, stepped, begun_again, acknowledged_by}
 use Rattle.conf_tool.specs.Undo.{undo_plan_of, undo_fault_text, undone}
 use Rattle.conf_tool.specs.declared.parameter.Parameter.{Parameter}
-use Rattle.conf_tool.specs.declared.parameter.Parameter.TheVariants.{AutoLeave, Steps}
+use Rattle.conf_tool.specs.declared.parameter.Parameter.TheVariants.{AutoLeave, Steps, Id, Index, Incoming, Outgoing, Indexes, Votes}
 use Rattle.conf_tool.specs.declared.undo_fault.UndoFault.{UndoFault}
 use Rattle.conf_tool.specs.declared.commands.Command.{Command}
-use Rattle.conf_tool.specs.declared.commands.Command.TheVariants.{Simple, EnterJoint, LeaveJoint, ConfState, Restore, Undo, Unknown}
+use Rattle.conf_tool.specs.declared.commands.Command.TheVariants.{Simple, EnterJoint, LeaveJoint, ConfState, Restore, Undo, Ack, CommitIndex, Committed, Vote, Unknown}
 
 -- the command of a name
 abbrev pub command_in : List ℕ → Command
@@ -35,7 +42,11 @@ command_in name =
     else (if bytes_eq name (codes "conf-state") then ConfState
     else (if bytes_eq name (codes "restore") then Restore
     else (if bytes_eq name (codes "undo") then Undo
-    else Unknown)))))
+    else (if bytes_eq name (codes "ack") then Ack
+    else (if bytes_eq name (codes "commit-index") then CommitIndex
+    else (if bytes_eq name (codes "committed") then Committed
+    else (if bytes_eq name (codes "vote") then Vote
+    else Unknown)))))))))
 
 -- the arguments that it has, required ones in the order in which they are missed; those of simple, of leave-joint and of
 -- what is no command are not looked at
@@ -46,6 +57,10 @@ parameters_of LeaveJoint = []
 parameters_of ConfState = []
 parameters_of Restore = []
 parameters_of Undo = Steps ∷ []
+parameters_of Ack = Id ∷ Index ∷ []
+parameters_of CommitIndex = []
+parameters_of Committed = Incoming ∷ Outgoing ∷ Indexes ∷ []
+parameters_of Vote = Incoming ∷ Outgoing ∷ Votes ∷ []
 parameters_of Unknown = []
 
 -- First the input is looked at. It is read as a list of changes ..
@@ -131,6 +146,39 @@ undo_last session count = after_planned session count (undo_plan_of session coun
 abbrev pub on_undo : SessionState → List ℕ → List ArgumentText → Reply
 on_undo session input arguments = with_no_input (with_arguments Undo arguments (undo_last session (steps_of arguments))) input
 
+-- a member's progress after an acknowledgement, or why it is refused
+abbrev pub after_ack : ChangerState → ℕ → Result Progress AckFault → Reply
+after_ack changer id (Ok p) = acknowledged_by (changer_with_progress changer id p) id p
+after_ack changer id (Err NotMember) = told (codes "not a member")
+after_ack changer id (Err IndexTooLarge) = told (codes "index too large")
+
+abbrev pub on_ack : ChangerState → List ℕ → List ArgumentText → Reply
+on_ack changer input arguments =
+    let id = number_given Id arguments in
+    with_no_input (with_arguments Ack arguments (after_ack changer id (ack_answer changer.tracker id (number_given Index arguments)))) input
+
+-- the index that the configuration commits, where each member has acknowledged its match
+abbrev pub on_commit_index : ChangerState → List ℕ → List ArgumentText → Reply
+on_commit_index changer input arguments =
+    let index = joint_committed_index (voters_of changer.tracker.config) (matches changer.tracker) in
+    with_no_input (with_arguments CommitIndex arguments (told (index_text index))) input
+
+-- each id has a value, or it is told that there are more or fewer
+abbrev pub with_one_each : Parameter → List ArgumentText → Reply → Reply
+with_one_each parameter arguments reply = if is_one_each parameter arguments then reply else told (codes "wrong number of values")
+
+-- the chart and the committed index of the quorum that is named
+abbrev pub on_committed : List ℕ → List ArgumentText → Reply
+on_committed input arguments =
+    let found = committed_text (voters_given arguments) (acks_given arguments) in
+    with_no_input (with_arguments Committed arguments (with_one_each Indexes arguments (told found))) input
+
+-- how the vote of the quorum that is named stands
+abbrev pub on_vote : List ℕ → List ArgumentText → Reply
+on_vote input arguments =
+    let found = vote_text (joint_vote_result (voters_given arguments) (votes_given arguments)) in
+    with_no_input (with_arguments Vote arguments (with_one_each Votes arguments (told found))) input
+
 abbrev pub on_unknown : List ℕ → Reply
 on_unknown input = with_changes (λ changes. told (codes "unknown command")) (changes_in input)
 
@@ -142,6 +190,10 @@ reply_of LeaveJoint session input arguments = on_leave_joint session.changer inp
 reply_of ConfState session input arguments = on_conf_state session.changer input arguments
 reply_of Restore session input arguments = on_restore session.changer input arguments
 reply_of Undo session input arguments = on_undo session input arguments
+reply_of Ack session input arguments = on_ack session.changer input arguments
+reply_of CommitIndex session input arguments = on_commit_index session.changer input arguments
+reply_of Committed session input arguments = on_committed input arguments
+reply_of Vote session input arguments = on_vote input arguments
 reply_of Unknown session input arguments = on_unknown input
 
 -- the reply to a directive

@@ -6,6 +6,7 @@ pub mod History
 pub mod SessionState
 pub mod Parameter
 pub mod Arguments
+pub mod QuorumArguments
 pub mod Reply
 pub mod Undo
 pub mod Commands

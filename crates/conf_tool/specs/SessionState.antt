@@ -8,7 +8,7 @@ use Rattle.conf_change.specs.ConfigurationCode.{configuration_code}
 use Rattle.conf_change.specs.Outcome.{outcome}
 use Rattle.conf_change.specs.declared.step.Step.{Step}
 use Rattle.conf_tool.specs.declared.effect.Effect.{Effect}
-use Rattle.conf_tool.specs.declared.effect.Effect.TheVariants.{Nothing, Stepped, Restored, Undone}
+use Rattle.conf_tool.specs.declared.effect.Effect.TheVariants.{Nothing, Acknowledged, Stepped, Restored, Undone}
 
 -- the changer, how many earlier configurations may be kept, and those that are, the newest first
 pub record SessionState : Type 0 where
@@ -33,6 +33,7 @@ present session = session.changer.tracker.config
 -- the changer afterwards
 abbrev pub changer_left : SessionState → Effect → ChangerState
 changer_left session Nothing = session.changer
+changer_left session (Acknowledged after) = after
 changer_left session (Stepped after) = after
 changer_left session (Restored after) = after
 changer_left session (Undone after count) = after
@@ -41,6 +42,7 @@ changer_left session (Undone after count) = after
 -- there would be too many.
 abbrev pub kept_after : SessionState → Effect → List Configuration
 kept_after session Nothing = session.kept
+kept_after session (Acknowledged after) = session.kept
 kept_after session (Stepped after) = take session.history (present session ∷ session.kept)
 kept_after session (Restored after) = []
 kept_after session (Undone after count) = drop count session.kept

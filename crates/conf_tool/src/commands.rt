@@ -4,6 +4,9 @@ ghost use Rattle.std.specs.Prelude.{◌≡◌, IfOk};
 ghost use Rattle.conf_tool.specs.Told.{CanStand};
 ghost use Rattle.conf_tool.specs.Commands as says;
 
+mod ack;
+mod commit_index;
+mod committed;
 mod conf_state;
 mod enter_joint;
 mod leave_joint;
@@ -12,6 +15,7 @@ mod simple;
 mod telling;
 mod undo;
 mod unknown;
+mod vote;
 
 use crate::laws::found_text_stands;
 use crate::parameter::Parameter;
@@ -30,6 +34,10 @@ pub(crate) enum Command {
     ConfState,
     Restore,
     Undo,
+    Ack,
+    CommitIndex,
+    Committed,
+    Vote,
     Unknown,
 }
 
@@ -49,6 +57,14 @@ fn command_in(name: &[u8]) -> Command
         Command::Restore
     } else if name == b"undo".as_slice() {
         Command::Undo
+    } else if name == b"ack".as_slice() {
+        Command::Ack
+    } else if name == b"commit-index".as_slice() {
+        Command::CommitIndex
+    } else if name == b"committed".as_slice() {
+        Command::Committed
+    } else if name == b"vote".as_slice() {
+        Command::Vote
     } else {
         Command::Unknown
     }
@@ -62,6 +78,9 @@ fn parameters_of(command: Command) -> &'static [Parameter]
     match command {
         Command::EnterJoint => &[Parameter::AutoLeave],
         Command::Undo => &[Parameter::Steps],
+        Command::Ack => &[Parameter::Id, Parameter::Index],
+        Command::Committed => &[Parameter::Incoming, Parameter::Outgoing, Parameter::Indexes],
+        Command::Vote => &[Parameter::Incoming, Parameter::Outgoing, Parameter::Votes],
         _ => &[],
     }
 }
@@ -103,6 +122,10 @@ fn carry_out(
         Command::ConfState => conf_state::obey(alloc, changer, input, arguments),
         Command::Restore => restore::obey(alloc, changer, input, arguments),
         Command::Undo => undo::obey(alloc, session, input, arguments),
+        Command::Ack => ack::obey(alloc, session, input, arguments),
+        Command::CommitIndex => commit_index::obey(alloc, session, input, arguments),
+        Command::Committed => committed::obey(alloc, input, arguments),
+        Command::Vote => vote::obey(alloc, input, arguments),
         Command::Unknown => unknown::obey(alloc, input),
     }
 }

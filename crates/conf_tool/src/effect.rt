@@ -8,6 +8,8 @@ use conf_change::Changer;
 pub(crate) enum Effect {
     /// It stays as it is.
     Nothing,
+    /// A member acknowledged an index: what is kept stays.
+    Acknowledged(Changer<SessionIds>),
     /// A change was accepted: the configuration of before is kept.
     Stepped(Changer<SessionIds>),
     /// It began again: no earlier configuration is kept.

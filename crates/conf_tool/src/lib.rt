@@ -12,6 +12,7 @@ mod line_answer;
 pub mod mode;
 pub mod options;
 mod parameter;
+mod quorum_arguments;
 mod reply;
 mod report;
 pub mod run;

@@ -6,6 +6,9 @@ ghost use Rattle.conf_change.specs.Text.{refused_text, progress_text};
 ghost use Rattle.conf_change.specs.ConfStateLine.{conf_state_text};
 ghost use Rattle.conf_tool.specs.Texts.{line, bad_token_text, member_lines, tracker_text};
 ghost use Rattle.conf_tool.specs.Undo.{undo_fault_text};
+ghost use Rattle.std.specs.FinMap as finite;
+ghost use Rattle.quorum_sets.specs.Voters.{pair};
+ghost use Rattle.conf_tool.specs.QuorumArguments.{index_text, committed_text};
 
 use crate::line_answer::tell_fault;
 use crate::session_ids::SessionIds;
@@ -15,8 +18,9 @@ use conf_change::{
     write_progress, write_refused,
 };
 use itoa::Buffer;
-use quorum_sets::NoMemory;
+use quorum_sets::{NoMemory, joint_chart, joint_committed};
 use std::alloc::Global;
+use std::collections::BTreeMap;
 
 // Ends a text, so that it is whole lines.
 fn end_line(text: Vec<u8>) -> Result<Vec<u8>, NoMemory>
@@ -93,6 +97,43 @@ pub(crate) fn undo_fault_line(alloc: Global, fault: UndoFault) -> Result<Vec<u8>
     }
 }
 
+/// A committed index; the greatest is written as infinity.
+pub(crate) fn index_line(alloc: Global, index: u64) -> Result<Vec<u8>, NoMemory>
+    ensures { IfOk result (λ text. text.items ≡ line (index_text index)) }
+{
+    let mut text = Vec::new(alloc);
+    append_index(&mut text, index)?;
+    end_line(text)
+}
+
+/// The chart of the ids of both sets, and the index that the two commit.
+pub(crate) fn committed_lines(
+    alloc: Global,
+    incoming: &SessionIds,
+    outgoing: &SessionIds,
+    acks: &BTreeMap<u64, u64>,
+) -> Result<Vec<u8>, NoMemory>
+    ensures { IfOk result (λ text. text.items ≡ line (committed_text (pair incoming.now outgoing.now) (finite.from_entries acks.now.entries))) }
+{
+    let mut text = Vec::new(alloc);
+    joint_chart(&mut text, incoming, outgoing, acks)?;
+    append_index(&mut text, joint_committed(alloc, incoming, outgoing, acks)?)?;
+    end_line(text)
+}
+
+// Appends a committed index. After want of memory a part of it may be appended.
+fn append_index(text: &mut Vec<u8>, index: u64) -> Result<(), NoMemory>
+    ensures { OnOk result (text.new.items ≡ text.old.items ++ index_text index) }
+{
+    if index == u64::MAX {
+        text.extend_from_slice("∞".as_bytes())?;
+    } else {
+        let mut buffer = Buffer::new();
+        text.extend_from_slice(buffer.format(index).as_bytes())?;
+    }
+    Ok(())
+}
+
 /// A configuration, and behind it each member with its progress, in ascending order of the ids.
 pub(crate) fn tracker_lines(
     alloc: Global,
@@ -127,6 +168,15 @@ fn append_members(tracker: &Tracker<SessionIds>, text: &mut Vec<u8>) -> Result<(
         }
     }
     Ok(())
+}
+
+/// A member with its progress.
+pub(crate) fn member_line(alloc: Global, id: u64, progress: Progress) -> Result<Vec<u8>, NoMemory>
+    ensures { IfOk result (λ text. text.items ≡ line (progress_text id progress)) }
+{
+    let mut text = Vec::new(alloc);
+    append_member(&mut text, id, progress)?;
+    Ok(text)
 }
 
 // Appends a member with its progress, as a line.

@@ -1,5 +1,5 @@
 //! The items of a script.
-ghost use Rattle.std.specs.Prelude.{◌≡◌, true, map, option_map, slice_get};
+ghost use Rattle.std.specs.Prelude.{◌≡◌, true, length, map, option_map, slice_get};
 ghost use Rattle.dd_file.specs.Words.{has_keys};
 
 use crate::command::Command;
@@ -24,6 +24,13 @@ impl RawLines {
         ensures { result ≡ map (λ line. line.items) lines.items }
     {
         RawLines { lines }
+    }
+
+    // How many there are.
+    fn len(&self) -> usize
+        ensures { result ≡ length self.now }
+    {
+        self.lines.len()
     }
 
     /// The line at a place, counted from 0.
@@ -66,6 +73,13 @@ impl Argument {
         ensures { result.now ≡ self.now.key }
     {
         self.key.as_slice()
+    }
+
+    /// How many values it has.
+    pub fn value_count(&self) -> usize
+        ensures { result ≡ length self.now.values }
+    {
+        self.values.len()
     }
 
     /// The value at a place, counted from 0.
