@@ -1,14 +1,16 @@
 -- What an acknowledgement owes.
 use Rattle.std.proofs.Common.{◌≡◌, ◌<◌, ◌+◌, ℕ, Bool, true, false, cond, ◌==◌, T, List, [], ◌∷◌, map, refl, sym, ap, subst, ◌∙◌, eqb→eq, arith}
-use Rattle.std.specs.Prelude.{Option, Some, None, IfSome, is_some, max, nat_lt, option_map}
+use Rattle.std.specs.Prelude.{Option, Some, None, Ok, Err, IfSome, is_some, max, nat_lt, option_map}
 use Rattle.std.specs.Ordering.{nat_cmp, eq_by_cmp}
 use Rattle.std.specs.Cmp.{nat_cmp_total, unsigned_tied}
 use Rattle.std.specs.FinMap as finite
 use Rattle.std.specs.FinMap.{find, nat_cmp-IsAntisymmetric}
+use Rattle.quorum_sets.specs.Committed.{greatest_index}
 use Rattle.quorum_sets.specs.Ids.{has}
 use Rattle.conf_change.specs.Configuration.{Configuration, is_member}
-use Rattle.conf_change.specs.Acknowledgement.{acknowledged, with_progress, matches}
-use Rattle.conf_change.specs.Changer.{TrackerState, IsSound, tracker_of}
+use Rattle.conf_change.specs.Acknowledgement.{acknowledged, acknowledged_by, ack_answer, with_progress, changer_with_progress, matches}
+use Rattle.conf_change.specs.Changer.{TrackerState, ChangerState, IsSound, tracker_of}
+use Rattle.conf_change.specs.declared.acknowledgement.AckFault.TheVariants.{IndexTooLarge}
 use Rattle.conf_change.specs.declared.progress.Progress.{Progress}
 use Rattle.conf_change.proofs.Following.{HasUpdated, get-updated}
 
@@ -72,6 +74,17 @@ ack-is_sound t id index was p sound had is =
     member : (b : Bool) (q : ℕ) → (q == id) ≡ b → is_some (cond b (Some p) (finite.get t.progress q)) ≡ is_member t.config q
     member true q e = sym (ap is_some had) ∙ sound.of_members id ∙ ap (is_member t.config) (sym (eqb→eq q id (subst T (sym e) tt)))
     member false q e = sound.of_members q
+
+pub ack_answer-is_sound : (before : ChangerState) (id index : ℕ) (p : Progress) → IsSound before.tracker → ack_answer before.tracker id index ≡ Ok p
+    → IsSound (changer_with_progress before id p).tracker
+ack_answer-is_sound before id index p sound = by (finite.get before.tracker.progress id) refl where
+  is_acknowledged : (was : Progress) (large : Bool) → cond large (Err IndexTooLarge) (Ok (acknowledged index was)) ≡ Ok p → p ≡ acknowledged index was
+  is_acknowledged was true e = cc
+  is_acknowledged was false e = cc
+
+  by : (o : Option Progress) → finite.get before.tracker.progress id ≡ o → acknowledged_by o index ≡ Ok p → IsSound (changer_with_progress before id p).tracker
+  by None had e = cc
+  by (Some was) had e = ack-is_sound before.tracker id index was p sound had (is_acknowledged was (index == greatest_index) e)
 
 -- ---- who is a member
 pub no_member : (t : TrackerState) (id : ℕ) → IsSound t → finite.get t.progress id ≡ None → is_member t.config id ≡ false

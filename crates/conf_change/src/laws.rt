@@ -2,11 +2,13 @@
 ghost use Rattle.std.specs.Prelude.{◌≡◌, ◌↔◌, ℕ, List, Ok, Err, Some, true};
 ghost use Rattle.quorum_sets.specs.Ids.{has};
 ghost use Rattle.quorum_sets.specs.Voters.{AreNeighbours};
+ghost use Rattle.conf_change.specs.Acknowledgement.{ack_answer, changer_with_progress};
 ghost use Rattle.conf_change.specs.declared.change.Change.{Change};
 ghost use Rattle.conf_change.specs.Change.{last_word, is_incoming_after, is_learner_after, is_next_after, result_of};
 ghost use Rattle.conf_change.specs.Configuration.{ValidByMember, is_valid, voters_of};
 ghost use Rattle.conf_change.specs.Words.{words};
 ghost use Rattle.conf_change.specs.ChangeList.{StandsFor, BadToken, IsFirstBad, changes_in};
+ghost use Rattle.conf_change.specs.declared.progress.Progress.{Progress};
 ghost use Rattle.conf_change.specs.declared.refused.Refused.{Refused};
 ghost use Rattle.conf_change.specs.declared.step.Step.{Step};
 ghost use Rattle.conf_change.specs.Outcome.{outcome};
@@ -55,13 +57,16 @@ pub fn one_changer_after_a_step()
 {}
 
 /// An accepted step leads from a sound tracker to a sound one, and from a configuration that can be restored to one with
-/// an incoming voter that can be restored. What begins with such a configuration is sound.
+/// an incoming voter that can be restored. What begins with such a configuration is sound. So is a sound tracker after an
+/// acknowledgement.
 pub fn trackers_stay_sound()
     ensures step { (before : ChangerState) (step : Step) (after : Configuration) → IsSound before.tracker → outcome before.tracker.config step ≡ Ok after
         → IsSound (moved_to before step after).tracker }
     ensures restorable { (before after : Configuration) (step : Step) → is_restorable before ≡ true → outcome before step ≡ Ok after → is_restorable after ≡ true }
     ensures voter { (before after : Configuration) (step : Step) → is_restorable before ≡ true → outcome before step ≡ Ok after → has_voter after ≡ true }
     ensures begun { (last_index : ℕ) (c : Configuration) → is_restorable c ≡ true → IsSound (begun_with last_index c).tracker }
+    ensures acknowledged { (before : ChangerState) (id index : ℕ) (p : Progress) → IsSound before.tracker → ack_answer before.tracker id index ≡ Ok p
+        → IsSound (changer_with_progress before id p).tracker }
 {}
 
 /// The test whether two configurations are the same is equality.

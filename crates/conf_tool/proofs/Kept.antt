@@ -6,6 +6,7 @@ use Rattle.std.proofs.lemmas.List.{length-append, length-take, length-drop}
 use Rattle.std.proofs.lemmas.Bool.Decides.{nat_tests}
 use Rattle.dd_file.specs.DirectiveText.{DirectiveText}
 use Rattle.dd_file.specs.Words.{ArgumentText}
+use Rattle.conf_change.specs.Acknowledgement.{ack_answer, changer_with_progress}
 use Rattle.conf_change.specs.ChangerState.{ChangerState}
 use Rattle.conf_change.specs.Changer.{IsSound, Accepts, moved_to, begun_with, changer_after}
 use Rattle.conf_change.specs.ChangeList.{BadToken, changes_in}
@@ -14,7 +15,10 @@ use Rattle.conf_change.specs.ConfStateLine.{conf_state_in}
 use Rattle.conf_change.specs.Configuration.{Configuration, has_voter, is_valid, has_voter_or_nobody, is_restorable}
 use Rattle.conf_change.specs.Number.{number_in}
 use Rattle.conf_change.specs.Outcome.{outcome}
+use Rattle.conf_change.specs.declared.acknowledgement.AckFault.{AckFault}
+use Rattle.conf_change.specs.declared.acknowledgement.AckFault.TheVariants.{NotMember, IndexTooLarge}
 use Rattle.conf_change.specs.declared.change.Change.{Change}
+use Rattle.conf_change.specs.declared.progress.Progress.{Progress}
 use Rattle.conf_change.specs.declared.refused.Refused.{Refused}
 use Rattle.conf_change.specs.declared.step.Step.{Step}
 use Rattle.conf_change.specs.declared.step.Step.TheVariants.{Simple as SimpleStep, EnterJoint as EnterStep, LeaveJoint as LeaveStep}
@@ -25,14 +29,15 @@ use Rattle.conf_tool.specs.Parameter.{key_of, at_least, number_from}
 use Rattle.conf_tool.specs.Arguments.{bad_argument, missing_argument, argument_of}
 use Rattle.conf_tool.specs.Reply.{Reply, told}
 use Rattle.conf_tool.specs.Undo.{IsEarlier, LeadsBack, plan_back, undo_plan_of, undone_changer}
-use Rattle.conf_tool.specs.Commands.{command_in, parameters_of, with_changes, with_no_input, with_arguments, after_step, asks_auto_leave, leave_with, after_restored, restore_with, steps_of, after_planned, undo_last, reply_of, reply_to, answer}
+use Rattle.conf_tool.specs.QuorumArguments.{number_given, is_one_each}
+use Rattle.conf_tool.specs.Commands.{command_in, parameters_of, with_changes, with_no_input, with_arguments, after_step, asks_auto_leave, leave_with, after_restored, restore_with, steps_of, after_planned, undo_last, after_ack, with_one_each, reply_of, reply_to, answer}
 use Rattle.conf_tool.specs.declared.undo_fault.UndoFault.TheVariants.{NoVoterTarget}
 use Rattle.conf_tool.specs.declared.effect.Effect.{Effect}
-use Rattle.conf_tool.specs.declared.effect.Effect.TheVariants.{Nothing, Stepped, Restored, Undone}
+use Rattle.conf_tool.specs.declared.effect.Effect.TheVariants.{Nothing, Acknowledged, Stepped, Restored, Undone}
 use Rattle.conf_tool.specs.declared.parameter.Parameter.{Parameter}
-use Rattle.conf_tool.specs.declared.parameter.Parameter.TheVariants.{Steps}
+use Rattle.conf_tool.specs.declared.parameter.Parameter.TheVariants.{Steps, Id, Index, Indexes, Votes}
 use Rattle.conf_tool.specs.declared.commands.Command.{Command}
-use Rattle.conf_tool.specs.declared.commands.Command.TheVariants.{Simple, EnterJoint, LeaveJoint, ConfState, Restore, Undo, Unknown}
+use Rattle.conf_tool.specs.declared.commands.Command.TheVariants.{Simple, EnterJoint, LeaveJoint, ConfState, Restore, Undo, Ack, CommitIndex, Committed, Vote, Unknown}
 use Rattle.conf_tool.proofs.ToldLines.{first, second}
 
 -- ---- what the crates below say
@@ -41,6 +46,7 @@ pub record ChangeLaws : Type 0 where
   pub step : (before : ChangerState) (step : Step) (after : Configuration) → IsSound before.tracker → outcome before.tracker.config step ≡ Ok after → IsSound (moved_to before step after).tracker
   pub voter : (before after : Configuration) (step : Step) → is_restorable before ≡ true → outcome before step ≡ Ok after → has_voter after ≡ true
   pub begun : (last_index : ℕ) (c : Configuration) → is_restorable c ≡ true → IsSound (begun_with last_index c).tracker
+  pub acknowledged : (before : ChangerState) (id index : ℕ) (p : Progress) → IsSound before.tracker → ack_answer before.tracker id index ≡ Ok p → IsSound (changer_with_progress before id p).tracker
   pub accepted : (before after : ChangerState) (step : Step) → (Accepts before step after) ↔ (changer_after before step ≡ Ok after)
   pub described : (saved : ConfStateLists) (c : Configuration) → (restored saved ≡ Some c) ↔ (Describes saved c × (is_restorable c ≡ true))
 
@@ -114,12 +120,16 @@ led-drop now (c ∷ kept) (suc place) older led e = led-drop c kept place older 
 -- an effect that a command may have on a session
 abbrev IsDue : SessionState → Effect → Type 0
 IsDue session Nothing = ⊤
+IsDue session (Acknowledged after) = IsSound after.tracker × (after.tracker.config ≡ present session)
 IsDue session (Stepped after) = (step : Step) × Accepts session.changer step after
 IsDue session (Restored after) = IsSound after.tracker
 IsDue session (Undone after count) = (1 ≤ count) × IsSound after.tracker × (slice_get session.kept (count - 1) ≡ Some after.tracker.config)
 
 due-stays : ChangeLaws → (session : SessionState) (effect : Effect) → IsSession session → IsDue session effect → IsSession (after_directive session effect)
 due-stays laws session Nothing is due = record { sound = is.sound; few = is.few; led = is.led }
+due-stays laws session (Acknowledged after) is due =
+    let Leading : Configuration → Type 0 = λ c. LedTo c session.kept in
+    record { sound = due.0; few = is.few; led = subst Leading (sym due.1) is.led }
 due-stays laws session (Stepped after) is due =
     let accepts = due.1 in
     let Sound : ChangerState → Type 0 = λ c. IsSound c.tracker in
@@ -172,6 +182,17 @@ restored-due laws session saved (Some c) e = laws.begun session.changer.last_ind
 restore-due : ChangeLaws → (session : SessionState) (arguments : List ArgumentText) (read : Option ConfStateLists) → IsDue session (restore_with session.changer arguments read).effect
 restore-due laws session arguments None = tt
 restore-due laws session arguments (Some saved) = arguments-due session Restore arguments _ (restored-due laws session saved (restored saved) refl)
+
+ack-due : ChangeLaws → (session : SessionState) (id index : ℕ) (made : Result Progress AckFault) → IsSession session → ack_answer session.changer.tracker id index ≡ made → IsDue session (after_ack session.changer id made).effect
+ack-due laws session id index (Ok p) is e = (laws.acknowledged session.changer id index p is.sound e, refl)
+ack-due laws session id index (Err NotMember) is e = tt
+ack-due laws session id index (Err IndexTooLarge) is e = tt
+
+one_each-due : (session : SessionState) (parameter : Parameter) (arguments : List ArgumentText) (text : List ℕ) → IsDue session (with_one_each parameter arguments (told text)).effect
+one_each-due session parameter arguments text = by (is_one_each parameter arguments) where
+  by : (enough : Bool) → IsDue session (cond enough (told text) (told (codes "wrong number of values"))).effect
+  by true = tt
+  by false = tt
 
 -- ---- of undo
 taken-sound : ChangeLaws → (before : ChangerState) (steps : List Step) (after : ChangerState) → Takes before steps after → IsSound before.tracker → IsSound after.tracker
@@ -245,6 +266,11 @@ command-due laws plans ConfState session input arguments is = no_input-due sessi
 command-due laws plans Restore session input arguments is = restore-due laws session arguments (conf_state_in input)
 command-due laws plans Undo session input arguments is =
     no_input-due session _ input (arguments-due session Undo arguments _ (undo-due laws plans session (steps_of arguments) is (some-argument (argument_of Steps arguments))))
+command-due laws plans Ack session input arguments is =
+    no_input-due session _ input (arguments-due session Ack arguments _ (ack-due laws session (number_given Id arguments) (number_given Index arguments) _ is refl))
+command-due laws plans CommitIndex session input arguments is = no_input-due session _ input (arguments-due session CommitIndex arguments _ tt)
+command-due laws plans Committed session input arguments is = no_input-due session _ input (arguments-due session Committed arguments _ (one_each-due session Indexes arguments _))
+command-due laws plans Vote session input arguments is = no_input-due session _ input (arguments-due session Vote arguments _ (one_each-due session Votes arguments _))
 command-due laws plans Unknown session input arguments is = changes-due session _ (changes_in input) (λ changes. tt)
 
 pub answer-keeps : ChangeLaws → PlanLaws → (session : SessionState) (directive : DirectiveText) → IsSession session → IsSession (answer session directive).session

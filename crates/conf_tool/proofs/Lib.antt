@@ -8,6 +8,7 @@ pub mod Rewriting
 pub mod Marked
 pub mod CommandReplies
 pub mod ToldLines
+pub mod ToldCharts
 pub mod ToldTexts
 pub mod ToldReplies
 pub mod WhiteEnds

@@ -1,7 +1,7 @@
 -- What the values of quorum arguments give, place by place.
-use Rattle.std.proofs.Common.{◌≡◌, ℕ, zero, suc, ◌+◌, ◌<◌, ◌≤◌, ◌==◌, Bool, true, false, cond, not, List, [], ◌∷◌, ◌++◌, length, filter, filter_map, take, drop, refl, sym, ap, ◌∙◌, inl, inr, arith}
-use Rattle.std.specs.Prelude.{◌||◌, Option, Some, None, option_map, option_to_list, slice_get}
-use Rattle.std.specs.List.{list_any}
+use Rattle.std.proofs.Common.{◌≡◌, ℕ, ◌+◌, ◌≤◌, ◌==◌, Bool, true, false, cond, not, List, [], ◌∷◌, ◌++◌, length, filter, filter_map, take, drop, refl, sym, ap, ◌∙◌, inl, inr, arith}
+use Rattle.std.specs.Prelude.{◌||◌, Option, Some, None, option_to_list, slice_get}
+use Rattle.std.specs.List.{list_any, list_all}
 use Rattle.std.specs.Ordering.{nat_cmp}
 use Rattle.std.specs.Cmp.{nat_cmp_total, unsigned_tied, eq_by_cmp_equiv, nat_eq_equiv}
 use Rattle.std.specs.Ordering.{eq_by_cmp}
@@ -10,11 +10,12 @@ use Rattle.std.specs.BTreeMap as tree
 use Rattle.std.specs.BTreeMap.{BTreeMap}
 use Rattle.std.specs.FinMap.{nat_cmp-IsAntisymmetric}
 use Rattle.quorum_sets.proofs.IdLemmas.{lookup-from_entries}
-use Rattle.std.specs.Map.{lookup}
 use Rattle.std.specs.FinMap as finite
 use Rattle.std.proofs.lemmas.List.{append-nil, take_more, drop_more, drop_all}
 use Rattle.std.proofs.lemmas.Option.{slice_get_within, slice_get_cases, get_or_from_slice_get}
 use Rattle.std.proofs.lemmas.List.Elements.{filter-append, filter_map-append}
+use Rattle.std.proofs.lemmas.List.Folds.{list_all_at}
+use Rattle.conf_tool.proofs.ToldLines.{both, all-append}
 use Rattle.conf_tool.specs.QuorumArguments.{each_once, with_given, map_given}
 
 tied : (id q : ℕ) → eq_by_cmp nat_cmp id q ≡ (q == id)
@@ -40,6 +41,12 @@ not_within xs i e = elim (slice_get_cases xs i).1 [
   | inl within ↦ let is = within.2 in cc
   | inr past ↦ past.0
 ]
+
+pub all-more : {X : Type 0} (p : X → Bool) (xs : List X) (i : ℕ) (x : X) → slice_get xs i ≡ Some x → list_all p (take i xs) ≡ true → p x ≡ true → list_all p (take (i + 1) xs) ≡ true
+all-more p xs i x e h k = ap (list_all p) (take_here xs i x e) ∙ all-append p (take i xs) (x ∷ []) h (both _ _ k refl)
+
+pub one-bad : {X : Type 0} (p : X → Bool) (xs : List X) (i : ℕ) (x : X) → slice_get xs i ≡ Some x → p x ≡ false → list_all p xs ≡ false
+one-bad p xs i x e k = list_all_at p xs i x (slice_get_within xs i x e) (ap p (get_or_from_slice_get xs i x x e) ∙ k)
 
 -- ---- each id once
 other-kept : (x y : ℕ) (same : Bool) → (x == y) ≡ same → filter (λ other. not (other == y)) (x ∷ []) ≡ cond same [] (x ∷ [])

@@ -18,7 +18,7 @@ use Rattle.conf_tool.specs.SessionState.{SessionState}
 use Rattle.conf_tool.specs.Reply.{Reply, told}
 use Rattle.conf_tool.specs.Commands.{command_in, with_changes, with_no_input, on_step, enter_with, leave_with, restore_with, reply_of, reply_to, answered, answer}
 use Rattle.conf_tool.specs.declared.commands.Command.{Command}
-use Rattle.conf_tool.specs.declared.commands.Command.TheVariants.{Simple, EnterJoint, LeaveJoint, ConfState, Restore, Undo, Unknown}
+use Rattle.conf_tool.specs.declared.commands.Command.TheVariants.{Simple, EnterJoint, LeaveJoint, ConfState, Restore, Undo, Ack, CommitIndex, Committed, Vote, Unknown}
 use Rattle.conf_tool.specs.Told.{is_line_byte}
 use Rattle.conf_tool.proofs.ToldLines.{saved-bytes}
 use Rattle.conf_tool.proofs.InputLines.{IsOneLine, has_one, first_line, ends_of, words-told, trimmed-told}
@@ -57,6 +57,10 @@ command-same LeaveJoint session input other arguments same = ap (with_changes (l
 command-same ConfState session input other arguments same = no_input-same _ input other same
 command-same Restore session input other arguments same = ap (restore_with session.changer arguments) (conf_state-same input other same)
 command-same Undo session input other arguments same = no_input-same _ input other same
+command-same Ack session input other arguments same = no_input-same _ input other same
+command-same CommitIndex session input other arguments same = no_input-same _ input other same
+command-same Committed session input other arguments same = no_input-same _ input other same
+command-same Vote session input other arguments same = no_input-same _ input other same
 command-same Unknown session input other arguments same = ap (with_changes (λ changes. told (codes "unknown command"))) (changes-same input other same)
 
 reply-same : (session : SessionState) (again directive : DirectiveText) → again.command ≡ directive.command → again.arguments ≡ directive.arguments → ends_of again.input ≡ ends_of directive.input →

@@ -1,5 +1,5 @@
 -- Which texts are told lines.
-use Rattle.std.proofs.Common.{◌≡◌, ℕ, zero, suc, ◌/◌, ◌%◌, ◌≤◌, Bool, true, false, cond, not, ◌&&◌, List, [], ◌∷◌, ◌++◌, length, map, refl, sym, ap, ◌∙◌, arith}
+use Rattle.std.proofs.Common.{◌≡◌, ℕ, zero, suc, ◌/◌, ◌%◌, ◌≤◌, Bool, true, false, cond, not, ◌&&◌, List, [], ◌∷◌, ◌++◌, map, refl, sym, ap, ◌∙◌, arith}
 use Rattle.std.specs.Prelude.{◌==◌, ◌||◌, nat_le, codes, decimal, flat_map}
 use Rattle.std.specs.List.{AllZip, list_all, list_any, join_with_byte}
 use Rattle.std.specs.Fmt.{digit_glyph, digits_onto, digits}
@@ -52,14 +52,14 @@ pub all-append : {X : Type 0} (p : X → Bool) (xs ys : List X) → list_all p x
 all-append p [] ys h k = k
 all-append p (x ∷ xs) ys h k = both _ _ (first _ _ h) (all-append p xs ys (second _ _ h) k)
 
-abbrev IsBytes : List ℕ → Type 0
+abbrev pub IsBytes : List ℕ → Type 0
 IsBytes text = list_all is_line_byte text ≡ true
 
 pub told-bytes : (text : List ℕ) → is_told_line text ≡ true → list_all is_line_byte text ≡ true
 told-bytes text h = second (not (is_blank text || is_dashes text)) _ h
 
 -- a byte that makes a line neither blank nor dashes
-abbrev is_mark : ℕ → Bool
+abbrev pub is_mark : ℕ → Bool
 is_mark b = not (is_space b || b == 45)
 
 any-step : (this some more : Bool) → (this || some) ≡ true → (some ≡ true → more ≡ true) → (this || more) ≡ true
@@ -114,7 +114,7 @@ is_high (b ∷ bs) = list_all (nat_le 48) (b ∷ bs)
 mark-high : (b : ℕ) → nat_le 48 b ≡ true → is_mark b ≡ true
 mark-high b h = grind (arith, nat_tests)
 
-high-mark : (bs : List ℕ) → is_high bs ≡ true → list_any is_mark bs ≡ true
+pub high-mark : (bs : List ℕ) → is_high bs ≡ true → list_any is_mark bs ≡ true
 high-mark [] h = cc
 high-mark (b ∷ bs) h = ap (λ t. t || list_any is_mark bs) (mark-high b (first _ _ h))
 
@@ -122,7 +122,7 @@ high-bytes : (bs : List ℕ) → is_high bs ≡ true → IsBytes bs
 high-bytes [] h = cc
 high-bytes (b ∷ bs) h = bytes-high (b ∷ bs) h
 
-either : (b : Bool) (xs ys : List ℕ) → is_high xs ≡ true → is_high ys ≡ true → is_high (cond b xs ys) ≡ true
+pub either : (b : Bool) (xs ys : List ℕ) → is_high xs ≡ true → is_high ys ≡ true → is_high (cond b xs ys) ≡ true
 either true xs ys h k = h
 either false xs ys h k = k
 
@@ -137,11 +137,11 @@ number-high k n =
     let one : is_high (digit_glyph false (n % 10) ∷ []) ≡ true = both _ _ (glyph-high (n % 10)) refl in
     either (n / 10 == 0) _ _ one (digits_onto-high k (n / 10) (digit_glyph false (n % 10)) [] one)
 
-decimal-high : (n : ℕ) → is_high (decimal n) ≡ true
+pub decimal-high : (n : ℕ) → is_high (decimal n) ≡ true
 unfolding digits
 decimal-high n = number-high 63 n
 
-decimal-bytes : (n : ℕ) → IsBytes (decimal n)
+pub decimal-bytes : (n : ℕ) → IsBytes (decimal n)
 decimal-bytes n = high-bytes (decimal n) (decimal-high n)
 
 spaced-bytes : (numbers : List ℕ) → IsBytes (spaced_numbers numbers)
@@ -150,31 +150,31 @@ spaced-bytes (n ∷ []) = decimal-bytes n
 spaced-bytes (n ∷ m ∷ numbers) = all-append is_line_byte (decimal n) (32 ∷ spaced_numbers (m ∷ numbers)) (decimal-bytes n) (spaced-bytes (m ∷ numbers))
 
 -- ---- the texts of a configuration, of a member, of a refusal and of a saved form
-record IsLine (text : List ℕ) : Type 0 where
-  mark : list_any is_mark text ≡ true
-  bytes : list_all is_line_byte text ≡ true
+pub record IsLine (text : List ℕ) : Type 0 where
+  pub mark : list_any is_mark text ≡ true
+  pub bytes : list_all is_line_byte text ≡ true
 
-record IsTail (text : List ℕ) : Type 0 where
-  tail : list_all is_line_byte text ≡ true
+pub record IsTail (text : List ℕ) : Type 0 where
+  pub tail : list_all is_line_byte text ≡ true
 
-starts : (text : List ℕ) → list_any is_mark text ≡ true → IsBytes text → IsLine text
+pub starts : (text : List ℕ) → list_any is_mark text ≡ true → IsBytes text → IsLine text
 starts text h k = record { mark = h; bytes = k }
 
-told : {text : List ℕ} → IsLine text → is_told_line text ≡ true
+pub told : {text : List ℕ} → IsLine text → is_told_line text ≡ true
 told {text} h = marked-told text h.mark h.bytes
 
-goes : (text : List ℕ) → IsBytes text → IsTail text
+pub goes : (text : List ℕ) → IsBytes text → IsTail text
 goes text h = record { tail = h }
 
 infixl 60 ◌▸◌
-◌▸◌ : {front back : List ℕ} → IsLine front → IsTail back → IsLine (front ++ back)
+pub ◌▸◌ : {front back : List ℕ} → IsLine front → IsTail back → IsLine (front ++ back)
 ◌▸◌ {front} {back} h k = record { mark = any-front is_mark front back h.mark; bytes = all-append is_line_byte front back h.bytes k.tail }
 
 infixl 61 ◌▹◌
-◌▹◌ : {front back : List ℕ} → IsTail front → IsTail back → IsTail (front ++ back)
+pub ◌▹◌ : {front back : List ℕ} → IsTail front → IsTail back → IsTail (front ++ back)
 ◌▹◌ {front} {back} h k = record { tail = all-append is_line_byte front back h.tail k.tail }
 
-number : (n : ℕ) → IsTail (decimal n)
+pub number : (n : ℕ) → IsTail (decimal n)
 number n = goes (decimal n) (decimal-bytes n)
 
 numbers : (ns : List ℕ) → IsTail (spaced_numbers ns)

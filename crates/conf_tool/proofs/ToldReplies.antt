@@ -5,17 +5,24 @@ use Rattle.std.specs.Option.{option_or}
 use Rattle.std.specs.List.{list_all, slice_split, onto_first}
 use Rattle.std.proofs.lemmas.Bool.{eqb-true}
 use Rattle.std.proofs.lemmas.Bool.Decides.{nat_tests}
+use Rattle.quorum_sets.specs.Committed.{joint_committed_index}
+use Rattle.quorum_sets.specs.Ids.{ascending, union}
+use Rattle.quorum_sets.specs.Votes.{joint_vote_result}
 use Rattle.dd_file.specs.DirectiveText.{DirectiveText}
 use Rattle.dd_file.specs.Words.{ArgumentText, is_key, is_key_byte}
 use Rattle.conf_change.specs.ChangerState.{ChangerState}
-use Rattle.conf_change.specs.Configuration.{Configuration}
+use Rattle.conf_change.specs.Acknowledgement.{ack_answer, matches}
+use Rattle.conf_change.specs.Configuration.{Configuration, voters_of}
 use Rattle.conf_change.specs.Words.{is_white, has_bytes, words}
 use Rattle.conf_change.specs.ChangeList.{BadToken, unknown_token, unknown_input, bad_number, token_of, IsFirstBad, changes_in}
 use Rattle.conf_change.specs.ConfState.{ConfStateLists, lists_of, restored}
 use Rattle.conf_change.specs.ConfStateLine.{conf_state_in, conf_state_text}
-use Rattle.conf_change.specs.Text.{refused_text}
+use Rattle.conf_change.specs.Text.{refused_text, progress_text}
 use Rattle.conf_change.specs.Changer.{begun_with, changer_after}
+use Rattle.conf_change.specs.declared.acknowledgement.AckFault.{AckFault}
+use Rattle.conf_change.specs.declared.acknowledgement.AckFault.TheVariants.{NotMember, IndexTooLarge}
 use Rattle.conf_change.specs.declared.change.Change.{Change}
+use Rattle.conf_change.specs.declared.progress.Progress.{Progress}
 use Rattle.conf_change.specs.declared.refused.Refused.{Refused}
 use Rattle.conf_change.specs.declared.step.Step.{Step}
 use Rattle.conf_change.specs.declared.step.Step.TheVariants.{Simple as SimpleStep, EnterJoint as EnterStep, LeaveJoint as LeaveStep}
@@ -26,14 +33,16 @@ use Rattle.conf_tool.specs.SessionState.{SessionState}
 use Rattle.conf_tool.specs.Reply.{Reply, told}
 use Rattle.conf_tool.specs.Undo.{undo_plan_of, undo_fault_text, undone_changer}
 use Rattle.conf_tool.specs.declared.undo_fault.UndoFault.{UndoFault}
-use Rattle.conf_tool.specs.Commands.{command_in, parameters_of, with_changes, with_no_input, with_arguments, after_step, asks_auto_leave, leave_with, after_restored, restore_with, steps_of, after_planned, reply_of, reply_to}
+use Rattle.conf_tool.specs.QuorumArguments.{number_given, voters_given, acks_given, votes_given, is_one_each, committed_text, vote_text}
+use Rattle.conf_tool.specs.Commands.{command_in, parameters_of, with_changes, with_no_input, with_arguments, after_step, asks_auto_leave, leave_with, after_restored, restore_with, steps_of, after_planned, after_ack, with_one_each, reply_of, reply_to}
 use Rattle.conf_tool.specs.Told.{is_line_byte, is_told_line, IsTold}
 use Rattle.dd_file.specs.Words.{has_keys}
 use Rattle.conf_tool.specs.declared.parameter.Parameter.{Parameter}
-use Rattle.conf_tool.specs.declared.parameter.Parameter.TheVariants.{AutoLeave, Steps}
+use Rattle.conf_tool.specs.declared.parameter.Parameter.TheVariants.{AutoLeave, Steps, Id, Index, Incoming, Outgoing, Indexes, Votes}
 use Rattle.conf_tool.specs.declared.commands.Command.{Command}
-use Rattle.conf_tool.specs.declared.commands.Command.TheVariants.{Simple, EnterJoint, LeaveJoint, ConfState, Restore, Undo, Unknown}
-use Rattle.conf_tool.proofs.ToldLines.{first, second, both, told-append, refused-told, undo_fault-told, conf_state-told, line-told, told-after, plan-told, tracker-told}
+use Rattle.conf_tool.specs.declared.commands.Command.TheVariants.{Simple, EnterJoint, LeaveJoint, ConfState, Restore, Undo, Ack, CommitIndex, Committed, Vote, Unknown}
+use Rattle.conf_tool.proofs.ToldCharts.{chart-told, index-told, vote-told}
+use Rattle.conf_tool.proofs.ToldLines.{first, second, both, told-append, progress-told, refused-told, undo_fault-told, conf_state-told, line-told, told-after, plan-told, tracker-told}
 
 abbrev Tells : Reply → Type 0
 Tells reply = IsTold reply.found
@@ -127,6 +136,12 @@ bad-key parameters before (argument ∷ arguments) key h e =
 parameter-bytes : (parameter : Parameter) → list_all is_line_byte (key_of parameter) ≡ true
 parameter-bytes AutoLeave = refl
 parameter-bytes Steps = refl
+parameter-bytes Id = refl
+parameter-bytes Index = refl
+parameter-bytes Incoming = refl
+parameter-bytes Outgoing = refl
+parameter-bytes Indexes = refl
+parameter-bytes Votes = refl
 
 fault-tells : (bad : Option (List ℕ)) (missing : Option Parameter) (reply : Reply) → ((key : List ℕ) → bad ≡ Some key → is_key key ≡ true) → Tells reply →
     Tells (unwrap_or (option_or (option_map (λ key. told (codes "bad argument: " ++ key)) bad) (option_map (λ parameter. told (codes "missing argument: " ++ key_of parameter)) missing)) reply)
@@ -166,6 +181,17 @@ undo-tells : (session : SessionState) (count : ℕ) (plan : Result (List Step) U
 undo-tells session count (Ok steps) = told-after _ _ (plan-told steps) (tracker-told (undone_changer session steps).tracker)
 undo-tells session count (Err fault) = tells (undo_fault_text fault) (undo_fault-told fault)
 
+ack-tells : (changer : ChangerState) (id : ℕ) (made : Result Progress AckFault) → Tells (after_ack changer id made)
+ack-tells changer id (Ok p) = tells (progress_text id p) (progress-told id p)
+ack-tells changer id (Err NotMember) = tells (codes "not a member") refl
+ack-tells changer id (Err IndexTooLarge) = tells (codes "index too large") refl
+
+one_each-tells : (parameter : Parameter) (arguments : List ArgumentText) (reply : Reply) → Tells reply → Tells (with_one_each parameter arguments reply)
+one_each-tells parameter arguments reply t = by (is_one_each parameter arguments) where
+  by : (enough : Bool) → Tells (cond enough reply (told (codes "wrong number of values")))
+  by true = t
+  by false = tells (codes "wrong number of values") refl
+
 command-tells : FirstBads → (command : Command) (session : SessionState) (input : List ℕ) (arguments : List ArgumentText) → are_keys arguments ≡ true → Tells (reply_of command session input arguments)
 command-tells first_bads Simple session input arguments keys = changes-tell first_bads _ input _ refl (λ changes. step-tells (changer_after session.changer (SimpleStep changes)))
 command-tells first_bads EnterJoint session input arguments keys =
@@ -178,6 +204,19 @@ command-tells first_bads Restore session input arguments keys = restore-tells se
 command-tells first_bads Undo session input arguments keys =
     let count = steps_of arguments in
     no_input-tells _ input (arguments-tell Undo arguments _ keys (undo-tells session count (undo_plan_of session count)))
+command-tells first_bads Ack session input arguments keys =
+    let id = number_given Id arguments in
+    no_input-tells _ input (arguments-tell Ack arguments _ keys (ack-tells session.changer id (ack_answer session.changer.tracker id (number_given Index arguments))))
+command-tells first_bads CommitIndex session input arguments keys =
+    no_input-tells _ input (arguments-tell CommitIndex arguments _ keys (tells _ (index-told (joint_committed_index (voters_of session.changer.tracker.config) (matches session.changer.tracker)))))
+command-tells first_bads Committed session input arguments keys =
+    let voters = voters_given arguments in
+    let acks = acks_given arguments in
+    let chart : Tells (told (committed_text voters acks)) = chart-told (ascending (union voters.incoming voters.outgoing)) acks (joint_committed_index voters acks) in
+    no_input-tells _ input (arguments-tell Committed arguments _ keys (one_each-tells Indexes arguments _ chart))
+command-tells first_bads Vote session input arguments keys =
+    let result = joint_vote_result (voters_given arguments) (votes_given arguments) in
+    no_input-tells _ input (arguments-tell Vote arguments _ keys (one_each-tells Votes arguments _ (tells (vote_text result) (vote-told result))))
 command-tells first_bads Unknown session input arguments keys = changes-tell first_bads _ input _ refl (λ changes. tells (codes "unknown command") refl)
 
 pub reply-told : FirstBads → (session : SessionState) (directive : DirectiveText) → has_keys directive.arguments ≡ true → IsTold (reply_to session directive).found

@@ -125,6 +125,9 @@ impl Session {
     {
         match effect {
             Effect::Nothing => {}
+            Effect::Acknowledged(after) => {
+                self.changer = after;
+            }
             Effect::Stepped(after) => {
                 let before = replace(&mut self.changer, after);
                 self.history.keep(before.into_config());

@@ -1,14 +1,14 @@
 //! The texts that a session answers, each in lines.
 ghost use Rattle.std.specs.Prelude.{◌≡◌, ◌≢◌, ◌++◌, IfOk, OnOk, IsSomeAnd};
+ghost use Rattle.std.specs.FinMap as finite;
+ghost use Rattle.quorum_sets.specs.Voters.{pair};
 ghost use Rattle.conf_change.specs.ChangeList.{bad_token};
 ghost use Rattle.conf_change.specs.ConfState.{lists_of};
 ghost use Rattle.conf_change.specs.Text.{refused_text, progress_text};
 ghost use Rattle.conf_change.specs.ConfStateLine.{conf_state_text};
+ghost use Rattle.conf_tool.specs.QuorumArguments.{index_text, committed_text};
 ghost use Rattle.conf_tool.specs.Texts.{line, bad_token_text, member_lines, tracker_text};
 ghost use Rattle.conf_tool.specs.Undo.{undo_fault_text};
-ghost use Rattle.std.specs.FinMap as finite;
-ghost use Rattle.quorum_sets.specs.Voters.{pair};
-ghost use Rattle.conf_tool.specs.QuorumArguments.{index_text, committed_text};
 
 use crate::line_answer::tell_fault;
 use crate::session_ids::SessionIds;
@@ -126,7 +126,7 @@ fn append_index(text: &mut Vec<u8>, index: u64) -> Result<(), NoMemory>
     ensures { OnOk result (text.new.items ≡ text.old.items ++ index_text index) }
 {
     if index == u64::MAX {
-        text.extend_from_slice("∞".as_bytes())?;
+        text.extend_from_slice(b"\xe2\x88\x9e")?;
     } else {
         let mut buffer = Buffer::new();
         text.extend_from_slice(buffer.format(index).as_bytes())?;

@@ -26,13 +26,6 @@ impl RawLines {
         RawLines { lines }
     }
 
-    // How many there are.
-    fn len(&self) -> usize
-        ensures { result ≡ length self.now }
-    {
-        self.lines.len()
-    }
-
     /// The line at a place, counted from 0.
     pub fn get(&self, i: usize) -> Option<&[u8]>
         ensures { option_map (λ line. line.now) result ≡ slice_get self.now i }
@@ -79,7 +72,7 @@ impl Argument {
     pub fn value_count(&self) -> usize
         ensures { result ≡ length self.now.values }
     {
-        self.values.len()
+        self.values.lines.len()
     }
 
     /// The value at a place, counted from 0.

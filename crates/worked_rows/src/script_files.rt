@@ -57,7 +57,7 @@ fn show_lines(shown: &mut Vec<u8>, item: &Item) -> Result<(), AllocError> {
 fn show_argument(shown: &mut Vec<u8>, argument: &Argument) -> Result<(), AllocError> {
     shown.push(b' ')?;
     shown.extend_from_slice(argument.key())?;
-    for i in 0..4 {
+    for i in 0..argument.value_count() {
         if let Some(value) = argument.value(i) {
             shown.push(b'[')?;
             shown.extend_from_slice(value)?;

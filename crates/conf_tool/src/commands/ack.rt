@@ -33,7 +33,10 @@ pub(super) fn obey(
     let id = number_given(Parameter::Id, arguments);
     let mut after = changer.try_clone()?;
     match after.ack(id, number_given(Parameter::Index, arguments)) {
-        Ok(progress) => Ok(Reply::new(member_line(alloc, id, progress)?, Effect::Acknowledged(after))),
+        Ok(progress) => Ok(Reply::new(
+            member_line(alloc, id, progress)?,
+            Effect::Acknowledged(after),
+        )),
         Err(AckFault::NotMember) => tell(alloc, b"not a member", b""),
         Err(AckFault::IndexTooLarge) => tell(alloc, b"index too large", b""),
     }

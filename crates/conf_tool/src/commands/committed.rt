@@ -1,13 +1,11 @@
 //! `committed`: the chart and the committed index of a quorum, where its ids have acknowledged these indexes.
 ghost use Rattle.std.specs.Prelude.{◌≡◌, IfOk};
 ghost use Rattle.conf_tool.specs.Commands.{on_committed};
-ghost use Rattle.conf_tool.specs.Reply.{told};
-ghost use Rattle.conf_tool.specs.QuorumArguments as says;
 
 use super::Command;
 use super::telling::{tell, tell_arguments, tell_no_input};
 use crate::parameter::Parameter;
-use crate::quorum_arguments::{Quorum, given, quorum_given, value_count};
+use crate::quorum_arguments::{given, quorum_given, value_count};
 use crate::reply::Reply;
 use crate::texts::committed_lines;
 use dd_file::item::Argument;

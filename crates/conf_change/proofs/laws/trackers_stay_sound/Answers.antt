@@ -1,3 +1,4 @@
+use Rattle.conf_change.proofs.Acknowledging.{ack_answer-is_sound}
 use Rattle.conf_change.proofs.Soundness.{outcome-has_voter, outcome-is_restorable, moved_to-is_sound, begun_with-is_sound}
 use Rattle.conf_change.proofs.laws.trackers_stay_sound.Goals as goal
 
@@ -12,3 +13,6 @@ returns-clause-voter c = outcome-has_voter
 
 pub returns-clause-begun : goal.returns-clause-begun
 returns-clause-begun c = begun_with-is_sound
+
+pub returns-clause-acknowledged : goal.returns-clause-acknowledged
+returns-clause-acknowledged c = ack_answer-is_sound

@@ -7,6 +7,7 @@ returns c =
       step = c.trackers_stay_sound.ensures.step;
       voter = c.trackers_stay_sound.ensures.voter;
       begun = c.trackers_stay_sound.ensures.begun;
+      acknowledged = c.trackers_stay_sound.ensures.acknowledged;
       accepted = c.one_changer_after_a_step.ensures.ok;
       described = c.restored_is_described.ensures;
     } in

@@ -1,5 +1,5 @@
-use Rattle.std.proofs.Common.{◌≡◌, ◌∙◌, ap, sym}
-use Rattle.std.specs.Prelude.{None, option_copied}
+use Rattle.std.proofs.Common.{◌∙◌, ap, sym}
+use Rattle.std.specs.Prelude.{option_copied}
 use Rattle.conf_tool.proofs.QuorumValues.{nothing-given, empty-map}
 use Rattle.conf_tool.proofs.quorum_arguments.given.Goals as goal
 

@@ -1,4 +1,3 @@
-use Rattle.std.proofs.Common.{ap, ◌∙◌, sym}
 use Rattle.conf_tool.proofs.QuorumValues.{map-insert}
 use Rattle.conf_tool.proofs.quorum_arguments.insert_given.Goals as goal
 
