@@ -15,6 +15,7 @@ use Rattle.conf_change.specs.ConfStateLine.{conf_state_in}
 use Rattle.conf_change.specs.Configuration.{Configuration, has_voter, is_valid, has_voter_or_nobody, is_restorable}
 use Rattle.conf_change.specs.Number.{number_in}
 use Rattle.conf_change.specs.Outcome.{outcome}
+use Rattle.conf_change.specs.Transition.{step_taken}
 use Rattle.conf_change.specs.declared.acknowledgement.AckFault.{AckFault}
 use Rattle.conf_change.specs.declared.acknowledgement.AckFault.TheVariants.{NotMember, IndexTooLarge}
 use Rattle.conf_change.specs.declared.change.Change.{Change}
@@ -30,14 +31,14 @@ use Rattle.conf_tool.specs.Arguments.{bad_argument, missing_argument, argument_o
 use Rattle.conf_tool.specs.Reply.{Reply, told}
 use Rattle.conf_tool.specs.Undo.{IsEarlier, LeadsBack, plan_back, undo_plan_of, undone_changer}
 use Rattle.conf_tool.specs.QuorumArguments.{number_given, is_one_each}
-use Rattle.conf_tool.specs.Commands.{command_in, parameters_of, with_changes, with_no_input, with_arguments, after_step, asks_auto_leave, leave_with, after_restored, restore_with, steps_of, after_planned, undo_last, after_ack, with_one_each, reply_of, reply_to, answer}
+use Rattle.conf_tool.specs.Commands.{command_in, parameters_of, with_changes, with_no_input, with_arguments, after_step, asks_auto_leave, asked_transition, leave_with, after_restored, restore_with, steps_of, after_planned, undo_last, after_ack, with_one_each, reply_of, reply_to, answer}
 use Rattle.conf_tool.specs.declared.undo_fault.UndoFault.TheVariants.{NoVoterTarget}
 use Rattle.conf_tool.specs.declared.effect.Effect.{Effect}
 use Rattle.conf_tool.specs.declared.effect.Effect.TheVariants.{Nothing, Acknowledged, Stepped, Restored, Undone}
 use Rattle.conf_tool.specs.declared.parameter.Parameter.{Parameter}
 use Rattle.conf_tool.specs.declared.parameter.Parameter.TheVariants.{Steps, Id, Index, Indexes, Votes}
 use Rattle.conf_tool.specs.declared.commands.Command.{Command}
-use Rattle.conf_tool.specs.declared.commands.Command.TheVariants.{Simple, EnterJoint, LeaveJoint, ConfState, Restore, Undo, Ack, CommitIndex, Committed, Vote, Unknown}
+use Rattle.conf_tool.specs.declared.commands.Command.TheVariants.{Simple, EnterJoint, LeaveJoint, ConfChange, ConfState, Restore, Undo, Ack, CommitIndex, Committed, Vote, Unknown}
 use Rattle.conf_tool.proofs.ToldLines.{first, second}
 
 -- ---- what the crates below say
@@ -262,6 +263,8 @@ command-due laws plans Simple session input arguments is = changes-due session _
 command-due laws plans EnterJoint session input arguments is =
     changes-due session _ (changes_in input) (λ changes. arguments-due session EnterJoint arguments _ (step-due laws session (EnterStep (asks_auto_leave arguments) changes) _ refl))
 command-due laws plans LeaveJoint session input arguments is = changes-due session _ (changes_in input) (leave-due laws session)
+command-due laws plans ConfChange session input arguments is =
+    changes-due session _ (changes_in input) (λ changes. arguments-due session ConfChange arguments _ (step-due laws session (step_taken (asked_transition arguments) changes) _ refl))
 command-due laws plans ConfState session input arguments is = no_input-due session _ input (arguments-due session ConfState arguments _ tt)
 command-due laws plans Restore session input arguments is = restore-due laws session arguments (conf_state_in input)
 command-due laws plans Undo session input arguments is =

@@ -16,9 +16,9 @@ use Rattle.conf_change.specs.declared.step.Step.TheVariants.{Simple as SimpleSte
 use Rattle.conf_change.proofs.LineLemmas.{StandsForConfState-from_some}
 use Rattle.conf_tool.specs.SessionState.{SessionState}
 use Rattle.conf_tool.specs.Reply.{Reply, told}
-use Rattle.conf_tool.specs.Commands.{command_in, with_changes, with_no_input, on_step, enter_with, leave_with, restore_with, reply_of, reply_to, answered, answer}
+use Rattle.conf_tool.specs.Commands.{command_in, with_changes, with_no_input, on_step, enter_with, leave_with, change_with, restore_with, reply_of, reply_to, answered, answer}
 use Rattle.conf_tool.specs.declared.commands.Command.{Command}
-use Rattle.conf_tool.specs.declared.commands.Command.TheVariants.{Simple, EnterJoint, LeaveJoint, ConfState, Restore, Undo, Ack, CommitIndex, Committed, Vote, Unknown}
+use Rattle.conf_tool.specs.declared.commands.Command.TheVariants.{Simple, EnterJoint, LeaveJoint, ConfChange, ConfState, Restore, Undo, Ack, CommitIndex, Committed, Vote, Unknown}
 use Rattle.conf_tool.specs.Told.{is_line_byte}
 use Rattle.conf_tool.proofs.ToldLines.{saved-bytes}
 use Rattle.conf_tool.proofs.InputLines.{IsOneLine, has_one, first_line, ends_of, words-told, trimmed-told}
@@ -54,6 +54,7 @@ command-same : (command : Command) (session : SessionState) (input other : List 
 command-same Simple session input other arguments same = ap (with_changes (λ changes. on_step session.changer (SimpleStep changes))) (changes-same input other same)
 command-same EnterJoint session input other arguments same = ap (with_changes (enter_with session.changer arguments)) (changes-same input other same)
 command-same LeaveJoint session input other arguments same = ap (with_changes (leave_with session.changer)) (changes-same input other same)
+command-same ConfChange session input other arguments same = ap (with_changes (change_with session.changer arguments)) (changes-same input other same)
 command-same ConfState session input other arguments same = no_input-same _ input other same
 command-same Restore session input other arguments same = ap (restore_with session.changer arguments) (conf_state-same input other same)
 command-same Undo session input other arguments same = no_input-same _ input other same

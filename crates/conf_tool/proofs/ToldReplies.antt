@@ -18,6 +18,7 @@ use Rattle.conf_change.specs.ChangeList.{BadToken, unknown_token, unknown_input,
 use Rattle.conf_change.specs.ConfState.{ConfStateLists, lists_of, restored}
 use Rattle.conf_change.specs.ConfStateLine.{conf_state_in, conf_state_text}
 use Rattle.conf_change.specs.Text.{refused_text, progress_text}
+use Rattle.conf_change.specs.Transition.{step_taken}
 use Rattle.conf_change.specs.Changer.{begun_with, changer_after}
 use Rattle.conf_change.specs.declared.acknowledgement.AckFault.{AckFault}
 use Rattle.conf_change.specs.declared.acknowledgement.AckFault.TheVariants.{NotMember, IndexTooLarge}
@@ -34,13 +35,13 @@ use Rattle.conf_tool.specs.Reply.{Reply, told}
 use Rattle.conf_tool.specs.Undo.{undo_plan_of, undo_fault_text, undone_changer}
 use Rattle.conf_tool.specs.declared.undo_fault.UndoFault.{UndoFault}
 use Rattle.conf_tool.specs.QuorumArguments.{number_given, voters_given, acks_given, votes_given, is_one_each, committed_text, vote_text}
-use Rattle.conf_tool.specs.Commands.{command_in, parameters_of, with_changes, with_no_input, with_arguments, after_step, asks_auto_leave, leave_with, after_restored, restore_with, steps_of, after_planned, after_ack, with_one_each, reply_of, reply_to}
+use Rattle.conf_tool.specs.Commands.{command_in, parameters_of, with_changes, with_no_input, with_arguments, after_step, asks_auto_leave, asked_transition, leave_with, after_restored, restore_with, steps_of, after_planned, after_ack, with_one_each, reply_of, reply_to}
 use Rattle.conf_tool.specs.Told.{is_line_byte, is_told_line, IsTold}
 use Rattle.dd_file.specs.Words.{has_keys}
 use Rattle.conf_tool.specs.declared.parameter.Parameter.{Parameter}
-use Rattle.conf_tool.specs.declared.parameter.Parameter.TheVariants.{AutoLeave, Steps, Id, Index, Incoming, Outgoing, Indexes, Votes}
+use Rattle.conf_tool.specs.declared.parameter.Parameter.TheVariants.{AutoLeave, Transition, Steps, Id, Index, Incoming, Outgoing, Indexes, Votes}
 use Rattle.conf_tool.specs.declared.commands.Command.{Command}
-use Rattle.conf_tool.specs.declared.commands.Command.TheVariants.{Simple, EnterJoint, LeaveJoint, ConfState, Restore, Undo, Ack, CommitIndex, Committed, Vote, Unknown}
+use Rattle.conf_tool.specs.declared.commands.Command.TheVariants.{Simple, EnterJoint, LeaveJoint, ConfChange, ConfState, Restore, Undo, Ack, CommitIndex, Committed, Vote, Unknown}
 use Rattle.conf_tool.proofs.ToldCharts.{chart-told, index-told, vote-told}
 use Rattle.conf_tool.proofs.ToldLines.{first, second, both, told-append, progress-told, refused-told, undo_fault-told, conf_state-told, line-told, told-after, plan-told, tracker-told}
 
@@ -135,6 +136,7 @@ bad-key parameters before (argument ∷ arguments) key h e =
 
 parameter-bytes : (parameter : Parameter) → list_all is_line_byte (key_of parameter) ≡ true
 parameter-bytes AutoLeave = refl
+parameter-bytes Transition = refl
 parameter-bytes Steps = refl
 parameter-bytes Id = refl
 parameter-bytes Index = refl
@@ -197,6 +199,8 @@ command-tells first_bads Simple session input arguments keys = changes-tell firs
 command-tells first_bads EnterJoint session input arguments keys =
     changes-tell first_bads _ input _ refl (λ changes. arguments-tell EnterJoint arguments _ keys (step-tells (changer_after session.changer (EnterStep (asks_auto_leave arguments) changes))))
 command-tells first_bads LeaveJoint session input arguments keys = changes-tell first_bads _ input _ refl (leave-tells session.changer)
+command-tells first_bads ConfChange session input arguments keys =
+    changes-tell first_bads _ input _ refl (λ changes. arguments-tell ConfChange arguments _ keys (step-tells (changer_after session.changer (step_taken (asked_transition arguments) changes))))
 command-tells first_bads ConfState session input arguments keys =
     let saved = lists_of session.changer.tracker.config in
     no_input-tells _ input (arguments-tell ConfState arguments _ keys (tells (conf_state_text saved) (conf_state-told saved)))

@@ -13,6 +13,7 @@ use Rattle.conf_change.specs.ChangeList.{BadToken, changes_in}
 use Rattle.conf_change.specs.ConfState.{ConfStateLists, lists_of, restored}
 use Rattle.conf_change.specs.ConfStateLine.{conf_state_in, conf_state_text}
 use Rattle.conf_change.specs.Text.{refused_text}
+use Rattle.conf_change.specs.Transition.{step_taken}
 use Rattle.conf_change.specs.declared.acknowledgement.AckFault.{AckFault}
 use Rattle.conf_change.specs.declared.acknowledgement.AckFault.TheVariants.{NotMember, IndexTooLarge}
 use Rattle.conf_change.specs.declared.change.Change.{Change}
@@ -20,6 +21,8 @@ use Rattle.conf_change.specs.declared.progress.Progress.{Progress}
 use Rattle.conf_change.specs.declared.refused.Refused.{Refused}
 use Rattle.conf_change.specs.declared.step.Step.{Step}
 use Rattle.conf_change.specs.declared.step.Step.TheVariants.{Simple as SimpleStep, EnterJoint as EnterStep, LeaveJoint as LeaveStep}
+use Rattle.conf_change.specs.declared.transition.Transition.{Transition}
+use Rattle.conf_change.specs.declared.transition.Transition.TheVariants.{Auto, Implicit, Explicit}
 use Rattle.conf_tool.specs.SessionState.{SessionState, after_directive}
 use Rattle.conf_tool.specs.Parameter.{key_of, has_only, number_from}
 use Rattle.conf_tool.specs.Arguments.{bad_argument, missing_argument, argument_of}
@@ -28,10 +31,10 @@ use Rattle.conf_tool.specs.Texts.{bad_token_text}
 use Rattle.conf_tool.specs.Reply.{Reply, told, stepped, begun_again, acknowledged_by}
 use Rattle.conf_tool.specs.Undo.{undo_plan_of, undo_fault_text, undone}
 use Rattle.conf_tool.specs.declared.parameter.Parameter.{Parameter}
-use Rattle.conf_tool.specs.declared.parameter.Parameter.TheVariants.{AutoLeave, Steps, Id, Index, Incoming, Outgoing, Indexes, Votes}
+use Rattle.conf_tool.specs.declared.parameter.Parameter.TheVariants.{AutoLeave, Transition as TransitionAsked, Steps, Id, Index, Incoming, Outgoing, Indexes, Votes}
 use Rattle.conf_tool.specs.declared.undo_fault.UndoFault.{UndoFault}
 use Rattle.conf_tool.specs.declared.commands.Command.{Command}
-use Rattle.conf_tool.specs.declared.commands.Command.TheVariants.{Simple, EnterJoint, LeaveJoint, ConfState, Restore, Undo, Ack, CommitIndex, Committed, Vote, Unknown}
+use Rattle.conf_tool.specs.declared.commands.Command.TheVariants.{Simple, EnterJoint, LeaveJoint, ConfChange, ConfState, Restore, Undo, Ack, CommitIndex, Committed, Vote, Unknown}
 
 -- the command of a name
 abbrev pub command_in : List ℕ → Command
@@ -39,6 +42,7 @@ command_in name =
     if bytes_eq name (codes "simple") then Simple
     else (if bytes_eq name (codes "enter-joint") then EnterJoint
     else (if bytes_eq name (codes "leave-joint") then LeaveJoint
+    else (if bytes_eq name (codes "conf-change") then ConfChange
     else (if bytes_eq name (codes "conf-state") then ConfState
     else (if bytes_eq name (codes "restore") then Restore
     else (if bytes_eq name (codes "undo") then Undo
@@ -46,7 +50,7 @@ command_in name =
     else (if bytes_eq name (codes "commit-index") then CommitIndex
     else (if bytes_eq name (codes "committed") then Committed
     else (if bytes_eq name (codes "vote") then Vote
-    else Unknown)))))))))
+    else Unknown))))))))))
 
 -- the arguments that it has, required ones in the order in which they are missed; those of simple, of leave-joint and of
 -- what is no command are not looked at
@@ -54,6 +58,7 @@ abbrev pub parameters_of : Command → List Parameter
 parameters_of Simple = []
 parameters_of EnterJoint = AutoLeave ∷ []
 parameters_of LeaveJoint = []
+parameters_of ConfChange = TransitionAsked ∷ []
 parameters_of ConfState = []
 parameters_of Restore = []
 parameters_of Undo = Steps ∷ []
@@ -114,6 +119,22 @@ leave_with changer (change ∷ changes) = told no_input_text
 
 abbrev pub on_leave_joint : ChangerState → List ℕ → Reply
 on_leave_joint changer input = with_changes (leave_with changer) (changes_in input)
+
+-- how the list is taken: Auto, where transition is auto or left out
+abbrev pub transition_in : List (List ℕ) → Transition
+transition_in values =
+    if has_only (codes "implicit") values then Implicit else (if has_only (codes "explicit") values then Explicit else Auto)
+
+abbrev pub asked_transition : List ArgumentText → Transition
+asked_transition arguments = unwrap_or (option_map (λ argument. transition_in argument.values) (argument_of TransitionAsked arguments)) Auto
+
+-- the change that the list takes
+abbrev pub change_with : ChangerState → List ArgumentText → List Change → Reply
+change_with changer arguments changes =
+    with_arguments ConfChange arguments (on_step changer (step_taken (asked_transition arguments) changes))
+
+abbrev pub on_conf_change : ChangerState → List ℕ → List ArgumentText → Reply
+on_conf_change changer input arguments = with_changes (change_with changer arguments) (changes_in input)
 
 abbrev pub on_conf_state : ChangerState → List ℕ → List ArgumentText → Reply
 on_conf_state changer input arguments =
@@ -187,6 +208,7 @@ abbrev pub reply_of : Command → SessionState → List ℕ → List ArgumentTex
 reply_of Simple session input arguments = on_simple session.changer input
 reply_of EnterJoint session input arguments = on_enter_joint session.changer input arguments
 reply_of LeaveJoint session input arguments = on_leave_joint session.changer input
+reply_of ConfChange session input arguments = on_conf_change session.changer input arguments
 reply_of ConfState session input arguments = on_conf_state session.changer input arguments
 reply_of Restore session input arguments = on_restore session.changer input arguments
 reply_of Undo session input arguments = on_undo session input arguments

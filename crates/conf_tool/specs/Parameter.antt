@@ -3,7 +3,7 @@ use Rattle.std.specs.Prelude.{ℕ, Bool, true, false, ◌||◌, List, [], ◌∷
 use Rattle.std.specs.List.{list_all}
 use Rattle.conf_change.specs.Number.{number_in}
 use Rattle.conf_tool.specs.declared.parameter.Parameter.{Parameter}
-use Rattle.conf_tool.specs.declared.parameter.Parameter.TheVariants.{AutoLeave, Steps, Id, Index, Incoming, Outgoing, Indexes, Votes}
+use Rattle.conf_tool.specs.declared.parameter.Parameter.TheVariants.{AutoLeave, Transition, Steps, Id, Index, Incoming, Outgoing, Indexes, Votes}
 
 -- this value and no other
 abbrev pub has_only : List ℕ → List (List ℕ) → Bool
@@ -24,6 +24,7 @@ number_from least (first ∷ second ∷ values) = None
 -- the key of its argument
 abbrev pub key_of : Parameter → List ℕ
 key_of AutoLeave = codes "autoleave"
+key_of Transition = codes "transition"
 key_of Steps = codes "steps"
 key_of Id = codes "id"
 key_of Index = codes "index"
@@ -35,6 +36,7 @@ key_of Votes = codes "votes"
 -- its argument may not be left out
 abbrev pub is_required : Parameter → Bool
 is_required AutoLeave = false
+is_required Transition = false
 is_required Steps = false
 is_required Id = true
 is_required Index = true
@@ -54,6 +56,7 @@ is_unknown value = bytes_eq value (codes "_")
 -- the value may stand in the list of its argument; the others have no list
 abbrev pub may_stand_in : Parameter → List ℕ → Bool
 may_stand_in AutoLeave value = false
+may_stand_in Transition value = false
 may_stand_in Steps value = false
 may_stand_in Id value = false
 may_stand_in Index value = false
@@ -65,6 +68,7 @@ may_stand_in Votes value = bytes_eq value (codes "y") || bytes_eq value (codes "
 -- its argument may have these values
 abbrev pub allows : Parameter → List (List ℕ) → Bool
 allows AutoLeave values = has_only (codes "true") values || has_only (codes "false") values
+allows Transition values = has_only (codes "auto") values || has_only (codes "implicit") values || has_only (codes "explicit") values
 allows Steps values = is_some (number_from 1 values)
 allows Id values = is_some (number_from 1 values)
 allows Index values = is_some (number_from 0 values)

@@ -7,6 +7,7 @@ ghost use Rattle.conf_tool.specs.Commands as says;
 mod ack;
 mod commit_index;
 mod committed;
+mod conf_change;
 mod conf_state;
 mod enter_joint;
 mod leave_joint;
@@ -31,6 +32,7 @@ pub(crate) enum Command {
     Simple,
     EnterJoint,
     LeaveJoint,
+    ConfChange,
     ConfState,
     Restore,
     Undo,
@@ -51,6 +53,8 @@ fn command_in(name: &[u8]) -> Command
         Command::EnterJoint
     } else if name == b"leave-joint".as_slice() {
         Command::LeaveJoint
+    } else if name == b"conf-change".as_slice() {
+        Command::ConfChange
     } else if name == b"conf-state".as_slice() {
         Command::ConfState
     } else if name == b"restore".as_slice() {
@@ -77,6 +81,7 @@ fn parameters_of(command: Command) -> &'static [Parameter]
 {
     match command {
         Command::EnterJoint => &[Parameter::AutoLeave],
+        Command::ConfChange => &[Parameter::Transition],
         Command::Undo => &[Parameter::Steps],
         Command::Ack => &[Parameter::Id, Parameter::Index],
         Command::Committed => &[Parameter::Incoming, Parameter::Outgoing, Parameter::Indexes],
@@ -119,6 +124,7 @@ fn carry_out(
         Command::Simple => simple::obey(alloc, changer, input),
         Command::EnterJoint => enter_joint::obey(alloc, changer, input, arguments),
         Command::LeaveJoint => leave_joint::obey(alloc, changer, input),
+        Command::ConfChange => conf_change::obey(alloc, changer, input, arguments),
         Command::ConfState => conf_state::obey(alloc, changer, input, arguments),
         Command::Restore => restore::obey(alloc, changer, input, arguments),
         Command::Undo => undo::obey(alloc, session, input, arguments),

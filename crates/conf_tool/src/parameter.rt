@@ -10,6 +10,8 @@ use dd_file::item::Argument;
 pub(crate) enum Parameter {
     /// `autoleave`: `true` or `false`.
     AutoLeave,
+    /// `transition`: `auto`, `implicit` or `explicit`.
+    Transition,
     /// `steps`: a number from 1.
     Steps,
     /// `id`: a number from 1.
@@ -37,6 +39,7 @@ impl Parameter {
     {
         match self {
             Parameter::AutoLeave => b"autoleave",
+            Parameter::Transition => b"transition",
             Parameter::Steps => b"steps",
             Parameter::Id => b"id",
             Parameter::Index => b"index",
@@ -60,6 +63,9 @@ impl Parameter {
     {
         match self {
             Parameter::AutoLeave => has_only(argument, b"true") || has_only(argument, b"false"),
+            Parameter::Transition => has_only(argument, b"auto")
+                || has_only(argument, b"implicit")
+                || has_only(argument, b"explicit"),
             Parameter::Steps | Parameter::Id => number_from(1, argument).is_some(),
             Parameter::Index => number_from(0, argument).is_some(),
             Parameter::Outgoing => has_only(argument, b"zero") || self.has_list(argument),
