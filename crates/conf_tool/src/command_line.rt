@@ -33,8 +33,8 @@ both texts. The counts come last. The status is 1 where a directive differs.
 
 A directive is a command with its arguments, lines of input, a line of four
 dashes, the lines that are expected, and an empty line. The commands are simple,
-enter-joint, leave-joint, conf-state, restore, undo, ack, commit-index, committed
-and vote. A line that begins with # is a comment.
+enter-joint, leave-joint, conf-change, conf-state, restore, undo, ack,
+commit-index, committed and vote. A line that begins with # is a comment.
 
 For the script
 simple

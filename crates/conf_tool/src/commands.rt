@@ -5,9 +5,9 @@ ghost use Rattle.conf_tool.specs.Told.{CanStand};
 ghost use Rattle.conf_tool.specs.Commands as says;
 
 mod ack;
+mod change;
 mod commit_index;
 mod committed;
-mod conf_change;
 mod conf_state;
 mod enter_joint;
 mod leave_joint;
@@ -124,7 +124,7 @@ fn carry_out(
         Command::Simple => simple::obey(alloc, changer, input),
         Command::EnterJoint => enter_joint::obey(alloc, changer, input, arguments),
         Command::LeaveJoint => leave_joint::obey(alloc, changer, input),
-        Command::ConfChange => conf_change::obey(alloc, changer, input, arguments),
+        Command::ConfChange => change::obey(alloc, changer, input, arguments),
         Command::ConfState => conf_state::obey(alloc, changer, input, arguments),
         Command::Restore => restore::obey(alloc, changer, input, arguments),
         Command::Undo => undo::obey(alloc, session, input, arguments),
