@@ -9,7 +9,7 @@ use Rattle.conf_change.specs.declared.step.Step.TheVariants.{Simple, EnterJoint,
 use Rattle.conf_change.specs.Step.{changes_of}
 use Rattle.conf_plan.specs.PlanText.{flag_word, command_words, change_text, spaced_change, line_text, line_and_newline}
 
-join-changes : (word : List ℕ) (changes : List Change) → join_with_byte 32 (word ∷ map change_text changes) ≡ word ++ flat_map spaced_change changes
+pub join-changes : (word : List ℕ) (changes : List Change) → join_with_byte 32 (word ∷ map change_text changes) ≡ word ++ flat_map spaced_change changes
 join-changes word [] = sym (append-nil word)
 join-changes word (change ∷ changes) = ap (λ rest. word ++ 32 ∷ rest) (join-changes (change_text change) changes)
 

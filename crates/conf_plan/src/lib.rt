@@ -12,4 +12,4 @@ mod walk;
 pub use apply::{StepRefused, apply_plan};
 pub use plan_steps::Plan;
 pub use planner::{PlanFault, plan};
-pub use text::{PlanTextFault, print_plan, read_plan};
+pub use text::{PlanTextFault, changes_text, command_text, print_plan, read_plan};

@@ -1,11 +1,11 @@
 //! The text of a plan: a line for each step, or `nothing to do`. The form of the lines is own.
-ghost use Rattle.std.specs.Prelude.{◌≡◌, ◌⊎◌, ◌<◌, ◌≤◌, [], ◌∷◌, ◌++◌, List, Ok, Err, length, flat_map, IfOk, IfErr, OnOk, OnErr};
+ghost use Rattle.std.specs.Prelude.{◌≡◌, ◌⊎◌, ◌<◌, ◌≤◌, [], ◌∷◌, ◌++◌, List, Ok, Err, length, map, flat_map, IfOk, IfErr, OnOk, OnErr};
 ghost use Rattle.std.specs.List.{join_with_byte, position_or_len};
 ghost use Rattle.conf_change.specs.Words.{words};
 ghost use Rattle.conf_change.specs.ChangeList.{letter_of};
 ghost use Rattle.conf_change.specs.Text.{Extends};
 ghost use Rattle.conf_change.specs.declared.step.Step.{Step};
-ghost use Rattle.conf_plan.specs.PlanText.{StandsForPlan, HasFault, command_words, spaced_change, line_and_newline, plan_text, lines_of, is_newline};
+ghost use Rattle.conf_plan.specs.PlanText.{StandsForPlan, HasFault, command_words, change_text, spaced_change, line_and_newline, plan_text, lines_of, is_newline};
 ghost use Rattle.conf_plan.specs.PlanCode as code;
 ghost use Rattle.conf_plan.specs.PlanCode.{plan_in, step_in, enter_in, list_in};
 ghost use Rattle.conf_plan.specs.declared.text.PlanTextFault.{PlanTextFault};
@@ -93,14 +93,14 @@ fn append_line(text: &mut Vec<u8>, step: &Step) -> Result<(), NoMemory>
     ensures ok { OnOk result (text.new.items ≡ text.old.items ++ line_and_newline step.now) }
     ensures extends { Extends text.old.items text.new.items }
 {
-    text.extend_from_slice(command(step))?;
+    text.extend_from_slice(command_text(step))?;
     append_changes(text, step.changes())?;
     text.push(b'\n')?;
     Ok(())
 }
 
-// The words with which a step's line begins.
-fn command(step: &Step) -> &'static [u8]
+/// The words with which a step's line begins.
+pub fn command_text(step: &Step) -> &'static [u8]
     ensures { result.now ≡ join_with_byte 32 (command_words step.now) }
 {
     match step {
@@ -122,12 +122,33 @@ fn append_changes(text: &mut Vec<u8>, changes: &[Change]) -> Result<(), NoMemory
     Ok(())
 }
 
+/// Changes with one space between, as `v1 r2`.
+pub fn changes_text(alloc: Global, changes: &[Change]) -> Result<Vec<u8>, NoMemory>
+    ensures { IfOk result (λ text. text.items ≡ join_with_byte 32 (map change_text changes.now)) }
+{
+    let mut text = Vec::new(alloc);
+    let Some((first, rest)) = changes.split_first() else {
+        return Ok(text);
+    };
+    append_word(&mut text, *first)?;
+    append_changes(&mut text, rest)?;
+    Ok(text)
+}
+
 fn append_change(text: &mut Vec<u8>, change: Change) -> Result<(), NoMemory>
     ensures ok { OnOk result (text.new.items ≡ text.old.items ++ spaced_change change) }
     ensures extends { Extends text.old.items text.new.items }
 {
-    let mut buffer = Buffer::new();
     text.push(b' ')?;
+    append_word(text, change)
+}
+
+// Appends a change: its letter and its id.
+fn append_word(text: &mut Vec<u8>, change: Change) -> Result<(), NoMemory>
+    ensures ok { OnOk result (text.new.items ≡ text.old.items ++ change_text change) }
+    ensures extends { Extends text.old.items text.new.items }
+{
+    let mut buffer = Buffer::new();
     text.push(letter(change.kind))?;
     text.extend_from_slice(buffer.format(change.id).as_bytes())?;
     Ok(())

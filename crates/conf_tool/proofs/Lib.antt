@@ -5,6 +5,7 @@ pub mod Faults
 pub mod WrittenFront
 pub mod Checking
 pub mod Rewriting
+pub mod Undoing
 pub mod Marked
 pub mod CommandReplies
 pub mod ToldLines
@@ -17,3 +18,4 @@ pub mod SameAnswer
 pub mod Kept
 pub mod RewrittenClean
 pub mod QuorumValues
+pub mod JoinedClean

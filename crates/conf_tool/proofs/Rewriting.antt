@@ -13,6 +13,7 @@ use Rattle.dd_file.specs.declared.item.Item.TheVariants.{Directive}
 use Rattle.dd_file.specs.declared.stage.Stage.{Stage}
 use Rattle.dd_file.specs.declared.stage.Stage.TheVariants.{Ready, Failed}
 use Rattle.dd_file.specs.declared.fault.FileFault.{FileFault}
+use Rattle.dd_file.proofs.LinesWritten.{begun-more}
 use Rattle.conf_tool.specs.SessionState.{SessionState, new_session}
 use Rattle.conf_tool.specs.Reports.{found_for, session_after}
 use Rattle.conf_tool.specs.Outputs.{Output, rewritten_script, clean_unless}
@@ -68,6 +69,10 @@ rewritten-broken s rewriter item found total parts more fault before mid new rew
     (subst (λ f. AppendsPart before new (without_double_end ((rewritten.text ++ entry_text item f) ++ (rewrite_left (session_after s item) (script more fault)).text))) found_is
     (breaks before rewritten.text rewritten.wrote (rewrite_left (session_after s item) (script more fault)).text))
 
+-- nothing is written of an item
+pub breaks-nothing : (newlines : ℕ) (held : Option (List ℕ)) (more : List ℕ) → BreaksOff newlines held held more
+breaks-nothing newlines held more start text is = begun-more start held text more is.begun
+
 -- the end of the input, or a fault of it
 whole : (s : SessionState) (rewriter : RewriterState) (total : Script Item → Output) (parts : List Item) (fault : Option FileFault) (before mid : Option (List ℕ)) →
     (rewritten : HasRewritten s rewriter total parts before mid) → total (script parts fault) ≡ record { text = without_double_end rewritten.text; outcome = clean_unless fault }
@@ -95,6 +100,10 @@ failed-by stage mark ready (inr is) = is
 pub ok-by : {T E P Q : Type 0} (r : Result T E) → (P → Q) → OnOk r P → OnOk r Q
 ok-by (Ok x) f p = f p
 ok-by (Err e) f p = tt
+
+pub ok-by-three : {T E P Q S U : Type 0} (r : Result T E) → (P → Q → S → U) → OnOk r P → OnOk r Q → OnOk r S → OnOk r U
+ok-by-three (Ok x) f p q s = f p q s
+ok-by-three (Err e) f p q s = tt
 
 pub err-by : {T E P Q : Type 0} (r : Result T E) → (P → Q) → OnErr r P → OnErr r Q
 err-by (Ok x) f p = tt

@@ -20,7 +20,7 @@ use Rattle.conf_tool.proofs.ToldLines.{first, second, both}
 use Rattle.conf_tool.proofs.SameAnswer.{same-answer}
 
 -- the texts that are found can stand as outputs
-abbrev FoundStands : Type 0
+abbrev pub FoundStands : Type 0
 FoundStands = (session : SessionState) (directive : DirectiveText) → has_keys directive.arguments ≡ true → CanStand (answer session directive).found
 
 found-output : FoundStands → (session : SessionState) (item : Item) → item_has_keys item ≡ true → is_output (found_for session item) ≡ true
@@ -29,11 +29,11 @@ found-output stands session (Blank lines) keys = refl
 found-output stands session (Directive directive) keys = (stands session directive keys).output
 
 -- so each text that is found for a script is an output
-outputs : FoundStands → (session : SessionState) (items : List Item) → list_all item_has_keys items ≡ true → list_all (λ entry. is_output entry.found) (entries_of session items) ≡ true
+pub outputs : FoundStands → (session : SessionState) (items : List Item) → list_all item_has_keys items ≡ true → list_all (λ entry. is_output entry.found) (entries_of session items) ≡ true
 outputs stands session [] keys = refl
 outputs stands session (item ∷ items) keys = both _ _ (found-output stands session item (first _ _ keys)) (outputs stands (session_after session item) items (second _ _ keys))
 
-items-of : (session : SessionState) (items : List Item) → map (λ entry. entry.item) (entries_of session items) ≡ items
+pub items-of : (session : SessionState) (items : List Item) → map (λ entry. entry.item) (entries_of session items) ≡ items
 items-of session [] = refl
 items-of session (item ∷ items) = ap (λ more. item ∷ more) (items-of (session_after session item) items)
 
@@ -51,7 +51,7 @@ clean-item session n (Directive directive) again is =
     rw is.1 (record { after = ap (λ (a : Answer). a.session) answers; same = ap not ((bytes_eq-Decides _ _).1 expected) })
 
 -- no item that is read again differs
-clean-items : (session : SessionState) (items : List Item) (entries : List Entry) (again : List Item) → entries ≡ entries_of session items → AreReadAgain entries again →
+pub clean-items : (session : SessionState) (items : List Item) (entries : List Entry) (again : List Item) → entries ≡ entries_of session items → AreReadAgain entries again →
     list_any differs (entries_of session again) ≡ false
 clean-items session items entries again e AreOver = refl
 clean-items session items entries again e (LastIsGone found) = refl

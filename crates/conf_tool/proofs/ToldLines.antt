@@ -304,12 +304,12 @@ change-bytes : (change : Change) → IsBytes (change_text change)
 change-bytes change = all-append is_line_byte (letter_of change.kind ∷ []) (decimal change.id) (kind-bytes change.kind) (decimal-bytes change.id)
 
 -- words with one space between
-spaced-words : (words : List (List ℕ)) → list_all (λ word. list_all is_line_byte word) words ≡ true → IsBytes (join_with_byte 32 words)
+pub spaced-words : (words : List (List ℕ)) → list_all (λ word. list_all is_line_byte word) words ≡ true → IsBytes (join_with_byte 32 words)
 spaced-words [] h = refl
 spaced-words (word ∷ []) h = first _ _ h
 spaced-words (word ∷ next ∷ words) h = all-append is_line_byte word (32 ∷ join_with_byte 32 (next ∷ words)) (first _ _ h) (spaced-words (next ∷ words) (second _ _ h))
 
-changes-words : (changes : List Change) → list_all (λ word. list_all is_line_byte word) (map change_text changes) ≡ true
+pub changes-words : (changes : List Change) → list_all (λ word. list_all is_line_byte word) (map change_text changes) ≡ true
 changes-words [] = refl
 changes-words (change ∷ changes) = both _ _ (change-bytes change) (changes-words changes)
 

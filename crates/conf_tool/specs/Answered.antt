@@ -1,16 +1,16 @@
 -- What was written so far of an output, where an input is answered part by part, and what is left of it.
-use Rattle.std.specs.Prelude.{◌≡◌, ◌≤◌, ℕ, ◌+◌, ◌||◌, List, ◌++◌, flat_map, count_by, nat_lt, length, Option, Some, None, Ok, Err}
+use Rattle.std.specs.Prelude.{◌≡◌, ◌≤◌, ℕ, ◌+◌, ◌||◌, List, [], ◌++◌, flat_map, count_by, nat_lt, length, Option, Some, None, Ok, Err}
 use Rattle.std.specs.List.{list_any}
 use Rattle.std.specs.Io.KnownBytes.{Appends}
 use Rattle.dd_file.specs.Reading.{Script}
-use Rattle.dd_file.specs.Rewritten.{Entry, is_directive, entry_text, without_double_end}
+use Rattle.dd_file.specs.Rewritten.{Entry, is_directive, without_double_end}
 use Rattle.dd_file.specs.RewriterState.{RewriterState, HasWritten}
 use Rattle.dd_file.specs.declared.item.Item.{Item}
 use Rattle.dd_file.specs.declared.fault.FileFault.{FileFault}
 use Rattle.dd_file.specs.declared.stage.Stage.TheVariants.{Ready}
 use Rattle.conf_tool.specs.SessionState.{SessionState}
-use Rattle.conf_tool.specs.Reports.{entries_of, differs, report, counts_line}
-use Rattle.conf_tool.specs.Outputs.{Output, clean_unless, status_of}
+use Rattle.conf_tool.specs.Reports.{entries_of, obeyed_text, differs, report, counts_line}
+use Rattle.conf_tool.specs.Outputs.{Output, clean_unless, status_of, session_after_all, undone_unless}
 
 -- what is read: these parts, and a fault where one ends them
 abbrev pub script : {A : Type 0} → List A → Option FileFault → Script A
@@ -47,7 +47,7 @@ pub record HasChecked (session : SessionState) (directives mismatches : ℕ) (to
 
 -- The same of `rewrite`, where the last newline may be held back, and its end is looked at last.
 abbrev pub rewrite_left : SessionState → Script Item → Output
-rewrite_left session rest = record { text = flat_map (λ (e : Entry). entry_text e.item e.found) (entries_of session rest.items); outcome = clean_unless rest.fault }
+rewrite_left session rest = record { text = obeyed_text session rest.items; outcome = clean_unless rest.fault }
 
 abbrev pub ended : Output → Output
 ended output = record { text = without_double_end output.text; outcome = output.outcome }
@@ -57,3 +57,13 @@ pub record HasRewritten (session : SessionState) (rewriter : RewriterState) (tot
   pub wrote : HasWritten rewriter.newlines before after text
   pub ready : rewriter.stage ≡ Ready
   pub is : (rest : Script Item) → total (behind parts rest) ≡ ended (with_front text (rewrite_left session rest))
+
+-- The same of `undo`, which obeys what it reads and writes at its end.
+abbrev pub undo_left : SessionState → ℕ → Script Item → Output
+undo_left session count rest = undone_unless (session_after_all session rest.items) count rest.fault
+
+pub record HasObeyed (session : SessionState) (rewriter : RewriterState) (count : ℕ) (total : Script Item → Output) (parts : List Item) (before after : Option (List ℕ)) : Type 0 where
+  pub unwritten : after ≡ before
+  pub ready : rewriter.stage ≡ Ready
+  pub nothing : (held : Option (List ℕ)) → HasWritten rewriter.newlines held held []
+  pub is : (rest : Script Item) → total (behind parts rest) ≡ undo_left session count rest

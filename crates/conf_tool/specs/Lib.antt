@@ -11,6 +11,7 @@ pub mod Reply
 pub mod Undo
 pub mod Commands
 pub mod Reports
+pub mod UndoScript
 pub mod Told
 pub mod Outputs
 pub mod Answered

@@ -1,5 +1,5 @@
 -- The output of each mode, for a whole input.
-use Rattle.std.specs.Prelude.{ℕ, Bool, true, false, List, ◌++◌, flat_map, Option, Some, None, Result, Ok, Err}
+use Rattle.std.specs.Prelude.{ℕ, Bool, true, false, List, [], ◌∷◌, ◌++◌, flat_map, Option, Some, None, Result, Ok, Err}
 use Rattle.std.specs.List.{list_any}
 use Rattle.dd_file.specs.Reading.{Script, script_of, listing_of}
 use Rattle.dd_file.specs.Rewritten.{Entry, rewritten_text}
@@ -7,13 +7,17 @@ use Rattle.dd_file.specs.declared.item.Item.{Item}
 use Rattle.dd_file.specs.declared.fault.FileFault.{FileFault}
 use Rattle.conf_change.specs.Configuration.{Configuration, empty_configuration}
 use Rattle.conf_tool.specs.LineReply.{line_replies}
-use Rattle.conf_tool.specs.SessionState.{new_session}
-use Rattle.conf_tool.specs.Reports.{entries_of, differs, report, counts_text}
+use Rattle.conf_change.specs.declared.step.Step.{Step}
+use Rattle.conf_tool.specs.SessionState.{SessionState, new_session}
+use Rattle.conf_tool.specs.Reports.{session_after, entries_of, differs, report, counts_text}
+use Rattle.conf_tool.specs.Undo.{undo_plan_of}
+use Rattle.conf_tool.specs.UndoScript.{undo_items}
 use Rattle.conf_tool.specs.declared.mode.Mode.{Mode}
-use Rattle.conf_tool.specs.declared.mode.Mode.TheVariants.{Lines, Check, Rewrite}
+use Rattle.conf_tool.specs.declared.mode.Mode.TheVariants.{Lines, Check, Rewrite, Undo}
 use Rattle.conf_tool.specs.declared.options.Options.{Options}
 use Rattle.conf_tool.specs.declared.status.Status.{Status}
 use Rattle.conf_tool.specs.declared.status.Status.TheVariants.{Clean, Different}
+use Rattle.conf_tool.specs.declared.undo_fault.UndoFault.{UndoFault}
 
 -- what is written, and how it ends: with a status, or with a fault of the input
 pub record Output : Type 0 where
@@ -59,8 +63,35 @@ rewritten_script history script = record {
 abbrev pub rewritten : List ℕ → ℕ → Output
 rewritten input history = rewritten_script history (script_of input)
 
+-- the session that obeyed some items in turn
+abbrev pub session_after_all : SessionState → List Item → SessionState
+session_after_all session [] = session
+session_after_all session (item ∷ items) = session_after_all (session_after session item) items
+
+-- different where there is no plan
+abbrev pub undo_status : Result (List Step) UndoFault → Status
+undo_status (Ok steps) = Clean
+undo_status (Err fault) = Different
+
+-- the items that undo changes, with what the session finds that obeys them
+abbrev pub undone_by : SessionState → Result (List Step) UndoFault → Output
+undone_by session plan = record { text = rewritten_text (entries_of session (undo_items plan)); outcome = Ok (undo_status plan) }
+
+-- nothing is undone of a script with a fault
+abbrev pub undone_unless : SessionState → ℕ → Option FileFault → Output
+undone_unless session count None = undone_by session (undo_plan_of session count)
+undone_unless session count (Some fault) = record { text = []; outcome = Err fault }
+
+abbrev pub undone_script : ℕ → ℕ → Script Item → Output
+undone_script history count script = undone_unless (session_after_all (new_session history) script.items) count script.fault
+
+-- of `undo`: the script that undoes so many changes of a script, one at least
+abbrev pub undone : List ℕ → ℕ → ℕ → Output
+undone input history count = undone_script history count (script_of input)
+
 -- of a mode with its options
 abbrev pub output_of : Mode → Options → List ℕ → Output
 output_of Lines options input = lined input
 output_of Check options input = checked input options.history
 output_of Rewrite options input = rewritten input options.history
+output_of Undo options input = undone input options.history options.steps

@@ -4,7 +4,7 @@ use Rattle.std.specs.Str.Parse.{IsNumeral, digits_value, without_leading_plus}
 use Rattle.clap.specs.Words.{App, Row, Rule, Text, first_of, new_app, new_rule, with_rule, with_subcommand}
 use Rattle.clap.specs.declared.builder.value_parser.ValueParser.TheVariants.{Unsigned}
 use Rattle.conf_tool.specs.declared.mode.Mode.{Mode}
-use Rattle.conf_tool.specs.declared.mode.Mode.TheVariants.{Lines, Check, Rewrite}
+use Rattle.conf_tool.specs.declared.mode.Mode.TheVariants.{Lines, Check, Rewrite, Undo}
 
 -- a mode, with the file to read
 abbrev pub mode_command : Text → App
@@ -18,6 +18,10 @@ number_rule id least most = record (new_rule id) { long = Some id; parser = Some
 abbrev pub script_command : Text → App
 script_command name = with_rule (mode_command name) (number_rule (codes "history") 0 1000)
 
+-- the mode that undoes changes of a script
+abbrev pub undo_command : Text → App
+undo_command name = with_rule (script_command name) (number_rule (codes "steps") 1 1000)
+
 -- a mode has to be named
 abbrev pub wants_mode : App → App
 wants_mode app = record { top = record app.top { subcommand_required = true }; subs = app.subs }
@@ -28,12 +32,16 @@ with_mode mode app = with_subcommand app mode.top
 
 abbrev pub program : App
 program =
-    with_mode (script_command (codes "rewrite")) (with_mode (script_command (codes "check"))
-    (with_mode (mode_command (codes "lines")) (wants_mode (new_app (codes "confscript")))))
+    with_mode (undo_command (codes "undo")) (with_mode (script_command (codes "rewrite")) (with_mode (script_command (codes "check"))
+    (with_mode (mode_command (codes "lines")) (wants_mode (new_app (codes "confscript"))))))
 
 -- the mode of a name; `lines` unless it is another's
 abbrev pub mode_named : Text → Mode
-mode_named name = if bytes_eq name (codes "check") then Check else (if bytes_eq name (codes "rewrite") then Rewrite else Lines)
+mode_named name =
+    if bytes_eq name (codes "check") then Check
+    else (if bytes_eq name (codes "rewrite") then Rewrite
+    else (if bytes_eq name (codes "undo") then Undo
+    else Lines))
 
 -- what the subcommand that was read asks for
 abbrev pub asked_mode : Option (Text × List Row) → Mode

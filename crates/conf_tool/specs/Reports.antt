@@ -2,7 +2,7 @@
 use Rattle.std.specs.Prelude.{ℕ, Bool, false, not, List, [], ◌∷◌, ◌++◌, flat_map, count_by, codes, decimal, bytes_eq, if◌then◌else◌}
 use Rattle.dd_file.specs.Lines.{pieces, without_last}
 use Rattle.dd_file.specs.DirectiveText.{DirectiveText}
-use Rattle.dd_file.specs.Rewritten.{Entry, entry, is_directive}
+use Rattle.dd_file.specs.Rewritten.{Entry, entry, entry_text, is_directive}
 use Rattle.dd_file.specs.declared.item.Item.{Item}
 use Rattle.dd_file.specs.declared.item.Item.TheVariants.{Comment, Blank, Directive}
 use Rattle.conf_tool.specs.SessionState.{SessionState}
@@ -25,6 +25,10 @@ session_after session (Directive directive) = (answer session directive).session
 abbrev pub entries_of : SessionState → List Item → List Entry
 entries_of session [] = []
 entries_of session (item ∷ items) = entry item (found_for session item) ∷ entries_of (session_after session item) items
+
+-- the items, each with what is found, as they are written again
+abbrev pub obeyed_text : SessionState → List Item → List ℕ
+obeyed_text session items = flat_map (λ (entry : Entry). entry_text entry.item entry.found) (entries_of session items)
 
 -- it is a directive whose expected text is another
 abbrev pub expects_other : List ℕ → Item → Bool

@@ -8,7 +8,7 @@ use Rattle.dd_file.specs.declared.fault.FileFault.{FileFault}
 use Rattle.dd_file.specs.declared.fault.FileFault.TheVariants.{InputTooLong, BadDirective, AfterDouble, UnclosedDouble, Read as ReadOfScript, NoMemory as NoMemoryForScript}
 use Rattle.conf_tool.specs.Outputs.{Output}
 use Rattle.conf_tool.specs.declared.mode.Mode.{Mode}
-use Rattle.conf_tool.specs.declared.mode.Mode.TheVariants.{Lines, Check, Rewrite}
+use Rattle.conf_tool.specs.declared.mode.Mode.TheVariants.{Lines, Check, Rewrite, Undo}
 use Rattle.conf_tool.specs.declared.status.Status.{Status}
 use Rattle.conf_tool.specs.declared.status.Status.TheVariants.{Clean, Different}
 use Rattle.conf_tool.specs.declared.tool_fault.ToolFault.{ToolFault}
@@ -75,13 +75,15 @@ abbrev pub CanBeFaulty : Mode → FileFault → Type 0
 CanBeFaulty Lines fault = IsTooLong fault
 CanBeFaulty Check fault = IsScriptFault fault
 CanBeFaulty Rewrite fault = IsScriptFault fault
+CanBeFaulty Undo fault = IsScriptFault fault
 
--- the statuses of a mode: it is only `check` that tells a difference
+-- the statuses of a mode: it is only `check` that tells a difference, and `undo` that tells that there is no plan
 abbrev pub CanBe : Mode → Status → Type 0
 CanBe mode Clean = ⊤
 CanBe Lines Different = ⊥
 CanBe Check Different = ⊤
 CanBe Rewrite Different = ⊥
+CanBe Undo Different = ⊤
 
 -- the answers that a mode has, whatever the reader and the writer are
 abbrev pub CanAnswer : Mode → Result Status ToolFault → Type 0

@@ -1,7 +1,7 @@
 //! The words of the command line.
 ghost use Rattle.std.specs.Prelude.{◌≡◌, ◌≤◌, ◌<◌, ◌^◌, true, false, map, codes, option_map, IfOk, IfErr};
 ghost use Rattle.clap.specs.Words.{FailsBy, app_of, fault_of, first_of, found_of, kind_of, new_rule, rows_of, rule_of, subcommand_of, takes};
-ghost use Rattle.conf_tool.specs.Program.{program as the_program, with_mode, mode_command, script_command, number_rule, asked_mode, mode_named, asked_text, IsAsked};
+ghost use Rattle.conf_tool.specs.Program.{program as the_program, with_mode, mode_command, script_command, undo_command, number_rule, asked_mode, mode_named, asked_text, IsAsked};
 ghost use Rattle.conf_tool.specs.Ranges.{IsInRange};
 
 use crate::invocation::Invocation;
@@ -66,6 +66,28 @@ v1
 voters=(1)
 1: StateProbe match=0 next=1";
 
+const UNDO_HELP: &str =
+    "Runs a script, and prints the script that undoes its last changes, one where --steps is
+left out. What a directive expects is not looked at. Where there is nothing to do it
+prints a comment. Where the changes cannot be undone it prints why in a comment, and
+the status is 1.
+
+For the script (see check)
+simple
+v1
+----
+
+simple
+v2
+----
+
+it prints
+simple
+r2
+----
+voters=(1)
+1: StateProbe match=0 next=1";
+
 /// What the words ask for, the program's name being the first. A fault is `clap`'s own: of help, of a usage fault or
 /// of want of memory.
 pub fn command_line<'a, S: AsStr>(alloc: Global, words: &'a [S]) -> Result<Invocation<'a>, Error>
@@ -79,24 +101,22 @@ pub fn command_line<'a, S: AsStr>(alloc: Global, words: &'a [S]) -> Result<Invoc
 
     // The options are the numbers in the words, and else 100 and 1.
     ensures history { IfOk result (λ invocation. IsAsked 0 1000 100 (asked_text (codes "history") (subcommand_of the_program (map S.text words.entry.now))) invocation.options.history) }
-    ensures steps { IfOk result (λ invocation. invocation.options.steps ≡ 1) }
+    ensures steps { IfOk result (λ invocation. IsAsked 1 1000 1 (asked_text (codes "steps") (subcommand_of the_program (map S.text words.entry.now))) invocation.options.steps) }
     ensures range { IfOk result (λ invocation. IsInRange invocation.options) }
 {
     let matches = program(alloc)?.try_get_matches_from(words)?;
-    let (mode, file, history) = match matches.subcommand() {
+    let (mode, file, history, steps) = match matches.subcommand() {
         Some((name, found)) => (
             mode_of(name),
             found.get_str("FILE"),
             number_of(found, "history", 0, 1000, 100),
+            number_of(found, "steps", 1, 1000, 1),
         ),
-        None => (Mode::Lines, None, 100),
+        None => (Mode::Lines, None, 100, 1),
     };
     Ok(Invocation {
         mode,
-        options: Options {
-            history,
-            ..Options::default()
-        },
+        options: Options { history, steps },
         file,
     })
 }
@@ -132,6 +152,7 @@ fn mode_of(name: &str) -> Mode
     match name {
         "check" => Mode::Check,
         "rewrite" => Mode::Rewrite,
+        "undo" => Mode::Undo,
         _ => Mode::Lines,
     }
 }
@@ -158,13 +179,14 @@ fn program<'a>(alloc: Global) -> Result<Command<'a>, Error>
         "Runs a script and reports what differs",
         CHECK_HELP,
     )?;
-    add_script_mode(
+    let program = add_script_mode(
         alloc,
         program,
         "rewrite",
         "Runs a script and prints it with what was found",
         REWRITE_HELP,
-    )
+    )?;
+    add_undo_mode(alloc, program)
 }
 
 // Adds a mode as a subcommand, with the file to read.
@@ -197,20 +219,49 @@ fn add_script_mode<'a>(
     ensures app { IfOk result (λ command. app_of command ≡ with_mode (script_command name.now) (app_of program.entry)) }
     ensures memory { IfErr result (λ error. kind_of error ≡ ErrorKind.OutOfMemory) }
 {
-    let history = number_option(
+    let mode = Command::new(alloc, name)
+        .about(about)
+        .long_about(help)
+        .arg(file_argument(alloc))?
+        .arg(history_option(alloc))?;
+    let program = program.subcommand(mode)?;
+    Ok(program)
+}
+
+// Adds the mode that undoes changes of a script.
+fn add_undo_mode<'a>(alloc: Global, program: Command<'a>) -> Result<Command<'a>, Error>
+    ensures app { IfOk result (λ command. app_of command ≡ with_mode (undo_command (codes "undo")) (app_of program.entry)) }
+    ensures memory { IfErr result (λ error. kind_of error ≡ ErrorKind.OutOfMemory) }
+{
+    let steps = number_option(
+        alloc,
+        "steps",
+        1,
+        1000,
+        "How many changes are undone, 1 where it is left out",
+    );
+    let mode = Command::new(alloc, "undo")
+        .about("Runs a script and prints the script that undoes its last changes")
+        .long_about(UNDO_HELP)
+        .arg(file_argument(alloc))?
+        .arg(history_option(alloc))?
+        .arg(steps)?;
+    let program = program.subcommand(mode)?;
+    Ok(program)
+}
+
+// How many earlier configurations a script's session keeps.
+fn history_option<'a>(alloc: Global) -> Arg<'a>
+    ensures rule { rule_of result ≡ number_rule (codes "history") 0 1000 }
+    ensures local { result.global ≡ false }
+{
+    number_option(
         alloc,
         "history",
         0,
         1000,
         "How many earlier configurations are kept, 100 where it is left out",
-    );
-    let mode = Command::new(alloc, name)
-        .about(about)
-        .long_about(help)
-        .arg(file_argument(alloc))?
-        .arg(history)?;
-    let program = program.subcommand(mode)?;
-    Ok(program)
+    )
 }
 
 // The file to read.

@@ -8,13 +8,15 @@ ghost use Rattle.conf_tool.specs.Undo.{IsEarlier, undone_changer};
 ghost use Rattle.conf_tool.specs.Commands.{answer};
 ghost use Rattle.conf_tool.specs.Told.{CanStand};
 ghost use Rattle.dd_file.specs.Words.{has_keys};
-ghost use Rattle.conf_tool.specs.Laws.{RewrittenClean};
+ghost use Rattle.conf_tool.specs.Laws.{RewrittenClean, JoinedClean};
 
 use conf_change::laws::{
     one_changer_after_a_step, one_list_per_text, restored_is_described, trackers_stay_sound,
 };
 use conf_plan::laws::{one_changer_after_steps, undo_of_run};
-use dd_file::laws::{items_are_given, items_have_keys, written_script};
+use dd_file::laws::{
+    directive_is_given, items_are_given, items_have_keys, joined_items, written_script,
+};
 
 /// The text that is found can stand as the output of a directive: it is whole lines, one at least, and none of them is
 /// blank, of four dashes or ends in a carriage return. The keys of a script's arguments are keys (`dd_file::laws`).
@@ -67,4 +69,16 @@ pub fn rewritten_clean()
     written_script();
     items_are_given();
     items_have_keys();
+}
+
+/// A complete script that checks clean, two newlines, and the script that undoes its last changes, check clean with as many
+/// earlier configurations kept, where the joined text is within the input limit (own). It is so where there is nothing to
+/// undo, too, and where there is no plan.
+pub fn joined_clean()
+    ensures { JoinedClean }
+{
+    found_text_stands();
+    written_script();
+    directive_is_given();
+    joined_items();
 }

@@ -22,6 +22,7 @@ pub mod status;
 mod texts;
 pub mod tool_fault;
 pub mod undo_fault;
+mod undo_script;
 
 pub use invocation::Invocation;
 pub use mode::Mode;

@@ -9,4 +9,6 @@ pub enum Mode {
     Check,
     /// A script is run, and written again with what was found.
     Rewrite,
+    /// A script is run, and then the script is written that undoes its last changes.
+    Undo,
 }

@@ -11,11 +11,13 @@ mod clean_unless;
 mod lines;
 mod part_by_part;
 mod rewrite;
+mod undo;
 
 use self::check::Checking;
 use self::lines::LineByLine;
 use self::part_by_part::run_by_part;
 use self::rewrite::Rewriting;
+use self::undo::Undoing;
 use crate::mode::Mode;
 use crate::options::Options;
 use crate::status::Status;
@@ -50,6 +52,13 @@ pub fn run<R: Source, W: Sink>(
         Mode::Lines => run_by_part(LineByLine::new(alloc)?, reader, writer),
         Mode::Check => run_by_part(Checking::new(alloc, options.history)?, reader, writer),
         Mode::Rewrite => run_by_part(Rewriting::new(alloc, options.history)?, reader, writer),
+        Mode::Undo => {
+            run_by_part(
+                Undoing::new(alloc, options.history, options.steps)?,
+                reader,
+                writer,
+            )
+        }
     }
 }
 

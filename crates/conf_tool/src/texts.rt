@@ -73,28 +73,31 @@ pub(crate) fn conf_state_line(
     end_line(text)
 }
 
-/// Why there is no plan. Want of memory is no reason that a session has.
+/// Why there is no plan, as a line.
 pub(crate) fn undo_fault_line(alloc: Global, fault: UndoFault) -> Result<Vec<u8>, NoMemory>
     ensures { IfOk result (λ text. text.items ≡ line (undo_fault_text fault)) }
 {
+    end_line(undo_fault_text(alloc, fault)?)
+}
+
+/// Why there is no plan. Want of memory is no reason that a session has.
+pub(crate) fn undo_fault_text(alloc: Global, fault: UndoFault) -> Result<Vec<u8>, NoMemory>
+    ensures { IfOk result (λ text. text.items ≡ undo_fault_text fault) }
+{
+    let mut text = Vec::new(alloc);
     match fault {
         UndoFault::NotKept(kept) => {
             let mut digits = Buffer::new();
-            let mut text = Vec::new(alloc);
             text.extend_from_slice(b"no plan: ")?;
             text.extend_from_slice(digits.format(kept).as_bytes())?;
             text.extend_from_slice(b" earlier configurations are kept")?;
-            end_line(text)
         }
         UndoFault::NoVoterTarget => {
-            line_of(
-                alloc,
-                b"no plan: the earlier configuration has no voter",
-                b"",
-            )
+            text.extend_from_slice(b"no plan: the earlier configuration has no voter")?;
         }
-        UndoFault::NoMemory => line_of(alloc, b"out of memory", b""),
+        UndoFault::NoMemory => text.extend_from_slice(b"out of memory")?,
     }
+    Ok(text)
 }
 
 /// A committed index; the greatest is written as infinity.

@@ -2,7 +2,9 @@
 ghost use Rattle.std.specs.Prelude.{◌≡◌, true, length, map, option_map, slice_get};
 ghost use Rattle.dd_file.specs.Words.{has_keys};
 
-use crate::command::Command;
+use crate::command::{Command, parse_command};
+use crate::directive::make_directive;
+use std::alloc::{AllocError, Global};
 use std::marker::Model;
 
 /// Lines, without what ended them.
@@ -191,8 +193,39 @@ pub enum Item {
 }
 
 impl Item {
-    ghost use Rattle.std.specs.Prelude.{◌≡◌, option_map, slice_get, map};
+    ghost use Rattle.std.specs.Prelude.{◌≡◌, [], ◌∷◌, IfOk, option_map, slice_get, map};
     ghost use Rattle.dd_file.specs.Rewritten.{raw_lines_of, is_directive};
+    ghost use Rattle.dd_file.specs.Script.{directive};
+    ghost use Rattle.dd_file.specs.Words.{command_of};
+
+    /// A comment of one line, as it stands.
+    pub fn comment(alloc: Global, line: Vec<u8>) -> Result<Item, AllocError>
+        ensures { IfOk result (λ item. item ≡ Item.Comment (line.items ∷ [])) }
+    {
+        let mut lines = Vec::new(alloc);
+        lines.push(line)?;
+        Ok(Item::Comment(RawLines::new(lines)))
+    }
+
+    /// The directive that a line says, as the first line of a script, with lines of input and no output expected; none
+    /// where the line says no command.
+    pub fn directive(
+        alloc: Global,
+        line: Vec<u8>,
+        input: Vec<Vec<u8>>,
+    ) -> Result<Option<Item>, AllocError>
+        ensures { IfOk result (λ found. found ≡
+            option_map (λ command. directive 1 command (line.items ∷ []) (map (λ line. line.items) input.items) []) (command_of line.items)) }
+    {
+        match parse_command(alloc, line.as_slice())? {
+            None => Ok(None),
+            Some(command) => {
+                let mut head = Vec::new(alloc);
+                head.push(line)?;
+                Ok(Some(make_directive(alloc, 1, head, command, input, &[])?))
+            }
+        }
+    }
 
     /// The line at a place, counted from 0: a line of the item, of a directive one before its separator.
     pub fn raw_line(&self, i: usize) -> Option<&[u8]>

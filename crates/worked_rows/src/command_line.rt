@@ -1,6 +1,7 @@
 //! The words of the command line.
-use conf_tool::Mode;
 use conf_tool::command_line::command_line;
+use conf_tool::{Mode, Options};
+use std::alloc::Global;
 
 // Words that are accepted, and the mode, the file and the history that they ask for.
 static ACCEPTED: [(&[&str], Mode, Option<&str>, usize); 10] = [
@@ -51,8 +52,25 @@ static ACCEPTED: [(&[&str], Mode, Option<&str>, usize); 10] = [
     ),
 ];
 
+// Words for the mode that undoes changes, and the file, the history and the steps that they ask for.
+static UNDOING: [(&[&str], Option<&str>, usize, usize); 3] = [
+    (&["confscript", "undo"], None, 100, 1),
+    (
+        &["confscript", "undo", "--steps", "2", "f"],
+        Some("f"),
+        100,
+        2,
+    ),
+    (
+        &["confscript", "undo", "--steps=1000", "--history", "0"],
+        None,
+        0,
+        1000,
+    ),
+];
+
 // Words that are refused as usage faults, and words that ask for help.
-static REFUSED: [(&[&str], i32); 15] = [
+static REFUSED: [(&[&str], i32); 18] = [
     (&["confscript"], 2),
     (&["confscript", "check", "a", "b"], 2),
     (&["confscript", "rewrite", "--history", "1001"], 2),
@@ -60,7 +78,10 @@ static REFUSED: [(&[&str], i32); 15] = [
     (&["confscript", "check", "--history", "x"], 2),
     (&["confscript", "check", "--history"], 2),
     (&["confscript", "check", "--steps", "1"], 2),
-    (&["confscript", "undo"], 2),
+    (&["confscript", "undo", "--steps", "0"], 2),
+    (&["confscript", "undo", "--steps", "1001"], 2),
+    (&["confscript", "undo", "--history", "1001"], 2),
+    (&["confscript", "lines", "--steps", "1"], 2),
     (&["confscript", "changes.txt"], 2),
     (&["confscript", "lines", "a", "b"], 2),
     (&["confscript", "lines", "--history", "5"], 2),
@@ -82,6 +103,34 @@ fn takes_words(rt: HostRuntime) {
             }
             Err(_) => assert!(rt; false, "refused {words:?}"),
         }
+    }
+}
+
+// Whether the words ask for the mode that undoes changes, with this file and these options.
+fn asks_to_undo(
+    alloc: Global,
+    words: &[&str],
+    file: Option<&str>,
+    history: usize,
+    steps: usize,
+) -> bool {
+    match command_line(alloc, words) {
+        Ok(invocation) => {
+            (invocation.mode == Mode::Undo)
+                & (invocation.file == file)
+                & (invocation.options == Options { history, steps })
+        }
+        Err(_) => false,
+    }
+}
+
+#[test]
+fn takes_words_to_undo(rt: HostRuntime) {
+    for (words, file, history, steps) in &UNDOING {
+        assert!(rt;
+            asks_to_undo(rt.alloc(), *words, *file, *history, *steps),
+            "of {words:?}"
+        );
     }
 }
 

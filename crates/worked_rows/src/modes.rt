@@ -28,16 +28,34 @@ const OLD: &[u8] = b"# c\n\nsimple\nv1 v2\n----\nold\n\nsimple\nv1\n";
 const REWRITTEN: &[u8] =
     b"# c\n\nsimple\nv1 v2\n----\nmore than one voter changed without entering joint config\n\nsimple\nv1\n----\nvoters=(1)\n1: StateProbe match=0 next=1\n";
 
+// A script whose two changes leave a joint configuration, and the script that undoes the last of them.
+const ENTERED: &[u8] =
+    b"simple\nv1\n----\nvoters=(1)\n1: StateProbe match=0 next=1\n\nenter-joint\nr1 r2 r9 v2 v3 v4 v2 v3 v4 l2 l2 r4 r4 l1 l1\n----\nvoters=(3)&&(1) learners=(2) learners_next=(1)\n1: StateProbe match=0 next=1\n2: StateProbe match=0 next=1 learner\n3: StateProbe match=0 next=1\n";
+
+const BACK: &[u8] =
+    b"leave-joint\n----\nvoters=(3) learners=(1 2)\n1: StateProbe match=0 next=1 learner\n2: StateProbe match=0 next=1 learner\n3: StateProbe match=0 next=1\n\nenter-joint autoleave=false\nv1 r2 r3\n----\nvoters=(1)&&(3)\n1: StateProbe match=0 next=1\n3: StateProbe match=0 next=1\n\nleave-joint\n----\nvoters=(1)\n1: StateProbe match=0 next=1\n";
+
+const NO_PLAN: &[u8] = b"# no plan: the earlier configuration has no voter\n";
+
 // A mode, its input and its output, and how it ends.
 type Case = (Mode, &'static [u8], &'static [u8], Status);
 
-static CASES: [Case; 6] = [
+static CASES: [Case; 10] = [
     (Mode::Lines, CHANGES, ANSWERS, Status::Clean),
     (Mode::Check, CUT, NONE_DIFFERS, Status::Clean),
     (Mode::Check, BARE, BARE_REPORT, Status::Different),
     (Mode::Rewrite, CUT, WHOLE, Status::Clean),
     (Mode::Rewrite, BARE, WHOLE, Status::Clean),
     (Mode::Rewrite, OLD, REWRITTEN, Status::Clean),
+    (
+        Mode::Check,
+        ENTERED,
+        b"2 directives, 0 mismatches\n",
+        Status::Clean,
+    ),
+    (Mode::Rewrite, ENTERED, ENTERED, Status::Clean),
+    (Mode::Undo, ENTERED, BACK, Status::Clean),
+    (Mode::Undo, CUT, NO_PLAN, Status::Different),
 ];
 
 fn run_mode<R: Source, W: Sink>(

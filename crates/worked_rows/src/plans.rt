@@ -5,7 +5,8 @@ ghost use Rattle.conf_change.specs.Configuration.{is_valid};
 use crate::configurations::{Sets, config_of};
 use conf_change::{Changer, ConfState, Config, Refused, check, conf_state};
 use conf_plan::{
-    Plan, PlanFault, PlanTextFault, StepRefused, apply_plan, plan, print_plan, read_plan,
+    Plan, PlanFault, PlanTextFault, StepRefused, apply_plan, changes_text, command_text, plan,
+    print_plan, read_plan,
 };
 use quorum_sets::{NoMemory, TreeIds};
 use std::alloc::Global;
@@ -253,6 +254,44 @@ fn is_told_apart(alloc: Global, place: usize, plan: &Plan) -> Result<bool, Fail>
         is_so &= (*plan == other) == (place == at);
     }
     Ok(is_so)
+}
+
+// Whether the first step of a plan's text has this command and these changes.
+fn is_worded(alloc: Global, text: &str, command: &str, changes: &str) -> Result<bool, Fail> {
+    let plan = read_plan(alloc, text.as_bytes())?;
+    match plan.step(0) {
+        Some(step) => {
+            let list = changes_text(alloc, step.changes())?;
+            Ok((command_text(step) == command.as_bytes()) & (list.as_slice() == changes.as_bytes()))
+        }
+        None => Ok(false),
+    }
+}
+
+static WORDS: [(&str, &str, &str); 4] = [
+    ("simple v1 r2 l03 u4", "simple", "v1 r2 l3 u4"),
+    (
+        "enter-joint autoleave=true v18446744073709551615",
+        "enter-joint autoleave=true",
+        "v18446744073709551615",
+    ),
+    (
+        "enter-joint autoleave=false",
+        "enter-joint autoleave=false",
+        "",
+    ),
+    ("leave-joint", "leave-joint", ""),
+];
+
+#[test]
+fn words_each_step(rt: HostRuntime) -> Result<(), Fail> {
+    for (text, command, changes) in &WORDS {
+        assert!(rt;
+            is_worded(rt.alloc(), *text, *command, *changes)?,
+            "of {text}"
+        );
+    }
+    Ok(())
 }
 
 fn prints(alloc: Global, place: usize, text: &str, wanted: &str) -> Result<bool, Fail> {

@@ -215,6 +215,41 @@ fn reads_items(rt: HostRuntime) -> Result<(), Fail> {
     Ok(())
 }
 
+// What is made of a line, with a line of input: a directive, if there is one, and a comment of the line.
+fn made(alloc: Global, line: &str, input: &str) -> Result<Vec<u8>, Fail> {
+    let mut lines = Vec::new(alloc);
+    lines.push(Vec::from_slice(alloc, input.as_bytes())?)?;
+    let line = line.as_bytes();
+    let mut shown = Vec::new(alloc);
+    if let Some(directive) = Item::directive(alloc, Vec::from_slice(alloc, line)?, lines)? {
+        show_item(&mut shown, &directive)?;
+    }
+    show_item(
+        &mut shown,
+        &Item::comment(alloc, Vec::from_slice(alloc, line)?)?,
+    )?;
+    Ok(shown)
+}
+
+static MADE: [(&str, &str, &str); 3] = [
+    (
+        "enter-joint autoleave=true",
+        " v1 r2\t",
+        "1:enter-joint autoleave[true]/v1 r2/|lines:<enter-joint autoleave=true>|",
+    ),
+    ("simple", "", "1:simple//|lines:<simple>|"),
+    ("# nothing to do", "v1", "lines:<# nothing to do>|"),
+];
+
+#[test]
+fn makes_items(rt: HostRuntime) -> Result<(), Fail> {
+    for (line, input, want) in &MADE {
+        let shown = made(rt.alloc(), *line, *input)?;
+        assert!(rt; shown.as_slice() == want.as_bytes(), "of {line}");
+    }
+    Ok(())
+}
+
 #[test]
 fn reads_little_ahead(rt: HostRuntime) -> Result<(), Fail> {
     let script = vec![in rt.alloc(); b'\n'; 100_000]?;

@@ -1,10 +1,11 @@
 //! The mode `rewrite`: a script is run, and written again with what each directive found.
-ghost use Rattle.std.specs.Prelude.{◌≡◌, ℕ, List, [], Option, true, IfOk, OnOk, OnErr, IsOkUnless};
+ghost use Rattle.std.specs.Prelude.{◌≡◌, ◌||◌, ℕ, List, [], Option, true, IfOk, IfErr, OnOk, OnErr, IsOkUnless};
 ghost use Rattle.dd_file.specs.ReaderState.{fresh};
 ghost use Rattle.dd_file.specs.Rewritten.{entry_text, is_output};
 ghost use Rattle.dd_file.specs.RewriterState.{Continues, BreaksOff};
 ghost use Rattle.conf_tool.specs.Outputs.{rewritten_script};
 ghost use Rattle.conf_tool.specs.Reports.{found_for, session_after};
+ghost use Rattle.conf_tool.specs.Run.{IsAnswerFault, is_write_fault};
 ghost use Rattle.conf_tool.specs.declared.tool_fault.ToolFault.TheVariants.{NoMemory as OutOfMemory};
 
 use super::clean_unless::clean_unless;
@@ -24,7 +25,7 @@ use std::alloc::Global;
 
 /// Obeys an item that is a directive, and answers what was found: nothing for another item. After want of memory the
 /// session is as it was.
-fn obey(alloc: Global, session: &mut Session, item: &Item) -> Result<Vec<u8>, NoMemory>
+pub(super) fn obey(alloc: Global, session: &mut Session, item: &Item) -> Result<Vec<u8>, NoMemory>
     ensures found { IfOk result (λ found. found.items ≡ found_for session.old item.now) }
     ensures output { IfOk result (λ found. is_output found.items ≡ true) }
     ensures session { OnOk result (session.new ≡ session_after session.old item.now) }
@@ -62,6 +63,27 @@ fn write_entry<W: Sink>(
         Item::Directive(_) => rewriter.found(writer, found),
         _ => Ok(()),
     }
+}
+
+/// Obeys an item, and writes it with what was found. After want of memory nothing is written.
+pub(super) fn rewrite_item<W: Sink>(
+    alloc: Global,
+    session: &mut Session,
+    rewriter: &mut Rewriter,
+    item: Item,
+    writer: &mut W,
+) -> Result<(), ToolFault>
+    requires { rewriter.old.stage ≡ Stage.Ready }
+    ensures session { OnOk result (session.new ≡ session_after session.old item) }
+    ensures written { OnOk result (Continues rewriter.old.newlines rewriter.new.newlines (W.contents writer.old) (W.contents writer.new) (entry_text item (found_for session.old item))) }
+    ensures part { OnErr result (BreaksOff rewriter.old.newlines (W.contents writer.old) (W.contents writer.new) (entry_text item (found_for session.old item))) }
+    ensures stage { OnOk result (rewriter.new.stage ≡ Stage.Ready) }
+    ensures write { W.has_failed writer.new ≡ (W.has_failed writer.old || is_write_fault result) }
+    ensures kinds { IfErr result IsAnswerFault }
+{
+    let found = obey(alloc, session, &item)?;
+    write_entry(rewriter, writer, item, found.as_slice())?;
+    Ok(())
 }
 
 /// The items of a script, the session that obeys them, and what writes them again.
@@ -118,9 +140,13 @@ impl PartByPart for Rewriting {
     }
 
     fn answer<W: Sink>(&mut self, item: Item, writer: &mut W) -> Result<(), ToolFault> {
-        let found = obey(self.alloc, &mut self.session, &item)?;
-        write_entry(&mut self.rewriter, writer, item, found.as_slice())?;
-        Ok(())
+        rewrite_item(
+            self.alloc,
+            &mut self.session,
+            &mut self.rewriter,
+            item,
+            writer,
+        )
     }
 
     fn end<W: Sink>(

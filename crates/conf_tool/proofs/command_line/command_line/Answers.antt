@@ -53,3 +53,15 @@ returns-clause-history g c =
           (subst (λ n. IsAsked 0 1000 100 (first_of (codes "history") (rows_of (found_of w.in-Some.found.now))) n) (sym (ap (λ p. p.2) w.mode-is)) w.number_of.ensures.asked)
       | in-None w ↦ subst (λ t. IsAsked 0 1000 100 t c.match-subcommand.mode.2) (rw w.in-None.is at asked) (ap (λ p. p.2) w.mode-is)
     ]
+
+pub returns-clause-steps : goal.returns-clause-steps
+returns-clause-steps g c =
+    let e = c.in_ok-program.ensures.app in
+    let found_is = (c.in_ok-matches.ensures.matches (ap is_simple e ∙ simple)).1 ∙ ap (λ (a : App). subcommand_of a (map g.S.AsStr.text c.args.words.now)) e in
+    let asked = ap (option_and_then (first_of (codes "steps"))) c.subcommand.ensures.rows ∙ text-in-rows (codes "steps") (subcommand_rows_of c.in_ok-matches.matches) ∙ ap (asked_text (codes "steps")) found_is in
+    elim c.match-subcommand.branch [
+      | in-Some w ↦
+          subst (λ t. IsAsked 1 1000 1 t c.match-subcommand.mode.3) (rw w.in-Some.is at asked)
+          (subst (λ n. IsAsked 1 1000 1 (first_of (codes "steps") (rows_of (found_of w.in-Some.found.now))) n) (sym (ap (λ p. p.3) w.mode-is)) w.number_of-in-Some.ensures.asked)
+      | in-None w ↦ subst (λ t. IsAsked 1 1000 1 t c.match-subcommand.mode.3) (rw w.in-None.is at asked) (ap (λ p. p.3) w.mode-is)
+    ]

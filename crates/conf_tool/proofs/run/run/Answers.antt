@@ -17,3 +17,9 @@ returns-in_ok-new-in-Check-clause-output g c = rw c.in-Check.is (c.run_by_part-i
 
 pub returns-in_ok-new-in-Rewrite-clause-output : goal.returns-in_ok-new-in-Rewrite-clause-output
 returns-in_ok-new-in-Rewrite-clause-output g c = rw c.in-Rewrite.is (c.run_by_part-in-Rewrite.ensures.output _ c.in_ok-new-in-Rewrite.ensures.unwritten)
+
+pub run_by_part-requires-in-Undo-clause-unwritten : goal.run_by_part-requires-in-Undo-clause-unwritten
+run_by_part-requires-in-Undo-clause-unwritten g c = (_, c.in_ok-new-in-Undo.ensures.unwritten)
+
+pub returns-in_ok-new-in-Undo-clause-output : goal.returns-in_ok-new-in-Undo-clause-output
+returns-in_ok-new-in-Undo-clause-output g c = rw c.in-Undo.is (c.run_by_part-in-Undo.ensures.output _ c.in_ok-new-in-Undo.ensures.unwritten)

@@ -1,0 +1,5 @@
+use Rattle.conf_tool.proofs.JoinedClean.{joined-clean}
+use Rattle.conf_tool.proofs.laws.joined_clean.Goals as goal
+
+pub returns : goal.returns
+returns c = joined-clean c.written_script.ensures c.directive_is_given.ensures c.joined_items.ensures c.found_text_stands.ensures

@@ -1,0 +1,43 @@
+-- The script that undoes changes: the steps of a plan as directives, or a comment that says why there are none.
+use Rattle.std.specs.Prelude.{ℕ, List, [], ◌∷◌, ◌++◌, map, Result, Ok, Err, codes}
+use Rattle.std.specs.List.{join_with_byte}
+use Rattle.dd_file.specs.Words.{CommandText, with_key}
+use Rattle.dd_file.specs.Script.{directive}
+use Rattle.dd_file.specs.declared.item.Item.{Item}
+use Rattle.dd_file.specs.declared.item.Item.TheVariants.{Comment}
+use Rattle.conf_change.specs.ConfStateLine.{truth_text}
+use Rattle.conf_change.specs.Step.{changes_of}
+use Rattle.conf_change.specs.declared.change.Change.{Change}
+use Rattle.conf_change.specs.declared.step.Step.{Step}
+use Rattle.conf_change.specs.declared.step.Step.TheVariants.{Simple, EnterJoint, LeaveJoint}
+use Rattle.conf_plan.specs.PlanText.{command_words, change_text}
+use Rattle.conf_tool.specs.Undo.{undo_fault_text}
+use Rattle.conf_tool.specs.declared.undo_fault.UndoFault.{UndoFault}
+
+-- a step's command with its arguments
+abbrev pub step_command : Step → CommandText
+step_command (Simple changes) = record { name = codes "simple"; arguments = [] }
+step_command (EnterJoint auto_leave changes) = record { name = codes "enter-joint"; arguments = with_key (codes "autoleave") (truth_text auto_leave ∷ []) ∷ [] }
+step_command LeaveJoint = record { name = codes "leave-joint"; arguments = [] }
+
+-- the line that says it
+abbrev pub step_line : Step → List ℕ
+step_line step = join_with_byte 32 (command_words step)
+
+-- changes as a line of input, if there are any
+abbrev pub change_lines : List Change → List (List ℕ)
+change_lines [] = []
+change_lines (change ∷ changes) = join_with_byte 32 (map change_text (change ∷ changes)) ∷ []
+
+-- the directive of a step, which expects no output yet
+abbrev pub step_directive : Step → Item
+step_directive step = directive 1 (step_command step) (step_line step ∷ []) (change_lines (changes_of step)) []
+
+abbrev pub comment : List ℕ → Item
+comment text = Comment ((codes "# " ++ text) ∷ [])
+
+-- the directives of the steps, or a comment: there is nothing to do, or why there is no plan
+abbrev pub undo_items : Result (List Step) UndoFault → List Item
+undo_items (Ok []) = comment (codes "nothing to do") ∷ []
+undo_items (Ok (step ∷ steps)) = map step_directive (step ∷ steps)
+undo_items (Err fault) = comment (undo_fault_text fault) ∷ []

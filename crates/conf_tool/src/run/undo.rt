@@ -1,0 +1,193 @@
+//! The mode `undo`: a script is run, and then the script is written that undoes its last changes.
+ghost use Rattle.std.specs.Prelude.{◌≡◌, ◌≤◌, ◌||◌, ℕ, List, [], ◌∷◌, Option, Ok, IfOk, IfErr, OnOk, OnErr, IsOkUnless};
+ghost use Rattle.dd_file.specs.ReaderState.{fresh};
+ghost use Rattle.dd_file.specs.RewriterState.{Continues, BreaksOff};
+ghost use Rattle.conf_tool.specs.Outputs.{undone_script, undo_status};
+ghost use Rattle.conf_tool.specs.Reports.{session_after, obeyed_text};
+ghost use Rattle.conf_tool.specs.Run.{IsAnswerFault, is_write_fault};
+ghost use Rattle.conf_tool.specs.Undo.{undo_plan_of};
+ghost use Rattle.conf_tool.specs.UndoScript as says;
+ghost use Rattle.conf_tool.specs.UndoScript.{undo_items};
+ghost use Rattle.conf_tool.specs.declared.tool_fault.ToolFault.TheVariants.{NoMemory as OutOfMemory};
+
+use super::part_by_part::PartByPart;
+use super::rewrite::{obey, rewrite_item};
+use crate::session::Session;
+use crate::status::Status;
+use crate::texts::undo_fault_text;
+use crate::tool_fault::ToolFault;
+use crate::undo_fault::UndoFault;
+use crate::undo_script::{comment, step_directive};
+use conf_plan::Plan;
+use dd_file::device::{Sink, Source};
+use dd_file::fault::FileFault;
+use dd_file::item::Item;
+use dd_file::reader::Reader;
+use dd_file::rewriter::Rewriter;
+use dd_file::stage::Stage;
+use std::alloc::Global;
+
+/// The items of a script, the session that obeys them, how many of its changes are undone, and what writes how.
+#[derive(Drop)]
+pub(super) struct Undoing {
+    alloc: Global,
+    items: Reader,
+    session: Session,
+    rewriter: Rewriter,
+    steps: usize,
+    ghost some: { 1 ≤ steps },
+}
+
+impl Undoing {
+    /// Begins in a new session that keeps so many earlier configurations, to undo so many changes, one at least.
+    pub(super) fn new(alloc: Global, history: usize, steps: usize) -> Result<Undoing, ToolFault>
+        requires { 1 ≤ steps }
+        ensures unread { IfOk result (λ mode. ⟦<Undoing as PartByPart>⟧.reading mode ≡ fresh) }
+        ensures unwritten { IfOk result (λ mode. (held : Option (List ℕ)) → ⟦<Undoing as PartByPart>⟧.HasAnswered mode (undone_script history steps) [] held held) }
+        ensures memory { IsOkUnless result OutOfMemory }
+    {
+        Ok(Undoing {
+            alloc,
+            items: Reader::new(alloc)?,
+            session: Session::new(alloc, history)?,
+            rewriter: Rewriter::new(),
+            steps,
+        })
+    }
+
+    /// Obeys and writes what undoes the changes, or why they cannot be undone.
+    fn write_undo<W: Sink>(&mut self, writer: &mut W) -> Result<Status, ToolFault>
+        requires { self.old.rewriter.stage ≡ Stage.Ready }
+        ensures status { IfOk result (λ status. status ≡ undo_status (undo_plan_of self.old.session self.old.steps)) }
+        ensures written { OnOk result (Continues self.old.rewriter.newlines self.new.rewriter.newlines (W.contents writer.old) (W.contents writer.new)
+            (obeyed_text self.old.session (undo_items (undo_plan_of self.old.session self.old.steps)))) }
+        ensures part { OnErr result (BreaksOff self.old.rewriter.newlines (W.contents writer.old) (W.contents writer.new)
+            (obeyed_text self.old.session (undo_items (undo_plan_of self.old.session self.old.steps)))) }
+        ensures stage { OnOk result (self.new.rewriter.stage ≡ Stage.Ready) }
+        ensures write { W.has_failed writer.new ≡ (W.has_failed writer.old || is_write_fault result) }
+        ensures kinds { IfErr result IsAnswerFault }
+    {
+        match self.session.undo_plan(self.steps) {
+            Ok(plan) => {
+                self.write_plan(&plan, writer)?;
+                Ok(Status::Clean)
+            }
+            Err(fault) => match fault {
+                UndoFault::NoMemory => Err(ToolFault::NoMemory),
+                _ => {
+                    let text = undo_fault_text(self.alloc, fault)?;
+                    self.write_comment(text.as_slice(), writer)?;
+                    Ok(Status::Different)
+                }
+            },
+        }
+    }
+
+    /// Obeys and writes the steps of a plan, or says that there is nothing to do.
+    fn write_plan<W: Sink>(&mut self, plan: &Plan, writer: &mut W) -> Result<(), ToolFault>
+        requires { self.old.rewriter.stage ≡ Stage.Ready }
+        ensures written { OnOk result (Continues self.old.rewriter.newlines self.new.rewriter.newlines (W.contents writer.old) (W.contents writer.new)
+            (obeyed_text self.old.session (undo_items (Ok plan.now)))) }
+        ensures part { OnErr result (BreaksOff self.old.rewriter.newlines (W.contents writer.old) (W.contents writer.new)
+            (obeyed_text self.old.session (undo_items (Ok plan.now)))) }
+        ensures stage { OnOk result (self.new.rewriter.stage ≡ Stage.Ready) }
+        ensures write { W.has_failed writer.new ≡ (W.has_failed writer.old || is_write_fault result) }
+        ensures kinds { IfErr result IsAnswerFault }
+    {
+        if plan.len() == 0 {
+            return self.write_comment(b"nothing to do", writer);
+        }
+        for place in 0..plan.len() {
+            if let Some(step) = plan.step(place) {
+                let directive = step_directive(self.alloc, step)?;
+                self.write_item(directive, writer)?;
+            }
+        }
+        Ok(())
+    }
+
+    /// Writes a comment that says a text.
+    fn write_comment<W: Sink>(&mut self, text: &[u8], writer: &mut W) -> Result<(), ToolFault>
+        requires { self.old.rewriter.stage ≡ Stage.Ready }
+        ensures written { OnOk result (Continues self.old.rewriter.newlines self.new.rewriter.newlines (W.contents writer.old) (W.contents writer.new)
+            (obeyed_text self.old.session (says.comment text.now ∷ []))) }
+        ensures part { OnErr result (BreaksOff self.old.rewriter.newlines (W.contents writer.old) (W.contents writer.new)
+            (obeyed_text self.old.session (says.comment text.now ∷ []))) }
+        ensures stage { OnOk result (self.new.rewriter.stage ≡ Stage.Ready) }
+        ensures write { W.has_failed writer.new ≡ (W.has_failed writer.old || is_write_fault result) }
+        ensures kinds { IfErr result IsAnswerFault }
+    {
+        let item = comment(self.alloc, text)?;
+        self.write_item(item, writer)
+    }
+
+    /// Obeys an item, and writes it with what was found.
+    fn write_item<W: Sink>(&mut self, item: Item, writer: &mut W) -> Result<(), ToolFault>
+        requires { self.old.rewriter.stage ≡ Stage.Ready }
+        ensures session { OnOk result (self.new.session ≡ session_after self.old.session item) }
+        ensures written { OnOk result (Continues self.old.rewriter.newlines self.new.rewriter.newlines (W.contents writer.old) (W.contents writer.new)
+            (obeyed_text self.old.session (item ∷ []))) }
+        ensures part { OnErr result (BreaksOff self.old.rewriter.newlines (W.contents writer.old) (W.contents writer.new)
+            (obeyed_text self.old.session (item ∷ []))) }
+        ensures stage { OnOk result (self.new.rewriter.stage ≡ Stage.Ready) }
+        ensures write { W.has_failed writer.new ≡ (W.has_failed writer.old || is_write_fault result) }
+        ensures kinds { IfErr result IsAnswerFault }
+    {
+        rewrite_item(
+            self.alloc,
+            &mut self.session,
+            &mut self.rewriter,
+            item,
+            writer,
+        )
+    }
+}
+
+impl PartByPart for Undoing {
+    type Part = Item;
+
+    ghost use Rattle.dd_file.specs.Place.{longest_input};
+    ghost use Rattle.dd_file.specs.Reading.{next_item};
+    ghost use Rattle.dd_file.specs.Answer.{IsItemFault};
+    ghost use Rattle.dd_file.specs.declared.item.Item.{Item as ItemTold};
+    ghost use Rattle.conf_tool.specs.Answered.{HasObeyed};
+    ghost use Rattle.conf_tool.specs.declared.mode.Mode.TheVariants.{Undo as OfUndo};
+
+    ghost Told = { ItemTold };
+
+    ghost told = { λ item. item };
+
+    ghost coming = { next_item longest_input };
+
+    ghost IsFault = { IsItemFault };
+
+    ghost mode = { OfUndo };
+
+    ghost reading = { λ s. s.items };
+
+    ghost HasAnswered = { λ s. HasObeyed s.session s.rewriter s.steps };
+
+    fn next<R: Source>(&mut self, reader: &mut R) -> Result<Option<Item>, FileFault> {
+        self.items.next(reader)
+    }
+
+    // What a directive expects is not looked at, and nothing is written yet.
+    fn answer<W: Sink>(&mut self, item: Item, writer: &mut W) -> Result<(), ToolFault> {
+        let _ = &*writer;
+        let _found = obey(self.alloc, &mut self.session, &item)?;
+        Ok(())
+    }
+
+    fn end<W: Sink>(
+        &mut self,
+        fault: Option<FileFault>,
+        writer: &mut W,
+    ) -> Result<Status, ToolFault> {
+        if let Some(fault) = fault {
+            return Err(ToolFault::Script(fault));
+        }
+        let status = self.write_undo(writer)?;
+        self.rewriter.end(writer)?;
+        Ok(status)
+    }
+}
