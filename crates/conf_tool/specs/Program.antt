@@ -26,6 +26,10 @@ undo_command name = with_rule (script_command name) (number_rule (codes "steps")
 abbrev pub wants_mode : App → App
 wants_mode app = record { top = record app.top { subcommand_required = true }; subs = app.subs }
 
+-- the version can be asked for
+abbrev pub tells_version : App → App
+tells_version app = record { top = record app.top { has_version = true }; subs = app.subs }
+
 -- the program with one more mode
 abbrev pub with_mode : App → App → App
 with_mode mode app = with_subcommand app mode.top
@@ -33,7 +37,7 @@ with_mode mode app = with_subcommand app mode.top
 abbrev pub program : App
 program =
     with_mode (undo_command (codes "undo")) (with_mode (script_command (codes "rewrite")) (with_mode (script_command (codes "check"))
-    (with_mode (mode_command (codes "lines")) (wants_mode (new_app (codes "confscript"))))))
+    (with_mode (mode_command (codes "lines")) (wants_mode (tells_version (new_app (codes "confscript")))))))
 
 -- the mode of a name; `lines` unless it is another's
 abbrev pub mode_named : Text → Mode

@@ -4,6 +4,7 @@ ghost use Rattle.clap.specs.Words.{FailsBy, app_of, fault_of, first_of, found_of
 ghost use Rattle.conf_tool.specs.Program.{program as the_program, with_mode, mode_command, script_command, undo_command, number_rule, asked_mode, mode_named, asked_text, IsAsked};
 ghost use Rattle.conf_tool.specs.Ranges.{IsInRange};
 
+use crate::help::{CHECK, LINES, PROGRAM, REWRITE, UNDO};
 use crate::invocation::Invocation;
 use crate::mode::Mode;
 use crate::options::Options;
@@ -13,80 +14,8 @@ use clap::{Arg, ArgMatches, Command, Error};
 use std::alloc::Global;
 use std::convert::AsStr;
 
-const LINES_HELP: &str =
-    "Reads changes, one on a line, and makes each on the configuration so far, which begins
-empty. Prints for each line the configuration after it, or why it was refused.
-
-A change is a letter and the number of a server: v1 makes server 1 a voter, l3
-makes server 3 a learner, r1 removes server 1, u1 updates it.
-
-For the five lines v1, v2, l3, r1, r2 it prints
-voters=(1)
-voters=(1 2)
-voters=(1 2) learners=(3)
-voters=(2) learners=(3)
-removed all voters";
-
-const CHECK_HELP: &str =
-    "Runs a script, and reports each directive that finds another text than it expects, with
-both texts. The counts come last. The status is 1 where a directive differs.
-
-A directive is a command with its arguments, lines of input, a line of four
-dashes, the lines that are expected, and an empty line. The commands are simple,
-enter-joint, leave-joint, conf-change, conf-state, restore, undo, ack,
-commit-index, committed and vote. A line that begins with # is a comment.
-
-For the script
-simple
-v1
-----
-voters=(2)
-
-it prints
-1: simple
-- voters=(2)
-+ voters=(1)
-+ 1: StateProbe match=0 next=1
-1 directives, 1 mismatches";
-
-const REWRITE_HELP: &str =
-    "Runs a script, and prints it again with what each directive found in the place of
-what it expects.
-
-For the script (see check)
-# the first voter
-simple
-v1
-
-it prints
-# the first voter
-simple
-v1
-----
-voters=(1)
-1: StateProbe match=0 next=1";
-
-const UNDO_HELP: &str =
-    "Runs a script, and prints the script that undoes its last changes, one where --steps is
-left out. What a directive expects is not looked at. Where there is nothing to do it
-prints a comment. Where the changes cannot be undone it prints why in a comment, and
-the status is 1.
-
-For the script (see check)
-simple
-v1
-----
-
-simple
-v2
-----
-
-it prints
-simple
-r2
-----
-voters=(1)
-1: StateProbe match=0 next=1";
+/// What `--version` tells behind the program's name.
+const VERSION: &str = "0.1.0";
 
 /// What the words ask for, the program's name being the first. A fault is `clap`'s own: of help, of a usage fault or
 /// of want of memory.
@@ -163,28 +92,24 @@ fn program<'a>(alloc: Global) -> Result<Command<'a>, Error>
     ensures memory { IfErr result (λ error. kind_of error ≡ ErrorKind.OutOfMemory) }
 {
     let program = Command::new(alloc, "confscript")
-        .about("Changes who votes, as etcd's raft library does")
+        .about("Tries changes of who votes, as etcd's raft library makes them")
+        .after_long_help(PROGRAM)
+        .version(VERSION)
         .subcommand_required(true);
-    let program = add_mode(
-        alloc,
-        program,
-        "lines",
-        "Makes one change a line",
-        LINES_HELP,
-    )?;
+    let program = add_mode(alloc, program, "lines", "Makes one change a line", LINES)?;
     let program = add_script_mode(
         alloc,
         program,
         "check",
         "Runs a script and reports what differs",
-        CHECK_HELP,
+        CHECK,
     )?;
     let program = add_script_mode(
         alloc,
         program,
         "rewrite",
         "Runs a script and prints it with what was found",
-        REWRITE_HELP,
+        REWRITE,
     )?;
     add_undo_mode(alloc, program)
 }
@@ -202,7 +127,7 @@ fn add_mode<'a>(
 {
     let mode = Command::new(alloc, name)
         .about(about)
-        .long_about(help)
+        .after_long_help(help)
         .arg(file_argument(alloc))?;
     let program = program.subcommand(mode)?;
     Ok(program)
@@ -221,7 +146,7 @@ fn add_script_mode<'a>(
 {
     let mode = Command::new(alloc, name)
         .about(about)
-        .long_about(help)
+        .after_long_help(help)
         .arg(file_argument(alloc))?
         .arg(history_option(alloc))?;
     let program = program.subcommand(mode)?;
@@ -242,7 +167,7 @@ fn add_undo_mode<'a>(alloc: Global, program: Command<'a>) -> Result<Command<'a>,
     );
     let mode = Command::new(alloc, "undo")
         .about("Runs a script and prints the script that undoes its last changes")
-        .long_about(UNDO_HELP)
+        .after_long_help(UNDO)
         .arg(file_argument(alloc))?
         .arg(history_option(alloc))?
         .arg(steps)?;

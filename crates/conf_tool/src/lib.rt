@@ -5,6 +5,7 @@ mod arguments;
 pub mod command_line;
 mod commands;
 mod effect;
+mod help;
 mod history;
 pub mod invocation;
 pub mod laws;

@@ -1,0 +1,125 @@
+//! What `--help` tells of the program and of each mode, behind its usage.
+
+/// Of the program.
+pub(crate) const PROGRAM: &str = "Examples:
+  printf 'v1\nv2\nl3\n' | confscript lines
+  confscript check script.txt
+  confscript undo --steps 2 script.txt
+
+Exit statuses:
+  0  done
+  1  check found a difference, or undo has no plan
+  2  the words or the input are at fault
+  3  a file, a device or memory failed
+
+'confscript help MODE' tells what a mode reads and what it prints.";
+
+/// Of `lines`.
+pub(crate) const LINES: &str =
+    "Reads one change a line and makes it on the configuration so far, which
+begins empty. Prints the configuration after each line, or why the change is
+refused.
+
+Changes:
+  v1  server 1 becomes a voter
+  l1  server 1 becomes a learner
+  r1  server 1 is removed
+  u1  server 1 is updated, which changes nothing here
+
+For the lines
+  v1
+  v2
+  l3
+  r1
+  r2
+
+it prints
+  voters=(1)
+  voters=(1 2)
+  voters=(1 2) learners=(3)
+  voters=(2) learners=(3)
+  removed all voters";
+
+/// Of `check`.
+pub(crate) const CHECK: &str =
+    "Runs a script, and reports each directive that finds another text than it
+expects, with both texts. The counts come last. The status is 1 where a
+directive differs.
+
+A directive is a command with its arguments, lines of input, a line ----, the
+lines that are expected, and an empty line. A command's line that ends in a
+backslash goes on in the next. A line that begins with # is a comment.
+
+Commands that read changes (see confscript help lines), none or more of them:
+  simple         at most one of them changes who votes
+  enter-joint    enters a joint configuration; autoleave=true or false (default)
+  leave-joint    leaves it, with no change
+  conf-change    leaves, is simple or enters by the number of the changes;
+                 transition=auto (default), implicit or explicit
+
+Commands that read something else, or nothing:
+  conf-state     prints the configuration as a ConfState
+  restore        begins again with the ConfState that it reads
+  undo           undoes the last changes; steps=N (default 1)
+  ack            a member acknowledges an index; id=N index=N
+  commit-index   prints the index that the configuration commits
+  committed      charts what a quorum has acknowledged, and prints what it
+                 commits; cfg=(1,2) cfgj=(3) idx=(7,_,9)
+  vote           prints how a quorum's vote stands; cfg=(1,2) cfgj=(3)
+                 votes=(y,n,_)
+
+For the script
+  simple
+  v1
+  ----
+  voters=(2)
+
+it prints
+  1: simple
+  - voters=(2)
+  + voters=(1)
+  + 1: StateProbe match=0 next=1
+  1 directives, 1 mismatches";
+
+/// Of `rewrite`.
+pub(crate) const REWRITE: &str =
+    "Runs a script (see confscript help check), and prints it again with what each
+directive found in the place of what it expects. What it prints checks clean.
+
+For the script
+  # the first voter
+  simple
+  v1
+
+it prints
+  # the first voter
+  simple
+  v1
+  ----
+  voters=(1)
+  1: StateProbe match=0 next=1";
+
+/// Of `undo`.
+pub(crate) const UNDO: &str =
+    "Runs a script (see confscript help check), whatever it expects, and prints the
+script that undoes its last changes. The two checked as one, with an empty line
+between them, are clean where the first is.
+
+Where there is nothing to do it prints a comment. Where there is no plan it
+prints why, in a comment, and the status is 1.
+
+For the script
+  simple
+  v1
+  ----
+
+  simple
+  v2
+  ----
+
+it prints
+  simple
+  r2
+  ----
+  voters=(1)
+  1: StateProbe match=0 next=1";
