@@ -1,7 +1,7 @@
 //! The messages of the error types, each value once, and that no two of one type are equal.
 use conf_change::{AckFault, ConfStateFault, Invariant, Refused, RestoreFault, TokenFault};
 use conf_plan::{PlanFault, PlanTextFault, StepRefused};
-use conf_tool::ToolFault;
+use conf_tool::{ToolFault, UndoFault};
 use dd_file::fault::{DeviceFault, FileFault, WriteFault};
 use quorum_sets::NoMemory;
 use std::alloc::{AllocError, Global};
@@ -173,5 +173,21 @@ fn files_and_runs(rt: HostRuntime) -> Result<(), Fail> {
         (ToolFault::NoMemory, NO_MEMORY),
     ];
     assert!(rt; told(rt.alloc(), &runs)?);
+    let undone = [
+        (
+            UndoFault::NotKept(0),
+            "no plan: 0 earlier configurations are kept",
+        ),
+        (
+            UndoFault::NotKept(12),
+            "no plan: 12 earlier configurations are kept",
+        ),
+        (
+            UndoFault::NoVoterTarget,
+            "no plan: the earlier configuration has no voter",
+        ),
+        (UndoFault::NoMemory, NO_MEMORY),
+    ];
+    assert!(rt; told(rt.alloc(), &undone)?);
     Ok(())
 }

@@ -10,7 +10,6 @@ ghost use Rattle.conf_tool.specs.declared.tool_fault.ToolFault.TheVariants.{NoMe
 
 use super::clean_unless::clean_unless;
 use super::part_by_part::PartByPart;
-use crate::laws::found_text_stands;
 use crate::session::Session;
 use crate::status::Status;
 use crate::tool_fault::ToolFault;
@@ -32,12 +31,7 @@ pub(super) fn obey(alloc: Global, session: &mut Session, item: &Item) -> Result<
     ensures unchanged { OnErr result (session.new ≡ session.old) }
 {
     match item {
-        Item::Directive(directive) => {
-            // The keys of its arguments are keys, so what is found can be written.
-            let _ = directive.arguments();
-            found_text_stands();
-            session.step(directive)
-        }
+        Item::Directive(directive) => session.step(directive),
         _ => Ok(Vec::new(alloc)),
     }
 }
