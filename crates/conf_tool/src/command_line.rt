@@ -163,7 +163,7 @@ fn add_undo_mode<'a>(alloc: Global, program: Command<'a>) -> Result<Command<'a>,
         "steps",
         1,
         1000,
-        "How many changes are undone, 1 where it is left out",
+        "How many changes are undone (1 if left out)",
     );
     let mode = Command::new(alloc, "undo")
         .about("Runs a script and prints the script that undoes its last changes")
@@ -185,7 +185,7 @@ fn history_option<'a>(alloc: Global) -> Arg<'a>
         "history",
         0,
         1000,
-        "How many earlier configurations are kept, 100 where it is left out",
+        "How many earlier configurations are kept (100 if left out)",
     )
 }
 

@@ -2,7 +2,7 @@
 
 /// Of the program.
 pub(crate) const PROGRAM: &str = "Examples:
-  printf 'v1\nv2\nl3\n' | confscript lines
+  printf 'v1\\nv2\\nl3\\n' | confscript lines
   confscript check script.txt
   confscript undo --steps 2 script.txt
 
