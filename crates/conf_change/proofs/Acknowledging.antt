@@ -12,7 +12,6 @@ use Rattle.conf_change.specs.Acknowledgement.{acknowledged, acknowledged_by, ack
 use Rattle.conf_change.specs.Changer.{TrackerState, ChangerState, IsSound, tracker_of}
 use Rattle.conf_change.specs.declared.acknowledgement.AckFault.TheVariants.{IndexTooLarge}
 use Rattle.conf_change.specs.declared.progress.Progress.{Progress}
-use Rattle.conf_change.proofs.Following.{HasUpdated, get-updated}
 
 -- ---- the match of each member
 find-matched : (q : ℕ) (es : List (ℕ × Progress))
@@ -94,12 +93,10 @@ pub a_member : (t : TrackerState) (id : ℕ) (was : Progress) → IsSound t → 
 a_member t id was sound some = sym (sound.of_members id) ∙ ap is_some some
 
 -- ---- a write to one entry
-pub progress_set : (t : TrackerState) (d : Configuration) (id : ℕ) (p : Progress) (es fs : List (ℕ × Progress))
-    → d ≡ t.config → finite.from_entries {R = nat_cmp} es ≡ t.progress → HasUpdated es fs id (Some p)
+pub progress_set : (t : TrackerState) (d : Configuration) (id : ℕ) (p : Progress) (fs : List (ℕ × Progress))
+    → d ≡ t.config → ((q : ℕ) → finite.get (finite.from_entries {R = nat_cmp} fs) q ≡ cond (q == id) (Some p) (finite.get t.progress q))
     → tracker_of d (finite.from_entries {R = nat_cmp} fs) ≡ with_progress t id p
-progress_set t d id p es fs same_config same_progress u =
+progress_set t d id p fs same_config gets =
     let same : finite.from_entries {R = nat_cmp} fs ≡ finite.insert t.progress id p =
-    finite.same_map nat_cmp_total nat_cmp-IsAntisymmetric _ _ (λ q.
-    get-updated es fs id (Some p) u q
-    ∙ ap (λ m. cond (q == id) (Some p) (finite.get m q)) same_progress ∙ sym (get-with_progress t id p q)) in
+    finite.same_map nat_cmp_total nat_cmp-IsAntisymmetric _ _ (λ q. gets q ∙ sym (get-with_progress t id p q)) in
     λ i. tracker_of (same_config i) (same i)

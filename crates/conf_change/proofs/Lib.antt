@@ -6,10 +6,12 @@ pub mod Validity
 pub mod Outcomes
 pub mod Soundness
 pub mod ConfStateLemmas
-pub mod Putting
+pub mod Fresh
 pub mod Rows
-pub mod Following
-pub mod ListSteps
+pub mod LastWordLemmas
+pub mod Joining
+pub mod Picking
+pub mod Stepping
 pub mod Making
 pub mod StepLaws
 pub mod Acknowledging

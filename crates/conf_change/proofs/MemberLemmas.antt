@@ -1,5 +1,22 @@
 -- The entries of a map that is made of entries in ascending order.
-use Rattle.std.proofs.Common.{◌≡◌, ℕ, Bool, true, false, ◌&&◌, T, List, [], ◌∷◌, map, sym, ap, ◌∙◌}
+use Rattle.std.proofs.Common.{◌≡◌, ℕ, zero, suc, ◌<◌, ◌≤◌, inl, inr, Bool, true, false, cond, ◌&&◌, ◌==◌, T, List, [], ◌∷◌, length, map, get_or, set, slice_get, Bor, refl, sym, ap, ◌∙◌, arith, eq-eqb, eqb-true}
+use Rattle.std.specs.Prelude.{Option, Some, None, Ok, Err, is_some}
+use Rattle.std.specs.Option.{option_copied}
+use Rattle.std.specs.Slice.{IsItemAt}
+use Rattle.std.specs.List.Sorted.{IsNonDecreasingBy, IsBinarySearchResult, IsSearchInRange}
+use Rattle.std.specs.FinMap.{find}
+use Rattle.std.specs.Ordering.{ordering_index}
+use Rattle.std.specs.Cmp.{unsigned_tied}
+use Rattle.std.proofs.lemmas.Bool.{ne_eqb, cases_lt, cases_order, false≢true}
+use Rattle.std.proofs.lemmas.Bool.Decides.{nat_tests}
+use Rattle.std.proofs.lemmas.Cmp.{ranked}
+use Rattle.std.proofs.lemmas.Option.{slice_get_past, slice_get-get_or}
+use Rattle.std.proofs.lemmas.List.{length-map, get_or_default, map-set, set-get_or}
+use Rattle.std.proofs.lemmas.List.Folds.{list_any_none}
+use Rattle.std.proofs.lemmas.List.Sorted.{IsNonDecreasingBy-from_default}
+use Rattle.quorum_sets.specs.Rising.{IsRising}
+use Rattle.conf_change.specs.declared.progress.Progress.{Progress}
+use Rattle.conf_change.proofs.Picking.{keys-get}
 use Rattle.std.specs.declared.cmp.Ordering.{Ordering}
 use Rattle.std.specs.declared.cmp.Ordering.TheVariants.{Less, Equal, Greater}
 use Rattle.std.specs.Ordering.{nat_cmp, is_lt}
@@ -39,3 +56,114 @@ entries-from_entries es h =
     finite.same_map nat_cmp_total nat_cmp-IsAntisymmetric _ _ (λ q.
     finite.get-from_entries nat_cmp_total es q ∙ sym (finite.get-from_sorted nat_cmp es q up)) in
     ap finite.entries alike ∙ finite.entries-from_sorted nat_cmp es up
+
+-- ---- an entry that is read
+pub copied_item : {X : Type 0} (xs : List X) (i : ℕ) (r : Option (Bor X)) → IsItemAt xs i r → option_copied r ≡ slice_get xs i
+copied_item xs i None item = sym (slice_get_past xs i item.3)
+copied_item xs i (Some x) item = ap Some (item.3.1 x.now) ∙ sym (slice_get-get_or xs i x.now item.3.0)
+
+-- ---- the progress of an id in a list that rises
+abbrev Members : Type 0
+Members = List (ℕ × Progress)
+
+abbrev no_member : ℕ × Progress
+no_member = (0, record { matched = 0; next = 0; learner = false })
+
+keys_at : (es : Members) (i : ℕ) → get_or (map (λ m. m.0) es) i 0 ≡ (get_or es i no_member).0
+keys_at [] i = refl
+keys_at (e ∷ es) zero = refl
+keys_at (e ∷ es) (suc i) = keys_at es i
+
+find_at : (es : Members) (id i : ℕ) → IsRising (map (λ m. m.0) es) → i < length es → (get_or es i no_member).0 ≡ id → find nat_cmp id es ≡ Some (get_or es i no_member).1
+find_at [] id i up within same = absurd (omega arith)
+find_at (e ∷ es) id zero up within same = ap (λ b. cond b (Some e.1) (find nat_cmp id es)) (unsigned_tied id e.0 ∙ eq-eqb id e.0 (sym same))
+find_at (e ∷ es) id (suc i) up within same =
+    let long : length (map (λ (m : ℕ × Progress). m.0) es) ≡ length es = length-map es (λ (m : ℕ × Progress). m.0) in
+    let above : e.0 < get_or (map (λ (m : ℕ × Progress). m.0) es) i 0 = up 0 (suc i) (omega arith) (omega arith) in
+    let key = keys_at es i in
+    let other : (id == e.0) ≡ false = ne_eqb id e.0 (λ s. absurd (omega arith)) in
+    ap (λ b. cond b (Some e.1) (find nat_cmp id es)) (unsigned_tied id e.0 ∙ other)
+    ∙ find_at es id i (λ a b lt inside. up (suc a) (suc b) (omega arith) (omega arith)) (omega arith) same
+
+keys_rise : (es : Members) → IsRising (map (λ m. m.0) es) → (i j : ℕ) → i ≤ j → j < length es → (get_or es i no_member).0 ≤ (get_or es j no_member).0
+keys_rise es up i j le within =
+    let long : length (map (λ (m : ℕ × Progress). m.0) es) ≡ length es = length-map es (λ (m : ℕ × Progress). m.0) in
+    let first = keys_at es i in
+    let second = keys_at es j in
+    elim (cases_order i j) [
+      | inl same ↦ rw same (omega arith)
+      | inr (inl lt) ↦ (let above = up i j lt (omega arith) in omega arith)
+      | inr (inr gt) ↦ absurd (omega arith)
+    ]
+
+comparisons_rise : (es : Members) (id : ℕ) → IsRising (map (λ m. m.0) es) → IsNonDecreasingBy (λ m. ordering_index (nat_cmp m.0 id)) es
+comparisons_rise es id up =
+    IsNonDecreasingBy-from_default (λ m. ordering_index (nat_cmp m.0 id)) es no_member (λ i j le within. ranks_rise _ _ id (keys_rise es up i j le within))
+  where
+    ranks_rise : (a b x : ℕ) → a ≤ b → ordering_index (nat_cmp a x) ≤ ordering_index (nat_cmp b x)
+    ranks_rise a b x le = grind (arith, nat_tests)
+
+pub found_member : (es : Members) (id i : ℕ) (d : ℕ × Progress) → IsRising (map (λ m. m.0) es) → IsSearchInRange (Ok i) (length es) → IsBinarySearchResult (λ m. nat_cmp m.0 id) es (Ok i)
+    → Some (get_or es i d).1 ≡ finite.get (finite.from_entries {R = nat_cmp} es) id
+found_member es id i d up within found =
+    ap (λ m. Some m.1) (get_or_default es i d no_member within)
+    ∙ sym (finite.get-from_entries nat_cmp_total es id ∙ find_at es id i up within (ranked _ id _ (sym (found no_member))))
+
+none_some : (o : Option Progress) → is_some o ≡ false → None ≡ o
+none_some None e = refl
+none_some (Some p) e = absurd (false≢true (sym e))
+
+pub missing_member : (es : Members) (id i : ℕ) → IsRising (map (λ m. m.0) es) → IsBinarySearchResult (λ m. nat_cmp m.0 id) es (Err i)
+    → None ≡ finite.get (finite.from_entries {R = nat_cmp} es) id
+missing_member es id i up parted =
+    let point = parted (comparisons_rise es id up) in
+    let long : length (map (λ (m : ℕ × Progress). m.0) es) ≡ length es = length-map es (λ (m : ℕ × Progress). m.0) in
+    let apart : (k : ℕ) → k < length es → id ≡ (get_or es k no_member).0 → ⊥ =
+    λ k within same. elim (cases_lt k i) [
+      | inl before ↦ (let below = ranked _ id _ (sym (point.0 k no_member (omega arith) before)) in omega arith)
+      | inr behind ↦ (let above = ranked _ id _ (sym (point.1 k no_member behind within)) in omega arith)
+    ] in
+    none_some _ (keys-get es id ∙ list_any_none (λ x. id == x) (map (λ m. m.0) es) (λ k d within.
+    ap (λ x. id == x) (get_or_default (map (λ (m : ℕ × Progress). m.0) es) k d 0 within ∙ keys_at es k) ∙ ne_eqb id _ (apart k (omega arith))))
+
+-- ---- the progress of an id that is set
+both_not : (a b : Bool) (p v : Progress) (o : Option Progress) → (a ≡ true → b ≡ true → ⊥) → cond a (Some v) (cond b (Some p) o) ≡ cond b (Some p) (cond a (Some v) o)
+both_not true true p v o apart = absurd (apart refl refl)
+both_not true false p v o apart = refl
+both_not false b p v o apart = refl
+
+find-set : (es : Members) (i x : ℕ) (p : Progress) (q : ℕ) → IsRising (map (λ m. m.0) es) → i < length es → (get_or es i no_member).0 ≡ x
+    → find nat_cmp q (set es i (x, p)) ≡ cond (q == x) (Some p) (find nat_cmp q es)
+find-set [] i x p q up within same = absurd (omega arith)
+find-set (e ∷ es) zero x p q up within same =
+    ap (λ b. cond b (Some p) (find nat_cmp q es)) (unsigned_tied q x)
+    ∙ hidden (q == x) p e.1 (find nat_cmp q es)
+    ∙ ap (λ b. cond (q == x) (Some p) (cond b (Some e.1) (find nat_cmp q es))) (ap (λ n. q == n) (sym same) ∙ sym (unsigned_tied q e.0))
+  where
+    hidden : (b : Bool) (p v : Progress) (o : Option Progress) → cond b (Some p) o ≡ cond b (Some p) (cond b (Some v) o)
+    hidden true p v o = refl
+    hidden false p v o = refl
+find-set (e ∷ es) (suc i) x p q up within same =
+    let long : length (map (λ (m : ℕ × Progress). m.0) es) ≡ length es = length-map es (λ (m : ℕ × Progress). m.0) in
+    let above : e.0 < get_or (map (λ (m : ℕ × Progress). m.0) es) i 0 = up 0 (suc i) (omega arith) (omega arith) in
+    let key = keys_at es i in
+    let less : e.0 < x = omega arith in
+    ap (λ b. cond b (Some e.1) (find nat_cmp q (set es i (x, p)))) (unsigned_tied q e.0)
+    ∙ ap (λ o. cond (q == e.0) (Some e.1) o) (find-set es i x p q (λ a b lt inside. up (suc a) (suc b) (omega arith) (omega arith)) (omega arith) same)
+    ∙ both_not (q == e.0) (q == x) p e.1 (find nat_cmp q es) (λ one other. (let a : q ≡ e.0 = eqb-true q e.0 one in let b : q ≡ x = eqb-true q x other in omega arith))
+    ∙ ap (λ b. cond (q == x) (Some p) (cond b (Some e.1) (find nat_cmp q es))) (sym (unsigned_tied q e.0))
+
+key_found : (es : Members) (id i : ℕ) → IsBinarySearchResult (λ m. nat_cmp m.0 id) es (Ok i) → (get_or es i no_member).0 ≡ id
+key_found es id i found = ranked _ id _ (sym (found no_member))
+
+pub get-set : (es : Members) (id i : ℕ) (p : Progress) → IsRising (map (λ m. m.0) es) → IsSearchInRange (Ok i) (length es) → IsBinarySearchResult (λ m. nat_cmp m.0 id) es (Ok i)
+    → (q : ℕ) → finite.get (finite.from_entries {R = nat_cmp} (set es i (id, p))) q ≡ cond (q == id) (Some p) (finite.get (finite.from_entries {R = nat_cmp} es) q)
+get-set es id i p up within found q =
+    finite.get-from_entries nat_cmp_total (set es i (id, p)) q ∙ find-set es i id p q up within (key_found es id i found)
+    ∙ ap (λ o. cond (q == id) (Some p) o) (sym (finite.get-from_entries nat_cmp_total es q))
+
+pub keys-set : (es : Members) (id i : ℕ) (p : Progress) → IsBinarySearchResult (λ m. nat_cmp m.0 id) es (Ok i) → map (λ m. m.0) (set es i (id, p)) ≡ map (λ m. m.0) es
+keys-set es id i p found =
+    map-set (λ (m : ℕ × Progress). m.0) es i (id, p)
+    ∙ ap (set (map (λ (m : ℕ × Progress). m.0) es) i) (sym (keys_at es i ∙ key_found es id i found))
+    ∙ set-get_or (map (λ (m : ℕ × Progress). m.0) es) i 0

@@ -19,7 +19,7 @@ same_value of q x true rest e = ap (λ n. Some (of n)) (sym (eqb→eq q x (subst
 same_value of q x false rest e = refl
 
 -- in a list of ids, each with its own, an id of the list has its own
-find-of_each : (of : ℕ → Progress) (q : ℕ) (xs : List ℕ)
+pub find-of_each : (of : ℕ → Progress) (q : ℕ) (xs : List ℕ)
     → find nat_cmp q (map (λ id. (id, of id)) xs) ≡ cond (list_any (λ x. q == x) xs) (Some (of q)) None
 find-of_each of q [] = refl
 find-of_each of q (x ∷ xs) =

@@ -77,7 +77,7 @@ some_of_map : (o : Option Change) (k : Kind) → option_map (λ change. change.k
 some_of_map None k e = ap is_some e
 some_of_map (Some x) k e = refl
 
-is_named : (xs : List Change) (id : ℕ) (k : Kind) → last_word xs id ≡ Some k → list_any (λ m. id == m) (map (λ change. change.id) xs) ≡ true
+pub is_named : (xs : List Change) (id : ℕ) (k : Kind) → last_word xs id ≡ Some k → list_any (λ m. id == m) (map (λ change. change.id) xs) ≡ true
 is_named xs id k e =
     named_among id xs (sym (any_reverse (names id) xs) ∙ sym (is_some-find (names id) (reverse xs)) ∙ some_of_map _ k e)
 

@@ -2,7 +2,7 @@
 use Rattle.std.proofs.Common.{◌≡◌, ℕ, ◌+◌, ◌<◌, ◌≤◌, Bool, true, false, ◌&&◌, List, [], ◌∷◌, ◌++◌, take, length, refl, sym, ap, subst, ◌∙◌, slice_get, take_all}
 use Rattle.std.specs.Prelude.{Some, None}
 use Rattle.std.specs.List.{list_all, list_any}
-use Rattle.std.proofs.lemmas.List.{take_more}
+use Rattle.std.proofs.lemmas.List.{take_more, append_assoc}
 use Rattle.std.proofs.lemmas.Option.{slice_get_within, get_or_from_slice_get, slice_get-get_or}
 use Rattle.std.proofs.lemmas.List.Folds.{list_all_more, list_all_at}
 
@@ -50,3 +50,11 @@ has_item xs k n none is lt = let here = slice_get-get_or xs k 0 (subst (λ m. k 
   where
     none-some : (x : ℕ) → None ≡ Some x → ⊥
     none-some x e = cc
+
+-- the ids of a set that are appended to a list
+pub appended_more : (xs old now after : List ℕ) (k x : ℕ) → slice_get xs k ≡ Some x → now ≡ old ++ take k xs → after ≡ now ++ x ∷ [] → after ≡ old ++ take (k + 1) xs
+appended_more xs old now after k x here so_far is =
+    is ∙ ap (λ l. l ++ x ∷ []) so_far ∙ append_assoc old (take k xs) (x ∷ []) ∙ ap (λ l. old ++ l) (taken_more xs (take k xs) k x here refl)
+
+pub appended_all : (xs old now : List ℕ) (k n : ℕ) → n ≡ length xs → n ≤ k → now ≡ old ++ take k xs → now ≡ old ++ xs
+appended_all xs old now k n is past so_far = so_far ∙ ap (λ l. old ++ l) (take_all k xs (subst (λ m. m ≤ k) is past))

@@ -7,6 +7,8 @@ pub mod Outcome
 pub mod TrackerState
 pub mod ChangerState
 pub mod Progress
+pub mod LastWords
+pub mod Seat
 pub mod TrackerEdits
 pub mod Changer
 pub mod Acknowledgement

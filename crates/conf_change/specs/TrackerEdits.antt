@@ -1,5 +1,5 @@
--- What the edits of a tracker do, before the changer takes the edited copy.
-use Rattle.std.specs.Prelude.{◌≡◌, ℕ, Bool, not, ◌&&◌, ◌==◌, List, Option, Some, None, unwrap_or, if◌then◌else◌}
+-- What the steps make of a tracker, each id by itself.
+use Rattle.std.specs.Prelude.{◌≡◌, ℕ, Bool, not, ◌&&◌, List, [], ◌∷◌, Option, Some, None, option_map, unwrap_or, if◌then◌else◌}
 use Rattle.std.specs.FinMap as finite
 use Rattle.quorum_sets.specs.Ids.{Ids, has}
 use Rattle.conf_change.specs.Configuration.{Configuration, is_member}
@@ -9,6 +9,10 @@ use Rattle.conf_change.specs.TrackerState.{TrackerState}
 use Rattle.conf_change.specs.declared.change.Change.{Change}
 use Rattle.conf_change.specs.declared.progress.Progress.{Progress}
 
+-- the tracker with these outgoing voters and this flag
+abbrev pub beginning : TrackerState → Ids → Bool → TrackerState
+beginning t outgoing auto_leave = record { config = record t.config { outgoing = outgoing; auto_leave = auto_leave }; progress = t.progress }
+
 -- what a member or somebody else is to have, a learner or not, where it had this before: a member keeps it or begins afresh, with its mark, and nobody else has any
 abbrev pub entry_of : ℕ → Bool → Bool → Option Progress → Option Progress
 entry_of last_index member learner had = if member then Some (with_mark learner (unwrap_or had (fresh_progress last_index learner))) else None
@@ -17,25 +21,29 @@ entry_of last_index member learner had = if member then Some (with_mark learner 
 abbrev pub entry_in : ℕ → Configuration → Option Progress → ℕ → Option Progress
 entry_in last_index c had id = entry_of last_index (is_member c id) (has c.learners id) had
 
--- each id has what it is to have
-abbrev pub IsInLine : ℕ → TrackerState → Type 0
-IsInLine last_index t = (id : ℕ) → finite.get t.progress id ≡ entry_in last_index t.config (finite.get t.progress id) id
+-- what is left of what an id had, unless it is removed and does not go out
+abbrev pub left_by_word : Bool → Bool → Option Progress → Option Progress
+left_by_word removed goes_out had = if removed && not goes_out then None else had
 
--- what the changes leave to an id: what it had, unless they remove it and it does not go out
+-- what the changes leave to an id
 abbrev pub left_by : TrackerState → List Change → ℕ → Option Progress
-left_by t changes id = if removes changes id && not (has t.config.outgoing id) then None else finite.get t.progress id
+left_by t changes id = left_by_word (removes changes id) (has t.config.outgoing id) (finite.get t.progress id)
 
--- the tracker has this configuration, and the entry of this id is what it is to be there; no other entry is altered
-pub record Follows (last_index id : ℕ) (before : TrackerState) (c : Configuration) (after : TrackerState) : Type 0 where
-  pub configuration : after.config ≡ c
-  pub entries : (q : ℕ) → finite.get after.progress q ≡ (if q == id then entry_in last_index c (finite.get before.progress q) q else finite.get before.progress q)
+-- an id with its progress, where it has any
+abbrev pub entries_of : ℕ → Option Progress → List (ℕ × Progress)
+entries_of id None = []
+entries_of id (Some p) = (id, p) ∷ []
 
--- the same of each id of a set
-pub record FollowsAll (last_index : ℕ) (ids : Ids) (before after : TrackerState) : Type 0 where
-  pub configuration : after.config ≡ before.config
-  pub entries : (q : ℕ) → finite.get after.progress q ≡ (if has ids q then entry_in last_index before.config (finite.get before.progress q) q else finite.get before.progress q)
-
--- the tracker after a list of changes, each id by itself
+-- the tracker after a list of changes: each id by the last word on it, and by whether a change removes it
 pub record Applies (last_index : ℕ) (changes : List Change) (before after : TrackerState) : Type 0 where
   pub configuration : after.config ≡ result_of before.config changes
   pub entries : (q : ℕ) → finite.get after.progress q ≡ entry_in last_index after.config (left_by before changes q) q
+
+-- what somebody keeps who has progress: a member all, with its mark, and nobody else any
+abbrev pub kept_by : Bool → Bool → Option Progress → Option Progress
+kept_by member learner had = if member then option_map (with_mark learner) had else None
+
+-- the tracker with this configuration, where the members keep their progress
+pub record Keeps (c : Configuration) (before after : TrackerState) : Type 0 where
+  pub configuration : after.config ≡ c
+  pub entries : (q : ℕ) → finite.get after.progress q ≡ kept_by (is_member c q) (has c.learners q) (finite.get before.progress q)

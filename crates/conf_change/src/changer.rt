@@ -116,8 +116,7 @@ impl<S: MemberSet> Changer<S> {
         if self.tracker.is_joint() {
             return Err(Refused::SimpleInJoint);
         }
-        let mut after = self.tracker.try_clone()?;
-        after.apply_list(changes, self.last_index)?;
+        let after = self.tracker.after_changes(changes, self.last_index)?;
         if !after.has_voter() {
             return Err(Refused::RemovedAllVoters);
         }
@@ -148,8 +147,9 @@ impl<S: MemberSet> Changer<S> {
         if !self.tracker.has_voter() {
             return Err(Refused::ZeroVoterJoint);
         }
-        let mut after = self.tracker.with_outgoing(auto_leave)?;
-        after.apply_list(changes, self.last_index)?;
+        let after = self
+            .tracker
+            .after_entering(auto_leave, changes, self.last_index)?;
         if !after.has_voter() {
             return Err(Refused::RemovedAllVoters);
         }
@@ -170,11 +170,8 @@ impl<S: MemberSet> Changer<S> {
         if !self.tracker.is_joint() {
             return Err(Refused::NotJoint);
         }
-        let mut after = self.tracker.without_outgoing()?;
-        // The next learners are outgoing voters, so nobody else's progress has to follow.
-        after.follow_all(&self.tracker.config().outgoing, self.last_index)?;
         Ok(Changer {
-            tracker: after,
+            tracker: self.tracker.after_leaving()?,
             ..*self
         })
     }

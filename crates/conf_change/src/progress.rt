@@ -41,3 +41,12 @@ impl Progress {
         }
     }
 }
+
+impl Default for Progress {
+    ghost is_default = { λ p. p ≡ fresh_progress 0 false };
+
+    /// The progress of a new voter where the log is empty.
+    fn default() -> Progress {
+        Progress::fresh(0)
+    }
+}

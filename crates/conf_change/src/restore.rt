@@ -1,22 +1,22 @@
 //! Restoring a saved configuration.
-ghost use Rattle.std.specs.Prelude.{◌≡◌, ℕ, Some, None, Err, true, false, IfOk, OnOk, MatchResult, if◌then◌else◌};
-ghost use Rattle.std.specs.Ordering.{nat_cmp};
-ghost use Rattle.std.specs.BTreeMap.{get};
+ghost use Rattle.std.specs.Prelude.{◌≡◌, ℕ, Some, None, Err, true, false, map, IfOk, MatchResult};
 ghost use Rattle.std.specs.FinMap as finite;
-ghost use Rattle.quorum_sets.specs.Ids.{has};
+ghost use Rattle.quorum_sets.specs.Ids.{has, ascending, ids_of};
+ghost use Rattle.quorum_sets.specs.Rising.{IsRising};
 ghost use Rattle.conf_change.specs.Configuration.{Configuration, has_voter_or_nobody, is_restorable};
 ghost use Rattle.conf_change.specs.ConfState.{Describes, Lists, names_once, restored};
-ghost use Rattle.conf_change.specs.Progress.{all_fresh};
+ghost use Rattle.conf_change.specs.Progress.{all_fresh, fresh_progress};
 ghost use Rattle.conf_change.specs.Changer.{IsSound, begun_with};
 
 use crate::changer::Changer;
 use crate::config::{Config, check};
+use crate::edits::union;
 use crate::progress::Progress;
 use crate::saved::ConfState;
 use crate::tracker::Tracker;
-use quorum_sets::{MemberSet, NoMemory};
+use quorum_sets::{MemberSet, NoMemory, set_of};
+use smallvec::SmallVec;
 use std::alloc::Global;
-use std::collections::BTreeMap;
 use thiserror::Error;
 
 /// Why a saved configuration is not restored.
@@ -70,28 +70,33 @@ fn config_of<S: MemberSet>(alloc: Global, state: &ConfState) -> Result<Config<S>
     ensures refused { result ≡ Err RestoreFault.NotAConfiguration → (c : Configuration) → Describes state.now c → ⊥ }
 {
     Ok(Config {
-        incoming: set_of(alloc, &state.voters)?,
-        outgoing: set_of(alloc, &state.voters_outgoing)?,
-        learners: set_of(alloc, &state.learners)?,
-        learners_next: set_of(alloc, &state.learners_next)?,
+        incoming: set_from(alloc, &state.voters)?,
+        outgoing: set_from(alloc, &state.voters_outgoing)?,
+        learners: set_from(alloc, &state.learners)?,
+        learners_next: set_from(alloc, &state.learners_next)?,
         auto_leave: state.auto_leave,
     })
 }
 
 // The set of the ids of a list, if it names each once.
-fn set_of<S: MemberSet>(alloc: Global, list: &[u64]) -> Result<S, RestoreFault>
+fn set_from<S: MemberSet>(alloc: Global, list: &[u64]) -> Result<S, RestoreFault>
     ensures once { IfOk result (λ set. Lists list.now (S.ids set)) }
     ensures twice { result ≡ Err RestoreFault.NotAConfiguration → names_once list.now ≡ false }
 {
-    let mut set = S::empty(alloc);
-    for id in list {
-        set.insert(*id)?;
-    }
+    let set: S = named(alloc, list)?;
     if set.len() == list.len() {
         Ok(set)
     } else {
         Err(RestoreFault::NotAConfiguration)
     }
+}
+
+// The set of the ids of a list.
+fn named<S: MemberSet>(alloc: Global, list: &[u64]) -> Result<S, NoMemory>
+    ensures { IfOk result (λ set. S.ids set ≡ ids_of list.now) }
+{
+    let mut ids: SmallVec<u64, 16> = SmallVec::from_slice(alloc, list)?;
+    set_of(alloc, ids.as_mut_slice())
 }
 
 // Whether the configuration is valid, and has an incoming voter or nobody at all.
@@ -111,38 +116,36 @@ fn has_voter_or_nobody<S: MemberSet>(config: &Config<S>) -> bool
             && config.learners_next.len() == 0)
 }
 
-// Fresh progress of all members, with the learners marked.
+// Fresh progress of all members, in ascending order of the ids.
 fn fresh_progress<S: MemberSet>(
     alloc: Global,
     config: &Config<S>,
     last_index: u64,
-) -> Result<BTreeMap<u64, Progress>, NoMemory>
-    ensures { IfOk result (λ map. finite.from_entries map.entries ≡ all_fresh last_index config.now) }
+) -> Result<SmallVec<(u64, Progress), 8>, NoMemory>
+    ensures rising { IfOk result (λ members. IsRising (map (λ m. m.0) members.items)) }
+    ensures fresh { IfOk result (λ members. finite.from_entries members.items ≡ all_fresh last_index config.now) }
 {
-    let voter = Progress::fresh(last_index);
-    let learner = Progress {
-        learner: true,
-        ..voter
-    };
-    let mut map = BTreeMap::new(alloc);
-    put_each(&mut map, &config.incoming, voter)?;
-    put_each(&mut map, &config.outgoing, voter)?;
-    put_each(&mut map, &config.learners, learner)?;
-    Ok(map)
+    let voters = union(&config.incoming, &config.outgoing)?;
+    let ids = union(&voters, &config.learners)?;
+    fresh_of(alloc, &ids, &config.learners, last_index)
 }
 
-// Gives each id of the set this progress.
-fn put_each<S: MemberSet>(
-    map: &mut BTreeMap<u64, Progress>,
+// Fresh progress of each id of a set, with the learners marked.
+fn fresh_of<S: MemberSet>(
+    alloc: Global,
     ids: &S,
-    progress: Progress,
-) -> Result<(), NoMemory>
-    ensures { OnOk result ((q : ℕ) → get nat_cmp map.new q ≡ (if has (S.ids ids.now) q then Some progress else get nat_cmp map.old q)) }
+    learners: &S,
+    last_index: u64,
+) -> Result<SmallVec<(u64, Progress), 8>, NoMemory>
+    ensures { IfOk result (λ members. members.items ≡ map (λ id. (id, fresh_progress last_index (has (S.ids learners.now) id))) (ascending (S.ids ids.now))) }
 {
+    let fresh = Progress::fresh(last_index);
+    let mut members = SmallVec::with_capacity(alloc, ids.len())?;
     for place in 0..ids.len() {
         if let Some(id) = ids.at(place) {
-            map.insert(id, progress)?;
+            let learner = learners.contains(id);
+            members.push((id, Progress { learner, ..fresh }))?;
         }
     }
-    Ok(())
+    Ok(members)
 }

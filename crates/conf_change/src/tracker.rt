@@ -1,24 +1,25 @@
-//! The tracker: a configuration, and the progress of its members. It is edited by the changer alone, which works on a
-//! copy and puts that in place once nothing can be refused any more.
-ghost use Rattle.std.specs.Prelude.{◌≡◌, ◌-◌, ◌^◌, min, [], ◌∷◌, true, false, is_some, length, slice_get, IfOk, OnOk};
+//! The tracker: a configuration, and the progress of its members.
+ghost use Rattle.std.specs.Prelude.{◌≡◌, ℕ, ◌-◌, ◌^◌, min, true, ◌++◌, map, length, slice_get, IfOk, OnOk, if◌then◌else◌, ◌==◌, Some, is_some};
 ghost use Rattle.std.specs.Ordering.{nat_cmp};
-ghost use Rattle.std.specs.BTreeMap.{IsOrdered};
 ghost use Rattle.std.specs.FinMap as finite;
-ghost use Rattle.quorum_sets.specs.Ids.{difference_count};
-ghost use Rattle.conf_change.specs.Change.{result_of};
+ghost use Rattle.quorum_sets.specs.Ids.{has, with_id, difference_count};
+ghost use Rattle.quorum_sets.specs.Rising.{IsRising};
 ghost use Rattle.conf_change.specs.Configuration.{is_member, is_joint, has_voter};
 ghost use Rattle.conf_change.specs.Outcome.{with_outgoing, after_leave};
-ghost use Rattle.conf_change.specs.TrackerEdits.{IsInLine, Follows, FollowsAll, Applies};
-ghost use Rattle.conf_change.specs.Changer.{nobody, tracker_of};
+ghost use Rattle.conf_change.specs.Seat.{seat_in, is_member_seat};
+ghost use Rattle.conf_change.specs.TrackerEdits.{Applies, Keeps, beginning, entry_of, left_by_word, entries_of, kept_by};
+ghost use Rattle.conf_change.specs.Changer.{IsSound, nobody, tracker_of};
 ghost use Rattle.conf_change.specs.Acknowledgement.{with_progress};
 
 use crate::change::Change;
 use crate::config::Config;
 use crate::edits;
+use crate::last_words::{LastWord, last_words};
 use crate::progress::Progress;
+use crate::seat::Seat;
 use quorum_sets::{MemberSet, NoMemory, symdiff};
+use smallvec::SmallVec;
 use std::alloc::Global;
-use std::collections::BTreeMap;
 use std::marker::Model;
 
 /// A configuration and the progress of its members (etcd's `tracker.ProgressTracker`). Members are the voters of either
@@ -26,20 +27,25 @@ use std::marker::Model;
 #[derive(Drop)]
 pub struct Tracker<S: MemberSet> {
     config: Config<S>,
-    progress: BTreeMap<u64, Progress>,
+    // The members in ascending order of the ids, with their progress.
+    members: SmallVec<(u64, Progress), 8>,
     // Where its sets are made.
     alloc: Global,
 }
 
 impl<S: MemberSet> Model for Tracker<S> {
+    ghost use Rattle.std.specs.Prelude.{map};
     ghost use Rattle.std.specs.FinMap as finite;
+    ghost use Rattle.quorum_sets.specs.Rising.{IsRising};
     ghost use Rattle.conf_change.specs.TrackerState.{TrackerState, tracker_code};
 
     ghost Value = { TrackerState };
 
     ghost coded = { tracker_code };
 
-    ghost view = { λ t. record { config = t.config; progress = finite.from_entries t.progress.entries } };
+    ghost view = { λ t. record { config = t.config; progress = finite.from_entries t.members.items } };
+
+    ghost invariant = { λ t. IsRising (map (λ m. m.0) t.members.items) };
 }
 
 impl<S: MemberSet> Tracker<S> {
@@ -55,7 +61,7 @@ impl<S: MemberSet> Tracker<S> {
                 learners_next: S::empty(alloc),
                 auto_leave: false,
             },
-            progress: BTreeMap::new(alloc),
+            members: SmallVec::new(alloc),
             alloc,
         }
     }
@@ -64,13 +70,14 @@ impl<S: MemberSet> Tracker<S> {
     pub(crate) fn begin(
         alloc: Global,
         config: Config<S>,
-        progress: BTreeMap<u64, Progress>,
+        members: SmallVec<(u64, Progress), 8>,
     ) -> Tracker<S>
-        ensures { result ≡ tracker_of config (finite.from_entries progress.entries) }
+        requires { IsRising (map (λ m. m.0) members.items) }
+        ensures { result ≡ tracker_of config (finite.from_entries members.items) }
     {
         Tracker {
             config,
-            progress,
+            members,
             alloc,
         }
     }
@@ -82,7 +89,7 @@ impl<S: MemberSet> Tracker<S> {
         &self.config
     }
 
-    // The configuration, where the tracker is done with.
+    // The configuration of a tracker that is done with.
     pub(crate) fn into_config(self) -> Config<S>
         ensures { result ≡ self.config }
     {
@@ -93,50 +100,42 @@ impl<S: MemberSet> Tracker<S> {
     pub fn progress(&self, id: u64) -> Option<Progress>
         ensures { result ≡ finite.get self.now.progress id }
     {
-        self.progress.get(&id).copied()
+        progress_of(self.members.as_slice(), id)
     }
 
     /// How many members it has.
     pub fn member_count(&self) -> usize
         ensures { result ≡ length (finite.entries self.now.progress) }
     {
-        count(&self.progress)
+        self.members.len()
     }
 
     /// The member at a place, in ascending order of the ids, with its progress.
     pub fn member_at(&self, place: usize) -> Option<(u64, Progress)>
         ensures { result ≡ slice_get (finite.entries self.now.progress) place }
     {
-        entry_at(&self.progress, place)
+        self.members.as_slice().get(place).copied()
     }
 
     // The same tracker once more.
     pub(crate) fn try_clone(&self) -> Result<Tracker<S>, NoMemory>
         ensures { IfOk result (λ copy. copy ≡ self.now) }
     {
-        self.with_config(self.config.try_clone()?)
+        let config = self.config.try_clone()?;
+        let members = SmallVec::from_slice(self.alloc, self.members.as_slice())?;
+        Ok(Tracker {
+            config,
+            members,
+            ..*self
+        })
     }
 
-    // A copy that is joint, with the incoming voters for the outgoing ones.
-    pub(crate) fn with_outgoing(&self, auto_leave: bool) -> Result<Tracker<S>, NoMemory>
-        ensures { IfOk result (λ copy. copy ≡ tracker_of (with_outgoing self.now.config auto_leave) self.now.progress) }
+    // Sets the progress of a member.
+    pub(crate) fn set_progress(&mut self, id: u64, progress: Progress)
+        requires { is_some (finite.get self.old.progress id) ≡ true }
+        ensures { self.new ≡ with_progress self.old id progress }
     {
-        self.with_config(edits::with_outgoing(&self.config, auto_leave)?)
-    }
-
-    // A copy that has left the joint configuration, with all progress as it is here.
-    pub(crate) fn without_outgoing(&self) -> Result<Tracker<S>, NoMemory>
-        ensures { IfOk result (λ copy. copy ≡ tracker_of (after_leave self.now.config) self.now.progress) }
-    {
-        self.with_config(edits::without_outgoing(&self.config, self.alloc)?)
-    }
-
-    // A copy of the progress, with a configuration.
-    fn with_config(&self, config: Config<S>) -> Result<Tracker<S>, NoMemory>
-        ensures { IfOk result (λ copy. copy ≡ tracker_of config self.now.progress) }
-    {
-        let progress = self.progress.clone()?;
-        Ok(Tracker::begin(self.alloc, config, progress))
+        set_progress_of(self.members.as_mut_slice(), id, progress);
     }
 
     // Whether it has outgoing voters.
@@ -160,84 +159,179 @@ impl<S: MemberSet> Tracker<S> {
         symdiff(&self.config.incoming, &other.config.incoming)
     }
 
-    // Gives each id of the set the progress that it is to have.
-    pub(crate) fn follow_all(&mut self, ids: &S, last_index: u64) -> Result<(), NoMemory>
-        ensures { OnOk result (FollowsAll last_index (S.ids ids.now) self.old self.new) }
+    // The tracker after a list of changes.
+    pub(crate) fn after_changes(
+        &self,
+        changes: &[Change],
+        last_index: u64,
+    ) -> Result<Tracker<S>, NoMemory>
+        requires { IsSound self.now }
+        ensures { IfOk result (Applies last_index changes.now self.now) }
     {
-        for place in 0..ids.len() {
-            if let Some(id) = ids.at(place) {
-                self.follow(id, last_index)?;
-            }
+        let outgoing = self.config.outgoing.try_clone()?;
+        self.after_last_words(outgoing, self.config.auto_leave, changes, last_index)
+    }
+
+    // The tracker that is joint, with the incoming voters for the outgoing ones, after a list of changes.
+    pub(crate) fn after_entering(
+        &self,
+        auto_leave: bool,
+        changes: &[Change],
+        last_index: u64,
+    ) -> Result<Tracker<S>, NoMemory>
+        requires { IsSound self.now }
+        ensures { IfOk result (Applies last_index changes.now (tracker_of (with_outgoing self.now.config auto_leave) self.now.progress)) }
+    {
+        let outgoing = self.config.incoming.try_clone()?;
+        self.after_last_words(outgoing, auto_leave, changes, last_index)
+    }
+
+    // The tracker with these outgoing voters and this flag, after a list of changes: one walk over the last words.
+    fn after_last_words(
+        &self,
+        outgoing: S,
+        auto_leave: bool,
+        changes: &[Change],
+        last_index: u64,
+    ) -> Result<Tracker<S>, NoMemory>
+        requires sound { IsSound self.now }
+        requires inside { (q : ℕ) → has (S.ids outgoing) q ≡ true → is_member self.now.config q ≡ true }
+        ensures { IfOk result (Applies last_index changes.now (beginning self.now (S.ids outgoing) auto_leave)) }
+    {
+        let alloc = self.alloc;
+        let words = last_words(alloc, self.members.as_slice(), changes)?;
+        let mut incoming = S::empty(alloc);
+        let mut learners = S::empty(alloc);
+        let mut learners_next = S::empty(alloc);
+        let mut members = SmallVec::with_capacity(alloc, words.len())?;
+        for word in words.as_slice() {
+            let seat = self.seat(&outgoing, word.id).after(word.last);
+            put_where(&mut incoming, word.id, seat.incoming)?;
+            put_where(&mut learners, word.id, seat.learner)?;
+            put_where(&mut learners_next, word.id, seat.next)?;
+            let entry = self.entry_after(*word, seat, last_index);
+            push_entry(&mut members, word.id, entry)?;
         }
-        Ok(())
+        let config = Config {
+            incoming,
+            outgoing,
+            learners,
+            learners_next,
+            auto_leave,
+        };
+        Ok(Tracker::begin(alloc, config, members))
     }
 
-    // Makes the changes in order. After want of memory only some may be made.
-    pub(crate) fn apply_list(&mut self, changes: &[Change], last_index: u64) -> Result<(), NoMemory>
-        requires in_line { IsInLine last_index self.old }
-        requires no_zero { is_member self.old.config 0 ≡ false }
-        ensures { OnOk result (Applies last_index changes.now self.old self.new) }
+    // What an id is here, apart from the outgoing voters that are given.
+    fn seat(&self, outgoing: &S, id: u64) -> Seat
+        ensures { result ≡ seat_in (beginning self.now (S.ids outgoing.now) self.now.config.auto_leave).config id }
     {
-        for change in changes {
-            self.apply(*change, last_index)?;
-        }
-        Ok(())
-    }
-
-    // Makes one change, of the configuration and then of the progress of the id that it names.
-    fn apply(&mut self, change: Change, last_index: u64) -> Result<(), NoMemory>
-        ensures { OnOk result (Follows last_index change.id self.old (result_of self.old.config (change ∷ [])) self.new) }
-    {
-        edits::apply(&mut self.config, change)?;
-        self.follow(change.id, last_index)
-    }
-
-    // Gives an id the progress that it is to have: a member keeps what it has or begins afresh, and anybody else has none.
-    fn follow(&mut self, id: u64, last_index: u64) -> Result<(), NoMemory>
-        ensures { OnOk result (Follows last_index id self.old self.old.config self.new) }
-    {
-        if !self.is_member(id) {
-            self.progress.remove(&id);
-            return Ok(());
-        }
-        let known = self.progress(id).unwrap_or(Progress::fresh(last_index));
-        let learner = self.config.learners.contains(id);
-        self.progress.insert(id, Progress { learner, ..known })?;
-        Ok(())
-    }
-
-    // Sets the progress of a member.
-    pub(crate) fn set_progress(&mut self, id: u64, progress: Progress)
-        requires { is_some (finite.get self.old.progress id) ≡ true }
-        ensures { self.new ≡ with_progress self.old id progress }
-    {
-        if let Some(known) = self.progress.get_mut(&id) {
-            *known = progress;
+        Seat {
+            incoming: self.config.incoming.contains(id),
+            outgoing: outgoing.contains(id),
+            learner: self.config.learners.contains(id),
+            next: self.config.learners_next.contains(id),
         }
     }
 
-    // Whether the id is a voter of either kind, or a learner.
-    fn is_member(&self, id: u64) -> bool
-        ensures { result ≡ is_member self.now.config id }
+    // The progress of an id after what was said of it: a member keeps what it has, unless it is removed and does not go
+    // out, or begins afresh, and anybody else has none.
+    fn entry_after(&self, word: LastWord, seat: Seat, last_index: u64) -> Option<Progress>
+        ensures { result ≡ entry_of last_index (is_member_seat seat) seat.learner (left_by_word word.removes seat.outgoing (finite.get self.now.progress word.id)) }
     {
-        let config = &self.config;
-        config.incoming.contains(id) || config.outgoing.contains(id) || config.learners.contains(id)
+        if !seat.is_member() {
+            return None;
+        }
+        let fresh = Progress::fresh(last_index);
+        let known = if word.removes && !seat.outgoing {
+            fresh
+        } else {
+            self.progress(word.id).unwrap_or(fresh)
+        };
+        let learner = seat.learner;
+        Some(Progress { learner, ..known })
+    }
+
+    // The tracker that has left the joint configuration.
+    pub(crate) fn after_leaving(&self) -> Result<Tracker<S>, NoMemory>
+        ensures { IfOk result (Keeps (after_leave self.now.config) self.now) }
+    {
+        let config = edits::without_outgoing(&self.config, self.alloc)?;
+        let members = self.keeping(&config)?;
+        Ok(Tracker::begin(self.alloc, config, members))
+    }
+
+    // The members that are still in a configuration, with the progress that they have and their marks.
+    fn keeping(&self, config: &Config<S>) -> Result<SmallVec<(u64, Progress), 8>, NoMemory>
+        ensures rising { IfOk result (λ members. IsRising (map (λ m. m.0) members.items)) }
+        ensures kept { IfOk result (λ members. (q : ℕ) → finite.get (finite.from_entries {R = nat_cmp} members.items) q ≡ kept_by (is_member config.now q) (has config.now.learners q) (finite.get self.now.progress q)) }
+    {
+        let mut members = SmallVec::with_capacity(self.alloc, self.members.len())?;
+        for member in self.members.as_slice() {
+            let entry = kept(config, member.0, member.1);
+            push_entry(&mut members, member.0, entry)?;
+        }
+        Ok(members)
     }
 }
 
-// How many entries the map has.
-fn count(map: &BTreeMap<u64, Progress>) -> usize
-    ensures count { result ≡ length map.now.entries }
-    ensures ordered { IsOrdered nat_cmp map.now }
+// The progress that a list in ascending order of the ids has for the id.
+fn progress_of(members: &[(u64, Progress)], id: u64) -> Option<Progress>
+    requires { IsRising (map (λ m. m.0) members.now) }
+    ensures { result ≡ finite.get (finite.from_entries {R = nat_cmp} members.now) id }
 {
-    map.len()
+    match members.binary_search_by_key(&id, |member| member.0) {
+        Ok(place) => Some(members[place].1),
+        Err(_) => None,
+    }
 }
 
-// The entry at a place, in ascending order of the keys.
-fn entry_at(map: &BTreeMap<u64, Progress>, place: usize) -> Option<(u64, Progress)>
-    ensures entry { result ≡ slice_get map.now.entries place }
-    ensures ordered { IsOrdered nat_cmp map.now }
+// Sets the progress of an id that a list in ascending order of the ids has; any other id it leaves alone.
+fn set_progress_of(members: &mut [(u64, Progress)], id: u64, progress: Progress)
+    requires { IsRising (map (λ m. m.0) members.old) }
+    ensures keys { map (λ m. m.0) members.new ≡ map (λ m. m.0) members.old }
+    ensures gets { is_some (finite.get (finite.from_entries {R = nat_cmp} members.old) id) ≡ true → (q : ℕ) → finite.get (finite.from_entries {R = nat_cmp} members.new) q ≡ (if q == id then Some progress else finite.get (finite.from_entries {R = nat_cmp} members.old) q) }
 {
-    let (id, progress) = map.iter().nth(place)?;
-    Some((*id, *progress))
+    if let Ok(place) = members.binary_search_by_key(&id, |member| member.0) {
+        members[place] = (id, progress);
+    }
+}
+
+// What an id keeps that has progress: a member all of it, with its mark, and anybody else nothing.
+fn kept<S: MemberSet>(config: &Config<S>, id: u64, progress: Progress) -> Option<Progress>
+    ensures { result ≡ kept_by (is_member config.now id) (has config.now.learners id) (Some progress) }
+{
+    let learner = config.learners.contains(id);
+    if config.incoming.contains(id) || config.outgoing.contains(id) || learner {
+        Some(Progress {
+            learner,
+            ..progress
+        })
+    } else {
+        None
+    }
+}
+
+// Puts an id that is there into a set.
+fn put_where<S: MemberSet>(set: &mut S, id: u64, there: bool) -> Result<(), NoMemory>
+    ensures { OnOk result (S.ids set.new ≡ (if there then with_id (S.ids set.old) id else S.ids set.old)) }
+{
+    if there {
+        set.insert(id)?;
+    }
+    Ok(())
+}
+
+// Puts an id with its progress behind the others, where it has any.
+fn push_entry(
+    members: &mut SmallVec<(u64, Progress), 8>,
+    id: u64,
+    entry: Option<Progress>,
+) -> Result<(), NoMemory>
+    ensures { OnOk result (members.new.items ≡ members.old.items ++ entries_of id entry) }
+{
+    if let Some(progress) = entry {
+        members.push((id, progress))?;
+    }
+    Ok(())
 }

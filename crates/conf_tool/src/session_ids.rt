@@ -1,5 +1,5 @@
 //! The sets of ids that a session holds.
-use quorum_sets::TreeIds;
+use quorum_sets::InlineIds;
 
 /// How each set of a session is kept.
-pub type SessionIds = TreeIds;
+pub type SessionIds = InlineIds;

@@ -1,5 +1,5 @@
 -- What the words on finite sets of ids say of one another.
-use Rattle.std.proofs.Common.{◌≡◌, ℕ, Bool, true, false, cond, not, ◌&&◌, ◌||◌, T, List, [], ◌∷◌, map, length, is_some, refl, sym, ap, subst, ◌∙◌, arith, eqb→eq, ◌==◌}
+use Rattle.std.proofs.Common.{◌≡◌, ℕ, Bool, true, false, cond, not, ◌&&◌, ◌||◌, T, List, [], ◌∷◌, map, length, is_some, refl, sym, ap, subst, ◌∙◌, arith, eqb→eq, ◌==◌, ◌+◌, ◌<◌, take, get_or}
 use Rattle.std.specs.Prelude.{Option, Some, None, filter}
 use Rattle.std.specs.declared.cmp.Ordering.{Ordering}
 use Rattle.std.specs.declared.cmp.Ordering.TheVariants.{Less, Equal, Greater}
@@ -8,7 +8,9 @@ use Rattle.std.specs.Cmp.{nat_cmp_total, unsigned_tied}
 use Rattle.std.specs.BTreeMap.{is_at}
 use Rattle.std.specs.Map.{lookup}
 use Rattle.std.specs.List.{list_any, AllByRecursion}
-use Rattle.std.specs.List.Sorted.{IsStrictlySortedBy}
+use Rattle.std.specs.List.Sorted.{IsStrictlySortedBy, IsPermutation}
+use Rattle.std.proofs.lemmas.List.Folds.{list_any_more}
+use Rattle.std.proofs.lemmas.List.Sorted.{list_any-IsPermutation}
 use Rattle.std.specs.FinMap as finite
 use Rattle.std.specs.FinMap.{nat_cmp-IsAntisymmetric, is_sorted, find}
 use Rattle.quorum_sets.specs.Ids.{Ids, no_ids, has, with_id, without_id, ascending, ids_of, ids_where}
@@ -184,3 +186,23 @@ find_lookup q (e ∷ es) = ap (cond (eq_by_cmp nat_cmp q e.0) (Some e.1)) (find_
 -- what a tree has at an id, the finite map of its entries has
 pub lookup-from_entries : {X : Type 0} (q : ℕ) (es : List (ℕ × X)) → lookup (is_at (nat_cmp q)) es ≡ finite.get (finite.from_entries {R = nat_cmp} es) q
 lookup-from_entries q es = sym (finite.get-from_entries nat_cmp_total es q ∙ find_lookup q es)
+
+-- ---- the set of a list
+or_swap : (a b : Bool) → (a || b) ≡ (b || a)
+or_swap true true = refl
+or_swap true false = refl
+or_swap false true = refl
+or_swap false false = refl
+
+-- one more id of the list
+pub ids_of_more : (xs : List ℕ) (k : ℕ) (s : Ids) → k < length xs → s ≡ ids_of (take k xs) → with_id s (get_or xs k 0) ≡ ids_of (take (k + 1) xs)
+ids_of_more xs k s lt so_far =
+    same_ids _ _ (λ q.
+    has-with_id s (get_or xs k 0) q ∙ ap (λ b. (q == get_or xs k 0) || b) (ap (λ t. has t q) so_far ∙ has-ids_of (take k xs) q)
+    ∙ or_swap (q == get_or xs k 0) (list_any (λ x. q == x) (take k xs))
+    ∙ sym (has-ids_of (take (k + 1) xs) q ∙ list_any_more (λ x. q == x) xs k 0 lt))
+
+-- the order of the list is no matter
+pub ids_of-permuted : (xs ys : List ℕ) → IsPermutation xs ys → ids_of ys ≡ ids_of xs
+ids_of-permuted xs ys moved =
+    same_ids _ _ (λ q. has-ids_of ys q ∙ sym (list_any-IsPermutation (λ x. q == x) xs ys moved) ∙ sym (has-ids_of xs q))

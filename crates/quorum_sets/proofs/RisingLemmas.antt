@@ -1,26 +1,27 @@
 -- What edits of a rising list do to its ids, and that it still rises.
-use Rattle.std.proofs.Common.{◌≡◌, ℕ, suc, ◌+◌, ◌-◌, ◌<◌, ◌≤◌, ◌⊎◌, inl, inr, Bool, true, false, not, ◌&&◌, ◌||◌, List, [], ◌∷◌, length, take, drop, get_or, refl, sym, ap, subst, ◌∙◌, ◌==◌, arith}
+use Rattle.std.proofs.Common.{◌≡◌, ℕ, suc, ◌+◌, ◌-◌, ◌<◌, ◌≤◌, ◌⊎◌, inl, inr, Bool, true, false, not, ◌&&◌, ◌||◌, List, [], ◌∷◌, length, take, drop, get_or, refl, sym, ap, subst, ◌∙◌, ◌==◌, arith, zero, ◌++◌}
 use Rattle.std.specs.Prelude.{Result, Ok, Err, MatchResult, is_ok}
 use Rattle.std.specs.List.{list_any, insert, remove}
 use Rattle.std.specs.List.Sorted.{IsStrictlySortedBy, IsBinarySearchResult}
 use Rattle.std.specs.Ordering.{nat_cmp}
 use Rattle.std.specs.declared.cmp.Ordering.TheVariants.{Less}
 use Rattle.std.proofs.lemmas.Bool.{cond-true, lt-ltb, eq-eqb, ne_eqb, eqb-true, cases_lt, cases_order, cases_Bool}
-use Rattle.std.proofs.lemmas.List.{get_or_default, take-append-drop, drop_more}
+use Rattle.std.proofs.lemmas.List.{get_or_default, take-append-drop, drop_more, length-append, get_or_append_left, get_or_at}
 use Rattle.std.proofs.lemmas.List.Edits.{length-insert, get_or-insert_below, get_or-insert_at, get_or-insert_above, length-remove, get_or-remove_below, get_or-remove_above}
-use Rattle.std.proofs.lemmas.List.Elements.{recursion_from_All}
+use Rattle.std.proofs.lemmas.List.Elements.{recursion_from_All, All-from_recursion}
+use Rattle.std.proofs.lemmas.Cmp.{ranked}
 use Rattle.std.proofs.lemmas.List.Folds.{list_any_none, list_any_at, list_any-append}
 use Rattle.std.proofs.lemmas.List.Sorted.{searched}
 use Rattle.std.proofs.lemmas.Result.{MatchResult-weaker}
 use Rattle.quorum_sets.specs.Ids.{Ids, has, with_id, without_id, ascending, ids_of}
 use Rattle.quorum_sets.specs.Rising.{IsRising, StandsAt, GoesTo}
-use Rattle.quorum_sets.proofs.IdLemmas.{has-ids_of, has-with_id, has-without_id, same_ids, ascending-ids_of}
+use Rattle.quorum_sets.proofs.IdLemmas.{has-ids_of, has-with_id, has-without_id, same_ids, ascending-ids_of, ascending-is_sorted}
 
 -- ---- a rising list is the list of its set
 less : (x y : ℕ) → x < y → nat_cmp x y ≡ Less
 less x y lt = cond-true _ _ _ (lt-ltb x y lt)
 
-rising-sorted : (xs : List ℕ) → IsRising xs → IsStrictlySortedBy nat_cmp xs
+pub rising-sorted : (xs : List ℕ) → IsRising xs → IsStrictlySortedBy nat_cmp xs
 unfolding IsStrictlySortedBy
 rising-sorted [] up = tt
 rising-sorted (x ∷ xs) up = (
@@ -29,6 +30,24 @@ rising-sorted (x ∷ xs) up = (
       less x _ (subst (λ y. x < y) (get_or_default xs k 0 d within) above)),
   rising-sorted xs (λ i j lt within. up (suc i) (suc j) (omega arith) (omega arith)),
 )
+
+from_less : (x y : ℕ) → nat_cmp x y ≡ Less → x < y
+from_less x y e =
+    elim (cases_lt x y) [
+      | inl lt ↦ lt
+      | inr ge ↦ ranked x y Less (sym e)
+    ]
+
+pub sorted-rising : (xs : List ℕ) → IsStrictlySortedBy nat_cmp xs → IsRising xs
+unfolding IsStrictlySortedBy
+sorted-rising [] up i j lt within = absurd (omega arith)
+sorted-rising (x ∷ xs) up zero zero lt within = absurd (omega arith)
+sorted-rising (x ∷ xs) up zero (suc j) lt within = from_less x _ (All-from_recursion (λ y. nat_cmp x y ≡ Less) xs up.0 j 0 (omega arith))
+sorted-rising (x ∷ xs) up (suc i) zero lt within = absurd (omega arith)
+sorted-rising (x ∷ xs) up (suc i) (suc j) lt within = sorted-rising xs up.1 i j (omega arith) (omega arith)
+
+pub ascending-is_rising : (s : Ids) → IsRising (ascending s)
+ascending-is_rising s = sorted-rising (ascending s) (ascending-is_sorted s)
 
 pub ascending-rising : (xs : List ℕ) → IsRising xs → ascending (ids_of xs) ≡ xs
 ascending-rising xs up = ascending-ids_of xs (rising-sorted xs up)
@@ -196,3 +215,13 @@ with_id-there s x there =
 pub without_id-absent : (s : Ids) (x : ℕ) → has s x ≡ false → s ≡ without_id s x
 without_id-absent s x absent =
     same_ids _ _ (λ q. and_absent (q == x) (has s q) (λ e. ap (has s) (eqb-true q x e) ∙ absent) ∙ sym (has-without_id s x q))
+
+-- ---- an id behind the last one
+pub rising-push : (xs : List ℕ) (y : ℕ) → IsRising xs → ((k : ℕ) → k < length xs → get_or xs k 0 < y) → IsRising (xs ++ y ∷ [])
+rising-push xs y up below i j lt within =
+    let long = length-append xs (y ∷ []) in
+    let first = get_or_append_left xs (y ∷ []) 0 i (omega arith) in
+    elim (cases_lt j (length xs)) [
+      | inl inside ↦ (let second = get_or_append_left xs (y ∷ []) 0 j inside in rw (first, second) (up i j lt inside))
+      | inr last ↦ (let second = get_or_at xs y [] 0 j (omega arith) in rw (first, second) (below i (omega arith)))
+    ]

@@ -40,11 +40,15 @@ impl MemberSet for InlineIds {
         }
     }
 
+    fn allocator(&self) -> Global {
+        *self.list.allocator()
+    }
+
     fn try_clone(&self) -> Result<InlineIds, NoMemory>
         ensures same { IfOk result (λ copy. copy ≡ self.now) }
         ensures few { size self.now ≤ 8 → IsOk result }
     {
-        let list = SmallVec::from_slice(*self.list.allocator(), self.list.as_slice())?;
+        let list = SmallVec::from_slice(self.allocator(), self.list.as_slice())?;
         Ok(InlineIds { list })
     }
 

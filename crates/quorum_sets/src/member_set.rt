@@ -14,6 +14,9 @@ pub trait MemberSet: Drop {
     fn empty(alloc: Global) -> Self
         ensures { ids result ≡ no_ids };
 
+    /// Where the set takes its memory.
+    fn allocator(&self) -> Global;
+
     /// The same set once more.
     fn try_clone(&self) -> Result<Self, NoMemory>
         ensures { IfOk result (λ copy. ids copy ≡ ids self.now) };

@@ -13,6 +13,7 @@ use std::marker::Model;
 #[derive(Drop)]
 pub struct TreeIds {
     tree: BTreeSet<u64>,
+    alloc: Global,
 }
 
 impl Model for TreeIds {
@@ -33,12 +34,17 @@ impl MemberSet for TreeIds {
     fn empty(alloc: Global) -> TreeIds {
         TreeIds {
             tree: BTreeSet::new(alloc),
+            alloc,
         }
+    }
+
+    fn allocator(&self) -> Global {
+        self.alloc
     }
 
     fn try_clone(&self) -> Result<TreeIds, NoMemory> {
         let tree = self.tree.clone()?;
-        Ok(TreeIds { tree })
+        Ok(TreeIds { tree, ..*self })
     }
 
     fn insert(&mut self, id: u64) -> Result<bool, NoMemory> {

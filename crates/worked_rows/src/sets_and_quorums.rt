@@ -1,6 +1,6 @@
 //! Sets of ids, and the worked values of quorums, committed indexes, votes and differences.
 use quorum_sets::{
-    AckSource, MemberSet, NoMemory, TreeIds, VoteResult, chart, committed, common_member,
+    AckSource, InlineIds, MemberSet, NoMemory, TreeIds, VoteResult, chart, committed, common_member,
     is_quorum, joint_chart, joint_committed, joint_vote, quorum, symdiff, vote,
 };
 use std::alloc::Global;
@@ -446,4 +446,9 @@ fn walk_through<S: MemberSet>(rt: &impl Abort, alloc: Global) -> Result<(), Fail
 #[test]
 fn tree_ids(rt: HostRuntime) -> Result<(), Fail> {
     walk_through::<TreeIds>(&rt, rt.alloc())
+}
+
+#[test]
+fn inline_ids(rt: HostRuntime) -> Result<(), Fail> {
+    walk_through::<InlineIds>(&rt, rt.alloc())
 }

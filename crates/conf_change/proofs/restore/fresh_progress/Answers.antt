@@ -1,19 +1,37 @@
-use Rattle.std.proofs.Common.{ap, ◌∙◌}
+use Rattle.std.proofs.Common.{◌≡◌, ℕ, List, map, ap, ◌∙◌}
+use Rattle.std.specs.FinMap as finite
+use Rattle.std.specs.Ordering.{nat_cmp}
+use Rattle.std.proofs.lemmas.Result.{IfOk-weaker}
+use Rattle.quorum_sets.specs.Ids.{has, ascending}
+use Rattle.quorum_sets.specs.Rising.{IsRising}
 use Rattle.conf_change.specs.Configuration.{Configuration}
-use Rattle.conf_change.specs.Progress.{all_fresh}
-use Rattle.conf_change.proofs.Putting.{all_fresh_from_puts}
+use Rattle.conf_change.specs.Progress.{all_fresh, fresh_progress}
+use Rattle.conf_change.specs.declared.progress.Progress.{Progress}
+use Rattle.conf_change.proofs.Fresh.{fresh_rises, fresh_of_all}
 use Rattle.conf_change.proofs.restore.fresh_progress.Goals as goal
 
-pub returns : goal.returns
-returns g c =
-    let ids = g.S.MemberSet.ids in
+pub returns-clause-rising : goal.returns-clause-rising
+returns-clause-rising g c =
+    let own = g.S.MemberSet.ids in
+    let of : ℕ → Progress = λ id. fresh_progress c.args.last_index (has (own c.config.inside.learners) id) in
+    let Rises : List (ℕ × Progress) → Type 0 = λ ms. IsRising (map (λ m. m.0) ms) in
+    IfOk-weaker c.fresh_of.result (λ members. members.items ≡ map (λ id. (id, of id)) (ascending (own c.in_ok-ids.ids))) (λ members. Rises members.items)
+    (λ members e. fresh_rises (own c.in_ok-ids.ids) of members.items e) c.fresh_of.ensures
+
+pub returns-clause-fresh : goal.returns-clause-fresh
+returns-clause-fresh g c =
+    let own = g.S.MemberSet.ids in
+    let of : ℕ → Progress = λ id. fresh_progress c.args.last_index (has (own c.config.inside.learners) id) in
     let config : Configuration = record {
-      incoming = ids c.config.inside.incoming;
-      outgoing = ids c.config.inside.outgoing;
-      learners = ids c.config.inside.learners;
-      learners_next = ids c.config.inside.learners_next;
+      incoming = own c.config.inside.incoming;
+      outgoing = own c.config.inside.outgoing;
+      learners = own c.config.inside.learners;
+      learners_next = own c.config.inside.learners_next;
       auto_leave = c.config.inside.auto_leave;
     } in
-    all_fresh_from_puts c.args.last_index config c.fresh-voter.result c.new-map.result c.put_each.new.map c.put_each-2.new.map c.put_each-3.new.map
-    c.fresh-voter.ensures c.new-map.ensures.empty c.in_ok-put_each.ensures c.in_ok-put_each-2.ensures c.in_ok-put_each-3.ensures
-    ∙ ap (all_fresh c.args.last_index) c.config.view_is
+    IfOk-weaker c.fresh_of.result (λ members. members.items ≡ map (λ id. (id, of id)) (ascending (own c.in_ok-ids.ids)))
+    (λ members. finite.from_entries {R = nat_cmp} members.items ≡ all_fresh c.args.last_index c.args.config.now)
+    (λ members e.
+    fresh_of_all c.args.last_index config (own c.in_ok-voters.voters) (own c.in_ok-ids.ids) members.items c.in_ok-voters.ensures c.in_ok-ids.ensures e
+    ∙ ap (all_fresh c.args.last_index) c.config.view_is)
+    c.fresh_of.ensures

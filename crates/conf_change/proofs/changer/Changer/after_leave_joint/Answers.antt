@@ -1,13 +1,12 @@
-use Rattle.std.proofs.Common.{sym, ap, ◌∙◌}
+use Rattle.std.proofs.Common.{sym}
 use Rattle.conf_change.proofs.Making.{seen_as, leave_made}
 use Rattle.conf_change.proofs.changer.Changer.after_leave_joint.Goals as goal
 
 pub returns : goal.returns
 returns g c =
     seen_as _ _ _ _ c.self.view_is
-    (leave_made (record { tracker = c.self.inside.tracker; last_index = c.self.inside.last_index }) _ c.in_ok-after.after c.follow_all.new.self
-    c.self.invariant c.in_ok-after.ensures (ap (λ config. config.outgoing) (c.behind-self.view_is ∙ c.config.ensures))
-    (sym c.if-not-is_joint.ensures) c.in_ok-follow_all.ensures)
+    (leave_made (record { tracker = c.self.inside.tracker; last_index = c.self.inside.last_index }) c.in_ok-after_leaving.field-0
+    c.self.invariant (sym c.if-not-is_joint.ensures) c.in_ok-after_leaving.ensures)
 
 pub invariant_of-result : goal.invariant_of-result
 invariant_of-result g c = (returns g c).sound_after

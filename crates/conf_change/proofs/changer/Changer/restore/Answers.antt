@@ -12,7 +12,7 @@ pub begin-requires-2 : goal.begin-requires-2
 begin-requires-2 g c =
     let restorable : is_restorable c.in_ok-config.config ≡ true = sym c.is_restorable.ensures ∙ c.if-not-is_restorable.false in
     let begun : c.begin.result ≡ (begun_with c.args.last_index c.in_ok-config.config).tracker =
-    c.begin.ensures ∙ ap (tracker_of c.in_ok-config.config) c.in_ok-progress.ensures in
+    c.begin.ensures ∙ ap (tracker_of c.in_ok-config.config) c.in_ok-progress.ensures.fresh in
     let P : TrackerState → Type 0 = IsSound in
     subst P (sym begun) (begun_with-is_sound c.args.last_index c.in_ok-config.config restorable)
 

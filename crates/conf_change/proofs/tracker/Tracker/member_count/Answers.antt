@@ -1,9 +1,10 @@
 use Rattle.std.proofs.Common.{ap, sym, ◌∙◌, length}
 use Rattle.std.specs.FinMap.{entries}
+use Rattle.quorum_sets.proofs.RisingLemmas.{rising-sorted}
 use Rattle.conf_change.proofs.MemberLemmas.{entries-from_entries}
 use Rattle.conf_change.proofs.tracker.Tracker.member_count.Goals as goal
 
 pub returns : goal.returns
 returns g c =
-    c.count.ensures.count
-    ∙ ap length (sym (entries-from_entries _ c.count.ensures.ordered) ∙ ap (λ t. entries t.progress) c.self.view_is)
+    c.len.ensures.value
+    ∙ ap length (sym (entries-from_entries _ (rising-sorted _ c.self.invariant)) ∙ ap (λ t. entries t.progress) c.self.view_is)

@@ -1,19 +1,30 @@
-use Rattle.std.proofs.Common.{rules, sym, ap, ◌∙◌, is_some}
-use Rattle.std.proofs.lemmas.Bool.{true≢false}
-use Rattle.std.specs.FinMap.{from_entries, get}
-use Rattle.quorum_sets.proofs.IdLemmas.{lookup-from_entries}
-use Rattle.conf_change.specs.Changer.{tracker_of}
+use Rattle.std.proofs.Common.{rules, ℕ, List, cond, ◌==◌, map, ap, sym, subst, ◌∙◌, is_some}
+use Rattle.std.specs.Prelude.{Some}
+use Rattle.std.specs.Ordering.{nat_cmp}
+use Rattle.std.specs.FinMap as finite
+use Rattle.smallvec.proofs.SmallVecLemmas.{items-with_items}
+use Rattle.quorum_sets.specs.Rising.{IsRising}
+use Rattle.conf_change.specs.declared.progress.Progress.{Progress}
 use Rattle.conf_change.proofs.Acknowledging.{progress_set}
 use Rattle.conf_change.proofs.tracker.Tracker.set_progress.Goals as goal
-use Rattle.conf_change.proofs.tracker.Tracker.set_progress.Goals.{in-Some, in_default}
+
+abbrev Rises : List (ℕ × Progress) → Type 0
+Rises ms = IsRising (map (λ m. m.0) ms)
+
+pub set_progress_of-requires : goal.set_progress_of-requires
+set_progress_of-requires g c = subst Rises (sym c.as_mut_slice.ensures.value) c.self.invariant
 
 pub returns : goal.returns
-returns g c = elim c.match-get_mut.branch [
-  | in-Some w ↦
-      ap (λ inside. tracker_of inside.config (from_entries inside.progress.entries)) w.self-inside-is
-      ∙ progress_set c.args.self.now _ c.args.id c.args.progress _ _
-      (ap (λ t. t.config) c.self.view_is) (ap (λ t. t.progress) c.self.view_is)
-      ((c.get_mut.follows.holds c.args.progress).3 (search rules)).0
-  | in_default w ↦
-      absurd (true≢false (sym c.requires ∙ ap is_some (sym (w.in_default.ensures.value ∙ lookup-from_entries c.args.id _ ∙ ap (λ t. get t.progress c.args.id) c.self.view_is))))
-]
+returns g c =
+    let items = c.set_progress_of.new.members in
+    let same = ap (λ ms. finite.from_entries {R = nat_cmp} ms) c.as_mut_slice.ensures.value ∙ ap (λ t. t.progress) c.self.view_is in
+    rw (items-with_items c.self.inside.members items (search rules))
+    (progress_set c.args.self.now c.self.inside.config c.args.id c.args.progress items (ap (λ t. t.config) c.self.view_is)
+    (λ q. c.set_progress_of.ensures.gets (ap (λ m. is_some (finite.get m c.args.id)) same ∙ c.requires) q
+    ∙ ap (λ m. cond (q == c.args.id) (Some c.args.progress) (finite.get m q)) same))
+
+pub invariant_of-self : goal.invariant_of-self
+invariant_of-self g c =
+    let items = c.set_progress_of.new.members in
+    rw (items-with_items c.self.inside.members items (search rules))
+    (subst IsRising (sym c.set_progress_of.ensures.keys) (subst Rises (sym c.as_mut_slice.ensures.value) c.self.invariant))

@@ -1,0 +1,20 @@
+use Rattle.std.proofs.Common.{rules}
+use Rattle.std.proofs.lemmas.List.Sorted.{answers_always, IsNonDecreasingBy-from_sort}
+use Rattle.std.proofs.lemmas.Result.{IfOk-weaker}
+use Rattle.conf_change.specs.LastWords.{Joins}
+use Rattle.conf_change.proofs.LastWordLemmas.{joins-sorted}
+use Rattle.conf_change.proofs.last_words.joined_by_id.Goals as goal
+
+pub joined-requires : goal.joined-requires
+joined-requires c =
+    IsNonDecreasingBy-from_sort (λ w. w.id) _ (c.in_ok-sort_by_key.ensures.sorted (λ w. w.id) (answers_always _ _ _ (λ f a r next called. search rules)))
+
+pub returns : goal.returns
+returns c =
+    let each = c.args.each.now in
+    let sorted = c.sort_by_key.new.self in
+    IfOk-weaker c.joined.result (λ words. Joins sorted words.items) (λ words. Joins each words.items)
+    (λ words joins.
+    joins-sorted each sorted words.items c.sort_by_key.ensures.permutation
+    (c.sort_by_key.ensures.stable (λ w. w.id) (answers_always _ _ _ (λ f a r next called. search rules))) joins)
+    c.joined.ensures

@@ -1,0 +1,9 @@
+use Rattle.std.proofs.Common.{◌≡◌, map, take}
+use Rattle.quorum_sets.specs.Ids.{has, ascending}
+use Rattle.conf_change.specs.Progress.{fresh_progress}
+use Rattle.conf_change.proofs.restore.fresh_of.Given as goal
+
+abbrev pub invariant-loop-place : goal.invariant-loop-place
+invariant-loop-place g l =
+    let own = g.S.MemberSet.ids in
+    l.members.items ≡ map (λ id. (id, fresh_progress l.last_index (has (own l.learners) id))) (take l.place (ascending (own l.ids)))

@@ -1,0 +1,34 @@
+use Rattle.std.proofs.Common.{ℕ, List, ap, sym, subst, ◌∙◌, map, take_all}
+use Rattle.std.specs.Ordering.{nat_cmp}
+use Rattle.std.specs.FinMap as finite
+use Rattle.quorum_sets.specs.Ids.{has}
+use Rattle.quorum_sets.specs.Rising.{IsRising}
+use Rattle.conf_change.specs.Configuration.{is_member}
+use Rattle.conf_change.specs.TrackerEdits.{kept_by}
+use Rattle.conf_change.specs.declared.progress.Progress.{Progress}
+use Rattle.conf_change.proofs.Picking.{picked, kept_entry, kept_more, rising-picked, get-kept}
+use Rattle.conf_change.proofs.tracker.Tracker.keeping.Goals as goal
+
+pub loop-member-preserved : goal.loop-member-preserved
+loop-member-preserved g c =
+    kept_more (is_member c.args.config.now) (has c.args.config.now.learners) c.as_slice-member-items.result.now c.loop-member.member-index _
+    c.loop-member.members.items c.push_entry.new.members.items _ c.loop-member-test.true c.loop-member.invariant c.kept-entry.ensures c.in_ok-push_entry.ensures
+
+pub returns-clause-rising : goal.returns-clause-rising
+returns-clause-rising g c =
+    let d = c.args.config.now in
+    let entry = kept_entry (is_member d) (has d.learners) in
+    let es = c.self.inside.members.items in
+    let all = c.loop-member.invariant ∙ ap (picked (λ m. m.0) entry) (take_all _ _ c.loop-member-test.false ∙ c.as_slice-member-items.ensures) in
+    let Rises : List (ℕ × Progress) → Type 0 = λ ms. IsRising (map (λ m. m.0) ms) in
+    subst Rises (sym all) (rising-picked (λ m. m.0) entry es c.self.invariant)
+
+pub returns-clause-kept : goal.returns-clause-kept
+returns-clause-kept g c = λ q.
+    let d = c.args.config.now in
+    let entry = kept_entry (is_member d) (has d.learners) in
+    let es = c.self.inside.members.items in
+    let all = c.loop-member.invariant ∙ ap (picked (λ m. m.0) entry) (take_all _ _ c.loop-member-test.false ∙ c.as_slice-member-items.ensures) in
+    ap (λ ms. finite.get (finite.from_entries {R = nat_cmp} ms) q) all
+    ∙ get-kept (is_member d) (has d.learners) es q
+    ∙ ap (λ t. kept_by (is_member d q) (has d.learners q) (finite.get t.progress q)) c.self.view_is

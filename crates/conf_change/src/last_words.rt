@@ -1,0 +1,122 @@
+//! What a list of changes says of each id: one entry an id, in rising order.
+ghost use Rattle.std.specs.Prelude.{◌≡◌, ◌++◌, map, IfOk, OnOk};
+ghost use Rattle.std.specs.List.Sorted.{IsNonDecreasingBy};
+ghost use Rattle.conf_change.specs.LastWords.{silent, own_word, and_later, IsAdded, Joins, ListsLastWords};
+
+use crate::change::{Change, Kind};
+use crate::progress::Progress;
+use quorum_sets::NoMemory;
+use smallvec::SmallVec;
+use std::alloc::Global;
+
+/// What is said of an id: the kind of the last change that has a say on it, and whether any change removes it.
+#[derive(Clone, Copy, Debug, Default)]
+pub(crate) struct LastWord {
+    pub(crate) id: u64,
+    pub(crate) last: Option<Kind>,
+    pub(crate) removes: bool,
+}
+
+impl LastWord {
+    // Nothing is said of the id.
+    fn silent(id: u64) -> LastWord
+        ensures { result ≡ silent id }
+    {
+        LastWord {
+            id,
+            last: None,
+            removes: false,
+        }
+    }
+
+    // What one change says of its id.
+    fn of(change: Change) -> LastWord
+        ensures { result ≡ own_word change }
+    {
+        let last = match change.kind {
+            Kind::Update => None,
+            kind => Some(kind),
+        };
+        LastWord {
+            id: change.id,
+            last: if change.id == 0 { None } else { last },
+            removes: matches!(change.kind, Kind::Remove),
+        }
+    }
+
+    // What both say of the id, the other one later.
+    fn and_later(self, later: LastWord) -> LastWord
+        ensures { result ≡ and_later self later }
+    {
+        LastWord {
+            id: self.id,
+            last: later.last.or(self.last),
+            removes: self.removes || later.removes,
+        }
+    }
+}
+
+/// What the changes say of each member and of each id that they name.
+pub(crate) fn last_words(
+    alloc: Global,
+    members: &[(u64, Progress)],
+    changes: &[Change],
+) -> Result<SmallVec<LastWord, 16>, NoMemory>
+    ensures { IfOk result (λ words. ListsLastWords (map (λ m. m.0) members.now) changes.now words.items) }
+{
+    let mut each = in_turn(alloc, members, changes)?;
+    joined_by_id(alloc, each.as_mut_slice())
+}
+
+// The members, of whom nothing is said, and what each change says of its id.
+fn in_turn(
+    alloc: Global,
+    members: &[(u64, Progress)],
+    changes: &[Change],
+) -> Result<SmallVec<LastWord, 16>, NoMemory>
+    ensures { IfOk result (λ words. words.items ≡ map (λ m. silent m.0) members.now ++ map own_word changes.now) }
+{
+    let mut words = SmallVec::new(alloc);
+    for member in members {
+        words.push(LastWord::silent(member.0))?;
+    }
+    for change in changes {
+        words.push(LastWord::of(*change))?;
+    }
+    Ok(words)
+}
+
+// What is said of each id, as one entry. The sort keeps the order of what is said of one id.
+fn joined_by_id(alloc: Global, each: &mut [LastWord]) -> Result<SmallVec<LastWord, 16>, NoMemory>
+    ensures { IfOk result (λ words. Joins each.old words.items) }
+{
+    each.sort_by_key(alloc, |word| word.id)?;
+    joined(alloc, each)
+}
+
+// The same where the entries of one id lie together.
+fn joined(alloc: Global, each: &[LastWord]) -> Result<SmallVec<LastWord, 16>, NoMemory>
+    requires { IsNonDecreasingBy (λ w. w.id) each.now }
+    ensures { IfOk result (λ words. Joins each.now words.items) }
+{
+    let mut words = SmallVec::with_capacity(alloc, each.len())?;
+    for word in each {
+        add(&mut words, *word)?;
+    }
+    Ok(words)
+}
+
+// Adds what is said of an id that is the last one or behind it.
+fn add(words: &mut SmallVec<LastWord, 16>, word: LastWord) -> Result<(), NoMemory>
+    ensures { OnOk result (IsAdded words.old.items word words.new.items) }
+{
+    match words.pop() {
+        Some(last) if last.id == word.id => words.push(last.and_later(word))?,
+        Some(last) => {
+            words.push(last)?;
+            words.push(word)?;
+        }
+        None => words.push(word)?,
+    }
+    Ok(())
+}

@@ -1,0 +1,40 @@
+//! What an id is in a configuration.
+ghost use Rattle.std.specs.Prelude.{◌≡◌};
+ghost use Rattle.conf_change.specs.Seat.{seat_after, is_member_seat};
+
+use crate::change::Kind;
+
+/// In which of the four sets of a configuration an id is.
+#[derive(Clone, Copy, Debug)]
+pub(crate) struct Seat {
+    pub(crate) incoming: bool,
+    pub(crate) outgoing: bool,
+    pub(crate) learner: bool,
+    pub(crate) next: bool,
+}
+
+impl Seat {
+    // What the id is after the last word on it. A learner that is still an outgoing voter waits among the next learners.
+    pub(crate) fn after(self, word: Option<Kind>) -> Seat
+        ensures { result ≡ seat_after self word }
+    {
+        let kind = match word {
+            None | Some(Kind::Update) => return self,
+            Some(kind) => kind,
+        };
+        let learns = matches!(kind, Kind::Learner);
+        Seat {
+            incoming: matches!(kind, Kind::Voter),
+            outgoing: self.outgoing,
+            learner: learns && !self.outgoing,
+            next: learns && self.outgoing,
+        }
+    }
+
+    // Whether the id is a voter of either kind, or a learner.
+    pub(crate) fn is_member(self) -> bool
+        ensures { result ≡ is_member_seat self }
+    {
+        self.incoming || self.outgoing || self.learner
+    }
+}
