@@ -9,6 +9,7 @@ ghost use Rattle.conf_tool.specs.declared.tool_fault.ToolFault.TheVariants.{NoMe
 use super::clean_unless::clean_unless;
 use super::part_by_part::PartByPart;
 use crate::line_answer::answer_line;
+use crate::session_ids::SessionIds;
 use crate::status::Status;
 use crate::tool_fault::ToolFault;
 use conf_change::Changer;
@@ -16,7 +17,6 @@ use dd_file::device::{Sink, Source};
 use dd_file::fault::FileFault;
 use dd_file::lines::Lines;
 use dd_file::writing::write_all;
-use quorum_sets::TreeIds;
 use std::alloc::Global;
 
 /// The lines of an input, and the changer that their changes are made with.
@@ -24,7 +24,7 @@ use std::alloc::Global;
 pub(super) struct LineByLine {
     alloc: Global,
     lines: Lines,
-    changer: Changer<TreeIds>,
+    changer: Changer<SessionIds>,
     /// The answer to the last line.
     text: Vec<u8>,
 }
