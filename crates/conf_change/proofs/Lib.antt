@@ -8,6 +8,7 @@ pub mod Soundness
 pub mod ConfStateLemmas
 pub mod Fresh
 pub mod Rows
+pub mod Looking
 pub mod LastWordLemmas
 pub mod Joining
 pub mod Picking

@@ -10,7 +10,7 @@ use Rattle.std.specs.Cmp.{unsigned_tied}
 use Rattle.std.proofs.lemmas.Bool.{ne_eqb, cases_lt, cases_order, false≢true}
 use Rattle.std.proofs.lemmas.Bool.Decides.{nat_tests}
 use Rattle.std.proofs.lemmas.Cmp.{ranked}
-use Rattle.std.proofs.lemmas.Option.{slice_get_past, slice_get-get_or}
+use Rattle.std.proofs.lemmas.Option.{slice_get_past, slice_get-get_or, slice_get_within, get_or_from_slice_get}
 use Rattle.std.proofs.lemmas.List.{length-map, get_or_default, map-set, set-get_or}
 use Rattle.std.proofs.lemmas.List.Folds.{list_any_none}
 use Rattle.std.proofs.lemmas.List.Sorted.{IsNonDecreasingBy-from_default}
@@ -108,6 +108,11 @@ pub found_member : (es : Members) (id i : ℕ) (d : ℕ × Progress) → IsRisin
 found_member es id i d up within found =
     ap (λ m. Some m.1) (get_or_default es i d no_member within)
     ∙ sym (finite.get-from_entries nat_cmp_total es id ∙ find_at es id i up within (ranked _ id _ (sym (found no_member))))
+
+pub member_seen : (es : Members) (id i : ℕ) (p : Progress) → IsRising (map (λ m. m.0) es) → slice_get es i ≡ Some (id, p) → Some p ≡ finite.get (finite.from_entries {R = nat_cmp} es) id
+member_seen es id i p up here =
+    let at = get_or_from_slice_get es i (id, p) no_member here in
+    ap (λ m. Some m.1) (sym at) ∙ sym (finite.get-from_entries nat_cmp_total es id ∙ find_at es id i up (slice_get_within es i (id, p) here) (ap (λ m. m.0) at))
 
 none_some : (o : Option Progress) → is_some o ≡ false → None ≡ o
 none_some None e = refl

@@ -76,7 +76,7 @@ fn in_turn(
 ) -> Result<SmallVec<LastWord, 16>, NoMemory>
     ensures { IfOk result (λ words. words.items ≡ map (λ m. silent m.0) members.now ++ map own_word changes.now) }
 {
-    let mut words = SmallVec::new(alloc);
+    let mut words = SmallVec::with_capacity(alloc, members.len().saturating_add(changes.len()))?;
     for member in members {
         words.push(LastWord::silent(member.0))?;
     }

@@ -11,6 +11,7 @@ mod edits;
 mod last_words;
 pub mod laws;
 pub mod number;
+mod places;
 pub mod progress;
 pub mod refused;
 pub mod restore;

@@ -121,7 +121,7 @@ fn fresh_progress<S: MemberSet>(
     alloc: Global,
     config: &Config<S>,
     last_index: u64,
-) -> Result<SmallVec<(u64, Progress), 8>, NoMemory>
+) -> Result<SmallVec<(u64, Progress), 1>, NoMemory>
     ensures rising { IfOk result (λ members. IsRising (map (λ m. m.0) members.items)) }
     ensures fresh { IfOk result (λ members. finite.from_entries members.items ≡ all_fresh last_index config.now) }
 {
@@ -136,7 +136,7 @@ fn fresh_of<S: MemberSet>(
     ids: &S,
     learners: &S,
     last_index: u64,
-) -> Result<SmallVec<(u64, Progress), 8>, NoMemory>
+) -> Result<SmallVec<(u64, Progress), 1>, NoMemory>
     ensures { IfOk result (λ members. members.items ≡ map (λ id. (id, fresh_progress last_index (has (S.ids learners.now) id))) (ascending (S.ids ids.now))) }
 {
     let fresh = Progress::fresh(last_index);

@@ -15,6 +15,7 @@ use crate::change::Change;
 use crate::config::Config;
 use crate::edits;
 use crate::last_words::{LastWord, last_words};
+use crate::places::{Places, has_next};
 use crate::progress::Progress;
 use crate::seat::Seat;
 use quorum_sets::{MemberSet, NoMemory, symdiff};
@@ -27,8 +28,8 @@ use std::marker::Model;
 #[derive(Drop)]
 pub struct Tracker<S: MemberSet> {
     config: Config<S>,
-    // The members in ascending order of the ids, with their progress.
-    members: SmallVec<(u64, Progress), 8>,
+    // The members in ascending order of the ids, with their progress; on the heap, so that a tracker is cheap to move.
+    members: SmallVec<(u64, Progress), 1>,
     // Where its sets are made.
     alloc: Global,
 }
@@ -70,7 +71,7 @@ impl<S: MemberSet> Tracker<S> {
     pub(crate) fn begin(
         alloc: Global,
         config: Config<S>,
-        members: SmallVec<(u64, Progress), 8>,
+        members: SmallVec<(u64, Progress), 1>,
     ) -> Tracker<S>
         requires { IsRising (map (λ m. m.0) members.items) }
         ensures { result ≡ tracker_of config (finite.from_entries members.items) }
@@ -204,12 +205,13 @@ impl<S: MemberSet> Tracker<S> {
         let mut learners = S::empty(alloc);
         let mut learners_next = S::empty(alloc);
         let mut members = SmallVec::with_capacity(alloc, words.len())?;
+        let mut places = Places::default();
         for word in words.as_slice() {
-            let seat = self.seat(&outgoing, word.id).after(word.last);
+            let seat = self.seat(&outgoing, word.id, &mut places).after(word.last);
             put_where(&mut incoming, word.id, seat.incoming)?;
             put_where(&mut learners, word.id, seat.learner)?;
             put_where(&mut learners_next, word.id, seat.next)?;
-            let entry = self.entry_after(*word, seat, last_index);
+            let entry = self.entry_after(*word, seat, last_index, &mut places.members);
             push_entry(&mut members, word.id, entry)?;
         }
         let config = Config {
@@ -223,20 +225,26 @@ impl<S: MemberSet> Tracker<S> {
     }
 
     // What an id is here, apart from the outgoing voters that are given.
-    fn seat(&self, outgoing: &S, id: u64) -> Seat
+    fn seat(&self, outgoing: &S, id: u64, places: &mut Places) -> Seat
         ensures { result ≡ seat_in (beginning self.now (S.ids outgoing.now) self.now.config.auto_leave).config id }
     {
         Seat {
-            incoming: self.config.incoming.contains(id),
-            outgoing: outgoing.contains(id),
-            learner: self.config.learners.contains(id),
-            next: self.config.learners_next.contains(id),
+            incoming: has_next(&self.config.incoming, &mut places.incoming, id),
+            outgoing: has_next(outgoing, &mut places.outgoing, id),
+            learner: has_next(&self.config.learners, &mut places.learners, id),
+            next: has_next(&self.config.learners_next, &mut places.next, id),
         }
     }
 
     // The progress of an id after what was said of it: a member keeps what it has, unless it is removed and does not go
     // out, or begins afresh, and anybody else has none.
-    fn entry_after(&self, word: LastWord, seat: Seat, last_index: u64) -> Option<Progress>
+    fn entry_after(
+        &self,
+        word: LastWord,
+        seat: Seat,
+        last_index: u64,
+        place: &mut usize,
+    ) -> Option<Progress>
         ensures { result ≡ entry_of last_index (is_member_seat seat) seat.learner (left_by_word word.removes seat.outgoing (finite.get self.now.progress word.id)) }
     {
         if !seat.is_member() {
@@ -246,10 +254,23 @@ impl<S: MemberSet> Tracker<S> {
         let known = if word.removes && !seat.outgoing {
             fresh
         } else {
-            self.progress(word.id).unwrap_or(fresh)
+            self.next_progress(place, word.id).unwrap_or(fresh)
         };
         let learner = seat.learner;
         Some(Progress { learner, ..known })
+    }
+
+    // The progress of the id, which is looked for first at the place; None where it is no member.
+    fn next_progress(&self, place: &mut usize, id: u64) -> Option<Progress>
+        ensures { result ≡ finite.get self.now.progress id }
+    {
+        match self.members.as_slice().get(*place).copied() {
+            Some((found, progress)) if found == id => {
+                *place = place.saturating_add(1);
+                Some(progress)
+            }
+            _ => self.progress(id),
+        }
     }
 
     // The tracker that has left the joint configuration.
@@ -262,7 +283,7 @@ impl<S: MemberSet> Tracker<S> {
     }
 
     // The members that are still in a configuration, with the progress that they have and their marks.
-    fn keeping(&self, config: &Config<S>) -> Result<SmallVec<(u64, Progress), 8>, NoMemory>
+    fn keeping(&self, config: &Config<S>) -> Result<SmallVec<(u64, Progress), 1>, NoMemory>
         ensures rising { IfOk result (λ members. IsRising (map (λ m. m.0) members.items)) }
         ensures kept { IfOk result (λ members. (q : ℕ) → finite.get (finite.from_entries {R = nat_cmp} members.items) q ≡ kept_by (is_member config.now q) (has config.now.learners q) (finite.get self.now.progress q)) }
     {
@@ -324,7 +345,7 @@ fn put_where<S: MemberSet>(set: &mut S, id: u64, there: bool) -> Result<(), NoMe
 
 // Puts an id with its progress behind the others, where it has any.
 fn push_entry(
-    members: &mut SmallVec<(u64, Progress), 8>,
+    members: &mut SmallVec<(u64, Progress), 1>,
     id: u64,
     entry: Option<Progress>,
 ) -> Result<(), NoMemory>

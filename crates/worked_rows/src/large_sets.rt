@@ -31,7 +31,7 @@ fn holds_multiples<S: MemberSet>(rt: &impl Abort, set: &S, count: usize, of: u64
             assert_eq!(rt; set.at(place), Some(id), "at {place} of {count}");
         }
         assert!(rt; set.contains(id), "{id} of {count}");
-        assert!(rt; !set.contains(id - 1), "{id} less 1 of {count}");
+        assert!(rt; !set.contains(id + 1), "{id} and 1 of {count}");
     }
 }
 
