@@ -51,6 +51,12 @@ one_each-taken parameter arguments reply e = ap (λ enough. cond enough reply (t
   same : (a b : ℕ) → a ≡ b → nat_eq a b ≡ true
   same a b e = grind (arith, nat_tests)
 
+-- there are more or fewer values
+pub one_each-wrong : (parameter : Parameter) (arguments : List ArgumentText) (reply : Reply) → length (values_given parameter arguments) ≢ length (ids_given arguments) → with_one_each parameter arguments reply ≡ told (codes "wrong number of values")
+one_each-wrong parameter arguments reply ne = ap (λ enough. cond enough reply (told (codes "wrong number of values"))) (other (length (values_given parameter arguments)) (length (ids_given arguments)) ne) where
+  other : (a b : ℕ) → a ≢ b → nat_eq a b ≡ false
+  other a b ne = grind (arith, nat_tests)
+
 -- a saved form that is restored to nothing
 pub not_restored : (saved : ConfStateLists) (c : Option Configuration) → restored saved ≡ c → ((d : Configuration) → restored saved ≡ Some d → ⊥) → restored saved ≡ None
 not_restored saved None e none = e
