@@ -1,6 +1,6 @@
-//! The changer after a step, where the one before stays as it is.
+//! The changer after a step, where the one before stays as it is, over sets of either representation.
 use conf_change::{Change, Changer, Changes, Config, Kind, Refused, Step};
-use quorum_sets::{MemberSet, TreeIds};
+use quorum_sets::{InlineIds, MemberSet, TreeIds};
 use std::alloc::{AllocError, Global};
 use std::test::Fail;
 
@@ -15,7 +15,7 @@ fn removed(id: u64) -> Change {
 }
 
 // Whether the one voter on each side is this one; 0 is nobody.
-fn has_voters(config: &Config<TreeIds>, incoming: u64, outgoing: u64) -> bool {
+fn has_voters<S: MemberSet>(config: &Config<S>, incoming: u64, outgoing: u64) -> bool {
     (config.incoming.at(0).unwrap_or(0) == incoming)
         & (config.outgoing.at(0).unwrap_or(0) == outgoing)
         & (config.incoming.at(1).is_none())
@@ -28,7 +28,7 @@ fn replacing(alloc: Global) -> Result<Step, AllocError> {
 }
 
 // Whether steps lead on from a changer with the voter 1, which stays as it is.
-fn lead_on(before: &Changer<TreeIds>, entering: &Step) -> Result<bool, Refused> {
+fn lead_on<S: MemberSet>(before: &Changer<S>, entering: &Step) -> Result<bool, Refused> {
     let joint = before.after_step(entering)?;
     let after = joint.after_step(&Step::LeaveJoint)?;
     Ok(
@@ -39,24 +39,24 @@ fn lead_on(before: &Changer<TreeIds>, entering: &Step) -> Result<bool, Refused> 
 }
 
 // Whether a changer with the voter 1 takes the step in place.
-fn takes(mut changer: Changer<TreeIds>, entering: &Step) -> bool {
+fn takes<S: MemberSet>(mut changer: Changer<S>, entering: &Step) -> bool {
     let taken = changer.step(entering);
     (taken == Ok(())) & has_voters(&changer.into_config(), 2, 1)
 }
 
-fn with_one(alloc: Global) -> Result<Changer<TreeIds>, Refused> {
+fn with_one<S: MemberSet>(alloc: Global) -> Result<Changer<S>, Refused> {
     Changer::new(alloc, 0).after_simple(&[voter(1)])
 }
 
-fn steps(alloc: Global) -> Result<bool, Fail> {
+fn steps<S: MemberSet>(alloc: Global) -> Result<bool, Fail> {
     let entering = replacing(alloc)?;
-    let before = with_one(alloc)?;
+    let before: Changer<S> = with_one(alloc)?;
     let leads_on = lead_on(&before, &entering);
     Ok((leads_on == Ok(true)) & takes(before, &entering))
 }
 
 // Whether each step of a joint configuration, and out of a single one, is refused as it must be.
-fn are_refused(single: &Changer<TreeIds>) -> Result<bool, Refused> {
+fn are_refused<S: MemberSet>(single: &Changer<S>) -> Result<bool, Refused> {
     let joint = single.after_enter_joint(true, &[])?;
     let simple = joint.after_simple(&[]).err();
     let entering = joint.after_enter_joint(false, &[voter(2), voter(3)]).err();
@@ -68,7 +68,7 @@ fn are_refused(single: &Changer<TreeIds>) -> Result<bool, Refused> {
     )
 }
 
-fn refuses(single: &Changer<TreeIds>) -> bool {
+fn refuses<S: MemberSet>(single: &Changer<S>) -> bool {
     let two = single.after_simple(&[voter(2), voter(3)]).err();
     let nobody = single.after_simple(&[removed(1)]).err();
     let leaving = single.after_leave_joint().err();
@@ -79,26 +79,29 @@ fn refuses(single: &Changer<TreeIds>) -> bool {
         & (step == Some(Refused::NotJoint))
 }
 
-fn refusals(alloc: Global) -> Result<bool, Refused> {
-    let single = with_one(alloc)?;
+fn refusals<S: MemberSet>(alloc: Global) -> Result<bool, Refused> {
+    let single: Changer<S> = with_one(alloc)?;
     let joint = are_refused(&single);
     Ok(refuses(&single) & (joint == Ok(true)))
 }
 
-fn entering_from_nobody(alloc: Global) -> Option<Refused> {
-    let nobody: Changer<TreeIds> = Changer::new(alloc, 0);
+fn entering_from_nobody<S: MemberSet>(alloc: Global) -> Option<Refused> {
+    let nobody: Changer<S> = Changer::new(alloc, 0);
     nobody.after_enter_joint(true, &[voter(1)]).err()
 }
 
 #[test]
 fn a_step_leaves_the_changer_before_it(rt: HostRuntime) -> Result<(), Fail> {
-    assert!(rt; steps(rt.alloc())?);
+    assert!(rt; steps::<InlineIds>(rt.alloc())?);
+    assert!(rt; steps::<TreeIds>(rt.alloc())?);
     Ok(())
 }
 
 #[test]
 fn a_refused_step_gives_no_changer(rt: HostRuntime) -> Result<(), Fail> {
-    assert!(rt; refusals(rt.alloc())?);
-    assert!(rt; entering_from_nobody(rt.alloc()) == Some(Refused::ZeroVoterJoint));
+    assert!(rt; refusals::<InlineIds>(rt.alloc())?);
+    assert!(rt; refusals::<TreeIds>(rt.alloc())?);
+    assert!(rt; entering_from_nobody::<InlineIds>(rt.alloc()) == Some(Refused::ZeroVoterJoint));
+    assert!(rt; entering_from_nobody::<TreeIds>(rt.alloc()) == Some(Refused::ZeroVoterJoint));
     Ok(())
 }

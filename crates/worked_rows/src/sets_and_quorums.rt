@@ -1,7 +1,7 @@
 //! Sets of ids, and the worked values of quorums, committed indexes, votes and differences.
 use quorum_sets::{
-    AckSource, InlineIds, MemberSet, NoMemory, TreeIds, VoteResult, chart, committed, common_member,
-    is_quorum, joint_chart, joint_committed, joint_vote, quorum, symdiff, vote,
+    AckSource, InlineIds, MemberSet, NoMemory, TreeIds, VoteResult, chart, committed,
+    common_member, is_quorum, joint_chart, joint_committed, joint_vote, quorum, symdiff, vote,
 };
 use std::alloc::Global;
 use std::collections::BTreeMap;
