@@ -1,5 +1,5 @@
 -- What an acknowledgement owes.
-use Rattle.std.proofs.Common.{◌≡◌, ◌<◌, ◌+◌, ℕ, Bool, true, false, cond, ◌==◌, T, List, [], ◌∷◌, map, refl, sym, ap, subst, ◌∙◌, eqb→eq, arith}
+use Rattle.std.proofs.Common.{◌≡◌, ◌+◌, ℕ, Bool, true, false, cond, ◌==◌, T, List, [], ◌∷◌, map, refl, sym, ap, subst, ◌∙◌, eqb→eq, arith}
 use Rattle.std.specs.Prelude.{Option, Some, None, Ok, Err, IfSome, is_some, max, nat_lt, option_map}
 use Rattle.std.specs.Ordering.{nat_cmp, eq_by_cmp}
 use Rattle.std.specs.Cmp.{nat_cmp_total, unsigned_tied}
@@ -10,7 +10,10 @@ use Rattle.quorum_sets.specs.Ids.{has}
 use Rattle.conf_change.specs.Configuration.{Configuration, is_member}
 use Rattle.conf_change.specs.Acknowledgement.{acknowledged, acknowledged_by, ack_answer, with_progress, changer_with_progress, matches}
 use Rattle.conf_change.specs.Changer.{TrackerState, ChangerState, IsSound, tracker_of}
+use Rattle.conf_change.specs.Floor.{IsAhead}
 use Rattle.conf_change.specs.declared.acknowledgement.AckFault.TheVariants.{IndexTooLarge}
+use Rattle.conf_change.specs.declared.floor.Floor.{Floor}
+use Rattle.conf_change.specs.declared.floor.Floor.TheVariants.{Zero, One}
 use Rattle.conf_change.specs.declared.progress.Progress.{Progress}
 
 -- ---- the match of each member
@@ -51,23 +54,27 @@ found P o was e h = let Q : Option Progress → Type 0 = λ x. IfSome x P in sub
 marked-acknowledged : (index : ℕ) (was : Progress) → (acknowledged index was).learner ≡ was.learner
 marked-acknowledged index was = elim (nat_lt was.matched index) as (λ b. (cond b (record { matched = index; next = max was.next (index + 1); learner = was.learner }) was).learner ≡ was.learner) [ true ↦ refl | false ↦ refl ]
 
-ahead-acknowledged : (index : ℕ) (was : Progress) → was.matched < was.next → (acknowledged index was).matched < (acknowledged index was).next
-ahead-acknowledged index was ahead =
+ahead-acknowledged : (floor : Floor) (index : ℕ) (was : Progress) → IsAhead floor was → IsAhead floor (acknowledged index was)
+ahead-acknowledged floor index was ahead =
     let after : Bool → Progress = λ b. cond b (record { matched = index; next = max was.next (index + 1); learner = was.learner }) was in
-    elim (nat_lt was.matched index) as (λ b. (after b).matched < (after b).next) [ true ↦ omega arith | false ↦ ahead ]
+    elim (nat_lt was.matched index) as (λ b. IsAhead floor (after b)) [ true ↦ raised floor | false ↦ ahead ]
+  where
+    raised : (floor : Floor) → IsAhead floor (record { matched = index; next = max was.next (index + 1); learner = was.learner })
+    raised Zero = omega arith
+    raised One = omega arith
 
 -- an acknowledgement leaves a tracker sound
 pub ack-is_sound : (t : TrackerState) (id index : ℕ) (was p : Progress) → IsSound t → finite.get t.progress id ≡ Some was → p ≡ acknowledged index was
     → IsSound (with_progress t id p)
 ack-is_sound t id index was p sound had is =
     let marked = found (λ x. x.learner ≡ has t.config.learners id) (finite.get t.progress id) was had (sound.marked id) in
-    let ahead = found (λ x. x.matched < x.next) (finite.get t.progress id) was had (sound.ahead id) in
-    let Ahead : Progress → Type 0 = λ x. x.matched < x.next in
+    let ahead = found (IsAhead t.floor) (finite.get t.progress id) was had (sound.ahead id) in
+    let Ahead : Progress → Type 0 = IsAhead t.floor in
     record {
       restorable = sound.restorable;
       of_members = λ q. ap is_some (get-with_progress t id p q) ∙ member (q == id) q refl;
       marked = holds_of_each (λ q x. x.learner ≡ has t.config.learners q) t id p (ap (λ x. x.learner) is ∙ marked-acknowledged index was ∙ marked) sound.marked;
-      ahead = holds_of_each (λ q x. x.matched < x.next) t id p (subst Ahead (sym is) (ahead-acknowledged index was ahead)) sound.ahead;
+      ahead = holds_of_each (λ q. IsAhead t.floor) t id p (subst Ahead (sym is) (ahead-acknowledged t.floor index was ahead)) sound.ahead;
     }
   where
     member : (b : Bool) (q : ℕ) → (q == id) ≡ b → is_some (cond b (Some p) (finite.get t.progress q)) ≡ is_member t.config q
@@ -93,10 +100,10 @@ pub a_member : (t : TrackerState) (id : ℕ) (was : Progress) → IsSound t → 
 a_member t id was sound some = sym (sound.of_members id) ∙ ap is_some some
 
 -- ---- a write to one entry
-pub progress_set : (t : TrackerState) (d : Configuration) (id : ℕ) (p : Progress) (fs : List (ℕ × Progress))
-    → d ≡ t.config → ((q : ℕ) → finite.get (finite.from_entries {R = nat_cmp} fs) q ≡ cond (q == id) (Some p) (finite.get t.progress q))
-    → tracker_of d (finite.from_entries {R = nat_cmp} fs) ≡ with_progress t id p
-progress_set t d id p fs same_config gets =
+pub progress_set : (t : TrackerState) (floor : Floor) (d : Configuration) (id : ℕ) (p : Progress) (fs : List (ℕ × Progress))
+    → floor ≡ t.floor → d ≡ t.config → ((q : ℕ) → finite.get (finite.from_entries {R = nat_cmp} fs) q ≡ cond (q == id) (Some p) (finite.get t.progress q))
+    → tracker_of floor d (finite.from_entries {R = nat_cmp} fs) ≡ with_progress t id p
+progress_set t floor d id p fs same_floor same_config gets =
     let same : finite.from_entries {R = nat_cmp} fs ≡ finite.insert t.progress id p =
     finite.same_map nat_cmp_total nat_cmp-IsAntisymmetric _ _ (λ q. gets q ∙ sym (get-with_progress t id p q)) in
-    λ i. tracker_of (same_config i) (same i)
+    λ i. tracker_of (same_floor i) (same_config i) (same i)

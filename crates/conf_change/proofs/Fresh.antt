@@ -44,11 +44,11 @@ has_member c voters ids voters_are ids_are q =
     ∙ (λ i. (sym (has-ascending voters q) ∙ ap (λ s. has s q) voters_are ∙ has-ids_of _ q ∙ list_any-append (λ x. q == x) (ascending c.incoming) (ascending c.outgoing)
     ∙ (λ j. sym (has-ascending c.incoming q) j || sym (has-ascending c.outgoing q) j)) i || sym (has-ascending c.learners q) i)
 
-pub fresh_of_all : (last_index : ℕ) (c : Configuration) (voters ids : Ids) (members : List (ℕ × Progress))
+pub fresh_of_all : (next_index : ℕ) (c : Configuration) (voters ids : Ids) (members : List (ℕ × Progress))
     → voters ≡ ids_of (ascending c.incoming ++ ascending c.outgoing) → ids ≡ ids_of (ascending voters ++ ascending c.learners)
-    → members ≡ map (λ id. (id, fresh_progress last_index (has c.learners id))) (ascending ids) → finite.from_entries {R = nat_cmp} members ≡ all_fresh last_index c
-fresh_of_all last_index c voters ids members voters_are ids_are is =
-    let of : ℕ → Progress = λ id. fresh_progress last_index (has c.learners id) in
+    → members ≡ map (λ id. (id, fresh_progress next_index (has c.learners id))) (ascending ids) → finite.from_entries {R = nat_cmp} members ≡ all_fresh next_index c
+fresh_of_all next_index c voters ids members voters_are ids_are is =
+    let of : ℕ → Progress = λ id. fresh_progress next_index (has c.learners id) in
     finite.same_map nat_cmp_total nat_cmp-IsAntisymmetric _ _ (λ q.
     ap (λ m. finite.get (finite.from_entries {R = nat_cmp} m) q) is
     ∙ finite.get-from_entries nat_cmp_total (map (λ id. (id, of id)) (ascending ids)) q

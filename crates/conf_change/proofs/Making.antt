@@ -10,7 +10,7 @@ use Rattle.quorum_sets.proofs.IdLemmas.{has-no_ids}
 use Rattle.conf_change.specs.Configuration.{Configuration, is_member, is_joint, has_voter}
 use Rattle.conf_change.specs.Change.{result_of, removes}
 use Rattle.conf_change.specs.Outcome.{outcome, with_outgoing, after_leave}
-use Rattle.conf_change.specs.Progress.{fresh_progress, with_mark, progress_after, is_replaced}
+use Rattle.conf_change.specs.Progress.{fresh_next_of, fresh_progress, with_mark, progress_after, is_replaced}
 use Rattle.conf_change.specs.TrackerEdits.{entry_of, entry_in, kept_by, Applies, Keeps}
 use Rattle.conf_change.specs.Changer.{TrackerState, ChangerState, IsSound, GivesNext, tracker_of}
 use Rattle.conf_change.specs.declared.change.Change.{Change}
@@ -24,45 +24,45 @@ use Rattle.conf_change.proofs.Soundness.{has-after_leave, moved_to-is_sound, out
 
 -- ---- progress
 -- the entry of an id, in the words of the step
-entry_kept : (last : ℕ) (was is replaced learner : Bool) (had : Option Progress) → is_some had ≡ was
-    → cond is (Some (with_mark learner (unwrap_or (cond replaced None had) (fresh_progress last learner)))) None
-    ≡ cond is (Some (cond (was && is && not replaced) (with_mark learner (unwrap_or had (fresh_progress last learner))) (fresh_progress last learner))) None
-entry_kept last was false replaced learner had e = refl
-entry_kept last true true true learner had e = refl
-entry_kept last false true true learner had e = refl
-entry_kept last true true false learner had e = refl
-entry_kept last false true false learner None e = refl
-entry_kept last false true false learner (Some p) e = absurd (true≢false e)
+entry_kept : (next : ℕ) (was is replaced learner : Bool) (had : Option Progress) → is_some had ≡ was
+    → cond is (Some (with_mark learner (unwrap_or (cond replaced None had) (fresh_progress next learner)))) None
+    ≡ cond is (Some (cond (was && is && not replaced) (with_mark learner (unwrap_or had (fresh_progress next learner))) (fresh_progress next learner))) None
+entry_kept next was false replaced learner had e = refl
+entry_kept next true true true learner had e = refl
+entry_kept next false true true learner had e = refl
+entry_kept next true true false learner had e = refl
+entry_kept next false true false learner None e = refl
+entry_kept next false true false learner (Some p) e = absurd (true≢false e)
 
 -- each entry is left as the step says
 abbrev pub LeftBy : ChangerState → Step → TrackerState → Type 0
 LeftBy before step after =
     (q : ℕ) → finite.get after.progress q
-    ≡ entry_in before.last_index after.config (if is_replaced step after.config q then None else finite.get before.tracker.progress q) q
+    ≡ entry_in (fresh_next_of before) after.config (if is_replaced step after.config q then None else finite.get before.tracker.progress q) q
 
 progress_made : (before : ChangerState) (step : Step) (after : TrackerState) → IsSound before.tracker → LeftBy before step after
     → after.progress ≡ progress_after before step after.config
 progress_made before step after sound entries =
     finite.same_map nat_cmp_total nat_cmp-IsAntisymmetric after.progress (progress_after before step after.config) (λ q.
     entries q
-    ∙ entry_kept before.last_index (is_member before.tracker.config q) (is_member after.config q) (is_replaced step after.config q) (has after.config.learners q) _ (sound.of_members q)
+    ∙ entry_kept (fresh_next_of before) (is_member before.tracker.config q) (is_member after.config q) (is_replaced step after.config q) (has after.config.learners q) _ (sound.of_members q)
     ∙ sym (get-progress_by after.config _ q))
 
 -- ---- made
 pub made : (before : ChangerState) (step : Step) (after : TrackerState) → IsSound before.tracker
-    → outcome before.tracker.config step ≡ Ok after.config → LeftBy before step after
+    → outcome before.tracker.config step ≡ Ok after.config → after.floor ≡ before.tracker.floor → LeftBy before step after
     → GivesNext before step (Ok (record { tracker = after; last_index = before.last_index }))
-made before step after sound e entries =
+made before step after sound e floor entries =
     let progress = progress_made before step after sound entries in
     let Sound : TrackerState → Type 0 = IsSound in
     record {
       accepted = record {
         configuration = e;
-        whole = λ i. record { tracker = record { config = after.config; progress = progress i }; last_index = before.last_index };
+        whole = λ i. record { tracker = record { config = after.config; progress = progress i; floor = floor i }; last_index = before.last_index };
       };
       refused = tt;
       sound = sound;
-      sound_after = subst Sound (λ i. record { config = after.config; progress = sym progress i }) (moved_to-is_sound before step after.config sound e);
+      sound_after = subst Sound (λ i. record { config = after.config; progress = sym progress i; floor = sym floor i }) (moved_to-is_sound before step after.config sound e);
       neighbours = outcome-are_neighbours before.tracker.config after.config step e;
       overlap = outcome-overlaps before.tracker.config after.config step e;
       voter = λ _. outcome-has_voter before.tracker.config after.config step sound.restorable e;
@@ -74,32 +74,32 @@ seen_as before now step after same next = let P : ChangerState → Type 0 = λ b
 
 -- ---- a simple change
 -- the outgoing voters stay
-goes_out : (last_index : ℕ) (changes : List Change) (start after : TrackerState) → Applies last_index changes start after → start.config.outgoing ≡ after.config.outgoing
-goes_out last_index changes start after applied = sym (ap (λ c. c.outgoing) applied.configuration)
+goes_out : (next_index : ℕ) (changes : List Change) (start after : TrackerState) → Applies next_index changes start after → start.config.outgoing ≡ after.config.outgoing
+goes_out next_index changes start after applied = sym (ap (λ c. c.outgoing) applied.configuration)
 
-pub simple_made : (before : ChangerState) (changes : List Change) (start after : TrackerState) → IsSound before.tracker → start ≡ before.tracker
-    → is_joint before.tracker.config ≡ false → Applies before.last_index changes start after → has_voter after.config ≡ true
+pub simple_made : (before : ChangerState) (changes : List Change) (next_index : ℕ) (start after : TrackerState) → IsSound before.tracker → next_index ≡ fresh_next_of before → start ≡ before.tracker
+    → is_joint before.tracker.config ≡ false → Applies next_index changes start after → has_voter after.config ≡ true
     → difference_count before.tracker.config.incoming after.config.incoming ≤ 1
     → GivesNext before (Simple changes) (Ok (record { tracker = after; last_index = before.last_index }))
-simple_made before changes start after sound same single applied voter few =
+simple_made before changes next_index start after sound same_next same single applied voter few =
     let c = before.tracker.config in
     let is : after.config ≡ result_of c changes = applied.configuration ∙ ap (λ t. result_of t.config changes) same in
-    let outgoing = goes_out before.last_index changes start after applied in
-    made before (Simple changes) after sound (simple_accepted c after.config changes single (sym is) voter few)
+    let outgoing = goes_out next_index changes start after applied in
+    made before (Simple changes) after sound (simple_accepted c after.config changes single (sym is) voter few) (applied.floor ∙ ap (λ t. t.floor) same)
     (λ q. applied.entries q
-    ∙ (λ i. entry_in before.last_index after.config (cond (removes changes q && not (has (outgoing i) q)) None (finite.get (same i).progress q)) q))
+    ∙ (λ i. entry_in (same_next i) after.config (cond (removes changes q && not (has (outgoing i) q)) None (finite.get (same i).progress q)) q))
 
 -- ---- entering a joint configuration
-pub enter_made : (before : ChangerState) (auto_leave : Bool) (changes : List Change) (start after : TrackerState) → IsSound before.tracker → start ≡ tracker_of (with_outgoing before.tracker.config auto_leave) before.tracker.progress
-    → is_joint before.tracker.config ≡ false → has_voter before.tracker.config ≡ true → Applies before.last_index changes start after → has_voter after.config ≡ true
+pub enter_made : (before : ChangerState) (auto_leave : Bool) (changes : List Change) (next_index : ℕ) (start after : TrackerState) → IsSound before.tracker → next_index ≡ fresh_next_of before → start ≡ tracker_of before.tracker.floor (with_outgoing before.tracker.config auto_leave) before.tracker.progress
+    → is_joint before.tracker.config ≡ false → has_voter before.tracker.config ≡ true → Applies next_index changes start after → has_voter after.config ≡ true
     → GivesNext before (EnterJoint auto_leave changes) (Ok (record { tracker = after; last_index = before.last_index }))
-enter_made before auto_leave changes start after sound same single had_one applied voter =
+enter_made before auto_leave changes next_index start after sound same_next same single had_one applied voter =
     let c = before.tracker.config in
     let is : after.config ≡ result_of (with_outgoing c auto_leave) changes = applied.configuration ∙ ap (λ t. result_of t.config changes) same in
-    let outgoing = goes_out before.last_index changes start after applied in
-    made before (EnterJoint auto_leave changes) after sound (enter_accepted c after.config auto_leave changes single had_one (sym is) voter)
+    let outgoing = goes_out next_index changes start after applied in
+    made before (EnterJoint auto_leave changes) after sound (enter_accepted c after.config auto_leave changes single had_one (sym is) voter) (applied.floor ∙ ap (λ t. t.floor) same)
     (λ q. applied.entries q
-    ∙ (λ i. entry_in before.last_index after.config (cond (removes changes q && not (has (outgoing i) q)) None (finite.get (same i).progress q)) q))
+    ∙ (λ i. entry_in (same_next i) after.config (cond (removes changes q && not (has (outgoing i) q)) None (finite.get (same i).progress q)) q))
 
 -- ---- leaving it
 -- who is no outgoing voter is what it was
@@ -124,10 +124,10 @@ was_member c q valid true out m = or_left (has c.incoming q || has c.outgoing q)
 was_member c q valid false out m = (stays c q valid out).member ∙ m
 
 -- who has progress and keeps it needs none afresh
-kept_entry : (last : ℕ) (member learner : Bool) (had : Option Progress) → (member ≡ true → is_some had ≡ true) → kept_by member learner had ≡ entry_of last member learner had
-kept_entry last false learner had some = refl
-kept_entry last true learner None some = absurd (true≢false (sym (some refl)))
-kept_entry last true learner (Some p) some = refl
+kept_entry : (next : ℕ) (member learner : Bool) (had : Option Progress) → (member ≡ true → is_some had ≡ true) → kept_by member learner had ≡ entry_of next member learner had
+kept_entry next false learner had some = refl
+kept_entry next true learner None some = absurd (true≢false (sym (some refl)))
+kept_entry next true learner (Some p) some = refl
 
 pub leave_made : (before : ChangerState) (after : TrackerState) → IsSound before.tracker → is_joint before.tracker.config ≡ true → Keeps (after_leave before.tracker.config) before.tracker after
     → GivesNext before LeaveJoint (Ok (record { tracker = after; last_index = before.last_index }))
@@ -135,7 +135,7 @@ leave_made before after sound joint keeps =
     let c = before.tracker.config in
     let d = after_leave c in
     let valid = members_from_valid c (and_parts _ _ sound.restorable).0 in
-    made before LeaveJoint after sound (leave_accepted c joint ∙ ap Ok (sym keeps.configuration))
+    made before LeaveJoint after sound (leave_accepted c joint ∙ ap Ok (sym keeps.configuration)) keeps.floor
     (λ q. keeps.entries q
-    ∙ kept_entry before.last_index (is_member d q) (has d.learners q) (finite.get before.tracker.progress q) (λ m. sound.of_members q ∙ was_member c q valid (has c.outgoing q) refl m)
-    ∙ ap (λ e. entry_in before.last_index e (finite.get before.tracker.progress q) q) (sym keeps.configuration))
+    ∙ kept_entry (fresh_next_of before) (is_member d q) (has d.learners q) (finite.get before.tracker.progress q) (λ m. sound.of_members q ∙ was_member c q valid (has c.outgoing q) refl m)
+    ∙ ap (λ e. entry_in (fresh_next_of before) e (finite.get before.tracker.progress q) q) (sym keeps.configuration))

@@ -1,5 +1,5 @@
 -- What an accepted step keeps: the voters stay neighbours, a voter stays, and the tracker stays sound.
-use Rattle.std.proofs.Common.{◌≡◌, ℕ, ◌<◌, ◌≤◌, Bool, true, false, cond, not, ◌&&◌, ◌||◌, ◌==◌, List, [], ◌∷◌, ◌++◌, refl, sym, ap, subst, ◌∙◌, inl, inr, arith, ltb-false, is_some}
+use Rattle.std.proofs.Common.{◌≡◌, ℕ, ◌≤◌, Bool, true, false, cond, not, ◌&&◌, ◌||◌, ◌==◌, List, [], ◌∷◌, ◌++◌, refl, sym, ap, subst, ◌∙◌, inl, inr, arith, ltb-false, is_some}
 use Rattle.std.specs.Prelude.{Option, Some, None, IfSome, unwrap_or, Ok, find, reverse, option_map, if◌then◌else◌}
 use Rattle.std.specs.FinMap as finite
 use Rattle.std.proofs.lemmas.Bool.{or_cases, and_parts, and_from, or_left, not-true, not-false, true≢false}
@@ -12,11 +12,14 @@ use Rattle.quorum_sets.proofs.Overlapping.{quorums_meet, quorums_meet_back, comm
 use Rattle.conf_change.specs.Configuration.{Configuration, voters_of, is_joint, has_voter, is_valid, is_restorable, is_member}
 use Rattle.conf_change.specs.Change.{names, last_word, is_update, is_incoming_after, is_learner_after, is_next_after, result_of}
 use Rattle.conf_change.specs.Outcome.{outcome, with_outgoing, after_leave}
-use Rattle.conf_change.specs.Progress.{fresh_progress, with_mark, keeps_progress, progress_after}
+use Rattle.conf_change.specs.Progress.{fresh_next_of, fresh_progress, with_mark, keeps_progress, progress_after}
+use Rattle.conf_change.specs.Floor.{fresh_next, IsAhead}
 use Rattle.conf_change.specs.Changer.{ChangerState, IsSound, begun_with, moved_to}
 use Rattle.conf_change.specs.declared.change.Change.{Change}
 use Rattle.conf_change.specs.declared.change.Kind.{Kind}
 use Rattle.conf_change.specs.declared.change.Kind.TheVariants.{Voter, Learner, Remove, Update}
+use Rattle.conf_change.specs.declared.floor.Floor.{Floor}
+use Rattle.conf_change.specs.declared.floor.Floor.TheVariants.{Zero, One}
 use Rattle.conf_change.specs.declared.progress.Progress.{Progress}
 use Rattle.conf_change.specs.declared.step.Step.{Step}
 use Rattle.conf_change.specs.declared.step.Step.TheVariants.{Simple, EnterJoint, LeaveJoint}
@@ -199,13 +202,19 @@ of_default : (o : Option Progress) (p : Progress) (P : Progress → Type 0) → 
 of_default None p P h k = k
 of_default (Some q) p P h k = h
 
-abbrev is_ahead : Progress → Type 0
-is_ahead p = p.matched < p.next
+fresh-is_ahead : (floor : Floor) (last_index : ℕ) (learner : Bool) → IsAhead floor (fresh_progress (fresh_next floor last_index) learner)
+fresh-is_ahead Zero last_index learner = omega arith
+fresh-is_ahead One last_index learner = omega arith
+
+-- the mark has no part in it
+marked-is_ahead : (floor : Floor) (learner : Bool) (p : Progress) → IsAhead floor p → IsAhead floor (with_mark learner p)
+marked-is_ahead Zero learner p ahead = ahead
+marked-is_ahead One learner p ahead = ahead
 
 -- what an id has after the step, if it is a member then
 abbrev pub own_progress : ChangerState → Step → Configuration → ℕ → Progress
 own_progress before step after id =
-    let fresh = fresh_progress before.last_index (has after.learners id) in
+    let fresh = fresh_progress (fresh_next_of before) (has after.learners id) in
     if keeps_progress before.tracker.config step after id
     then with_mark (has after.learners id) (unwrap_or (finite.get before.tracker.progress id) fresh)
     else fresh
@@ -218,12 +227,14 @@ own_progress-marked : (before : ChangerState) (step : Step) (after : Configurati
 own_progress-marked before step after id =
     of_kept (keeps_progress before.tracker.config step after id) _ _ (λ p. p.learner ≡ has after.learners id) refl refl
 
-own_progress-ahead : (before : ChangerState) (step : Step) (after : Configuration) (id : ℕ) → IsSound before.tracker → is_ahead (own_progress before step after id)
+own_progress-ahead : (before : ChangerState) (step : Step) (after : Configuration) (id : ℕ) → IsSound before.tracker → IsAhead before.tracker.floor (own_progress before step after id)
 own_progress-ahead before step after id sound =
-    let fresh = fresh_progress before.last_index (has after.learners id) in
-    let starts : is_ahead fresh = omega arith in
-    of_kept (keeps_progress before.tracker.config step after id) _ _ is_ahead
-    (of_default (finite.get before.tracker.progress id) fresh is_ahead (sound.ahead id) starts) starts
+    let fresh = fresh_progress (fresh_next_of before) (has after.learners id) in
+    let Ahead : Progress → Type 0 = IsAhead before.tracker.floor in
+    let learner = has after.learners id in
+    let starts : Ahead fresh = fresh-is_ahead before.tracker.floor before.last_index learner in
+    of_kept (keeps_progress before.tracker.config step after id) _ _ Ahead
+    (marked-is_ahead before.tracker.floor learner _ (of_default (finite.get before.tracker.progress id) fresh Ahead (sound.ahead id) starts)) starts
 
 pub moved_to-is_sound : (before : ChangerState) (step : Step) (after : Configuration)
     → IsSound before.tracker → outcome before.tracker.config step ≡ Ok after → IsSound (moved_to before step after).tracker
@@ -235,14 +246,14 @@ moved_to-is_sound before step after sound e = record {
       subst Marked (sym (get-after before step after id))
       (of_member (is_member after id) _ (λ p. p.learner ≡ has after.learners id) (own_progress-marked before step after id));
   ahead = λ id.
-      let Ahead : Option Progress → Type 0 = λ o. IfSome o is_ahead in
-      subst Ahead (sym (get-after before step after id)) (of_member (is_member after id) _ is_ahead (own_progress-ahead before step after id sound));
+      let Ahead : Option Progress → Type 0 = λ o. IfSome o (IsAhead before.tracker.floor) in
+      subst Ahead (sym (get-after before step after id)) (of_member (is_member after id) _ (IsAhead before.tracker.floor) (own_progress-ahead before step after id sound));
 }
 
 -- a tracker whose progress is all fresh is sound too
-pub begun_with-is_sound : (last_index : ℕ) (c : Configuration) → is_restorable c ≡ true → IsSound (begun_with last_index c).tracker
-begun_with-is_sound last_index c ok =
-    let of : ℕ → Progress = λ id. fresh_progress last_index (has c.learners id) in
+pub begun_with-is_sound : (floor : Floor) (last_index : ℕ) (c : Configuration) → is_restorable c ≡ true → IsSound (begun_with floor last_index c).tracker
+begun_with-is_sound floor last_index c ok =
+    let of : ℕ → Progress = λ id. fresh_progress (fresh_next floor last_index) (has c.learners id) in
     record {
       restorable = ok;
       of_members = λ id. ap is_some (get-progress_by c of id) ∙ is_some-cond (is_member c id) (of id);
@@ -250,6 +261,6 @@ begun_with-is_sound last_index c ok =
           let Marked : Option Progress → Type 0 = λ o. IfSome o (λ p. p.learner ≡ has c.learners id) in
           subst Marked (sym (get-progress_by c of id)) (of_member (is_member c id) (of id) (λ p. p.learner ≡ has c.learners id) refl);
       ahead = λ id.
-          let Ahead : Option Progress → Type 0 = λ o. IfSome o is_ahead in
-          subst Ahead (sym (get-progress_by c of id)) (of_member (is_member c id) (of id) is_ahead (omega arith));
+          let Ahead : Option Progress → Type 0 = λ o. IfSome o (IsAhead floor) in
+          subst Ahead (sym (get-progress_by c of id)) (of_member (is_member c id) (of id) (IsAhead floor) (fresh-is_ahead floor last_index (has c.learners id)));
     }

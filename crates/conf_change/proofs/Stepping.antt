@@ -19,6 +19,7 @@ use Rattle.conf_change.specs.TrackerEdits.{beginning, entry_of, left_by, left_by
 use Rattle.conf_change.specs.Changer.{IsSound, tracker_of}
 use Rattle.conf_change.specs.declared.change.Change.{Change}
 use Rattle.conf_change.specs.declared.change.Kind.{Kind}
+use Rattle.conf_change.specs.declared.floor.Floor.{Floor}
 use Rattle.conf_change.specs.declared.last_words.LastWord.{LastWord}
 use Rattle.conf_change.specs.declared.progress.Progress.{Progress}
 use Rattle.conf_change.specs.declared.seat.Seat.{Seat}
@@ -41,15 +42,15 @@ abbrev pub member_then : TrackerState → List Change → ℕ → Bool
 member_then t xs q = incoming_then t xs q || has t.config.outgoing q || learner_then t xs q
 
 abbrev pub entry_then : ℕ → TrackerState → List Change → ℕ → Option Progress
-entry_then last_index t xs q = entry_of last_index (member_then t xs q) (learner_then t xs q) (left_by t xs q)
+entry_then next_index t xs q = entry_of next_index (member_then t xs q) (learner_then t xs q) (left_by t xs q)
 
 -- ---- the walk
 -- what is made of the ids that are passed
-pub record WalkedSoFar (last_index : ℕ) (t : TrackerState) (xs : List Change) (passed : List ℕ) (incoming learners next : Ids) (members : List (ℕ × Progress)) : Type 0 where
+pub record WalkedSoFar (next_index : ℕ) (t : TrackerState) (xs : List Change) (passed : List ℕ) (incoming learners next : Ids) (members : List (ℕ × Progress)) : Type 0 where
   pub incoming_is : incoming ≡ ids_where (incoming_then t xs) passed
   pub learners_are : learners ≡ ids_where (learner_then t xs) passed
   pub next_are : next ≡ ids_where (next_then t xs) passed
-  pub members_are : members ≡ picked (λ q. q) (entry_then last_index t xs) passed
+  pub members_are : members ≡ picked (λ q. q) (entry_then next_index t xs) passed
 
 and_none : (b : Bool) → (b && false) ≡ false
 and_none true = refl
@@ -58,9 +59,9 @@ and_none false = refl
 none_where : (p : ℕ → Bool) → no_ids ≡ ids_where p []
 none_where p = same_ids _ _ (λ q. has-no_ids q ∙ sym (has-ids_where p [] q ∙ and_none (p q)))
 
-pub walked_none : (last_index : ℕ) (t : TrackerState) (xs : List Change) (incoming learners next : Ids) (members : List (ℕ × Progress))
-    → incoming ≡ no_ids → learners ≡ no_ids → next ≡ no_ids → members ≡ [] → WalkedSoFar last_index t xs [] incoming learners next members
-walked_none last_index t xs incoming learners next members i l n m = record {
+pub walked_none : (next_index : ℕ) (t : TrackerState) (xs : List Change) (incoming learners next : Ids) (members : List (ℕ × Progress))
+    → incoming ≡ no_ids → learners ≡ no_ids → next ≡ no_ids → members ≡ [] → WalkedSoFar next_index t xs [] incoming learners next members
+walked_none next_index t xs incoming learners next members i l n m = record {
   incoming_is = i ∙ none_where (incoming_then t xs);
   learners_are = l ∙ none_where (learner_then t xs);
   next_are = n ∙ none_where (next_then t xs);
@@ -97,30 +98,30 @@ where_more p passed x s after was is =
     ∙ one_more (p x) (q == x) (list_any (λ y. q == y) passed) (p q) (λ e. ap p (eqb-true q x e))
     ∙ sym (has-ids_where p (passed ++ x ∷ []) q ∙ ap (λ b. p q && b) (list_any-append (λ y. q == y) passed (x ∷ []))))
 
-pub walked_more : (last_index : ℕ) (t : TrackerState) (xs : List Change) (words : List LastWord) (k : ℕ) (d : LastWord)
+pub walked_more : (next_index : ℕ) (t : TrackerState) (xs : List Change) (words : List LastWord) (k : ℕ) (d : LastWord)
     (incoming learners next incoming' learners' next' : Ids) (members members' : List (ℕ × Progress)) (sat seat : Seat) (entry : Option Progress)
-    → k < length words → SaysOf xs (get_or words k d) → WalkedSoFar last_index t xs (take k (ids words)) incoming learners next members
+    → k < length words → SaysOf xs (get_or words k d) → WalkedSoFar next_index t xs (take k (ids words)) incoming learners next members
     → (let w = get_or words k d in
     sat ≡ seat_in t.config w.id → seat ≡ seat_after sat w.last
     → incoming' ≡ cond seat.incoming (with_id incoming w.id) incoming
     → learners' ≡ cond seat.learner (with_id learners w.id) learners
     → next' ≡ cond seat.next (with_id next w.id) next
-    → entry ≡ entry_of last_index (is_member_seat seat) seat.learner (left_by_word w.removes seat.outgoing (finite.get t.progress w.id))
+    → entry ≡ entry_of next_index (is_member_seat seat) seat.learner (left_by_word w.removes seat.outgoing (finite.get t.progress w.id))
     → members' ≡ members ++ entries_of w.id entry
-    → WalkedSoFar last_index t xs (take (k + 1) (ids words)) incoming' learners' next' members')
-walked_more last_index t xs words k d incoming learners next incoming' learners' next' members members' sat seat entry within says so_far sat_is seat_is i l n entry_is m =
+    → WalkedSoFar next_index t xs (take (k + 1) (ids words)) incoming' learners' next' members')
+walked_more next_index t xs words k d incoming learners next incoming' learners' next' members members' sat seat entry within says so_far sat_is seat_is i l n entry_is m =
     let w = get_or words k d in
     let passed = take k (ids words) in
     let s : seat ≡ seat_after (seat_in t.config w.id) (last_word xs w.id) = seat_is ∙ (λ j. seat_after (sat_is j) (says.last j)) in
-    let e : entry ≡ entry_then last_index t xs w.id =
-    entry_is ∙ (λ j. entry_of last_index (is_member_seat (s j)) (s j).learner (left_by_word (says.removal j) (s j).outgoing (finite.get t.progress w.id))) in
+    let e : entry ≡ entry_then next_index t xs w.id =
+    entry_is ∙ (λ j. entry_of next_index (is_member_seat (s j)) (s j).learner (left_by_word (says.removal j) (s j).outgoing (finite.get t.progress w.id))) in
     let long : length (ids words) ≡ length words = length-map words (λ v. v.id) in
     let more : take (k + 1) (ids words) ≡ passed ++ w.id ∷ [] = take_more (ids words) k 0 (subst (λ z. k < z) (sym long) within) ∙ ap (λ x. passed ++ x ∷ []) (ids_at words k d within) in
-    subst (λ p. WalkedSoFar last_index t xs p incoming' learners' next' members') (sym more) (record {
+    subst (λ p. WalkedSoFar next_index t xs p incoming' learners' next' members') (sym more) (record {
       incoming_is = where_more (incoming_then t xs) passed w.id incoming incoming' so_far.incoming_is (i ∙ ap (λ v. cond v.incoming (with_id incoming w.id) incoming) s);
       learners_are = where_more (learner_then t xs) passed w.id learners learners' so_far.learners_are (l ∙ ap (λ v. cond v.learner (with_id learners w.id) learners) s);
       next_are = where_more (next_then t xs) passed w.id next next' so_far.next_are (n ∙ ap (λ v. cond v.next (with_id next w.id) next) s);
-      members_are = m ∙ (λ j. so_far.members_are j ++ entries_of w.id (e j)) ∙ flat_map_more (λ q. entries_of q (entry_then last_index t xs q)) [] passed w.id;
+      members_are = m ∙ (λ j. so_far.members_are j ++ entries_of w.id (e j)) ∙ flat_map_more (λ q. entries_of q (entry_then next_index t xs q)) [] passed w.id;
     })
 
 -- ---- at the end
@@ -163,17 +164,17 @@ covered_by : (before : TrackerState) (xs : List Change) (words : List LastWord) 
 covered_by before xs words c q f was None e d = c.known q (was d)
 covered_by before xs words c q f was (Some kind) e d = c.named q kind e
 
-pub walked_applies : (last_index : ℕ) (before : TrackerState) (outgoing : Ids) (auto_leave : Bool) (es : List (ℕ × Progress)) (xs : List Change) (words : List LastWord) (k : ℕ)
+pub walked_applies : (next_index : ℕ) (before : TrackerState) (floor : Floor) (outgoing : Ids) (auto_leave : Bool) (es : List (ℕ × Progress)) (xs : List Change) (words : List LastWord) (k : ℕ)
     (incoming learners next : Ids) (members : List (ℕ × Progress))
-    → IsSound before → ((q : ℕ) → has outgoing q ≡ true → is_member before.config q ≡ true) → finite.from_entries {R = nat_cmp} es ≡ before.progress
+    → IsSound before → floor ≡ before.floor → ((q : ℕ) → has outgoing q ≡ true → is_member before.config q ≡ true) → finite.from_entries {R = nat_cmp} es ≡ before.progress
     → ListsLastWords (map (λ m. m.0) es) xs words → length words ≤ k
-    → WalkedSoFar last_index (beginning before outgoing auto_leave) xs (take k (ids words)) incoming learners next members
-    → Applies last_index xs (beginning before outgoing auto_leave)
-    (tracker_of (record { incoming = incoming; outgoing = outgoing; learners = learners; learners_next = next; auto_leave = auto_leave }) (finite.from_entries members))
-walked_applies last_index before outgoing auto_leave es xs words k incoming learners next members sound inside same lists past so_far =
+    → WalkedSoFar next_index (beginning before outgoing auto_leave) xs (take k (ids words)) incoming learners next members
+    → Applies next_index xs (beginning before outgoing auto_leave)
+    (tracker_of floor (record { incoming = incoming; outgoing = outgoing; learners = learners; learners_next = next; auto_leave = auto_leave }) (finite.from_entries members))
+walked_applies next_index before floor outgoing auto_leave es xs words k incoming learners next members sound same_floor inside same lists past so_far =
     let t = beginning before outgoing auto_leave in
     let long : length (ids words) ≡ length words = length-map words (λ v. v.id) in
-    let walked = subst (λ p. WalkedSoFar last_index t xs p incoming learners next members) (take_all k (ids words) (subst (λ z. z ≤ k) (sym long) past)) so_far in
+    let walked = subst (λ p. WalkedSoFar next_index t xs p incoming learners next members) (take_all k (ids words) (subst (λ z. z ≤ k) (sym long) past)) so_far in
     let c = covers before es xs words sound same lists in
     let old = before.config in
     let valid = members_from_valid old (and_parts _ _ sound.restorable).0 in
@@ -200,17 +201,18 @@ walked_applies last_index before outgoing auto_leave es xs words k incoming lear
           (λ q. in_is q ∙ sym (has-incoming_after t.config xs q)) refl
           (λ q. learner_is q ∙ sym (has-learners_after t.config xs q))
           (λ q. next_is q ∙ sym (has-next_after t.config xs q)) refl;
+      floor = same_floor;
       entries = λ q.
           ap (λ m. finite.get (finite.from_entries {R = nat_cmp} m) q) walked.members_are
-          ∙ get-picked (entry_then last_index t xs) (ids words) q
+          ∙ get-picked (entry_then next_index t xs) (ids words) q
           ∙ settled (list_any (λ x. q == x) (ids words)) (member_then t xs q) _ (λ m. any-ids words q ∙ member_covered q m)
-          ∙ sym (λ i. entry_of last_index (in_is q i || has outgoing q || learner_is q i) (learner_is q i) (left_by t xs q));
+          ∙ sym (λ i. entry_of next_index (in_is q i || has outgoing q || learner_is q i) (learner_is q i) (left_by t xs q));
     }
 
-pub walked_rises : (last_index : ℕ) (t : TrackerState) (xs : List Change) (words : List LastWord) (k : ℕ) (incoming learners next : Ids) (members : List (ℕ × Progress))
-    → IsRising (ids words) → length words ≤ k → WalkedSoFar last_index t xs (take k (ids words)) incoming learners next members → IsRising (map (λ m. m.0) members)
-walked_rises last_index t xs words k incoming learners next members up past so_far =
+pub walked_rises : (next_index : ℕ) (t : TrackerState) (xs : List Change) (words : List LastWord) (k : ℕ) (incoming learners next : Ids) (members : List (ℕ × Progress))
+    → IsRising (ids words) → length words ≤ k → WalkedSoFar next_index t xs (take k (ids words)) incoming learners next members → IsRising (map (λ m. m.0) members)
+walked_rises next_index t xs words k incoming learners next members up past so_far =
     let long : length (ids words) ≡ length words = length-map words (λ v. v.id) in
-    let all = so_far.members_are ∙ ap (picked (λ q. q) (entry_then last_index t xs)) (take_all k (ids words) (subst (λ z. z ≤ k) (sym long) past)) in
+    let all = so_far.members_are ∙ ap (picked (λ q. q) (entry_then next_index t xs)) (take_all k (ids words) (subst (λ z. z ≤ k) (sym long) past)) in
     let Rises : List (ℕ × Progress) → Type 0 = λ ms. IsRising (map (λ m. m.0) ms) in
-    subst Rises (sym all) (rising-picked_ids (entry_then last_index t xs) (ids words) up)
+    subst Rises (sym all) (rising-picked_ids (entry_then next_index t xs) (ids words) up)

@@ -23,7 +23,7 @@ ack_answer tracker id index = acknowledged_by (finite.get tracker.progress id) i
 
 -- the tracker where the id has this progress
 abbrev pub with_progress : TrackerState → ℕ → Progress → TrackerState
-with_progress tracker id p = tracker_of tracker.config (finite.insert tracker.progress id p)
+with_progress tracker id p = tracker_of tracker.floor tracker.config (finite.insert tracker.progress id p)
 
 -- the changer where the id has this progress, and nothing else differs
 abbrev pub changer_with_progress : ChangerState → ℕ → Progress → ChangerState

@@ -1,46 +1,48 @@
 -- What a changer's calls do to its configuration and progress.
-use Rattle.std.specs.Prelude.{◌≡◌, ◌≢◌, ℕ, ◌<◌, true, is_some, IfSome, IfOk, IfErr, OnOk, OnErr, Result, Ok, Err}
+use Rattle.std.specs.Prelude.{◌≡◌, ◌≢◌, ℕ, true, is_some, IfSome, IfOk, IfErr, OnOk, OnErr, Result, Ok, Err}
 use Rattle.std.specs.FinMap as finite
 use Rattle.quorum_sets.specs.Ids.{has}
 use Rattle.quorum_sets.specs.Overlap.{Overlap}
 use Rattle.quorum_sets.specs.Voters.{AreNeighbours}
 use Rattle.conf_change.specs.Configuration.{Configuration, empty_configuration, voters_of, is_member, has_voter, is_restorable}
+use Rattle.conf_change.specs.Floor.{fresh_next, IsAhead}
 use Rattle.conf_change.specs.Outcome.{Outcome, outcome}
 use Rattle.conf_change.specs.Progress.{progress_after, all_fresh}
 pub use Rattle.conf_change.specs.TrackerState.{TrackerState, ProgressMap}
 pub use Rattle.conf_change.specs.ChangerState.{ChangerState}
+use Rattle.conf_change.specs.declared.floor.Floor.{Floor}
 use Rattle.conf_change.specs.declared.refused.Refused.{Refused}
 use Rattle.conf_change.specs.declared.refused.Refused.TheVariants.{NoMemory}
 use Rattle.conf_change.specs.declared.step.Step.{Step}
 
 -- nobody is in it
-abbrev pub nobody : TrackerState
-nobody = record { config = empty_configuration; progress = finite.empty }
+abbrev pub nobody : Floor → TrackerState
+nobody floor = record { config = empty_configuration; progress = finite.empty; floor = floor }
 
--- the tracker of a configuration and of progress
-abbrev pub tracker_of : Configuration → ProgressMap → TrackerState
-tracker_of c progress = record { config = c; progress = progress }
+-- the tracker of a configuration and of progress, with this floor
+abbrev pub tracker_of : Floor → Configuration → ProgressMap → TrackerState
+tracker_of floor c progress = record { config = c; progress = progress; floor = floor }
 
 -- the changer of a tracker
 abbrev pub changer_of : TrackerState → ℕ → ChangerState
 changer_of tracker last_index = record { tracker = tracker; last_index = last_index }
 
 -- the changer that nobody is in yet
-abbrev pub new_changer : ℕ → ChangerState
-new_changer last_index = record { tracker = nobody; last_index = last_index }
+abbrev pub new_changer : Floor → ℕ → ChangerState
+new_changer floor last_index = record { tracker = nobody floor; last_index = last_index }
 
 -- a changer that begins with a configuration whose progress is all fresh
-abbrev pub begun_with : ℕ → Configuration → ChangerState
-begun_with last_index c = changer_of (tracker_of c (all_fresh last_index c)) last_index
+abbrev pub begun_with : Floor → ℕ → Configuration → ChangerState
+begun_with floor last_index c = changer_of (tracker_of floor c (all_fresh (fresh_next floor last_index) c)) last_index
 
 -- the changer with this last index
 abbrev pub with_last_index : ChangerState → ℕ → ChangerState
 with_last_index changer last_index = record { tracker = changer.tracker; last_index = last_index }
 
--- the changer after a step to a configuration, where the last index stays
+-- the changer after a step to a configuration, where the floor and the last index stay
 abbrev pub moved_to : ChangerState → Step → Configuration → ChangerState
 moved_to changer step after = record {
-  tracker = record { config = after; progress = progress_after changer step after };
+  tracker = tracker_of changer.tracker.floor after (progress_after changer step after);
   last_index = changer.last_index;
 }
 
@@ -52,12 +54,12 @@ moved_by changer step (Err why) = Err why
 abbrev pub changer_after : ChangerState → Step → Result ChangerState Refused
 changer_after changer step = moved_by changer step (outcome changer.tracker.config step)
 
--- what holds of every tracker: its configuration is valid, and has a voter unless nobody is in it; its members and nobody else have progress; the learners are marked; and match is below next
+-- what holds of every tracker: its configuration is valid, and has a voter unless nobody is in it; its members and nobody else have progress; the learners are marked; and next is ahead of match, as the floor has it
 pub record IsSound (tracker : TrackerState) : Type 0 where
   pub restorable : is_restorable tracker.config ≡ true
   pub of_members : (id : ℕ) → is_some (finite.get tracker.progress id) ≡ is_member tracker.config id
   pub marked : (id : ℕ) → IfSome (finite.get tracker.progress id) (λ p. p.learner ≡ has tracker.config.learners id)
-  pub ahead : (id : ℕ) → IfSome (finite.get tracker.progress id) (λ p. p.matched < p.next)
+  pub ahead : (id : ℕ) → IfSome (finite.get tracker.progress id) (IsAhead tracker.floor)
 
 -- the step is accepted: its configuration is the defined one, and so is the progress
 pub record Accepts (before : ChangerState) (step : Step) (after : ChangerState) : Type 0 where

@@ -3,7 +3,7 @@ use Rattle.std.specs.Prelude.{ℕ, refl}
 use Rattle.std.specs.Coded.{Coded, coded_ℕ, coded×, code_by}
 use Rattle.conf_change.specs.TrackerState.{TrackerState, tracker_code}
 
--- what a changer is: a tracker, and the last index of the log, which decides what fresh progress is
+-- what a changer is: a tracker, and the last index of the log; it and the floor decide what fresh progress is
 pub record ChangerState : Type 0 where
   pub tracker : TrackerState
   pub last_index : ℕ

@@ -4,6 +4,7 @@ pub mod Change
 pub mod Step
 pub mod Transition
 pub mod Outcome
+pub mod Floor
 pub mod TrackerState
 pub mod ChangerState
 pub mod Progress

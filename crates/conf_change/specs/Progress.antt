@@ -1,18 +1,23 @@
 -- The progress of the members, before and after a step.
-use Rattle.std.specs.Prelude.{ℕ, max, Bool, not, ◌&&◌, map, unwrap_or, if◌then◌else◌}
+use Rattle.std.specs.Prelude.{ℕ, Bool, not, ◌&&◌, map, unwrap_or, if◌then◌else◌}
 use Rattle.std.specs.FinMap as finite
 use Rattle.quorum_sets.specs.Ids.{has}
 use Rattle.conf_change.specs.Configuration.{Configuration, is_member, members}
 use Rattle.conf_change.specs.Change.{removes}
+use Rattle.conf_change.specs.Floor.{fresh_next}
 use Rattle.conf_change.specs.Step.{changes_of}
 use Rattle.conf_change.specs.TrackerState.{ProgressMap}
 use Rattle.conf_change.specs.ChangerState.{ChangerState}
 use Rattle.conf_change.specs.declared.progress.Progress.{Progress}
 use Rattle.conf_change.specs.declared.step.Step.{Step}
 
--- the progress of a new member: nothing is known of it, and it is sent the last index, or 1 where the log is empty
+-- the index that a new member of the changer is sent next
+abbrev pub fresh_next_of : ChangerState → ℕ
+fresh_next_of changer = fresh_next changer.tracker.floor changer.last_index
+
+-- the progress of a new member: nothing is known of it, and it is sent this index next
 abbrev pub fresh_progress : ℕ → Bool → Progress
-fresh_progress last_index learner = record { matched = 0; next = max last_index 1; learner = learner }
+fresh_progress next_index learner = record { matched = 0; next = next_index; learner = learner }
 
 -- the progress p of an id that is a learner or not
 abbrev pub with_mark : Bool → Progress → Progress
@@ -24,7 +29,7 @@ progress_by c of = finite.from_entries (map (λ id. (id, of id)) (members c))
 
 -- all progress is fresh
 abbrev pub all_fresh : ℕ → Configuration → ProgressMap
-all_fresh last_index c = progress_by c (λ id. fresh_progress last_index (has c.learners id))
+all_fresh next_index c = progress_by c (λ id. fresh_progress next_index (has c.learners id))
 
 -- the step puts a new member in the id's place, if the id stays: its changes remove the id, and the id does not go out
 abbrev pub is_replaced : Step → Configuration → ℕ → Bool
@@ -38,7 +43,7 @@ keeps_progress before step after id = is_member before id && is_member after id 
 abbrev pub progress_after : ChangerState → Step → Configuration → ProgressMap
 progress_after changer step after =
     progress_by after (λ id.
-    let fresh = fresh_progress changer.last_index (has after.learners id) in
+    let fresh = fresh_progress (fresh_next_of changer) (has after.learners id) in
     if keeps_progress changer.tracker.config step after id
     then with_mark (has after.learners id) (unwrap_or (finite.get changer.tracker.progress id) fresh)
     else fresh)

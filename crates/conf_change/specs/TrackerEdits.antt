@@ -11,15 +11,15 @@ use Rattle.conf_change.specs.declared.progress.Progress.{Progress}
 
 -- the tracker with these outgoing voters and this flag
 abbrev pub beginning : TrackerState → Ids → Bool → TrackerState
-beginning t outgoing auto_leave = record { config = record t.config { outgoing = outgoing; auto_leave = auto_leave }; progress = t.progress }
+beginning t outgoing auto_leave = record { config = record t.config { outgoing = outgoing; auto_leave = auto_leave }; progress = t.progress; floor = t.floor }
 
 -- what a member or somebody else is to have, a learner or not, where it had this before: a member keeps it or begins afresh, with its mark, and nobody else has any
 abbrev pub entry_of : ℕ → Bool → Bool → Option Progress → Option Progress
-entry_of last_index member learner had = if member then Some (with_mark learner (unwrap_or had (fresh_progress last_index learner))) else None
+entry_of next_index member learner had = if member then Some (with_mark learner (unwrap_or had (fresh_progress next_index learner))) else None
 
 -- what an id is to have in a configuration, where it had this before
 abbrev pub entry_in : ℕ → Configuration → Option Progress → ℕ → Option Progress
-entry_in last_index c had id = entry_of last_index (is_member c id) (has c.learners id) had
+entry_in next_index c had id = entry_of next_index (is_member c id) (has c.learners id) had
 
 -- what is left of what an id had, unless it is removed and does not go out
 abbrev pub left_by_word : Bool → Bool → Option Progress → Option Progress
@@ -34,10 +34,11 @@ abbrev pub entries_of : ℕ → Option Progress → List (ℕ × Progress)
 entries_of id None = []
 entries_of id (Some p) = (id, p) ∷ []
 
--- the tracker after a list of changes: each id by the last word on it, and by whether a change removes it
-pub record Applies (last_index : ℕ) (changes : List Change) (before after : TrackerState) : Type 0 where
+-- the tracker after a list of changes, whose new members are sent this index next: each id goes by the last word on it, and by whether a change removes it
+pub record Applies (next_index : ℕ) (changes : List Change) (before after : TrackerState) : Type 0 where
   pub configuration : after.config ≡ result_of before.config changes
-  pub entries : (q : ℕ) → finite.get after.progress q ≡ entry_in last_index after.config (left_by before changes q) q
+  pub floor : after.floor ≡ before.floor
+  pub entries : (q : ℕ) → finite.get after.progress q ≡ entry_in next_index after.config (left_by before changes q) q
 
 -- what somebody keeps who has progress: a member all, with its mark, and nobody else any
 abbrev pub kept_by : Bool → Bool → Option Progress → Option Progress
@@ -46,4 +47,5 @@ kept_by member learner had = if member then option_map (with_mark learner) had e
 -- the tracker with this configuration, where the members keep their progress
 pub record Keeps (c : Configuration) (before after : TrackerState) : Type 0 where
   pub configuration : after.config ≡ c
+  pub floor : after.floor ≡ before.floor
   pub entries : (q : ℕ) → finite.get after.progress q ≡ kept_by (is_member c q) (has c.learners q) (finite.get before.progress q)

@@ -5,16 +5,19 @@ use Rattle.std.specs.Coded.{Coded, coded_ℕ, coded_bool, coded×, code_by}
 use Rattle.std.specs.FinMap as finite
 use Rattle.conf_change.specs.Configuration.{Configuration}
 use Rattle.conf_change.specs.ConfigurationCode.{configuration_code}
+use Rattle.conf_change.specs.Floor.{floor_code}
+use Rattle.conf_change.specs.declared.floor.Floor.{Floor}
 use Rattle.conf_change.specs.declared.progress.Progress.{Progress}
 
 -- the progress of each id that has one
 abbrev pub ProgressMap : Type 0
 ProgressMap = finite.FinMap nat_cmp Progress
 
--- a configuration and the progress of its members
+-- a configuration, the progress of its members, and the floor of fresh next
 pub record TrackerState : Type 0 where
   pub config : Configuration
   pub progress : ProgressMap
+  pub floor : Floor
 
 abbrev pub progress_code : Coded Progress
 progress_code =
@@ -23,5 +26,5 @@ progress_code =
 
 abbrev pub tracker_code : Coded TrackerState
 tracker_code =
-    code_by (Configuration × ProgressMap) (coded× configuration_code (finite.code coded_ℕ progress_code))
-    (λ t. (t.config, t.progress)) (λ p. record { config = p.0; progress = p.1 }) (λ _. refl)
+    code_by (Configuration × (ProgressMap × Floor)) (coded× configuration_code (coded× (finite.code coded_ℕ progress_code) floor_code))
+    (λ t. (t.config, (t.progress, t.floor))) (λ p. record { config = p.0; progress = p.1.0; floor = p.1.1 }) (λ _. refl)

@@ -4,14 +4,17 @@ ghost use Rattle.std.specs.Prelude.{◌≡◌, ◌-◌, ◌^◌, ◌↔◌, [], 
 ghost use Rattle.std.specs.FinMap as finite;
 ghost use Rattle.conf_change.specs.Configuration.{is_member};
 ghost use Rattle.conf_change.specs.Acknowledgement.{acknowledged, ack_answer, changer_with_progress};
+ghost use Rattle.conf_change.specs.declared.floor.Floor.TheVariants.{One};
 ghost use Rattle.conf_change.specs.declared.progress.Progress.{Progress};
 ghost use Rattle.conf_change.specs.declared.step.Step.TheVariants.{Simple, EnterJoint, LeaveJoint};
+ghost use Rattle.conf_change.specs.Progress.{fresh_next_of};
 ghost use Rattle.conf_change.specs.Transition.{step_taken};
 ghost use Rattle.conf_change.specs.Changer.{IsSound, GivesNext, Makes, new_changer, changer_of, with_last_index};
 
 use crate::acknowledgement::AckFault;
 use crate::change::Change;
 use crate::config::Config;
+use crate::floor::Floor;
 use crate::progress::Progress;
 use crate::refused::Refused;
 use crate::step::{Step, Taken};
@@ -43,12 +46,20 @@ impl<S: MemberSet> Model for Changer<S> {
 }
 
 impl<S: MemberSet> Changer<S> {
-    /// A changer that nobody is in yet. The last index is that of the log, 0 where it is empty.
+    /// A changer that nobody is in yet, with floor one. The last index is that of the log, 0 where it is empty.
     pub fn new(alloc: Global, last_index: u64) -> Changer<S>
-        ensures new { result ≡ new_changer last_index }
+        ensures new { result ≡ new_changer One last_index }
         ensures sound { IsSound result.tracker }
     {
-        Changer::begin(Tracker::new(alloc), last_index)
+        Changer::new_with_floor(alloc, last_index, Floor::One)
+    }
+
+    /// A changer that nobody is in yet, with this floor, which stays.
+    pub fn new_with_floor(alloc: Global, last_index: u64, floor: Floor) -> Changer<S>
+        ensures new { result ≡ new_changer floor last_index }
+        ensures sound { IsSound result.tracker }
+    {
+        Changer::begin(Tracker::new(alloc, floor), last_index)
     }
 
     // A changer that begins with a tracker.
@@ -76,6 +87,20 @@ impl<S: MemberSet> Changer<S> {
         ensures { result ≡ self.now.last_index }
     {
         self.last_index
+    }
+
+    /// The floor of fresh next.
+    pub fn floor(&self) -> Floor
+        ensures { result ≡ self.now.tracker.floor }
+    {
+        self.tracker.floor()
+    }
+
+    // The index that a new member is sent next.
+    fn fresh_next(&self) -> u64
+        ensures { result ≡ fresh_next_of self.now }
+    {
+        self.floor().fresh_next(self.last_index)
     }
 
     /// Sets the last index of the log. Members that are there already keep their progress.
@@ -116,7 +141,7 @@ impl<S: MemberSet> Changer<S> {
         if self.tracker.is_joint() {
             return Err(Refused::SimpleInJoint);
         }
-        let after = self.tracker.after_changes(changes, self.last_index)?;
+        let after = self.tracker.after_changes(changes, self.fresh_next())?;
         if !after.has_voter() {
             return Err(Refused::RemovedAllVoters);
         }
@@ -149,7 +174,7 @@ impl<S: MemberSet> Changer<S> {
         }
         let after = self
             .tracker
-            .after_entering(auto_leave, changes, self.last_index)?;
+            .after_entering(auto_leave, changes, self.fresh_next())?;
         if !after.has_voter() {
             return Err(Refused::RemovedAllVoters);
         }

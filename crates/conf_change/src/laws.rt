@@ -8,6 +8,7 @@ ghost use Rattle.conf_change.specs.Change.{last_word, is_incoming_after, is_lear
 ghost use Rattle.conf_change.specs.Configuration.{ValidByMember, is_valid, voters_of};
 ghost use Rattle.conf_change.specs.Words.{words};
 ghost use Rattle.conf_change.specs.ChangeList.{StandsFor, BadToken, IsFirstBad, changes_in};
+ghost use Rattle.conf_change.specs.declared.floor.Floor.{Floor};
 ghost use Rattle.conf_change.specs.declared.progress.Progress.{Progress};
 ghost use Rattle.conf_change.specs.declared.refused.Refused.{Refused};
 ghost use Rattle.conf_change.specs.declared.step.Step.{Step};
@@ -64,7 +65,7 @@ pub fn trackers_stay_sound()
         → IsSound (moved_to before step after).tracker }
     ensures restorable { (before after : Configuration) (step : Step) → is_restorable before ≡ true → outcome before step ≡ Ok after → is_restorable after ≡ true }
     ensures voter { (before after : Configuration) (step : Step) → is_restorable before ≡ true → outcome before step ≡ Ok after → has_voter after ≡ true }
-    ensures begun { (last_index : ℕ) (c : Configuration) → is_restorable c ≡ true → IsSound (begun_with last_index c).tracker }
+    ensures begun { (floor : Floor) (last_index : ℕ) (c : Configuration) → is_restorable c ≡ true → IsSound (begun_with floor last_index c).tracker }
     ensures acknowledged { (before : ChangerState) (id index : ℕ) (p : Progress) → IsSound before.tracker → ack_answer before.tracker id index ≡ Ok p
         → IsSound (changer_with_progress before id p).tracker }
 {}

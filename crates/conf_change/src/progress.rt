@@ -3,25 +3,26 @@ ghost use Rattle.std.specs.Prelude.{◌≡◌, ◌<◌, ◌-◌, ◌^◌, false}
 ghost use Rattle.conf_change.specs.Progress.{fresh_progress};
 ghost use Rattle.conf_change.specs.Acknowledgement.{acknowledged};
 
-/// How far a member has come in taking over the log (etcd's `tracker.Progress`). Match is below next.
+/// How far a member has come in taking over the log (etcd's `tracker.Progress`). Match is below next, or with
+/// floor zero at most next.
 #[derive(Clone, Copy, Debug, PartialEq, Eq)]
 pub struct Progress {
     /// Match: the greatest index that the member is known to have, 0 where nothing is known.
     pub matched: u64,
-    /// The index that the member is sent next, at least 1.
+    /// The index that the member is sent next, at least the floor.
     pub next: u64,
     /// Whether the member is a learner.
     pub learner: bool,
 }
 
 impl Progress {
-    // The progress of a new voter: nothing is known of it, and it is sent the last index, or 1 where the log is empty.
-    pub(crate) fn fresh(last_index: u64) -> Progress
-        ensures { result ≡ fresh_progress last_index false }
+    // The progress of a new voter: nothing is known of it, and it is sent this index next.
+    pub(crate) fn fresh(next_index: u64) -> Progress
+        ensures { result ≡ fresh_progress next_index false }
     {
         Progress {
             matched: 0,
-            next: last_index.max(1),
+            next: next_index,
             learner: false,
         }
     }
@@ -43,10 +44,10 @@ impl Progress {
 }
 
 impl Default for Progress {
-    ghost is_default = { λ p. p ≡ fresh_progress 0 false };
+    ghost is_default = { λ p. p ≡ fresh_progress 1 false };
 
-    /// The progress of a new voter where the log is empty.
+    /// The progress of a new voter where the log is empty, with floor one.
     fn default() -> Progress {
-        Progress::fresh(0)
+        Progress::fresh(1)
     }
 }

@@ -6,11 +6,13 @@ ghost use Rattle.quorum_sets.specs.Rising.{IsRising};
 ghost use Rattle.conf_change.specs.Configuration.{Configuration, has_voter_or_nobody, is_restorable};
 ghost use Rattle.conf_change.specs.ConfState.{Describes, Lists, names_once, restored};
 ghost use Rattle.conf_change.specs.Progress.{all_fresh, fresh_progress};
+ghost use Rattle.conf_change.specs.declared.floor.Floor.TheVariants.{One};
 ghost use Rattle.conf_change.specs.Changer.{IsSound, begun_with};
 
 use crate::changer::Changer;
 use crate::config::{Config, check};
 use crate::edits::union;
+use crate::floor::Floor;
 use crate::progress::Progress;
 use crate::saved::ConfState;
 use crate::tracker::Tracker;
@@ -39,16 +41,32 @@ impl From<NoMemory> for RestoreFault {
 }
 
 impl<S: MemberSet> Changer<S> {
-    /// A changer with the saved configuration, whose progress is all fresh. A saved form is refused unless each list
-    /// names each id once, the configuration is valid, and it has an incoming voter or nobody at all (own).
+    /// A changer with the saved configuration, whose progress is all fresh, with floor one. A saved form is refused unless
+    /// each list names each id once, the configuration is valid, and it has an incoming voter or nobody at all (own).
     pub fn restore(
         alloc: Global,
         state: &ConfState,
         last_index: u64,
     ) -> Result<Changer<S>, RestoreFault>
+        ensures described { (c : Configuration) → Describes state.now c → is_restorable c ≡ true →
+            MatchResult result (λ changer. changer ≡ begun_with One last_index c) (λ fault. fault ≡ RestoreFault.NoMemory) }
+        ensures restored { IfOk result (λ changer. Describes state.now changer.tracker.config) }
+        ensures sound { IfOk result (λ changer. IsSound changer.tracker) }
+        ensures as_function { MatchResult result (λ changer. restored state.now ≡ Some changer.tracker.config) (λ fault. fault ≡ RestoreFault.NotAConfiguration → restored state.now ≡ None) }
+    {
+        Changer::restore_with_floor(alloc, state, last_index, Floor::One)
+    }
+
+    /// The same with this floor, which stays.
+    pub fn restore_with_floor(
+        alloc: Global,
+        state: &ConfState,
+        last_index: u64,
+        floor: Floor,
+    ) -> Result<Changer<S>, RestoreFault>
         // A saved form that describes a configuration which can be restored gives it, whatever the order of its lists.
         ensures described { (c : Configuration) → Describes state.now c → is_restorable c ≡ true →
-            MatchResult result (λ changer. changer ≡ begun_with last_index c) (λ fault. fault ≡ RestoreFault.NoMemory) }
+            MatchResult result (λ changer. changer ≡ begun_with floor last_index c) (λ fault. fault ≡ RestoreFault.NoMemory) }
         // Every other is refused, for all trackers are sound.
         ensures restored { IfOk result (λ changer. Describes state.now changer.tracker.config) }
         ensures sound { IfOk result (λ changer. IsSound changer.tracker) }
@@ -59,8 +77,8 @@ impl<S: MemberSet> Changer<S> {
         if !is_restorable(&config) {
             return Err(RestoreFault::NotAConfiguration);
         }
-        let progress = fresh_progress(alloc, &config, last_index)?;
-        Ok(Changer::begin(Tracker::begin(alloc, config, progress), last_index))
+        let progress = fresh_progress(alloc, &config, floor.fresh_next(last_index))?;
+        Ok(Changer::begin(Tracker::begin(alloc, floor, config, progress), last_index))
     }
 }
 
@@ -116,18 +134,18 @@ fn has_voter_or_nobody<S: MemberSet>(config: &Config<S>) -> bool
             && config.learners_next.len() == 0)
 }
 
-// Fresh progress of all members, in ascending order of the ids.
+// Fresh progress of all members, which are sent this index next, in ascending order of the ids.
 fn fresh_progress<S: MemberSet>(
     alloc: Global,
     config: &Config<S>,
-    last_index: u64,
+    next_index: u64,
 ) -> Result<SmallVec<(u64, Progress), 1>, NoMemory>
     ensures rising { IfOk result (λ members. IsRising (map (λ m. m.0) members.items)) }
-    ensures fresh { IfOk result (λ members. finite.from_entries members.items ≡ all_fresh last_index config.now) }
+    ensures fresh { IfOk result (λ members. finite.from_entries members.items ≡ all_fresh next_index config.now) }
 {
     let voters = union(&config.incoming, &config.outgoing)?;
     let ids = union(&voters, &config.learners)?;
-    fresh_of(alloc, &ids, &config.learners, last_index)
+    fresh_of(alloc, &ids, &config.learners, next_index)
 }
 
 // Fresh progress of each id of a set, with the learners marked.
@@ -135,11 +153,11 @@ fn fresh_of<S: MemberSet>(
     alloc: Global,
     ids: &S,
     learners: &S,
-    last_index: u64,
+    next_index: u64,
 ) -> Result<SmallVec<(u64, Progress), 1>, NoMemory>
-    ensures { IfOk result (λ members. members.items ≡ map (λ id. (id, fresh_progress last_index (has (S.ids learners.now) id))) (ascending (S.ids ids.now))) }
+    ensures { IfOk result (λ members. members.items ≡ map (λ id. (id, fresh_progress next_index (has (S.ids learners.now) id))) (ascending (S.ids ids.now))) }
 {
-    let fresh = Progress::fresh(last_index);
+    let fresh = Progress::fresh(next_index);
     let mut members = SmallVec::with_capacity(alloc, ids.len())?;
     for place in 0..ids.len() {
         if let Some(id) = ids.at(place) {

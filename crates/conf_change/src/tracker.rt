@@ -14,6 +14,7 @@ ghost use Rattle.conf_change.specs.Acknowledgement.{with_progress};
 use crate::change::Change;
 use crate::config::Config;
 use crate::edits;
+use crate::floor::Floor;
 use crate::last_words::{LastWord, last_words};
 use crate::places::{Places, has_next};
 use crate::progress::Progress;
@@ -23,13 +24,14 @@ use smallvec::SmallVec;
 use std::alloc::Global;
 use std::marker::Model;
 
-/// A configuration and the progress of its members (etcd's `tracker.ProgressTracker`). Members are the voters of either
+/// A configuration, the progress of its members, and the floor of fresh next (etcd's `tracker.ProgressTracker`). Members are the voters of either
 /// kind and the learners; nobody else has progress.
 #[derive(Drop)]
 pub struct Tracker<S: MemberSet> {
     config: Config<S>,
     // The members in ascending order of the ids, with their progress; on the heap, so that a tracker is cheap to move.
     members: SmallVec<(u64, Progress), 1>,
+    floor: Floor,
     // Where its sets are made.
     alloc: Global,
 }
@@ -44,15 +46,15 @@ impl<S: MemberSet> Model for Tracker<S> {
 
     ghost coded = { tracker_code };
 
-    ghost view = { λ t. record { config = t.config; progress = finite.from_entries t.members.items } };
+    ghost view = { λ t. record { config = t.config; progress = finite.from_entries t.members.items; floor = t.floor } };
 
     ghost invariant = { λ t. IsRising (map (λ m. m.0) t.members.items) };
 }
 
 impl<S: MemberSet> Tracker<S> {
     // Nobody is in it.
-    pub(crate) fn new(alloc: Global) -> Tracker<S>
-        ensures { result ≡ nobody }
+    pub(crate) fn new(alloc: Global, floor: Floor) -> Tracker<S>
+        ensures { result ≡ nobody floor }
     {
         Tracker {
             config: Config {
@@ -63,6 +65,7 @@ impl<S: MemberSet> Tracker<S> {
                 auto_leave: false,
             },
             members: SmallVec::new(alloc),
+            floor,
             alloc,
         }
     }
@@ -70,15 +73,17 @@ impl<S: MemberSet> Tracker<S> {
     // The tracker of a configuration and its members' progress.
     pub(crate) fn begin(
         alloc: Global,
+        floor: Floor,
         config: Config<S>,
         members: SmallVec<(u64, Progress), 1>,
     ) -> Tracker<S>
         requires { IsRising (map (λ m. m.0) members.items) }
-        ensures { result ≡ tracker_of config (finite.from_entries members.items) }
+        ensures { result ≡ tracker_of floor config (finite.from_entries members.items) }
     {
         Tracker {
             config,
             members,
+            floor,
             alloc,
         }
     }
@@ -88,6 +93,13 @@ impl<S: MemberSet> Tracker<S> {
         ensures { result.now ≡ self.now.config }
     {
         &self.config
+    }
+
+    // The floor of fresh next.
+    pub(crate) fn floor(&self) -> Floor
+        ensures { result ≡ self.now.floor }
+    {
+        self.floor
     }
 
     // The configuration of a tracker that is done with.
@@ -160,17 +172,17 @@ impl<S: MemberSet> Tracker<S> {
         symdiff(&self.config.incoming, &other.config.incoming)
     }
 
-    // The tracker after a list of changes.
+    // The tracker after a list of changes; new members are sent this index next.
     pub(crate) fn after_changes(
         &self,
         changes: &[Change],
-        last_index: u64,
+        next_index: u64,
     ) -> Result<Tracker<S>, NoMemory>
         requires { IsSound self.now }
-        ensures { IfOk result (Applies last_index changes.now self.now) }
+        ensures { IfOk result (Applies next_index changes.now self.now) }
     {
         let outgoing = self.config.outgoing.try_clone()?;
-        self.after_last_words(outgoing, self.config.auto_leave, changes, last_index)
+        self.after_last_words(outgoing, self.config.auto_leave, changes, next_index)
     }
 
     // The tracker that is joint, with the incoming voters for the outgoing ones, after a list of changes.
@@ -178,13 +190,13 @@ impl<S: MemberSet> Tracker<S> {
         &self,
         auto_leave: bool,
         changes: &[Change],
-        last_index: u64,
+        next_index: u64,
     ) -> Result<Tracker<S>, NoMemory>
         requires { IsSound self.now }
-        ensures { IfOk result (Applies last_index changes.now (tracker_of (with_outgoing self.now.config auto_leave) self.now.progress)) }
+        ensures { IfOk result (Applies next_index changes.now (tracker_of self.now.floor (with_outgoing self.now.config auto_leave) self.now.progress)) }
     {
         let outgoing = self.config.incoming.try_clone()?;
-        self.after_last_words(outgoing, auto_leave, changes, last_index)
+        self.after_last_words(outgoing, auto_leave, changes, next_index)
     }
 
     // The tracker with these outgoing voters and this flag, after a list of changes: one walk over the last words.
@@ -193,11 +205,11 @@ impl<S: MemberSet> Tracker<S> {
         outgoing: S,
         auto_leave: bool,
         changes: &[Change],
-        last_index: u64,
+        next_index: u64,
     ) -> Result<Tracker<S>, NoMemory>
         requires sound { IsSound self.now }
         requires inside { (q : ℕ) → has (S.ids outgoing) q ≡ true → is_member self.now.config q ≡ true }
-        ensures { IfOk result (Applies last_index changes.now (beginning self.now (S.ids outgoing) auto_leave)) }
+        ensures { IfOk result (Applies next_index changes.now (beginning self.now (S.ids outgoing) auto_leave)) }
     {
         let alloc = self.alloc;
         let words = last_words(alloc, self.members.as_slice(), changes)?;
@@ -211,7 +223,7 @@ impl<S: MemberSet> Tracker<S> {
             put_where(&mut incoming, word.id, seat.incoming)?;
             put_where(&mut learners, word.id, seat.learner)?;
             put_where(&mut learners_next, word.id, seat.next)?;
-            let entry = self.entry_after(*word, seat, last_index, &mut places.members);
+            let entry = self.entry_after(*word, seat, next_index, &mut places.members);
             push_entry(&mut members, word.id, entry)?;
         }
         let config = Config {
@@ -221,7 +233,7 @@ impl<S: MemberSet> Tracker<S> {
             learners_next,
             auto_leave,
         };
-        Ok(Tracker::begin(alloc, config, members))
+        Ok(Tracker::begin(alloc, self.floor, config, members))
     }
 
     // What an id is here, apart from the outgoing voters that are given.
@@ -242,15 +254,15 @@ impl<S: MemberSet> Tracker<S> {
         &self,
         word: LastWord,
         seat: Seat,
-        last_index: u64,
+        next_index: u64,
         place: &mut usize,
     ) -> Option<Progress>
-        ensures { result ≡ entry_of last_index (is_member_seat seat) seat.learner (left_by_word word.removes seat.outgoing (finite.get self.now.progress word.id)) }
+        ensures { result ≡ entry_of next_index (is_member_seat seat) seat.learner (left_by_word word.removes seat.outgoing (finite.get self.now.progress word.id)) }
     {
         if !seat.is_member() {
             return None;
         }
-        let fresh = Progress::fresh(last_index);
+        let fresh = Progress::fresh(next_index);
         let known = if word.removes && !seat.outgoing {
             fresh
         } else {
@@ -279,7 +291,7 @@ impl<S: MemberSet> Tracker<S> {
     {
         let config = edits::without_outgoing(&self.config, self.alloc)?;
         let members = self.keeping(&config)?;
-        Ok(Tracker::begin(self.alloc, config, members))
+        Ok(Tracker::begin(self.alloc, self.floor, config, members))
     }
 
     // The members that are still in a configuration, with the progress that they have and their marks.

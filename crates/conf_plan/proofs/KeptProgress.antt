@@ -6,7 +6,7 @@ use Rattle.std.proofs.lemmas.Bool.{true≢false, and_parts, or_cases}
 use Rattle.quorum_sets.specs.Ids.{has, is_empty}
 use Rattle.conf_change.specs.Changer.{ChangerState, IsSound, Accepts}
 use Rattle.conf_change.specs.Configuration.{Configuration, is_member, is_valid, has_voter, is_restorable}
-use Rattle.conf_change.specs.Progress.{fresh_progress, with_mark, is_replaced, keeps_progress}
+use Rattle.conf_change.specs.Progress.{fresh_next_of, fresh_progress, with_mark, is_replaced, keeps_progress}
 use Rattle.conf_change.specs.declared.progress.Progress.{Progress}
 use Rattle.conf_change.specs.declared.step.Step.{Step}
 use Rattle.conf_change.proofs.Soundness.{get-after, moved_to-is_sound}
@@ -28,8 +28,8 @@ accepted-keeps : (before after : ChangerState) (step : Step) (q : ℕ) → IsSou
     → keeps_progress before.tracker.config step after.tracker.config q ≡ true → HasKeptProgress before after q
 accepted-keeps before after step q sound accepted keeps = by (finite.get before.tracker.progress q) refl
   where
-    last : ℕ
-    last = before.last_index
+    next : ℕ
+    next = fresh_next_of before
 
     was : is_member before.tracker.config q ≡ true
     was = (and_parts _ (is_member after.tracker.config q) (and_parts _ (not (is_replaced step after.tracker.config q)) keeps).0).0
@@ -45,7 +45,7 @@ accepted-keeps before after step q sound accepted keeps = by (finite.get before.
           entry_before = e;
           entry_after =
               ap (λ s. finite.get s.tracker.progress q) accepted.whole ∙ get-after before step after.tracker.config q
-              ∙ (λ i. cond (stays i) (Some (cond (keeps i) (with_mark marked (unwrap_or (e i) (fresh_progress last marked))) (fresh_progress last marked))) None);
+              ∙ (λ i. cond (stays i) (Some (cond (keeps i) (with_mark marked (unwrap_or (e i) (fresh_progress next marked))) (fresh_progress next marked))) None);
           same_match = refl;
           same_next = refl;
         }

@@ -10,7 +10,7 @@ pub loop-place-preserved : goal.loop-place-preserved
 loop-place-preserved g c = elim c.match-at.branch [
   | in-Some+in_ok-push w ↦
       let own = g.S.MemberSet.ids in
-      mapped_more (λ id. (id, fresh_progress c.args.last_index (has (own c.args.learners.now) id))) (ascending (own c.args.ids.now)) c.loop-place.members.items c.match-at.members.items c.loop-place.place w.in-Some.id _
+      mapped_more (λ id. (id, fresh_progress c.args.next_index (has (own c.args.learners.now) id))) (ascending (own c.args.ids.now)) c.loop-place.members.items c.match-at.members.items c.loop-place.place w.in-Some.id _
       (sym w.in-Some.ensures) c.loop-place.invariant
       (λ i. (w.in-Some.id, with_mark (w.contains-learner.ensures i) (c.fresh-fresh.ensures i)))
       (ap (λ v. v.items) w.members-is ∙ w.in_ok-push.ensures.ok)

@@ -6,4 +6,4 @@ use Rattle.conf_change.proofs.restore.fresh_of.Given as goal
 abbrev pub invariant-loop-place : goal.invariant-loop-place
 invariant-loop-place g l =
     let own = g.S.MemberSet.ids in
-    l.members.items ≡ map (λ id. (id, fresh_progress l.last_index (has (own l.learners) id))) (take l.place (ascending (own l.ids)))
+    l.members.items ≡ map (λ id. (id, fresh_progress l.next_index (has (own l.learners) id))) (take l.place (ascending (own l.ids)))

@@ -13,7 +13,7 @@ use Rattle.conf_change.proofs.restore.fresh_progress.Goals as goal
 pub returns-clause-rising : goal.returns-clause-rising
 returns-clause-rising g c =
     let own = g.S.MemberSet.ids in
-    let of : ℕ → Progress = λ id. fresh_progress c.args.last_index (has (own c.config.inside.learners) id) in
+    let of : ℕ → Progress = λ id. fresh_progress c.args.next_index (has (own c.config.inside.learners) id) in
     let Rises : List (ℕ × Progress) → Type 0 = λ ms. IsRising (map (λ m. m.0) ms) in
     IfOk-weaker c.fresh_of.result (λ members. members.items ≡ map (λ id. (id, of id)) (ascending (own c.in_ok-ids.ids))) (λ members. Rises members.items)
     (λ members e. fresh_rises (own c.in_ok-ids.ids) of members.items e) c.fresh_of.ensures
@@ -21,7 +21,7 @@ returns-clause-rising g c =
 pub returns-clause-fresh : goal.returns-clause-fresh
 returns-clause-fresh g c =
     let own = g.S.MemberSet.ids in
-    let of : ℕ → Progress = λ id. fresh_progress c.args.last_index (has (own c.config.inside.learners) id) in
+    let of : ℕ → Progress = λ id. fresh_progress c.args.next_index (has (own c.config.inside.learners) id) in
     let config : Configuration = record {
       incoming = own c.config.inside.incoming;
       outgoing = own c.config.inside.outgoing;
@@ -30,8 +30,8 @@ returns-clause-fresh g c =
       auto_leave = c.config.inside.auto_leave;
     } in
     IfOk-weaker c.fresh_of.result (λ members. members.items ≡ map (λ id. (id, of id)) (ascending (own c.in_ok-ids.ids)))
-    (λ members. finite.from_entries {R = nat_cmp} members.items ≡ all_fresh c.args.last_index c.args.config.now)
+    (λ members. finite.from_entries {R = nat_cmp} members.items ≡ all_fresh c.args.next_index c.args.config.now)
     (λ members e.
-    fresh_of_all c.args.last_index config (own c.in_ok-voters.voters) (own c.in_ok-ids.ids) members.items c.in_ok-voters.ensures c.in_ok-ids.ensures e
-    ∙ ap (all_fresh c.args.last_index) c.config.view_is)
+    fresh_of_all c.args.next_index config (own c.in_ok-voters.voters) (own c.in_ok-ids.ids) members.items c.in_ok-voters.ensures c.in_ok-ids.ensures e
+    ∙ ap (all_fresh c.args.next_index) c.config.view_is)
     c.fresh_of.ensures

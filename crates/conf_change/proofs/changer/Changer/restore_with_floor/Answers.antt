@@ -5,16 +5,17 @@ use Rattle.conf_change.specs.declared.restore.RestoreFault.TheVariants.{NotAConf
 use Rattle.conf_change.proofs.ConfStateLemmas.{none_restored}
 use Rattle.conf_change.specs.Configuration.{is_restorable}
 use Rattle.conf_change.specs.Changer.{IsSound, TrackerState, begun_with, tracker_of}
+use Rattle.conf_change.specs.Progress.{all_fresh}
 use Rattle.conf_change.proofs.Soundness.{begun_with-is_sound}
-use Rattle.conf_change.proofs.changer.Changer.restore.Goals as goal
+use Rattle.conf_change.proofs.changer.Changer.restore_with_floor.Goals as goal
 
 pub begin-requires-2 : goal.begin-requires-2
 begin-requires-2 g c =
     let restorable : is_restorable c.in_ok-config.config ≡ true = sym c.is_restorable.ensures ∙ c.if-not-is_restorable.false in
-    let begun : c.begin.result ≡ (begun_with c.args.last_index c.in_ok-config.config).tracker =
-    c.begin.ensures ∙ ap (tracker_of c.in_ok-config.config) c.in_ok-progress.ensures.fresh in
+    let begun : c.begin.result ≡ (begun_with c.args.floor c.args.last_index c.in_ok-config.config).tracker =
+    c.begin.ensures ∙ ap (tracker_of c.args.floor c.in_ok-config.config) (c.in_ok-progress.ensures.fresh ∙ ap (λ next. all_fresh next c.in_ok-config.config) c.fresh_next.ensures) in
     let P : TrackerState → Type 0 = IsSound in
-    subst P (sym begun) (begun_with-is_sound c.args.last_index c.in_ok-config.config restorable)
+    subst P (sym begun) (begun_with-is_sound c.args.floor c.args.last_index c.in_ok-config.config restorable)
 
 refused : {A : Type 0} (r : Result A RestoreFault) (fault : RestoreFault) (P : A → Type 0) (Q : RestoreFault → Type 0) → IsErrAnd r (λ e. e ≡ fault) → Q fault → MatchResult r P Q
 refused (Ok x) fault P Q h q = absurd h

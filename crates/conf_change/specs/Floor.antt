@@ -1,0 +1,35 @@
+-- Floors: the least index that a new member is sent next.
+use Rattle.std.specs.Prelude.{◌≡◌, ℕ, max, ◌<◌, ◌≤◌, Bool, true, false, refl}
+use Rattle.std.specs.Coded.{Coded, coded_bool, code_by}
+use Rattle.conf_change.specs.declared.floor.Floor.{Floor}
+use Rattle.conf_change.specs.declared.floor.Floor.TheVariants.{Zero, One}
+use Rattle.conf_change.specs.declared.progress.Progress.{Progress}
+
+abbrev pub number_of : Floor → ℕ
+number_of Zero = 0
+number_of One = 1
+
+-- the index that a new member is sent next: the last index, or the floor where that is more
+abbrev pub fresh_next : Floor → ℕ → ℕ
+fresh_next floor last_index = max last_index (number_of floor)
+
+-- how match and next lie: match is below next, or with floor 0 at most next
+abbrev pub IsAhead : Floor → Progress → Type 0
+IsAhead Zero p = p.matched ≤ p.next
+IsAhead One p = p.matched < p.next
+
+-- ---- how a floor is stored
+abbrev pub is_one : Floor → Bool
+is_one Zero = false
+is_one One = true
+
+abbrev pub floor_of : Bool → Floor
+floor_of false = Zero
+floor_of true = One
+
+pub floor-again : (floor : Floor) → floor_of (is_one floor) ≡ floor
+floor-again Zero = refl
+floor-again One = refl
+
+abbrev pub floor_code : Coded Floor
+floor_code = code_by Bool coded_bool is_one floor_of floor-again
