@@ -10,6 +10,7 @@ use Rattle.dd_file.specs.Reading.{Script}
 use Rattle.dd_file.specs.Rewritten.{Entry, entry, is_directive}
 use Rattle.dd_file.specs.declared.item.Item.{Item}
 use Rattle.dd_file.specs.declared.fault.FileFault.{FileFault}
+use Rattle.conf_change.specs.declared.floor.Floor.{Floor}
 use Rattle.conf_tool.specs.SessionState.{SessionState, new_session}
 use Rattle.conf_tool.specs.Reports.{found_for, session_after, entries_of, differs, report, counts_line}
 use Rattle.conf_tool.specs.Outputs.{Output, checked_script, checked_entries, status_of}
@@ -60,12 +61,12 @@ check-whole entries None =
     ap (λ k. output k (count_by differs entries)) n ∙ ap (output (0 + count_by (λ (entry : Entry). is_directive entry.item) entries)) m
 check-whole entries (Some fault) = refl
 
-pub checked-nothing : (history : ℕ) (session : SessionState) (directives mismatches : ℕ) (held : Option (List ℕ)) → session ≡ new_session history → directives ≡ 0 → mismatches ≡ 0 →
-    HasChecked session directives mismatches (checked_script history) [] held held
-checked-nothing history session directives mismatches held is_new no_directives no_mismatches = record {
-  front = wrote-nothing (checked_script history) (check_left session directives mismatches) held (λ rest.
-      check-whole (entries_of (new_session history) rest.items) rest.fault
-      ∙ sym (same-left session (new_session history) directives 0 mismatches 0 rest is_new no_directives no_mismatches));
+pub checked-nothing : (history : ℕ) (floor : Floor) (session : SessionState) (directives mismatches : ℕ) (held : Option (List ℕ)) → session ≡ new_session history floor → directives ≡ 0 → mismatches ≡ 0 →
+    HasChecked session directives mismatches (checked_script history floor) [] held held
+checked-nothing history floor session directives mismatches held is_new no_directives no_mismatches = record {
+  front = wrote-nothing (checked_script history floor) (check_left session directives mismatches) held (λ rest.
+      check-whole (entries_of (new_session history floor) rest.items) rest.fault
+      ∙ sym (same-left session (new_session history floor) directives 0 mismatches 0 rest is_new no_directives no_mismatches));
   few = omega (arith, no_directives);
 }
 

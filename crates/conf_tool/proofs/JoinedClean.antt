@@ -21,6 +21,7 @@ use Rattle.conf_change.specs.declared.step.Step.{Step}
 use Rattle.conf_change.specs.declared.step.Step.TheVariants.{Simple, EnterJoint, LeaveJoint}
 use Rattle.conf_change.specs.ChangeList.{letter_of}
 use Rattle.conf_plan.specs.PlanText.{change_text}
+use Rattle.conf_change.specs.declared.floor.Floor.{Floor}
 use Rattle.conf_tool.specs.SessionState.{SessionState, new_session}
 use Rattle.conf_tool.specs.Commands.{answer}
 use Rattle.conf_tool.specs.Reports.{entries_of, differs}
@@ -175,13 +176,13 @@ undo-clean written given stands session plan fits =
     let read = written entries (subst AreGiven (sym same) (undo-given given plan)) (outputs stands session items (undo-keys plan)) (ap ends_in_long_blank same ∙ undo-short plan) fits in
     record { same = clean-items session items entries (script_of (rewritten_text entries)).items refl read.1; whole = read.0 }
 
-joined-text : WrittenScript → DirectiveIsGiven → JoinedItems → FoundStands → (script : List ℕ) (history count : ℕ) →
-    let session = session_after_all (new_session history) (script_of script).items in
+joined-text : WrittenScript → DirectiveIsGiven → JoinedItems → FoundStands → (script : List ℕ) (history : ℕ) (floor : Floor) (count : ℕ) →
+    let session = session_after_all (new_session history floor) (script_of script).items in
     let text = rewritten_text (entries_of session (undo_items (undo_plan_of session count))) in
-    IsComplete 1 (lines_of script) → IsCleanScript (entries_of (new_session history) (script_of script).items) (script_of script).fault →
-    length ((script ++ newline ++ newline) ++ text) ≤ longest_input → (checked ((script ++ newline ++ newline) ++ text) history).outcome ≡ Ok Clean
-joined-text written given joined_items stands script history count complete clean fits =
-    let begin = new_session history in
+    IsComplete 1 (lines_of script) → IsCleanScript (entries_of (new_session history floor) (script_of script).items) (script_of script).fault →
+    length ((script ++ newline ++ newline) ++ text) ≤ longest_input → (checked ((script ++ newline ++ newline) ++ text) history floor).outcome ≡ Ok Clean
+joined-text written given joined_items stands script history floor count complete clean fits =
+    let begin = new_session history floor in
     let items = (script_of script).items in
     let session = session_after_all begin items in
     let plan = undo_plan_of session count in
@@ -201,9 +202,9 @@ joined-text written given joined_items stands script history count complete clea
     ∙ ap (λ b. Ok (status_of b)) none
 
 pub joined-clean : WrittenScript → DirectiveIsGiven → JoinedItems → FoundStands → JoinedClean
-joined-clean written given joined_items stands script history count complete clean fits =
-    let session = session_after_all (new_session history) (script_of script).items in
-    let is_clean = clean-script (entries_of (new_session history) (script_of script).items) (script_of script).fault clean in
+joined-clean written given joined_items stands script history floor count complete clean fits =
+    let session = session_after_all (new_session history floor) (script_of script).items in
+    let is_clean = clean-script (entries_of (new_session history floor) (script_of script).items) (script_of script).fault clean in
     let same = ap (λ fault. (undone_unless session count fault).text) is_clean.whole in
-    subst (λ text. length ((script ++ newline ++ newline) ++ text) ≤ longest_input → (checked ((script ++ newline ++ newline) ++ text) history).outcome ≡ Ok Clean) (sym same)
-    (joined-text written given joined_items stands script history count complete is_clean) fits
+    subst (λ text. length ((script ++ newline ++ newline) ++ text) ≤ longest_input → (checked ((script ++ newline ++ newline) ++ text) history floor).outcome ≡ Ok Clean) (sym same)
+    (joined-text written given joined_items stands script history floor count complete is_clean) fits

@@ -16,6 +16,7 @@ use Rattle.conf_change.specs.Configuration.{Configuration, has_voter, is_valid, 
 use Rattle.conf_change.specs.Number.{number_in}
 use Rattle.conf_change.specs.Outcome.{outcome}
 use Rattle.conf_change.specs.Transition.{step_taken}
+use Rattle.conf_change.specs.declared.floor.Floor.{Floor}
 use Rattle.conf_change.specs.declared.acknowledgement.AckFault.{AckFault}
 use Rattle.conf_change.specs.declared.acknowledgement.AckFault.TheVariants.{NotMember, IndexTooLarge}
 use Rattle.conf_change.specs.declared.change.Change.{Change}
@@ -46,7 +47,7 @@ use Rattle.conf_tool.proofs.ToldLines.{first, second}
 pub record ChangeLaws : Type 0 where
   pub step : (before : ChangerState) (step : Step) (after : Configuration) → IsSound before.tracker → outcome before.tracker.config step ≡ Ok after → IsSound (moved_to before step after).tracker
   pub voter : (before after : Configuration) (step : Step) → is_restorable before ≡ true → outcome before step ≡ Ok after → has_voter after ≡ true
-  pub begun : (last_index : ℕ) (c : Configuration) → is_restorable c ≡ true → IsSound (begun_with last_index c).tracker
+  pub begun : (floor : Floor) (last_index : ℕ) (c : Configuration) → is_restorable c ≡ true → IsSound (begun_with floor last_index c).tracker
   pub acknowledged : (before : ChangerState) (id index : ℕ) (p : Progress) → IsSound before.tracker → ack_answer before.tracker id index ≡ Ok p → IsSound (changer_with_progress before id p).tracker
   pub accepted : (before after : ChangerState) (step : Step) → (Accepts before step after) ↔ (changer_after before step ≡ Ok after)
   pub described : (saved : ConfStateLists) (c : Configuration) → (restored saved ≡ Some c) ↔ (Describes saved c × (is_restorable c ≡ true))
@@ -178,7 +179,7 @@ leave-due laws session (change ∷ changes) = tt
 
 restored-due : ChangeLaws → (session : SessionState) (saved : ConfStateLists) (found : Option Configuration) → restored saved ≡ found → IsDue session (after_restored session.changer found).effect
 restored-due laws session saved None e = tt
-restored-due laws session saved (Some c) e = laws.begun session.changer.last_index c (((laws.described saved c).0 e).1)
+restored-due laws session saved (Some c) e = laws.begun session.changer.tracker.floor session.changer.last_index c (((laws.described saved c).0 e).1)
 
 restore-due : ChangeLaws → (session : SessionState) (arguments : List ArgumentText) (read : Option ConfStateLists) → IsDue session (restore_with session.changer arguments read).effect
 restore-due laws session arguments None = tt

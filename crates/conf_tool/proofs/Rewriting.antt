@@ -14,6 +14,7 @@ use Rattle.dd_file.specs.declared.stage.Stage.{Stage}
 use Rattle.dd_file.specs.declared.stage.Stage.TheVariants.{Ready, Failed}
 use Rattle.dd_file.specs.declared.fault.FileFault.{FileFault}
 use Rattle.dd_file.proofs.LinesWritten.{begun-more}
+use Rattle.conf_change.specs.declared.floor.Floor.{Floor}
 use Rattle.conf_tool.specs.SessionState.{SessionState, new_session}
 use Rattle.conf_tool.specs.Reports.{found_for, session_after}
 use Rattle.conf_tool.specs.Outputs.{Output, rewritten_script, clean_unless}
@@ -21,9 +22,9 @@ use Rattle.conf_tool.specs.Answered.{script, behind, with_front, ended, rewrite_
 use Rattle.conf_tool.specs.Run.{Wrote}
 use Rattle.conf_tool.proofs.WrittenFront.{behind-part, behind-nothing, with_front-append}
 
-pub rewritten-nothing : (history : ℕ) (session : SessionState) (rewriter : RewriterState) (held : Option (List ℕ)) → session ≡ new_session history → rewriter.stage ≡ Ready →
-    ((start : Option (List ℕ)) → HasWritten rewriter.newlines start start []) → HasRewritten session rewriter (rewritten_script history) [] held held
-rewritten-nothing history session rewriter held is_new ready nothing = record {
+pub rewritten-nothing : (history : ℕ) (floor : Floor) (session : SessionState) (rewriter : RewriterState) (held : Option (List ℕ)) → session ≡ new_session history floor → rewriter.stage ≡ Ready →
+    ((start : Option (List ℕ)) → HasWritten rewriter.newlines start start []) → HasRewritten session rewriter (rewritten_script history floor) [] held held
+rewritten-nothing history floor session rewriter held is_new ready nothing = record {
   text = [];
   wrote = nothing held;
   ready = ready;

@@ -65,8 +65,8 @@ clean-items session (one ∷ items) entries again e (ReadAgain n item other foun
     ∙ ap (λ b. b || list_any differs (entries_of (session_after session one) others)) clean.same ∙ clean-items (session_after session one) items more others (cc) read
 
 pub rewritten-clean : WrittenScript → ItemsAreGiven → ItemsHaveKeys → FoundStands → RewrittenClean
-rewritten-clean written given keys stands input history short fits =
-    let session = new_session history in
+rewritten-clean written given keys stands input history floor short fits =
+    let session = new_session history floor in
     let items = (script_of input).items in
     let entries = entries_of session items in
     let same = items-of session items in

@@ -173,7 +173,7 @@ no_input-tells reply (b ∷ input) h = tells (codes "this command takes no input
 
 restored-tells : (changer : ChangerState) (c : Option Configuration) → Tells (after_restored changer c)
 restored-tells changer None = tells (codes "not a configuration") refl
-restored-tells changer (Some c) = tracker-told (begun_with changer.last_index c).tracker
+restored-tells changer (Some c) = tracker-told (begun_with changer.tracker.floor changer.last_index c).tracker
 
 restore-tells : (changer : ChangerState) (arguments : List ArgumentText) (read : Option ConfStateLists) → are_keys arguments ≡ true → Tells (restore_with changer arguments read)
 restore-tells changer arguments None h = tells (codes "bad conf state") refl

@@ -13,6 +13,7 @@ use Rattle.dd_file.specs.declared.stage.Stage.TheVariants.{Ready}
 use Rattle.dd_file.proofs.LinesWritten.{continues-append, breaks-first, breaks-second}
 use Rattle.conf_change.specs.declared.step.Step.{Step}
 use Rattle.conf_plan.proofs.Taking.{take_one_more}
+use Rattle.conf_change.specs.declared.floor.Floor.{Floor}
 use Rattle.conf_tool.specs.SessionState.{SessionState, new_session}
 use Rattle.conf_tool.specs.Reports.{found_for, session_after, obeyed_text}
 use Rattle.conf_tool.specs.Undo.{undo_plan_of}
@@ -24,9 +25,9 @@ use Rattle.conf_tool.specs.declared.status.Status.{Status}
 use Rattle.conf_tool.proofs.Rewriting.{breaks-nothing}
 use Rattle.conf_tool.proofs.WrittenFront.{appends-nothing, part-nothing, behind-part, behind-nothing}
 
-pub obeyed-nothing : (history count : ℕ) (session : SessionState) (rewriter : RewriterState) (held : Option (List ℕ)) → session ≡ new_session history → rewriter.stage ≡ Ready →
-    ((start : Option (List ℕ)) → HasWritten rewriter.newlines start start []) → HasObeyed session rewriter count (undone_script history count) [] held held
-obeyed-nothing history count session rewriter held is_new ready nothing = record {
+pub obeyed-nothing : (history : ℕ) (floor : Floor) (count : ℕ) (session : SessionState) (rewriter : RewriterState) (held : Option (List ℕ)) → session ≡ new_session history floor → rewriter.stage ≡ Ready →
+    ((start : Option (List ℕ)) → HasWritten rewriter.newlines start start []) → HasObeyed session rewriter count (undone_script history floor count) [] held held
+obeyed-nothing history floor count session rewriter held is_new ready nothing = record {
   unwritten = refl;
   ready = ready;
   nothing = nothing;

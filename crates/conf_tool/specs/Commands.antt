@@ -143,7 +143,7 @@ on_conf_state changer input arguments =
 -- a saved form that is restored, or stands for no configuration
 abbrev pub after_restored : ChangerState → Option Configuration → Reply
 after_restored changer None = told (codes "not a configuration")
-after_restored changer (Some c) = begun_again (begun_with changer.last_index c)
+after_restored changer (Some c) = begun_again (begun_with changer.tracker.floor changer.last_index c)
 
 abbrev pub restore_with : ChangerState → List ArgumentText → Option ConfStateLists → Reply
 restore_with changer arguments None = told (codes "bad conf state")

@@ -5,20 +5,21 @@ use Rattle.dd_file.specs.Lines.{lines_of}
 use Rattle.dd_file.specs.Laws.{ends_in_long_blank, IsComplete}
 use Rattle.dd_file.specs.Place.{longest_input}
 use Rattle.dd_file.specs.Reading.{script_of}
+use Rattle.conf_change.specs.declared.floor.Floor.{Floor}
 use Rattle.conf_tool.specs.Outputs.{checked, rewritten, undone}
 use Rattle.conf_tool.specs.declared.status.Status.TheVariants.{Clean}
 
 -- A rewritten script checks clean, also what is written of one with a fault. (Where that ends in a blank of several lines,
 -- the newline that is dropped may leave a lone backslash on the last line.)
 abbrev pub RewrittenClean : Type 0
-RewrittenClean = (input : List ℕ) (history : ℕ) →
-    ends_in_long_blank (script_of input).items ≡ false → length (rewritten input history).text ≤ longest_input →
-    (checked (rewritten input history).text history).outcome ≡ Ok Clean
+RewrittenClean = (input : List ℕ) (history : ℕ) (floor : Floor) →
+    ends_in_long_blank (script_of input).items ≡ false → length (rewritten input history floor).text ≤ longest_input →
+    (checked (rewritten input history floor).text history floor).outcome ≡ Ok Clean
 
 -- A complete script that checks clean, two newlines, and the script that undoes its last changes, check clean; also where
 -- there is nothing to do, or no plan.
 abbrev pub JoinedClean : Type 0
-JoinedClean = (script : List ℕ) (history count : ℕ) →
-    IsComplete 1 (lines_of script) → (checked script history).outcome ≡ Ok Clean →
-    let joined = (script ++ newline ++ newline) ++ (undone script history count).text in
-    length joined ≤ longest_input → (checked joined history).outcome ≡ Ok Clean
+JoinedClean = (script : List ℕ) (history : ℕ) (floor : Floor) (count : ℕ) →
+    IsComplete 1 (lines_of script) → (checked script history floor).outcome ≡ Ok Clean →
+    let joined = (script ++ newline ++ newline) ++ (undone script history floor count).text in
+    length joined ≤ longest_input → (checked joined history floor).outcome ≡ Ok Clean

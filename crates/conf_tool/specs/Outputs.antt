@@ -7,6 +7,7 @@ use Rattle.dd_file.specs.declared.item.Item.{Item}
 use Rattle.dd_file.specs.declared.fault.FileFault.{FileFault}
 use Rattle.conf_change.specs.Configuration.{Configuration, empty_configuration}
 use Rattle.conf_tool.specs.LineReply.{line_replies}
+use Rattle.conf_change.specs.declared.floor.Floor.{Floor}
 use Rattle.conf_change.specs.declared.step.Step.{Step}
 use Rattle.conf_tool.specs.SessionState.{SessionState, new_session}
 use Rattle.conf_tool.specs.Reports.{session_after, entries_of, differs, report, counts_text}
@@ -46,22 +47,22 @@ abbrev pub checked_entries : List Entry → Option FileFault → Output
 checked_entries entries None = record { text = flat_map report entries ++ counts_text entries; outcome = Ok (status_of (list_any differs entries)) }
 checked_entries entries (Some fault) = record { text = flat_map report entries; outcome = Err fault }
 
-abbrev pub checked_script : ℕ → Script Item → Output
-checked_script history script = checked_entries (entries_of (new_session history) script.items) script.fault
+abbrev pub checked_script : ℕ → Floor → Script Item → Output
+checked_script history floor script = checked_entries (entries_of (new_session history floor) script.items) script.fault
 
--- of `check`: what differs in a script, in a session that keeps so many earlier configurations
-abbrev pub checked : List ℕ → ℕ → Output
-checked input history = checked_script history (script_of input)
+-- of `check`: what differs in a script, in a session that keeps so many earlier configurations and has this floor
+abbrev pub checked : List ℕ → ℕ → Floor → Output
+checked input history floor = checked_script history floor (script_of input)
 
-abbrev pub rewritten_script : ℕ → Script Item → Output
-rewritten_script history script = record {
-  text = rewritten_text (entries_of (new_session history) script.items);
+abbrev pub rewritten_script : ℕ → Floor → Script Item → Output
+rewritten_script history floor script = record {
+  text = rewritten_text (entries_of (new_session history floor) script.items);
   outcome = clean_unless script.fault;
 }
 
 -- of `rewrite`: the script up to a fault, with what was found
-abbrev pub rewritten : List ℕ → ℕ → Output
-rewritten input history = rewritten_script history (script_of input)
+abbrev pub rewritten : List ℕ → ℕ → Floor → Output
+rewritten input history floor = rewritten_script history floor (script_of input)
 
 -- the session that obeyed some items in turn
 abbrev pub session_after_all : SessionState → List Item → SessionState
@@ -82,16 +83,16 @@ abbrev pub undone_unless : SessionState → ℕ → Option FileFault → Output
 undone_unless session count None = undone_by session (undo_plan_of session count)
 undone_unless session count (Some fault) = record { text = []; outcome = Err fault }
 
-abbrev pub undone_script : ℕ → ℕ → Script Item → Output
-undone_script history count script = undone_unless (session_after_all (new_session history) script.items) count script.fault
+abbrev pub undone_script : ℕ → Floor → ℕ → Script Item → Output
+undone_script history floor count script = undone_unless (session_after_all (new_session history floor) script.items) count script.fault
 
 -- of `undo`: the script that undoes so many changes of a script, one at least
-abbrev pub undone : List ℕ → ℕ → ℕ → Output
-undone input history count = undone_script history count (script_of input)
+abbrev pub undone : List ℕ → ℕ → Floor → ℕ → Output
+undone input history floor count = undone_script history floor count (script_of input)
 
 -- of a mode with its options
 abbrev pub output_of : Mode → Options → List ℕ → Output
 output_of Lines options input = lined input
-output_of Check options input = checked input options.history
-output_of Rewrite options input = rewritten input options.history
-output_of Undo options input = undone input options.history options.steps
+output_of Check options input = checked input options.history options.floor
+output_of Rewrite options input = rewritten input options.history options.floor
+output_of Undo options input = undone input options.history options.floor options.steps

@@ -1,8 +1,11 @@
 -- The program as `clap` knows it.
-use Rattle.std.specs.Prelude.{◌≡◌, ℕ, ◌≤◌, true, Option, Some, None, List, codes, bytes_eq, if◌then◌else◌}
+use Rattle.std.specs.Prelude.{◌≡◌, ℕ, ◌≤◌, true, Option, Some, None, List, [], ◌∷◌, map, codes, bytes_eq, if◌then◌else◌}
 use Rattle.std.specs.Str.Parse.{IsNumeral, digits_value, without_leading_plus}
 use Rattle.clap.specs.Words.{App, Row, Rule, Text, first_of, new_app, new_rule, with_rule, with_subcommand}
-use Rattle.clap.specs.declared.builder.value_parser.ValueParser.TheVariants.{Unsigned}
+use Rattle.std.specs.Borrow.{Bor}
+use Rattle.clap.specs.declared.builder.value_parser.ValueParser.TheVariants.{Unsigned, Names}
+use Rattle.conf_change.specs.declared.floor.Floor.{Floor}
+use Rattle.conf_change.specs.declared.floor.Floor.TheVariants.{Zero, One}
 use Rattle.conf_tool.specs.declared.mode.Mode.{Mode}
 use Rattle.conf_tool.specs.declared.mode.Mode.TheVariants.{Lines, Check, Rewrite, Undo}
 
@@ -14,13 +17,17 @@ mode_command name = with_rule (new_app name) (new_rule (codes "FILE"))
 abbrev pub number_rule : Text → ℕ → ℕ → Rule
 number_rule id least most = record (new_rule id) { long = Some id; parser = Some (Unsigned least most); value_names = 1 }
 
--- a mode for scripts
-abbrev pub script_command : Text → App
-script_command name = with_rule (mode_command name) (number_rule (codes "history") 0 1000)
+-- an option with one of these words
+abbrev pub words_rule : Text → Bor (List (Bor Text)) → Rule
+words_rule id words = record (new_rule id) { long = Some id; parser = Some (Names words); value_names = 1 }
+
+-- a mode for scripts, with the words for the floor
+abbrev pub script_command : Text → Bor (List (Bor Text)) → App
+script_command name floors = with_rule (with_rule (mode_command name) (number_rule (codes "history") 0 1000)) (words_rule (codes "next-floor") floors)
 
 -- the mode that undoes changes of a script
-abbrev pub undo_command : Text → App
-undo_command name = with_rule (script_command name) (number_rule (codes "steps") 1 1000)
+abbrev pub undo_command : Text → Bor (List (Bor Text)) → App
+undo_command name floors = with_rule (script_command name floors) (number_rule (codes "steps") 1 1000)
 
 -- a mode has to be named
 abbrev pub wants_mode : App → App
@@ -34,10 +41,14 @@ tells_version app = record { top = record app.top { has_version = true }; subs =
 abbrev pub with_mode : App → App → App
 with_mode mode app = with_subcommand app mode.top
 
-abbrev pub program : App
-program =
-    with_mode (undo_command (codes "undo")) (with_mode (script_command (codes "rewrite")) (with_mode (script_command (codes "check"))
+abbrev pub program : Bor (List (Bor Text)) → App
+program floors =
+    with_mode (undo_command (codes "undo") floors) (with_mode (script_command (codes "rewrite") floors) (with_mode (script_command (codes "check") floors)
     (with_mode (mode_command (codes "lines")) (wants_mode (tells_version (new_app (codes "confscript")))))))
+
+-- so it is of the program whose words for the floor are `0` and `1`
+abbrev pub OfProgram : (App → Type 0) → Type 0
+OfProgram P = (floors : Bor (List (Bor Text))) × (map (λ word. word.now) floors.now ≡ codes "0" ∷ codes "1" ∷ []) × P (program floors)
 
 -- the mode of a name; `lines` unless it is another's
 abbrev pub mode_named : Text → Mode
@@ -56,6 +67,14 @@ asked_mode (Some found) = mode_named found.0
 abbrev pub asked_text : Text → Option (Text × List Row) → Option Text
 asked_text id None = None
 asked_text id (Some found) = first_of id found.1
+
+-- the floor that an option asks for: one where it is left out, and else the one that its text spells
+abbrev pub floor_named : Text → Floor
+floor_named text = if bytes_eq text (codes "0") then Zero else One
+
+abbrev pub asked_floor : Option Text → Floor
+asked_floor None = One
+asked_floor (Some text) = floor_named text
 
 -- The number that an option asks for: the default where it is left out, and else the one that its text spells. Where that
 -- is none from the least to the most, the words are refused.

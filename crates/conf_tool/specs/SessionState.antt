@@ -6,6 +6,7 @@ use Rattle.conf_change.specs.Changer.{IsSound, new_changer, with_last_index}
 use Rattle.conf_change.specs.Configuration.{Configuration, is_restorable}
 use Rattle.conf_change.specs.ConfigurationCode.{configuration_code}
 use Rattle.conf_change.specs.Outcome.{outcome}
+use Rattle.conf_change.specs.declared.floor.Floor.{Floor}
 use Rattle.conf_change.specs.declared.step.Step.{Step}
 use Rattle.conf_tool.specs.declared.effect.Effect.{Effect}
 use Rattle.conf_tool.specs.declared.effect.Effect.TheVariants.{Nothing, Acknowledged, Stepped, Restored, Undone}
@@ -22,8 +23,8 @@ session_code =
     (λ s. (s.changer, (s.history, s.kept))) (λ p. record { changer = p.0; history = p.1.0; kept = p.1.1 }) (λ _. refl)
 
 -- nobody is in it, and no directive came yet
-abbrev pub new_session : ℕ → SessionState
-new_session history = record { changer = new_changer 0; history = history; kept = [] }
+abbrev pub new_session : ℕ → Floor → SessionState
+new_session history floor = record { changer = new_changer floor 0; history = history; kept = [] }
 
 -- the configuration of now
 abbrev pub present : SessionState → Configuration

@@ -1,7 +1,7 @@
 //! The words of the command line.
 ghost use Rattle.std.specs.Prelude.{◌≡◌, ◌≤◌, ◌<◌, ◌^◌, true, false, map, codes, option_map, IfOk, IfErr};
 ghost use Rattle.clap.specs.Words.{FailsBy, app_of, fault_of, first_of, found_of, kind_of, new_rule, rows_of, rule_of, subcommand_of, takes};
-ghost use Rattle.conf_tool.specs.Program.{program as the_program, with_mode, mode_command, script_command, undo_command, number_rule, asked_mode, mode_named, asked_text, IsAsked};
+ghost use Rattle.conf_tool.specs.Program.{program as the_program, OfProgram, with_mode, mode_command, script_command, undo_command, number_rule, words_rule, asked_mode, mode_named, asked_text, asked_floor, floor_named, IsAsked};
 ghost use Rattle.conf_tool.specs.Ranges.{IsInRange};
 
 use crate::help::{CHECK, LINES, PROGRAM, REWRITE, UNDO};
@@ -11,6 +11,7 @@ use crate::options::Options;
 use clap::builder::ValueParser;
 use clap::error::ErrorKind;
 use clap::{Arg, ArgMatches, Command, Error};
+use conf_change::Floor;
 use std::alloc::Global;
 use std::convert::AsStr;
 
@@ -21,31 +22,55 @@ const VERSION: &str = "0.1.0";
 /// of want of memory.
 pub fn command_line<'a, S: AsStr>(alloc: Global, words: &'a [S]) -> Result<Invocation<'a>, Error>
     // The words are refused exactly where `clap` refuses them, and taken elsewhere unless memory is wanting.
-    ensures refused { FailsBy (fault_of the_program (map S.text words.entry.now)) result }
-    ensures taken { IfErr result (λ error. takes the_program (map S.text words.entry.now) ≡ true → kind_of error ≡ ErrorKind.OutOfMemory) }
+    ensures refused { OfProgram (λ the_program. FailsBy (fault_of the_program (map S.text words.entry.now)) result) }
+    ensures taken { OfProgram (λ the_program. IfErr result (λ error. takes the_program (map S.text words.entry.now) ≡ true → kind_of error ≡ ErrorKind.OutOfMemory)) }
 
     // The mode and the file are those that `clap` reads in the words.
-    ensures mode { IfOk result (λ invocation. invocation.mode ≡ asked_mode (subcommand_of the_program (map S.text words.entry.now))) }
-    ensures file { IfOk result (λ invocation. option_map (λ name. name.now) invocation.file ≡ asked_text (codes "FILE") (subcommand_of the_program (map S.text words.entry.now))) }
+    ensures mode { OfProgram (λ the_program. IfOk result (λ invocation. invocation.mode ≡ asked_mode (subcommand_of the_program (map S.text words.entry.now)))) }
+    ensures file { OfProgram (λ the_program. IfOk result (λ invocation. option_map (λ name. name.now) invocation.file ≡ asked_text (codes "FILE") (subcommand_of the_program (map S.text words.entry.now)))) }
 
-    // The options are the numbers in the words, and else 100 and 1.
-    ensures history { IfOk result (λ invocation. IsAsked 0 1000 100 (asked_text (codes "history") (subcommand_of the_program (map S.text words.entry.now))) invocation.options.history) }
-    ensures steps { IfOk result (λ invocation. IsAsked 1 1000 1 (asked_text (codes "steps") (subcommand_of the_program (map S.text words.entry.now))) invocation.options.steps) }
+    // The options are those in the words, and else 100, 1 and one.
+    ensures history { OfProgram (λ the_program. IfOk result (λ invocation. IsAsked 0 1000 100 (asked_text (codes "history") (subcommand_of the_program (map S.text words.entry.now))) invocation.options.history)) }
+    ensures steps { OfProgram (λ the_program. IfOk result (λ invocation. IsAsked 1 1000 1 (asked_text (codes "steps") (subcommand_of the_program (map S.text words.entry.now))) invocation.options.steps)) }
+    ensures floor { OfProgram (λ the_program. IfOk result (λ invocation. invocation.options.floor ≡ asked_floor (asked_text (codes "next-floor") (subcommand_of the_program (map S.text words.entry.now))))) }
     ensures range { IfOk result (λ invocation. IsInRange invocation.options) }
 {
-    let matches = program(alloc)?.try_get_matches_from(words)?;
-    let (mode, file, history, steps) = match matches.subcommand() {
+    read_words(alloc, words, &["0", "1"])
+}
+
+// The same of the program whose words for the floor are these.
+fn read_words<'a, S: AsStr>(
+    alloc: Global,
+    words: &'a [S],
+    floors: &'a [&'a str],
+) -> Result<Invocation<'a>, Error>
+    ensures refused { FailsBy (fault_of (the_program floors.entry) (map S.text words.entry.now)) result }
+    ensures taken { IfErr result (λ error. takes (the_program floors.entry) (map S.text words.entry.now) ≡ true → kind_of error ≡ ErrorKind.OutOfMemory) }
+    ensures mode { IfOk result (λ invocation. invocation.mode ≡ asked_mode (subcommand_of (the_program floors.entry) (map S.text words.entry.now))) }
+    ensures file { IfOk result (λ invocation. option_map (λ name. name.now) invocation.file ≡ asked_text (codes "FILE") (subcommand_of (the_program floors.entry) (map S.text words.entry.now))) }
+    ensures history { IfOk result (λ invocation. IsAsked 0 1000 100 (asked_text (codes "history") (subcommand_of (the_program floors.entry) (map S.text words.entry.now))) invocation.options.history) }
+    ensures steps { IfOk result (λ invocation. IsAsked 1 1000 1 (asked_text (codes "steps") (subcommand_of (the_program floors.entry) (map S.text words.entry.now))) invocation.options.steps) }
+    ensures floor { IfOk result (λ invocation. invocation.options.floor ≡ asked_floor (asked_text (codes "next-floor") (subcommand_of (the_program floors.entry) (map S.text words.entry.now)))) }
+    ensures range { IfOk result (λ invocation. IsInRange invocation.options) }
+{
+    let matches = program(alloc, floors)?.try_get_matches_from(words)?;
+    let (mode, file, history, steps, floor) = match matches.subcommand() {
         Some((name, found)) => (
             mode_of(name),
             found.get_str("FILE"),
             number_of(found, "history", 0, 1000, 100),
             number_of(found, "steps", 1, 1000, 1),
+            floor_of(found),
         ),
-        None => (Mode::Lines, None, 100, 1),
+        None => (Mode::Lines, None, 100, 1, Floor::One),
     };
     Ok(Invocation {
         mode,
-        options: Options { history, steps },
+        options: Options {
+            history,
+            steps,
+            floor,
+        },
         file,
     })
 }
@@ -74,6 +99,26 @@ fn number_of(found: &ArgMatches<'_>, id: &str, least: usize, most: usize, defaul
     }
 }
 
+// The floor behind its option, or one where it is left out.
+fn floor_of(found: &ArgMatches<'_>) -> Floor
+    ensures { result ≡ asked_floor (first_of (codes "next-floor") (rows_of (found_of found.now))) }
+{
+    match found.get_str("next-floor") {
+        Some(text) => floor_named(text),
+        None => Floor::One,
+    }
+}
+
+// The floor of a word.
+fn floor_named(word: &str) -> Floor
+    ensures { result ≡ floor_named word.now }
+{
+    match word {
+        "0" => Floor::Zero,
+        _ => Floor::One,
+    }
+}
+
 // The mode of a name.
 fn mode_of(name: &str) -> Mode
     ensures { result ≡ mode_named name.now }
@@ -87,8 +132,8 @@ fn mode_of(name: &str) -> Mode
 }
 
 // The program, each mode being a subcommand.
-fn program<'a>(alloc: Global) -> Result<Command<'a>, Error>
-    ensures app { IfOk result (λ command. app_of command ≡ the_program) }
+fn program<'a>(alloc: Global, floors: &'a [&'a str]) -> Result<Command<'a>, Error>
+    ensures app { IfOk result (λ command. app_of command ≡ the_program floors.entry) }
     ensures memory { IfErr result (λ error. kind_of error ≡ ErrorKind.OutOfMemory) }
 {
     let program = Command::new(alloc, "confscript")
@@ -103,6 +148,7 @@ fn program<'a>(alloc: Global) -> Result<Command<'a>, Error>
         "check",
         "Runs a script and reports what differs",
         CHECK,
+        floors,
     )?;
     let program = add_script_mode(
         alloc,
@@ -110,8 +156,9 @@ fn program<'a>(alloc: Global) -> Result<Command<'a>, Error>
         "rewrite",
         "Runs a script and prints it with what was found",
         REWRITE,
+        floors,
     )?;
-    add_undo_mode(alloc, program)
+    add_undo_mode(alloc, program, floors)
 }
 
 // Adds a mode as a subcommand, with the file to read.
@@ -140,22 +187,28 @@ fn add_script_mode<'a>(
     name: &'a str,
     about: &'a str,
     help: &'a str,
+    floors: &'a [&'a str],
 ) -> Result<Command<'a>, Error>
-    ensures app { IfOk result (λ command. app_of command ≡ with_mode (script_command name.now) (app_of program.entry)) }
+    ensures app { IfOk result (λ command. app_of command ≡ with_mode (script_command name.now floors.entry) (app_of program.entry)) }
     ensures memory { IfErr result (λ error. kind_of error ≡ ErrorKind.OutOfMemory) }
 {
     let mode = Command::new(alloc, name)
         .about(about)
         .after_long_help(help)
         .arg(file_argument(alloc))?
-        .arg(history_option(alloc))?;
+        .arg(history_option(alloc))?
+        .arg(floor_option(alloc, floors))?;
     let program = program.subcommand(mode)?;
     Ok(program)
 }
 
 // Adds the mode that undoes changes of a script.
-fn add_undo_mode<'a>(alloc: Global, program: Command<'a>) -> Result<Command<'a>, Error>
-    ensures app { IfOk result (λ command. app_of command ≡ with_mode (undo_command (codes "undo")) (app_of program.entry)) }
+fn add_undo_mode<'a>(
+    alloc: Global,
+    program: Command<'a>,
+    floors: &'a [&'a str],
+) -> Result<Command<'a>, Error>
+    ensures app { IfOk result (λ command. app_of command ≡ with_mode (undo_command (codes "undo") floors.entry) (app_of program.entry)) }
     ensures memory { IfErr result (λ error. kind_of error ≡ ErrorKind.OutOfMemory) }
 {
     let steps = number_option(
@@ -170,6 +223,7 @@ fn add_undo_mode<'a>(alloc: Global, program: Command<'a>) -> Result<Command<'a>,
         .after_long_help(UNDO)
         .arg(file_argument(alloc))?
         .arg(history_option(alloc))?
+        .arg(floor_option(alloc, floors))?
         .arg(steps)?;
     let program = program.subcommand(mode)?;
     Ok(program)
@@ -187,6 +241,18 @@ fn history_option<'a>(alloc: Global) -> Arg<'a>
         1000,
         "How many earlier configurations are kept (100 if left out)",
     )
+}
+
+// The floor of fresh next, by these words.
+fn floor_option<'a>(alloc: Global, floors: &'a [&'a str]) -> Arg<'a>
+    ensures rule { rule_of result ≡ words_rule (codes "next-floor") floors.entry }
+    ensures local { result.global ≡ false }
+{
+    Arg::new(alloc, "next-floor")
+        .value_parser(ValueParser::Names(floors))
+        .long("next-floor")
+        .value_name("N")
+        .help("The least next (1 if left out)")
 }
 
 // The file to read.

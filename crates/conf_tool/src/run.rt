@@ -50,11 +50,19 @@ pub fn run<R: Source, W: Sink>(
 {
     match mode {
         Mode::Lines => run_by_part(LineByLine::new(alloc)?, reader, writer),
-        Mode::Check => run_by_part(Checking::new(alloc, options.history)?, reader, writer),
-        Mode::Rewrite => run_by_part(Rewriting::new(alloc, options.history)?, reader, writer),
+        Mode::Check => run_by_part(
+            Checking::new(alloc, options.history, options.floor)?,
+            reader,
+            writer,
+        ),
+        Mode::Rewrite => run_by_part(
+            Rewriting::new(alloc, options.history, options.floor)?,
+            reader,
+            writer,
+        ),
         Mode::Undo => {
             run_by_part(
-                Undoing::new(alloc, options.history, options.steps)?,
+                Undoing::new(alloc, options.history, options.floor, options.steps)?,
                 reader,
                 writer,
             )

@@ -1,6 +1,7 @@
 //! A session: the state that the directives of a script act on.
 ghost use Rattle.std.specs.Prelude.{◌≡◌, ◌≢◌, ◌↔◌, ◌≤◌, Ok, Err, IfOk, OnOk, OnErr, length, option_copied, slice_get};
 ghost use Rattle.conf_change.specs.Changer.{IsSound};
+ghost use Rattle.conf_change.specs.declared.floor.Floor.TheVariants.{One};
 ghost use Rattle.conf_tool.specs.SessionState.{IsSession, new_session, after_directive};
 ghost use Rattle.conf_tool.specs.Commands.{answer};
 ghost use Rattle.conf_tool.specs.Undo.{LeadsBack, undo_plan_of};
@@ -13,7 +14,7 @@ use crate::history::History;
 use crate::laws::{answer_keeps_session, kept_lead_to_now};
 use crate::session_ids::SessionIds;
 use crate::undo_fault::UndoFault;
-use conf_change::{Changer, Config};
+use conf_change::{Changer, Config, Floor};
 use conf_plan::laws::undo_of_run;
 use conf_plan::{Plan, PlanFault, plan};
 use dd_file::item::Directive;
@@ -43,13 +44,20 @@ impl Model for Session {
 }
 
 impl Session {
-    /// A session that nobody is in yet, with last index 0, which keeps so many earlier configurations at most. Their
-    /// places are taken here.
+    /// A session that nobody is in yet, with last index 0 and floor one, which keeps so many earlier configurations at
+    /// most. Their places are taken here.
     pub fn new(alloc: Global, history: usize) -> Result<Session, NoMemory>
-        ensures { IfOk result (λ session. session ≡ new_session history) }
+        ensures { IfOk result (λ session. session ≡ new_session history One) }
+    {
+        Session::with_floor(alloc, history, Floor::One)
+    }
+
+    /// The same with this floor of fresh next, which stays.
+    pub fn with_floor(alloc: Global, history: usize, floor: Floor) -> Result<Session, NoMemory>
+        ensures { IfOk result (λ session. session ≡ new_session history floor) }
     {
         Ok(Session {
-            changer: Changer::new(alloc, 0),
+            changer: Changer::new_with_floor(alloc, 0, floor),
             history: History::new(alloc, history)?,
             alloc,
         })

@@ -1,4 +1,5 @@
 //! The words of the command line.
+use conf_change::Floor;
 use conf_tool::command_line::command_line;
 use conf_tool::{Mode, Options};
 use std::alloc::Global;
@@ -69,14 +70,35 @@ static UNDOING: [(&[&str], Option<&str>, usize, usize); 3] = [
     ),
 ];
 
+// Words, and the floor that they ask for.
+static FLOORS: [(&[&str], Floor); 6] = [
+    (&["confscript", "check"], Floor::One),
+    (&["confscript", "check", "--next-floor", "0"], Floor::Zero),
+    (&["confscript", "check", "--next-floor", "1"], Floor::One),
+    (
+        &["confscript", "rewrite", "--next-floor=0", "f"],
+        Floor::Zero,
+    ),
+    (
+        &["confscript", "undo", "--steps", "2", "--next-floor", "0"],
+        Floor::Zero,
+    ),
+    (&["confscript", "lines"], Floor::One),
+];
+
 // Words that are refused as usage faults, and words that ask for help.
-static REFUSED: [(&[&str], i32); 18] = [
+static REFUSED: [(&[&str], i32); 23] = [
     (&["confscript"], 2),
     (&["confscript", "check", "a", "b"], 2),
     (&["confscript", "rewrite", "--history", "1001"], 2),
     (&["confscript", "rewrite", "--history", "-1"], 2),
     (&["confscript", "check", "--history", "x"], 2),
     (&["confscript", "check", "--history"], 2),
+    (&["confscript", "check", "--next-floor", "2"], 2),
+    (&["confscript", "check", "--next-floor", "00"], 2),
+    (&["confscript", "rewrite", "--next-floor", "+1"], 2),
+    (&["confscript", "undo", "--next-floor", ""], 2),
+    (&["confscript", "lines", "--next-floor", "0"], 2),
     (&["confscript", "check", "--steps", "1"], 2),
     (&["confscript", "undo", "--steps", "0"], 2),
     (&["confscript", "undo", "--steps", "1001"], 2),
@@ -85,7 +107,7 @@ static REFUSED: [(&[&str], i32); 18] = [
     (&["confscript", "changes.txt"], 2),
     (&["confscript", "lines", "a", "b"], 2),
     (&["confscript", "lines", "--history", "5"], 2),
-    (&["confscript", "--version"], 2),
+    (&["confscript", "--version"], 0),
     (&["confscript", "--help"], 0),
     (&["confscript", "lines", "--help"], 0),
     (&["confscript", "help", "lines"], 0),
@@ -106,6 +128,16 @@ fn takes_words(rt: HostRuntime) {
     }
 }
 
+#[test]
+fn takes_floors(rt: HostRuntime) {
+    for (words, floor) in &FLOORS {
+        match command_line(rt.alloc(), *words) {
+            Ok(invocation) => assert_eq!(rt; invocation.options.floor, *floor, "of {words:?}"),
+            Err(_) => assert!(rt; false, "refused {words:?}"),
+        }
+    }
+}
+
 // Whether the words ask for the mode that undoes changes, with this file and these options.
 fn asks_to_undo(
     alloc: Global,
@@ -118,7 +150,12 @@ fn asks_to_undo(
         Ok(invocation) => {
             (invocation.mode == Mode::Undo)
                 & (invocation.file == file)
-                & (invocation.options == Options { history, steps })
+                & (invocation.options
+                    == Options {
+                        history,
+                        steps,
+                        floor: Floor::One,
+                    })
         }
         Err(_) => false,
     }

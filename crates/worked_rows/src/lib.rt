@@ -15,6 +15,8 @@ mod configurations;
 #[cfg(test)]
 mod devices;
 #[cfg(test)]
+mod floors;
+#[cfg(test)]
 mod large_sets;
 #[cfg(test)]
 mod messages;

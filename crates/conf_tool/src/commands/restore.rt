@@ -42,7 +42,7 @@ fn restore_with(
         return Ok(fault);
     }
     laws::restored_is_described();
-    match Changer::restore(alloc, state, changer.last_index()) {
+    match Changer::restore_with_floor(alloc, state, changer.last_index(), changer.floor()) {
         Ok(after) => tell_restored(alloc, after),
         Err(RestoreFault::NotAConfiguration) => tell(alloc, b"not a configuration", b""),
         Err(RestoreFault::NoMemory) => Err(NoMemory),

@@ -12,6 +12,7 @@ use crate::report::{Counts, append_difference};
 use crate::session::Session;
 use crate::status::Status;
 use crate::tool_fault::ToolFault;
+use conf_change::Floor;
 use dd_file::device::{Sink, Source};
 use dd_file::fault::FileFault;
 use dd_file::item::Item;
@@ -31,15 +32,15 @@ pub(super) struct Checking {
 }
 
 impl Checking {
-    /// Begins in a new session that keeps so many earlier configurations.
-    pub(super) fn new(alloc: Global, history: usize) -> Result<Checking, ToolFault>
+    /// Begins in a new session that keeps so many earlier configurations and has this floor.
+    pub(super) fn new(alloc: Global, history: usize, floor: Floor) -> Result<Checking, ToolFault>
         ensures unread { IfOk result (λ mode. ⟦<Checking as PartByPart>⟧.reading mode ≡ fresh) }
-        ensures unwritten { IfOk result (λ mode. (held : Option (List ℕ)) → ⟦<Checking as PartByPart>⟧.HasAnswered mode (checked_script history) [] held held) }
+        ensures unwritten { IfOk result (λ mode. (held : Option (List ℕ)) → ⟦<Checking as PartByPart>⟧.HasAnswered mode (checked_script history floor) [] held held) }
         ensures memory { IsOkUnless result OutOfMemory }
     {
         Ok(Checking {
             items: Reader::new(alloc)?,
-            session: Session::new(alloc, history)?,
+            session: Session::with_floor(alloc, history, floor)?,
             counts: Counts::new(),
             text: Vec::new(alloc),
         })

@@ -13,6 +13,7 @@ use super::part_by_part::PartByPart;
 use crate::session::Session;
 use crate::status::Status;
 use crate::tool_fault::ToolFault;
+use conf_change::Floor;
 use dd_file::device::{Sink, Source};
 use dd_file::fault::{FileFault, WriteFault};
 use dd_file::item::Item;
@@ -90,16 +91,16 @@ pub(super) struct Rewriting {
 }
 
 impl Rewriting {
-    /// Begins in a new session that keeps so many earlier configurations.
-    pub(super) fn new(alloc: Global, history: usize) -> Result<Rewriting, ToolFault>
+    /// Begins in a new session that keeps so many earlier configurations and has this floor.
+    pub(super) fn new(alloc: Global, history: usize, floor: Floor) -> Result<Rewriting, ToolFault>
         ensures unread { IfOk result (λ mode. ⟦<Rewriting as PartByPart>⟧.reading mode ≡ fresh) }
-        ensures unwritten { IfOk result (λ mode. (held : Option (List ℕ)) → ⟦<Rewriting as PartByPart>⟧.HasAnswered mode (rewritten_script history) [] held held) }
+        ensures unwritten { IfOk result (λ mode. (held : Option (List ℕ)) → ⟦<Rewriting as PartByPart>⟧.HasAnswered mode (rewritten_script history floor) [] held held) }
         ensures memory { IsOkUnless result OutOfMemory }
     {
         Ok(Rewriting {
             alloc,
             items: Reader::new(alloc)?,
-            session: Session::new(alloc, history)?,
+            session: Session::with_floor(alloc, history, floor)?,
             rewriter: Rewriter::new(),
         })
     }

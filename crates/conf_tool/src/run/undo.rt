@@ -18,6 +18,7 @@ use crate::texts::undo_fault_text;
 use crate::tool_fault::ToolFault;
 use crate::undo_fault::UndoFault;
 use crate::undo_script::{comment, step_directive};
+use conf_change::Floor;
 use conf_plan::Plan;
 use dd_file::device::{Sink, Source};
 use dd_file::fault::FileFault;
@@ -39,17 +40,22 @@ pub(super) struct Undoing {
 }
 
 impl Undoing {
-    /// Begins in a new session that keeps so many earlier configurations, to undo so many changes, one at least.
-    pub(super) fn new(alloc: Global, history: usize, steps: usize) -> Result<Undoing, ToolFault>
+    /// Begins in a new session that keeps so many earlier configurations and has this floor, to undo so many changes, one at least.
+    pub(super) fn new(
+        alloc: Global,
+        history: usize,
+        floor: Floor,
+        steps: usize,
+    ) -> Result<Undoing, ToolFault>
         requires { 1 ≤ steps }
         ensures unread { IfOk result (λ mode. ⟦<Undoing as PartByPart>⟧.reading mode ≡ fresh) }
-        ensures unwritten { IfOk result (λ mode. (held : Option (List ℕ)) → ⟦<Undoing as PartByPart>⟧.HasAnswered mode (undone_script history steps) [] held held) }
+        ensures unwritten { IfOk result (λ mode. (held : Option (List ℕ)) → ⟦<Undoing as PartByPart>⟧.HasAnswered mode (undone_script history floor steps) [] held held) }
         ensures memory { IsOkUnless result OutOfMemory }
     {
         Ok(Undoing {
             alloc,
             items: Reader::new(alloc)?,
-            session: Session::new(alloc, history)?,
+            session: Session::with_floor(alloc, history, floor)?,
             rewriter: Rewriter::new(),
             steps,
         })

@@ -9,6 +9,6 @@ returns-clause-app c =
     let begun : app_of c.subcommand_required-program.result ≡ wants_mode (tells_version (new_app (codes "confscript"))) = search rules in
     let lines_is : app_of c.in_ok-program.program ≡ with_mode (mode_command (codes "lines")) (wants_mode (tells_version (new_app (codes "confscript")))) =
     c.in_ok-program.ensures.app ∙ ap (with_mode (mode_command (codes "lines"))) begun in
-    let check_is = c.in_ok-program-2.ensures.app ∙ ap (with_mode (script_command (codes "check"))) lines_is in
-    let rewrite_is = c.in_ok-program-3.ensures.app ∙ ap (with_mode (script_command (codes "rewrite"))) check_is in
-    IfOk-weaker c.add_undo_mode.result _ _ (λ program is. is ∙ ap (with_mode (undo_command (codes "undo"))) rewrite_is) c.add_undo_mode.ensures.app
+    let check_is = c.in_ok-program-2.ensures.app ∙ ap (with_mode (script_command (codes "check") c.args.floors)) lines_is in
+    let rewrite_is = c.in_ok-program-3.ensures.app ∙ ap (with_mode (script_command (codes "rewrite") c.args.floors)) check_is in
+    IfOk-weaker c.add_undo_mode.result _ _ (λ program is. is ∙ ap (with_mode (undo_command (codes "undo") c.args.floors)) rewrite_is) c.add_undo_mode.ensures.app
