@@ -11,7 +11,7 @@ use crate::parameter::{Parameter, number_from};
 use crate::session_ids::SessionIds;
 use conf_change::read_number;
 use dd_file::item::Argument;
-use quorum_sets::{MemberSet, NoMemory};
+use quorum_sets::NoMemory;
 use std::alloc::Global;
 use std::collections::{BTreeMap, BTreeSet};
 
@@ -147,11 +147,8 @@ pub(crate) fn quorum_given(alloc: Global, arguments: &[Argument]) -> Result<Quor
 fn set_of(alloc: Global, ids: &[u64]) -> Result<SessionIds, NoMemory>
     ensures { IfOk result (λ set. set ≡ ids_of ids.now) }
 {
-    let mut set = SessionIds::empty(alloc);
-    for id in ids {
-        set.insert(*id)?;
-    }
-    Ok(set)
+    let mut sorted = ids.to_vec(alloc)?;
+    quorum_sets::set_of(alloc, sorted.as_mut_slice())
 }
 
 /// How many values an argument has; none where it is left out.
