@@ -1,12 +1,12 @@
 -- Lists of ids, and the configurations that they describe.
-use Rattle.std.proofs.Common.{◌≡◌, ℕ, ◌+◌, ◌<◌, Bool, true, false, cond, ◌&&◌, ◌||◌, ◌==◌, List, length, take, get_or, slice_get, refl, sym, ap, subst, ◌∙◌, eq-eqb, eqb-true}
+use Rattle.std.proofs.Common.{◌≡◌, ℕ, ◌+◌, Bool, true, false, cond, ◌&&◌, ◌||◌, ◌==◌, List, length, take, slice_get, refl, sym, ap, subst, ◌∙◌, eq-eqb, eqb-true}
 use Rattle.std.specs.Prelude.{Option, Some, None}
 use Rattle.std.specs.List.{list_any}
 use Rattle.std.proofs.lemmas.Bool.{and_parts, and_from}
-use Rattle.std.proofs.lemmas.Option.{slice_get_within, slice_get-get_or, get_or_from_slice_get}
+use Rattle.std.proofs.lemmas.Option.{slice_get_within, get_or_from_slice_get}
 use Rattle.std.proofs.lemmas.List.Folds.{list_any_more}
-use Rattle.quorum_sets.specs.Ids.{Ids, has, with_id, ascending, size, ids_of}
-use Rattle.quorum_sets.proofs.IdLemmas.{same_ids, has-with_id, has-ids_of, has-ascending}
+use Rattle.quorum_sets.specs.Ids.{Ids, has, ascending, size, ids_of}
+use Rattle.quorum_sets.proofs.IdLemmas.{same_ids, has-ids_of, has-ascending}
 use Rattle.conf_change.specs.Configuration.{Configuration, is_restorable}
 use Rattle.conf_change.specs.ConfState.{ConfStateLists, Lists, Describes, lists_of, names_once, named_by, restored}
 
@@ -24,12 +24,6 @@ any_more xs k x q here =
     list_any_more (λ y. q == y) xs k 0 (slice_get_within xs k x here)
     ∙ ap (λ y. list_any (λ z. q == z) (take k xs) || (q == y)) (get_or_from_slice_get xs k x 0 here)
     ∙ or_swap _ (q == x)
-
-pub ids_of_more : (xs : List ℕ) (k : ℕ) (s : Ids) → k < length xs → s ≡ ids_of (take k xs) → with_id s (get_or xs k 0) ≡ ids_of (take (k + 1) xs)
-ids_of_more xs k s lt so_far =
-    same_ids _ _ (λ q.
-    has-with_id s (get_or xs k 0) q ∙ ap (λ b. (q == get_or xs k 0) || b) (ap (λ t. has t q) so_far ∙ has-ids_of (take k xs) q)
-    ∙ sym (has-ids_of (take (k + 1) xs) q ∙ any_more xs k (get_or xs k 0) q (slice_get-get_or xs k 0 lt)))
 
 -- ---- lists that name a set
 pub ids_of-ascending : (s : Ids) → ids_of (ascending s) ≡ s
