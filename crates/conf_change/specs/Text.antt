@@ -3,6 +3,7 @@ use Rattle.std.specs.Prelude.{◌≡◌, ℕ, Bool, not, List, [], ◌++◌, map
 use Rattle.std.specs.List.{join_with_byte}
 use Rattle.quorum_sets.specs.Ids.{Ids, ascending, is_empty}
 use Rattle.conf_change.specs.Configuration.{Configuration, is_joint}
+use Rattle.conf_change.specs.ChangeList.{BadToken, unknown_token, unknown_input, bad_number}
 use Rattle.conf_change.specs.declared.progress.Progress.{Progress}
 use Rattle.conf_change.specs.declared.refused.Refused.{Refused}
 use Rattle.conf_change.specs.declared.refused.Refused.TheVariants.{AlreadyJoint, ZeroVoterJoint, NotJoint, SimpleInJoint, RemovedAllVoters, MoreThanOneVoter, NoMemory}
@@ -51,3 +52,9 @@ refused_text SimpleInJoint = codes "can't apply simple config change in joint co
 refused_text RemovedAllVoters = codes "removed all voters"
 refused_text MoreThanOneVoter = codes "more than one voter changed without entering joint config"
 refused_text NoMemory = codes "out of memory"
+
+-- which word spells no change, and why
+abbrev pub bad_token_text : BadToken → List ℕ
+bad_token_text (unknown_token token) = codes "unknown token " ++ token
+bad_token_text (unknown_input token) = codes "unknown input: " ++ token
+bad_token_text (bad_number token) = codes "bad number: " ++ token

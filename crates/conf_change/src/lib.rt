@@ -39,7 +39,7 @@ pub use restore::RestoreFault;
 pub use saved::{ConfState, ConfStateFault, conf_state};
 pub use saved_line::{read_conf_state, write_conf_state};
 pub use step::{Step, Taken};
-pub use text::{write_config, write_progress, write_refused};
+pub use text::{write_config, write_progress, write_refused, write_token_fault};
 pub use tracker::Tracker;
 pub use transition::{Transition, taken};
 pub use words::next_token;

@@ -1,9 +1,11 @@
 //! The printed texts of configurations, progress and refusals, as the test scripts of etcd's raft packages have them.
-ghost use Rattle.std.specs.Prelude.{◌≡◌, ◌≢◌, ◌++◌, not, decimal, OnOk, OnErr};
+ghost use Rattle.std.specs.Prelude.{◌≡◌, ◌≢◌, ◌++◌, not, decimal, OnOk, OnErr, IsSomeAnd};
 ghost use Rattle.quorum_sets.specs.Ids.{ascending, is_empty};
-ghost use Rattle.conf_change.specs.Text.{Extends, spaced_numbers, set_text, where_there, config_text, progress_text, refused_text};
+ghost use Rattle.conf_change.specs.Text.{Extends, spaced_numbers, set_text, where_there, config_text, progress_text, refused_text, bad_token_text};
+ghost use Rattle.conf_change.specs.ChangeList.{bad_token};
 
 use crate::append::{append, append_number, append_number_at, append_where, keep_whole};
+use crate::change_list::TokenFault;
 use crate::config::Config;
 use crate::progress::Progress;
 use crate::refused::Refused;
@@ -104,4 +106,36 @@ pub fn write_refused(text: &mut Vec<u8>, refused: Refused) -> Result<(), NoMemor
 {
     text.extend_from_slice(refused.text().as_bytes())?;
     Ok(())
+}
+
+/// Appends which word spells no change and why, without a newline: `unknown token `, `unknown input: ` or `bad number: `,
+/// as etcd's test scripts have it, and the word. Want of memory is told as such, and says nothing of a word.
+pub fn write_token_fault(text: &mut Vec<u8>, fault: TokenFault<'_>) -> Result<(), NoMemory>
+    ensures ok { OnOk result (IsSomeAnd (bad_token fault.entry) (λ bad. text.new.items ≡ text.old.items ++ bad_token_text bad)) }
+    ensures err { OnErr result (text.new.items ≡ text.old.items) }
+{
+    match fault {
+        TokenFault::UnknownToken(token) => append_both(text, b"unknown token ", token),
+        TokenFault::UnknownInput(token) => append_both(text, b"unknown input: ", token),
+        TokenFault::BadNumber(token) => append_both(text, b"bad number: ", token),
+        TokenFault::NoMemory => Err(NoMemory),
+    }
+}
+
+// Appends words and the token that they tell of, or nothing.
+fn append_both(text: &mut Vec<u8>, words: &[u8], token: &[u8]) -> Result<(), NoMemory>
+    ensures ok { OnOk result (text.new.items ≡ text.old.items ++ (words.now ++ token.now)) }
+    ensures err { OnErr result (text.new.items ≡ text.old.items) }
+{
+    let len = text.len();
+    let appended = append_parts(text, words, token);
+    keep_whole(text, len, appended)
+}
+
+fn append_parts(text: &mut Vec<u8>, words: &[u8], token: &[u8]) -> Result<(), NoMemory>
+    ensures ok { OnOk result (text.new.items ≡ text.old.items ++ (words.now ++ token.now)) }
+    ensures extends { Extends text.old.items text.new.items }
+{
+    append(text, words)?;
+    append(text, token)
 }

@@ -11,7 +11,7 @@ use Rattle.dd_file.specs.Rewritten.{Entry, entry, is_directive}
 use Rattle.dd_file.specs.declared.item.Item.{Item}
 use Rattle.dd_file.specs.declared.fault.FileFault.{FileFault}
 use Rattle.conf_change.specs.declared.floor.Floor.{Floor}
-use Rattle.conf_tool.specs.SessionState.{SessionState, new_session}
+use Rattle.conf_session.specs.SessionState.{SessionState, new_session}
 use Rattle.conf_tool.specs.Reports.{found_for, session_after, entries_of, differs, report, counts_line}
 use Rattle.conf_tool.specs.Outputs.{Output, checked_script, checked_entries, status_of}
 use Rattle.conf_tool.specs.Answered.{script, behind, with_front, rest_checked, check_left, HasChecked}

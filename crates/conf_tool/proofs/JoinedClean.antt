@@ -22,18 +22,18 @@ use Rattle.conf_change.specs.declared.step.Step.TheVariants.{Simple, EnterJoint,
 use Rattle.conf_change.specs.ChangeList.{letter_of}
 use Rattle.conf_plan.specs.PlanText.{change_text}
 use Rattle.conf_change.specs.declared.floor.Floor.{Floor}
-use Rattle.conf_tool.specs.SessionState.{SessionState, new_session}
-use Rattle.conf_tool.specs.Commands.{answer}
+use Rattle.conf_session.specs.SessionState.{SessionState, new_session}
+use Rattle.conf_session.specs.Commands.{answer}
 use Rattle.conf_tool.specs.Reports.{entries_of, differs}
-use Rattle.conf_tool.specs.Undo.{undo_plan_of, undo_fault_text}
+use Rattle.conf_session.specs.Undo.{undo_plan_of, undo_fault_text}
 use Rattle.conf_tool.specs.UndoScript.{step_command, change_lines, step_directive, comment, undo_items}
 use Rattle.conf_tool.specs.Outputs.{checked, checked_entries, status_of, session_after_all, undone_unless}
-use Rattle.conf_tool.specs.Told.{is_line_byte}
+use Rattle.conf_session.specs.Told.{is_line_byte}
 use Rattle.conf_tool.specs.Laws.{JoinedClean}
 use Rattle.conf_tool.specs.declared.status.Status.{Status}
 use Rattle.conf_tool.specs.declared.status.Status.TheVariants.{Clean}
-use Rattle.conf_tool.specs.declared.undo_fault.UndoFault.{UndoFault}
-use Rattle.conf_tool.proofs.ToldLines.{first, second, both, told-bytes, undo_fault-told, spaced-words, changes-words}
+use Rattle.conf_session.specs.declared.undo_fault.UndoFault.{UndoFault}
+use Rattle.conf_session.proofs.ToldLines.{first, second, both, told-bytes, undo_fault-told, spaced-words, changes-words}
 use Rattle.conf_tool.proofs.RewrittenClean.{FoundStands, outputs, items-of, clean-items}
 
 -- ---- whether a script is clean is told by its directives

@@ -7,15 +7,5 @@ pub mod Checking
 pub mod Rewriting
 pub mod Undoing
 pub mod Marked
-pub mod CommandReplies
-pub mod ToldLines
-pub mod ToldCharts
-pub mod ToldTexts
-pub mod ToldReplies
-pub mod WhiteEnds
-pub mod InputLines
-pub mod SameAnswer
-pub mod Kept
 pub mod RewrittenClean
-pub mod QuorumValues
 pub mod JoinedClean

@@ -2,7 +2,7 @@
 use Rattle.std.proofs.Common.{ℕ, Bool, true, false, List, [], ◌∷◌, ◌++◌, flat_map}
 use Rattle.dd_file.specs.Bytes.{newline}
 use Rattle.dd_file.specs.Lines.{pieces, without_last}
-use Rattle.conf_tool.specs.Texts.{line}
+use Rattle.conf_session.specs.Texts.{line}
 use Rattle.conf_tool.specs.Reports.{marked}
 
 -- pieces behind a sign

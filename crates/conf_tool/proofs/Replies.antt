@@ -4,12 +4,11 @@ use Rattle.std.specs.Prelude.{◌≢◌, Option, Some, None, Result, Ok, Err, If
 use Rattle.conf_change.specs.Configuration.{Configuration}
 use Rattle.conf_change.specs.Changer.{ChangerState, Makes}
 use Rattle.conf_change.specs.ChangeList.{BadToken, changes_in}
-use Rattle.conf_change.specs.Text.{config_text, refused_text}
+use Rattle.conf_change.specs.Text.{config_text, refused_text, bad_token_text}
 use Rattle.conf_change.specs.declared.change.Change.{Change}
 use Rattle.conf_change.specs.declared.refused.Refused.{Refused}
 use Rattle.conf_change.specs.declared.refused.Refused.TheVariants.{NoMemory}
 use Rattle.conf_change.specs.declared.step.Step.TheVariants.{Simple}
-use Rattle.conf_tool.specs.Texts.{bad_token_text}
 use Rattle.conf_tool.specs.LineReply.{LineReply, told, reply_to_outcome, reply_to_changes, has_one_word, line_reply}
 
 -- a list of one

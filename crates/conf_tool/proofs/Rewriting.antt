@@ -15,7 +15,7 @@ use Rattle.dd_file.specs.declared.stage.Stage.TheVariants.{Ready, Failed}
 use Rattle.dd_file.specs.declared.fault.FileFault.{FileFault}
 use Rattle.dd_file.proofs.LinesWritten.{begun-more}
 use Rattle.conf_change.specs.declared.floor.Floor.{Floor}
-use Rattle.conf_tool.specs.SessionState.{SessionState, new_session}
+use Rattle.conf_session.specs.SessionState.{SessionState, new_session}
 use Rattle.conf_tool.specs.Reports.{found_for, session_after}
 use Rattle.conf_tool.specs.Outputs.{Output, rewritten_script, clean_unless}
 use Rattle.conf_tool.specs.Answered.{script, behind, with_front, ended, rewrite_left, HasRewritten}

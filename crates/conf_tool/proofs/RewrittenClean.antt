@@ -10,14 +10,14 @@ use Rattle.dd_file.specs.Rewritten.{Entry, entry, is_output, rewritten_text}
 use Rattle.dd_file.specs.Laws.{IsSameItem, AreGiven, AreReadAgain, AreOver, LastIsGone, ReadAgain, ends_in_long_blank, ItemsAreGiven, WrittenScript, ItemsHaveKeys, item_has_keys}
 use Rattle.dd_file.specs.declared.item.Item.{Item}
 use Rattle.dd_file.specs.declared.item.Item.TheVariants.{Comment, Blank, Directive}
-use Rattle.conf_tool.specs.SessionState.{SessionState, new_session}
-use Rattle.conf_tool.specs.Commands.{Answer, answer}
+use Rattle.conf_session.specs.SessionState.{SessionState, new_session}
+use Rattle.conf_session.specs.Commands.{Answer, answer}
 use Rattle.conf_tool.specs.Reports.{found_for, session_after, entries_of, differs}
 use Rattle.conf_tool.specs.Outputs.{checked_entries, status_of}
-use Rattle.conf_tool.specs.Told.{CanStand}
+use Rattle.conf_session.specs.Told.{CanStand}
 use Rattle.conf_tool.specs.Laws.{RewrittenClean}
-use Rattle.conf_tool.proofs.ToldLines.{first, second, both}
-use Rattle.conf_tool.proofs.SameAnswer.{same-answer}
+use Rattle.conf_session.proofs.ToldLines.{first, second, both}
+use Rattle.conf_session.proofs.SameAnswer.{same-answer}
 
 -- the texts that are found can stand as outputs
 abbrev pub FoundStands : Type 0

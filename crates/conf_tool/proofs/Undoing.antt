@@ -14,9 +14,9 @@ use Rattle.dd_file.proofs.LinesWritten.{continues-append, breaks-first, breaks-s
 use Rattle.conf_change.specs.declared.step.Step.{Step}
 use Rattle.conf_plan.proofs.Taking.{take_one_more}
 use Rattle.conf_change.specs.declared.floor.Floor.{Floor}
-use Rattle.conf_tool.specs.SessionState.{SessionState, new_session}
+use Rattle.conf_session.specs.SessionState.{SessionState, new_session}
 use Rattle.conf_tool.specs.Reports.{found_for, session_after, obeyed_text}
-use Rattle.conf_tool.specs.Undo.{undo_plan_of}
+use Rattle.conf_session.specs.Undo.{undo_plan_of}
 use Rattle.conf_tool.specs.UndoScript.{step_directive, comment, undo_items}
 use Rattle.conf_tool.specs.Outputs.{Output, session_after_all, undo_status, undone_by, undone_script}
 use Rattle.conf_tool.specs.Answered.{script, behind, undo_left, HasObeyed}

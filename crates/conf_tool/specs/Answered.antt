@@ -8,7 +8,7 @@ use Rattle.dd_file.specs.RewriterState.{RewriterState, HasWritten}
 use Rattle.dd_file.specs.declared.item.Item.{Item}
 use Rattle.dd_file.specs.declared.fault.FileFault.{FileFault}
 use Rattle.dd_file.specs.declared.stage.Stage.TheVariants.{Ready}
-use Rattle.conf_tool.specs.SessionState.{SessionState}
+use Rattle.conf_session.specs.SessionState.{SessionState}
 use Rattle.conf_tool.specs.Reports.{entries_of, obeyed_text, differs, report, counts_line}
 use Rattle.conf_tool.specs.Outputs.{Output, clean_unless, status_of, session_after_all, undone_unless}
 

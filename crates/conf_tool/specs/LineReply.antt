@@ -5,8 +5,7 @@ use Rattle.conf_change.specs.Configuration.{Configuration}
 use Rattle.conf_change.specs.Outcome.{Outcome, outcome}
 use Rattle.conf_change.specs.ChangeList.{BadToken, changes_in}
 use Rattle.conf_change.specs.Words.{words}
-use Rattle.conf_change.specs.Text.{config_text, refused_text}
-use Rattle.conf_tool.specs.Texts.{bad_token_text}
+use Rattle.conf_change.specs.Text.{config_text, refused_text, bad_token_text}
 use Rattle.conf_change.specs.declared.change.Change.{Change}
 use Rattle.conf_change.specs.declared.step.Step.TheVariants.{Simple}
 

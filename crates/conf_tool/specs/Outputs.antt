@@ -9,16 +9,16 @@ use Rattle.conf_change.specs.Configuration.{Configuration, empty_configuration}
 use Rattle.conf_tool.specs.LineReply.{line_replies}
 use Rattle.conf_change.specs.declared.floor.Floor.{Floor}
 use Rattle.conf_change.specs.declared.step.Step.{Step}
-use Rattle.conf_tool.specs.SessionState.{SessionState, new_session}
+use Rattle.conf_session.specs.SessionState.{SessionState, new_session}
 use Rattle.conf_tool.specs.Reports.{session_after, entries_of, differs, report, counts_text}
-use Rattle.conf_tool.specs.Undo.{undo_plan_of}
+use Rattle.conf_session.specs.Undo.{undo_plan_of}
 use Rattle.conf_tool.specs.UndoScript.{undo_items}
 use Rattle.conf_tool.specs.declared.mode.Mode.{Mode}
 use Rattle.conf_tool.specs.declared.mode.Mode.TheVariants.{Lines, Check, Rewrite, Undo}
 use Rattle.conf_tool.specs.declared.options.Options.{Options}
 use Rattle.conf_tool.specs.declared.status.Status.{Status}
 use Rattle.conf_tool.specs.declared.status.Status.TheVariants.{Clean, Different}
-use Rattle.conf_tool.specs.declared.undo_fault.UndoFault.{UndoFault}
+use Rattle.conf_session.specs.declared.undo_fault.UndoFault.{UndoFault}
 
 -- what is written, and how it ends: with a status, or with a fault of the input
 pub record Output : Type 0 where

@@ -11,8 +11,8 @@ use Rattle.conf_change.specs.declared.change.Change.{Change}
 use Rattle.conf_change.specs.declared.step.Step.{Step}
 use Rattle.conf_change.specs.declared.step.Step.TheVariants.{Simple, EnterJoint, LeaveJoint}
 use Rattle.conf_plan.specs.PlanText.{command_words, change_text}
-use Rattle.conf_tool.specs.Undo.{undo_fault_text}
-use Rattle.conf_tool.specs.declared.undo_fault.UndoFault.{UndoFault}
+use Rattle.conf_session.specs.Undo.{undo_fault_text}
+use Rattle.conf_session.specs.declared.undo_fault.UndoFault.{UndoFault}
 
 -- a step's command with its arguments
 abbrev pub step_command : Step → CommandText

@@ -1,64 +1,10 @@
 //! Laws of this crate's definitions, each the contract of a function that does nothing.
-ghost use Rattle.std.specs.Prelude.{◌≡◌, ◌-◌, ◌≤◌, ℕ, Some, true, length, slice_get};
-ghost use Rattle.dd_file.specs.DirectiveText.{DirectiveText};
-ghost use Rattle.conf_change.specs.Configuration.{Configuration, has_voter};
-ghost use Rattle.conf_plan.specs.Planned.{planned};
-ghost use Rattle.conf_tool.specs.SessionState.{SessionState, IsSession, present};
-ghost use Rattle.conf_tool.specs.Undo.{IsEarlier, undone_changer};
-ghost use Rattle.conf_tool.specs.Commands.{answer};
-ghost use Rattle.conf_tool.specs.Told.{CanStand};
-ghost use Rattle.dd_file.specs.Words.{has_keys};
 ghost use Rattle.conf_tool.specs.Laws.{RewrittenClean, JoinedClean};
 
-use conf_change::laws::{
-    one_changer_after_a_step, one_list_per_text, restored_is_described, trackers_stay_sound,
-};
-use conf_plan::laws::{one_changer_after_steps, undo_of_run};
+use conf_session::laws::found_text_stands;
 use dd_file::laws::{
     directive_is_given, items_are_given, items_have_keys, joined_items, written_script,
 };
-
-/// The text that is found can stand as the output of a directive: it is whole lines, one at least, and none of them is
-/// blank, of four dashes or ends in a carriage return. The keys of a script's arguments are keys (`dd_file::laws`).
-pub fn found_text_stands()
-    ensures { (session : SessionState) (directive : DirectiveText) → has_keys directive.arguments ≡ true → CanStand (answer session directive).found }
-{
-    one_list_per_text();
-}
-
-/// The kept configurations of a session are those of before its last accepted changes: so many accepted steps lead from
-/// each to the one of now, which has a voter.
-pub fn kept_lead_to_now()
-    ensures { (session : SessionState) (count : ℕ) (older : Configuration) → IsSession session → 1 ≤ count → slice_get session.kept (count - 1) ≡ Some older → IsEarlier session count older }
-{
-    trackers_stay_sound();
-    one_changer_after_a_step();
-    restored_is_described();
-}
-
-/// What holds of every session holds of it after each answer.
-pub fn answer_keeps_session()
-    ensures { (session : SessionState) (directive : DirectiveText) → IsSession session → IsSession (answer session directive).session }
-{
-    trackers_stay_sound();
-    one_changer_after_a_step();
-    restored_is_described();
-    undo_of_run();
-    one_changer_after_steps();
-}
-
-/// Whatever changes were accepted, the plan that undoes the last ones leaves the voters, learners, next learners and the
-/// flag of before them.
-pub fn undo_brings_back()
-    ensures { (session : SessionState) (count : ℕ) (older : Configuration) → IsSession session → 1 ≤ count → slice_get session.kept (count - 1) ≡ Some older → has_voter older ≡ true
-        → (undone_changer session (planned (present session) older)).tracker.config ≡ older }
-{
-    trackers_stay_sound();
-    one_changer_after_a_step();
-    restored_is_described();
-    undo_of_run();
-    one_changer_after_steps();
-}
 
 /// A rewritten script checks clean, where its last item is no blank of several lines and the rewritten text is within the
 /// input limit (own). Of a script with a fault this is said of what is written up to the fault.

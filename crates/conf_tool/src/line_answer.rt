@@ -1,15 +1,14 @@
 //! The answer of the mode `lines` to one line.
-ghost use Rattle.std.specs.Prelude.{◌≡◌, ◌++◌, Ok, Err, length, OnOk, IsSomeAnd};
+ghost use Rattle.std.specs.Prelude.{◌≡◌, ◌++◌, Ok, length, OnOk};
 ghost use Rattle.dd_file.specs.Bytes.{newline};
-ghost use Rattle.conf_change.specs.ChangeList.{bad_token};
 ghost use Rattle.conf_tool.specs.LineReply as says;
 ghost use Rattle.conf_tool.specs.LineReply.{line_reply, reply_to_changes};
-ghost use Rattle.conf_tool.specs.Texts.{bad_token_text};
 
-use crate::session_ids::SessionIds;
 use conf_change::{
-    Change, Changer, Refused, TokenFault, next_token, read_changes, write_config, write_refused,
+    Change, Changer, Refused, next_token, read_changes, write_config, write_refused,
+    write_token_fault,
 };
+use conf_session::SessionIds;
 use quorum_sets::NoMemory;
 use std::alloc::Global;
 
@@ -45,7 +44,7 @@ fn reply(
     }
     match read_changes(alloc, line) {
         Ok(changes) => make_change(changer, changes.as_slice(), text),
-        Err(fault) => tell_fault(fault, text),
+        Err(fault) => write_token_fault(text, fault),
     }
 }
 
@@ -76,24 +75,4 @@ fn make_change(
             _ => write_refused(text, refused),
         },
     }
-}
-
-// Appends which word spells no change, and why.
-pub(crate) fn tell_fault(fault: TokenFault<'_>, text: &mut Vec<u8>) -> Result<(), NoMemory>
-    ensures { OnOk result (IsSomeAnd (bad_token fault.entry) (λ bad. text.new.items ≡ text.old.items ++ bad_token_text bad)) }
-{
-    match fault {
-        TokenFault::UnknownToken(token) => append_both(text, b"unknown token ", token),
-        TokenFault::UnknownInput(token) => append_both(text, b"unknown input: ", token),
-        TokenFault::BadNumber(token) => append_both(text, b"bad number: ", token),
-        TokenFault::NoMemory => Err(NoMemory),
-    }
-}
-
-fn append_both(text: &mut Vec<u8>, words: &[u8], token: &[u8]) -> Result<(), NoMemory>
-    ensures { OnOk result (text.new.items ≡ text.old.items ++ (words.now ++ token.now)) }
-{
-    text.extend_from_slice(words)?;
-    text.extend_from_slice(token)?;
-    Ok(())
 }

@@ -1,7 +1,7 @@
 //! The floor of fresh next: what members begin with.
 use crate::changes::is_shown;
 use conf_change::{AckFault, Change, Changer, Floor, Kind, Progress, read_conf_state};
-use conf_tool::Session;
+use conf_session::Session;
 use quorum_sets::{NoMemory, TreeIds};
 use std::alloc::Global;
 use std::test::Fail;

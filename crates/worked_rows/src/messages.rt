@@ -1,7 +1,8 @@
 //! The messages of the error types, each value once, and that no two of one type are equal.
 use conf_change::{AckFault, ConfStateFault, Invariant, Refused, RestoreFault, TokenFault};
 use conf_plan::{PlanFault, PlanTextFault, StepRefused};
-use conf_tool::{ToolFault, UndoFault};
+use conf_session::UndoFault;
+use conf_tool::ToolFault;
 use dd_file::fault::{DeviceFault, FileFault, WriteFault};
 use quorum_sets::NoMemory;
 use std::alloc::{AllocError, Global};

@@ -1,7 +1,7 @@
 //! Sessions: what each directive finds.
 use conf_change::write_config;
 use conf_plan::print_plan;
-use conf_tool::{Session, UndoFault};
+use conf_session::{Session, UndoFault};
 use dd_file::device::FromRead;
 use dd_file::item::Item;
 use dd_file::reader::Reader;

@@ -1,6 +1,9 @@
 //! The words and changes that texts hold, and texts that are appended to.
 use conf_change::Kind::{Learner, Remove, Update, Voter};
-use conf_change::{Change, Refused, next_token, read_changes, write_refused};
+use conf_change::{
+    Change, Refused, TokenFault, next_token, read_changes, write_refused, write_token_fault,
+};
+use conf_session::{UndoFault, undo_fault_text};
 use std::test::Fail;
 
 #[test]
@@ -10,6 +13,25 @@ fn appends_refusals(rt: HostRuntime) -> Result<(), Fail> {
     write_refused(&mut text, Refused::NotJoint)?;
     let wanted = b"removed all voterscan't leave a non-joint config".as_slice();
     assert!(rt; text.as_slice() == wanted);
+    Ok(())
+}
+
+#[test]
+fn appends_bad_words(rt: HostRuntime) -> Result<(), Fail> {
+    let mut text = Vec::new(rt.alloc());
+    write_token_fault(&mut text, TokenFault::UnknownToken(b"v"))?;
+    write_token_fault(&mut text, TokenFault::UnknownInput(b"x1"))?;
+    write_token_fault(&mut text, TokenFault::BadNumber(b"v1x"))?;
+    let wanted = b"unknown token vunknown input: x1bad number: v1x".as_slice();
+    assert!(rt; text.as_slice() == wanted);
+    Ok(())
+}
+
+#[test]
+fn tells_why_nothing_is_undone(rt: HostRuntime) -> Result<(), Fail> {
+    let few = undo_fault_text(rt.alloc(), UndoFault::NotKept(12))?;
+    let wanted = b"no plan: 12 earlier configurations are kept".as_slice();
+    assert!(rt; few.as_slice() == wanted);
     Ok(())
 }
 

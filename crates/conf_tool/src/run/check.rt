@@ -9,10 +9,10 @@ ghost use Rattle.conf_tool.specs.declared.tool_fault.ToolFault.TheVariants.{NoMe
 
 use super::part_by_part::PartByPart;
 use crate::report::{Counts, append_difference};
-use crate::session::Session;
 use crate::status::Status;
 use crate::tool_fault::ToolFault;
 use conf_change::Floor;
+use conf_session::Session;
 use dd_file::device::{Sink, Source};
 use dd_file::fault::FileFault;
 use dd_file::item::Item;

@@ -9,10 +9,10 @@ ghost use Rattle.conf_tool.specs.declared.tool_fault.ToolFault.TheVariants.{NoMe
 use super::clean_unless::clean_unless;
 use super::part_by_part::PartByPart;
 use crate::line_answer::answer_line;
-use crate::session_ids::SessionIds;
 use crate::status::Status;
 use crate::tool_fault::ToolFault;
 use conf_change::Changer;
+use conf_session::SessionIds;
 use dd_file::device::{Sink, Source};
 use dd_file::fault::FileFault;
 use dd_file::lines::Lines;

@@ -10,10 +10,10 @@ ghost use Rattle.conf_tool.specs.declared.tool_fault.ToolFault.TheVariants.{NoMe
 
 use super::clean_unless::clean_unless;
 use super::part_by_part::PartByPart;
-use crate::session::Session;
 use crate::status::Status;
 use crate::tool_fault::ToolFault;
 use conf_change::Floor;
+use conf_session::Session;
 use dd_file::device::{Sink, Source};
 use dd_file::fault::{FileFault, WriteFault};
 use dd_file::item::Item;

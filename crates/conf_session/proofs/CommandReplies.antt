@@ -1,0 +1,109 @@
+-- What a step on a copy, or a saved form, gives as the reply of a command.
+use Rattle.std.proofs.Common.{◌≡◌, ◌≢◌, ℕ, zero, suc, ◌+◌, true, false, List, [], ◌∷◌, ◌++◌, length, take, refl, sym, ap, ◌∙◌, subst, cond, arith, add-one}
+use Rattle.std.specs.Prelude.{◌==◌, nat_eq, codes, Option, Some, None, unwrap_or, Result, Ok, Err, IfOk, MatchResult, OnOk, flat_map, slice_get}
+use Rattle.std.proofs.lemmas.Bool.{eqb-true}
+use Rattle.std.proofs.lemmas.Bool.Decides.{nat_tests}
+use Rattle.std.proofs.lemmas.List.{nil_from_length, append_assoc, append-nil}
+use Rattle.conf_change.specs.Configuration.{Configuration}
+use Rattle.conf_change.specs.ConfState.{ConfStateLists, restored}
+use Rattle.conf_change.specs.declared.change.Change.{Change}
+use Rattle.conf_change.specs.Text.{refused_text, config_text, progress_text}
+use Rattle.conf_change.specs.TrackerState.{TrackerState}
+use Rattle.dd_file.specs.Bytes.{newline}
+use Rattle.dd_file.specs.Words.{ArgumentText}
+use Rattle.conf_change.specs.Changer.{ChangerState, GivesNext, moved_by}
+use Rattle.conf_change.specs.declared.progress.Progress.{Progress}
+use Rattle.conf_change.specs.declared.refused.Refused.{Refused}
+use Rattle.conf_change.specs.declared.refused.Refused.TheVariants.{NoMemory}
+use Rattle.conf_change.specs.declared.step.Step.{Step}
+use Rattle.conf_change.specs.declared.step.Step.TheVariants.{LeaveJoint}
+use Rattle.conf_session.specs.Texts.{line, member_line, member_lines, tracker_text}
+use Rattle.conf_session.specs.Told.{CanStand}
+use Rattle.conf_session.specs.Reply.{Reply, told, stepped}
+use Rattle.conf_session.specs.QuorumArguments.{values_given, ids_given}
+use Rattle.conf_session.specs.declared.parameter.Parameter.{Parameter}
+use Rattle.conf_session.specs.declared.commands.Command.{Command}
+use Rattle.conf_session.specs.Commands.{no_input_text, with_no_input, argument_fault, with_arguments, with_one_each, after_step, on_step, leave_with}
+
+-- the reply after a step
+pub step_reply : (before : ChangerState) (step : Step) (made : Result ChangerState Refused) (reply : Reply) → GivesNext before step made →
+    MatchResult made (λ after. reply ≡ stepped after) (λ refused. (refused ≢ NoMemory) × (reply ≡ told (refused_text refused))) → reply ≡ on_step before step
+step_reply before step (Ok after) reply gives h =
+    h ∙ ap stepped gives.accepted.whole ∙ sym (ap (λ o. after_step (moved_by before step o)) gives.accepted.configuration)
+step_reply before step (Err refused) reply gives h = h.1 ∙ sym (ap (λ o. after_step (moved_by before step o)) (gives.refused h.0))
+
+pub leave-none : (before : ChangerState) (changes : List Change) → (length changes == 0) ≡ true → leave_with before changes ≡ on_step before LeaveJoint
+leave-none before changes e = ap (leave_with before) (nil_from_length changes (eqb-true (length changes) 0 e))
+
+pub no_input-told : (reply : Reply) (input : List ℕ) → (length input == 0) ≡ false → with_no_input reply input ≡ told no_input_text
+no_input-told reply [] e = cc
+no_input-told reply (b ∷ input) e = refl
+
+-- there is no input, and the arguments have no fault
+pub arguments-taken : (command : Command) (arguments : List ArgumentText) (reply : Reply) (input : List ℕ) → (length input == 0) ≡ true → argument_fault command arguments ≡ None →
+    with_no_input (with_arguments command arguments reply) input ≡ reply
+arguments-taken command arguments reply input e none =
+    ap (with_no_input (with_arguments command arguments reply)) (nil_from_length input (eqb-true (length input) 0 e)) ∙ ap (λ fault. unwrap_or fault reply) none
+
+-- each id has a value
+pub one_each-taken : (parameter : Parameter) (arguments : List ArgumentText) (reply : Reply) → length (values_given parameter arguments) ≡ length (ids_given arguments) → with_one_each parameter arguments reply ≡ reply
+one_each-taken parameter arguments reply e = ap (λ enough. cond enough reply (told (codes "wrong number of values"))) (same (length (values_given parameter arguments)) (length (ids_given arguments)) e) where
+  same : (a b : ℕ) → a ≡ b → nat_eq a b ≡ true
+  same a b e = grind (arith, nat_tests)
+
+-- there are more or fewer values
+pub one_each-wrong : (parameter : Parameter) (arguments : List ArgumentText) (reply : Reply) → length (values_given parameter arguments) ≢ length (ids_given arguments) → with_one_each parameter arguments reply ≡ told (codes "wrong number of values")
+one_each-wrong parameter arguments reply ne = ap (λ enough. cond enough reply (told (codes "wrong number of values"))) (other (length (values_given parameter arguments)) (length (ids_given arguments)) ne) where
+  other : (a b : ℕ) → a ≢ b → nat_eq a b ≡ false
+  other a b ne = grind (arith, nat_tests)
+
+-- a saved form that is restored to nothing
+pub not_restored : (saved : ConfStateLists) (c : Option Configuration) → restored saved ≡ c → ((d : Configuration) → restored saved ≡ Some d → ⊥) → restored saved ≡ None
+not_restored saved None e none = e
+not_restored saved (Some c) e none = absurd (none c e)
+
+-- a text that is begun with this
+pub begun : (old new part whole : List ℕ) → old ≡ [] → new ≡ old ++ part → part ≡ whole → new ≡ whole
+begun old new part whole e f g = f ∙ ap (λ t. t ++ part) e ∙ g
+
+flat_map-suc : {X : Type 0} (f : X → List ℕ) (xs : List X) (i : ℕ) (x : X) → slice_get xs i ≡ Some x → flat_map f (take (suc i) xs) ≡ flat_map f (take i xs) ++ f x
+flat_map-suc f [] i x e = cc
+flat_map-suc f (y ∷ xs) zero x e = let same : y ≡ x = cc in ap (λ z. f z ++ []) same ∙ append-nil (f x)
+flat_map-suc f (y ∷ xs) (suc i) x e = ap (λ rest. f y ++ rest) (flat_map-suc f xs i x e) ∙ sym (append_assoc (f y) (flat_map f (take i xs)) (f x))
+
+pub flat_map-front : {X : Type 0} (f : X → List ℕ) (xs : List X) (i : ℕ) (x : X) → slice_get xs i ≡ Some x → flat_map f (take (i + 1) xs) ≡ flat_map f (take i xs) ++ f x
+flat_map-front f xs i x e = ap (λ n. flat_map f (take n xs)) (add-one i) ∙ flat_map-suc f xs i x e
+
+-- a reply that is another by an equation
+pub same-reply : {E : Type 0} (r : Result Reply E) (a b : Reply) → a ≡ b → IfOk r (λ reply. reply ≡ a) → IfOk r (λ reply. reply ≡ b)
+same-reply (Ok reply) a b e h = h ∙ e
+same-reply (Err fault) a b e h = tt
+
+-- the same of the reply to a step
+pub same-step : {E : Type 0} (r : Result Reply E) (before : ChangerState) (step : Step) (made : Result ChangerState Refused) (whole : Reply) → GivesNext before step made →
+    on_step before step ≡ whole →
+    IfOk r (λ reply. MatchResult made (λ after. reply ≡ stepped after) (λ refused. (refused ≢ NoMemory) × (reply ≡ told (refused_text refused)))) → IfOk r (λ reply. reply ≡ whole)
+same-step (Ok reply) before step made whole gives e h = step_reply before step made reply gives h ∙ e
+same-step (Err fault) before step made whole gives e h = tt
+
+-- one member more is told
+pub members_more : (old now new : List ℕ) (members : List (ℕ × Progress)) (i id : ℕ) (p : Progress) → slice_get members i ≡ Some (id, p) → now ≡ old ++ flat_map member_line (take i members) →
+    new ≡ now ++ line (progress_text id p) → new ≡ old ++ flat_map member_line (take (i + 1) members)
+members_more old now new members i id p at so_far more =
+    more ∙ ap (λ t. t ++ member_line (id, p)) so_far ∙ append_assoc old (flat_map member_line (take i members)) (member_line (id, p))
+    ∙ ap (λ t. old ++ t) (sym (flat_map-front member_line members i (id, p) at))
+
+-- what is found can stand, where it can for the reply
+pub reply-stands : {E : Type 0} (r : Result Reply E) {a b : Reply} → a ≡ b → CanStand b.found → IfOk r (λ reply. reply ≡ a) → IfOk r (λ reply. CanStand reply.found)
+reply-stands (Ok reply) e stands h = let P : Reply → Type 0 = λ x. CanStand x.found in subst P (sym (h ∙ e)) stands
+reply-stands (Err fault) e stands h = tt
+
+-- a configuration, a newline and the members behind a text
+pub tracker-appended : {E : Type 0} (r : Result (Unit {0}) E) (old one two new : List ℕ) (tracker : TrackerState) (config : Configuration) → config ≡ tracker.config →
+    one ≡ old ++ config_text config → two ≡ one ++ newline → OnOk r (new ≡ two ++ member_lines tracker) → OnOk r (new ≡ old ++ tracker_text tracker)
+tracker-appended (Ok u) old one two new tracker config same first second third =
+    let text = config_text tracker.config in
+    let members = member_lines tracker in
+    let begun : one ≡ old ++ text = first ∙ ap (λ c. old ++ config_text c) same in
+    third ∙ ap (λ t. t ++ members) (second ∙ ap (λ t. t ++ newline) begun ∙ append_assoc old text newline) ∙ append_assoc old (text ++ newline) members
+tracker-appended (Err fault) old one two new tracker config same first second third = tt

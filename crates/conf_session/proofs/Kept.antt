@@ -1,0 +1,316 @@
+-- The configurations that a session keeps, and that an answer keeps what holds of every session.
+use Rattle.std.proofs.Common.{◌≡◌, ℕ, zero, suc, ◌-◌, ◌≤◌, Bool, true, false, cond, List, [], ◌∷◌, ◌++◌, length, take, drop, refl, sym, ap, ◌∙◌, subst, arith}
+use Rattle.std.specs.Prelude.{◌↔◌, Option, Some, None, option_map, unwrap_or, Result, Ok, Err, ⊤, codes, slice_get, nat_lt, option_and_then}
+use Rattle.std.specs.Option.{option_or}
+use Rattle.std.proofs.lemmas.List.{length-append, length-take, length-drop}
+use Rattle.std.proofs.lemmas.Bool.Decides.{nat_tests}
+use Rattle.dd_file.specs.DirectiveText.{DirectiveText}
+use Rattle.dd_file.specs.Words.{ArgumentText}
+use Rattle.conf_change.specs.Acknowledgement.{ack_answer, changer_with_progress}
+use Rattle.conf_change.specs.ChangerState.{ChangerState}
+use Rattle.conf_change.specs.Changer.{IsSound, Accepts, moved_to, begun_with, changer_after}
+use Rattle.conf_change.specs.ChangeList.{BadToken, changes_in}
+use Rattle.conf_change.specs.ConfState.{ConfStateLists, Describes, restored}
+use Rattle.conf_change.specs.ConfStateLine.{conf_state_in}
+use Rattle.conf_change.specs.Configuration.{Configuration, has_voter, is_valid, has_voter_or_nobody, is_restorable}
+use Rattle.conf_change.specs.Number.{number_in}
+use Rattle.conf_change.specs.Outcome.{outcome}
+use Rattle.conf_change.specs.Transition.{step_taken}
+use Rattle.conf_change.specs.declared.floor.Floor.{Floor}
+use Rattle.conf_change.specs.declared.acknowledgement.AckFault.{AckFault}
+use Rattle.conf_change.specs.declared.acknowledgement.AckFault.TheVariants.{NotMember, IndexTooLarge}
+use Rattle.conf_change.specs.declared.change.Change.{Change}
+use Rattle.conf_change.specs.declared.progress.Progress.{Progress}
+use Rattle.conf_change.specs.declared.refused.Refused.{Refused}
+use Rattle.conf_change.specs.declared.step.Step.{Step}
+use Rattle.conf_change.specs.declared.step.Step.TheVariants.{Simple as SimpleStep, EnterJoint as EnterStep, LeaveJoint as LeaveStep}
+use Rattle.conf_plan.specs.Planned.{planned}
+use Rattle.conf_plan.specs.Run.{IsRun, IsValidWithVoter, Takes, after_steps}
+use Rattle.conf_session.specs.SessionState.{SessionState, LedTo, IsSession, present, after_directive}
+use Rattle.conf_session.specs.Parameter.{key_of, at_least, number_from}
+use Rattle.conf_session.specs.Arguments.{bad_argument, missing_argument, argument_of}
+use Rattle.conf_session.specs.Reply.{Reply, told}
+use Rattle.conf_session.specs.Undo.{IsEarlier, LeadsBack, plan_back, undo_plan_of, undone_changer}
+use Rattle.conf_session.specs.QuorumArguments.{number_given, is_one_each}
+use Rattle.conf_session.specs.Commands.{command_in, parameters_of, with_changes, with_no_input, with_arguments, after_step, asks_auto_leave, asked_transition, leave_with, after_restored, restore_with, steps_of, after_planned, undo_last, after_ack, with_one_each, reply_of, answer}
+use Rattle.conf_session.specs.declared.undo_fault.UndoFault.TheVariants.{NoVoterTarget}
+use Rattle.conf_session.specs.declared.effect.Effect.{Effect}
+use Rattle.conf_session.specs.declared.effect.Effect.TheVariants.{Nothing, Acknowledged, Stepped, Restored, Undone}
+use Rattle.conf_session.specs.declared.parameter.Parameter.{Parameter}
+use Rattle.conf_session.specs.declared.parameter.Parameter.TheVariants.{Steps, Id, Index, Indexes, Votes}
+use Rattle.conf_session.specs.declared.commands.Command.{Command}
+use Rattle.conf_session.specs.declared.commands.Command.TheVariants.{Simple, EnterJoint, LeaveJoint, ConfChange, ConfState, Restore, Undo, Ack, CommitIndex, Committed, Vote, Unknown}
+use Rattle.conf_session.proofs.ToldLines.{first, second}
+
+-- ---- what the crates below say
+-- laws of conf_change
+pub record ChangeLaws : Type 0 where
+  pub step : (before : ChangerState) (step : Step) (after : Configuration) → IsSound before.tracker → outcome before.tracker.config step ≡ Ok after → IsSound (moved_to before step after).tracker
+  pub voter : (before after : Configuration) (step : Step) → is_restorable before ≡ true → outcome before step ≡ Ok after → has_voter after ≡ true
+  pub begun : (floor : Floor) (last_index : ℕ) (c : Configuration) → is_restorable c ≡ true → IsSound (begun_with floor last_index c).tracker
+  pub acknowledged : (before : ChangerState) (id index : ℕ) (p : Progress) → IsSound before.tracker → ack_answer before.tracker id index ≡ Ok p → IsSound (changer_with_progress before id p).tracker
+  pub accepted : (before after : ChangerState) (step : Step) → (Accepts before step after) ↔ (changer_after before step ≡ Ok after)
+  pub described : (saved : ConfStateLists) (c : Configuration) → (restored saved ≡ Some c) ↔ (Describes saved c × (is_restorable c ≡ true))
+
+-- laws of conf_plan
+pub record PlanLaws : Type 0 where
+  pub back : (before after : Configuration) (steps : List Step) → IsValidWithVoter before → IsRun before steps after → IsRun after (planned after before) before
+  pub taken : (before after : ChangerState) (steps : List Step) → (Takes before steps after) ↔ (after_steps before steps ≡ Some after)
+  pub run : (before : ChangerState) (steps : List Step) (target : Configuration) → IsRun before.tracker.config steps target
+      → (after : ChangerState) × (after_steps before steps ≡ Some after) × (after.tracker.config ≡ target)
+
+-- ---- the kept configurations lead to the one of now
+run-snoc : (a b c : Configuration) (steps : List Step) (step : Step) → IsRun a steps b → outcome b step ≡ Ok c → IsRun a (steps ++ step ∷ []) c
+run-snoc a b c [] step run e = (c, ap (λ d. outcome d step) run ∙ e, refl)
+run-snoc a b c (s ∷ steps) step run e = (run.0, run.1, run-snoc run.0 b c steps step run.2 e)
+
+-- a run of so many steps from the one to the other, which can be restored
+record Led (now older : Configuration) (count : ℕ) : Type 0 where
+  restorable : is_restorable older ≡ true
+  steps : List Step
+  run : IsRun older steps now
+  counted : length steps ≡ count
+
+led-run : (now : Configuration) (kept : List Configuration) (place : ℕ) (older : Configuration) → LedTo now kept → slice_get kept place ≡ Some older → Led now older (suc place)
+led-run now [] place older led e = cc
+led-run now (c ∷ kept) zero older led e =
+    let same : c ≡ older = cc in
+    let Leading : Configuration → Type 0 = λ o. Led now o 1 in
+    subst Leading same (record { restorable = led.0; steps = led.1.step ∷ []; run = (now, led.1.gives, refl); counted = refl })
+led-run now (c ∷ kept) (suc place) older led e =
+    let rest = led-run c kept place older led.2 e in
+    record {
+      restorable = rest.restorable;
+      steps = rest.steps ++ led.1.step ∷ [];
+      run = run-snoc older c now rest.steps led.1.step rest.run led.1.gives;
+      counted = let n = length-append rest.steps (led.1.step ∷ []) in let m = rest.counted in omega arith;
+    }
+
+kept-voter : ChangeLaws → (now : Configuration) (kept : List Configuration) (place : ℕ) (older : Configuration) → LedTo now kept → slice_get kept place ≡ Some older → has_voter now ≡ true
+kept-voter laws now [] place older led e = cc
+kept-voter laws now (c ∷ kept) place older led e = laws.voter c now led.1.step led.0 led.1.gives
+
+pub is-earlier : ChangeLaws → (session : SessionState) (count : ℕ) (older : Configuration) → IsSession session → 1 ≤ count → slice_get session.kept (count - 1) ≡ Some older → IsEarlier session count older
+is-earlier laws session count older is some e =
+    let led = led-run (present session) session.kept (count - 1) older is.led e in
+    let n = led.counted in
+    record {
+      restorable = led.restorable;
+      steps = led.steps;
+      run = led.run;
+      counted = omega arith;
+      voter = kept-voter laws (present session) session.kept (count - 1) older is.led e;
+    }
+
+valid : (c : Configuration) → is_restorable c ≡ true → has_voter c ≡ true → IsValidWithVoter c
+valid c restorable voter = record { valid = first (is_valid c) (has_voter_or_nobody c) restorable; voter = voter }
+
+-- ---- what becomes of them
+led-take : (now : Configuration) (kept : List Configuration) (n : ℕ) → LedTo now kept → LedTo now (take n kept)
+led-take now [] zero led = tt
+led-take now [] (suc n) led = tt
+led-take now (c ∷ kept) zero led = tt
+led-take now (c ∷ kept) (suc n) led = (led.0, led.1, led-take c kept n led.2)
+
+led-drop : (now : Configuration) (kept : List Configuration) (place : ℕ) (older : Configuration) → LedTo now kept → slice_get kept place ≡ Some older → LedTo older (drop (suc place) kept)
+led-drop now [] place older led e = cc
+led-drop now (c ∷ kept) zero older led e =
+    let same : c ≡ older = cc in
+    let Leading : Configuration → Type 0 = λ o. LedTo o kept in subst Leading same led.2
+led-drop now (c ∷ kept) (suc place) older led e = led-drop c kept place older led.2 e
+
+-- an effect that a command may have on a session
+abbrev IsDue : SessionState → Effect → Type 0
+IsDue session Nothing = ⊤
+IsDue session (Acknowledged after) = IsSound after.tracker × (after.tracker.config ≡ present session)
+IsDue session (Stepped after) = (step : Step) × Accepts session.changer step after
+IsDue session (Restored after) = IsSound after.tracker
+IsDue session (Undone after count) = (1 ≤ count) × IsSound after.tracker × (slice_get session.kept (count - 1) ≡ Some after.tracker.config)
+
+due-stays : ChangeLaws → (session : SessionState) (effect : Effect) → IsSession session → IsDue session effect → IsSession (after_directive session effect)
+due-stays laws session Nothing is due = record { sound = is.sound; few = is.few; led = is.led }
+due-stays laws session (Acknowledged after) is due =
+    let Leading : Configuration → Type 0 = λ c. LedTo c session.kept in
+    record { sound = due.0; few = is.few; led = subst Leading (sym due.1) is.led }
+due-stays laws session (Stepped after) is due =
+    let accepts = due.1 in
+    let Sound : ChangerState → Type 0 = λ c. IsSound c.tracker in
+    record {
+      sound = subst Sound (sym accepts.whole) (laws.step session.changer due.0 after.tracker.config is.sound accepts.configuration);
+      few = let n = length-take session.history (present session ∷ session.kept) in omega arith;
+      led = led-take after.tracker.config (present session ∷ session.kept) session.history (is.sound.restorable, record { step = due.0; gives = accepts.configuration }, is.led);
+    }
+due-stays laws session (Restored after) is due = record { sound = due; few = omega arith; led = tt }
+due-stays laws session (Undone after count) is due =
+    let some = due.0 in
+    let same : suc (count - 1) ≡ count = omega arith in
+    let Leading : ℕ → Type 0 = λ n. LedTo after.tracker.config (drop n session.kept) in
+    record {
+      sound = due.1;
+      few = let n = length-drop count session.kept in let few = is.few in omega arith;
+      led = subst Leading same (led-drop (present session) session.kept (count - 1) after.tracker.config is.led due.2);
+    }
+
+-- ---- each command has such an effect
+step-due : ChangeLaws → (session : SessionState) (step : Step) (made : Result ChangerState Refused) → changer_after session.changer step ≡ made → IsDue session (after_step made).effect
+step-due laws session step (Ok after) e = (step, (laws.accepted session.changer after step).1 e)
+step-due laws session step (Err refused) e = tt
+
+changes-due : (session : SessionState) (reply : List Change → Reply) (read : Result (List Change) BadToken) → ((changes : List Change) → IsDue session (reply changes).effect) → IsDue session (with_changes reply read).effect
+changes-due session reply (Ok changes) h = h changes
+changes-due session reply (Err bad) h = tt
+
+no_input-due : (session : SessionState) (reply : Reply) (input : List ℕ) → IsDue session reply.effect → IsDue session (with_no_input reply input).effect
+no_input-due session reply [] h = h
+no_input-due session reply (b ∷ input) h = tt
+
+fault-due : (session : SessionState) (bad : Option (List ℕ)) (missing : Option Parameter) (reply : Reply) → IsDue session reply.effect →
+    IsDue session (unwrap_or (option_or (option_map (λ key. told (codes "bad argument: " ++ key)) bad) (option_map (λ parameter. told (codes "missing argument: " ++ key_of parameter)) missing)) reply).effect
+fault-due session (Some key) missing reply h = tt
+fault-due session None (Some parameter) reply h = tt
+fault-due session None None reply h = h
+
+arguments-due : (session : SessionState) (command : Command) (arguments : List ArgumentText) (reply : Reply) → IsDue session reply.effect → IsDue session (with_arguments command arguments reply).effect
+arguments-due session command arguments reply h = fault-due session (bad_argument (parameters_of command) arguments) (missing_argument (parameters_of command) arguments) reply h
+
+leave-due : ChangeLaws → (session : SessionState) (changes : List Change) → IsDue session (leave_with session.changer changes).effect
+leave-due laws session [] = step-due laws session LeaveStep _ refl
+leave-due laws session (change ∷ changes) = tt
+
+restored-due : ChangeLaws → (session : SessionState) (saved : ConfStateLists) (found : Option Configuration) → restored saved ≡ found → IsDue session (after_restored session.changer found).effect
+restored-due laws session saved None e = tt
+restored-due laws session saved (Some c) e = laws.begun session.changer.tracker.floor session.changer.last_index c (((laws.described saved c).0 e).1)
+
+restore-due : ChangeLaws → (session : SessionState) (arguments : List ArgumentText) (read : Option ConfStateLists) → IsDue session (restore_with session.changer arguments read).effect
+restore-due laws session arguments None = tt
+restore-due laws session arguments (Some saved) = arguments-due session Restore arguments _ (restored-due laws session saved (restored saved) refl)
+
+ack-due : ChangeLaws → (session : SessionState) (id index : ℕ) (made : Result Progress AckFault) → IsSession session → ack_answer session.changer.tracker id index ≡ made → IsDue session (after_ack session.changer id made).effect
+ack-due laws session id index (Ok p) is e = (laws.acknowledged session.changer id index p is.sound e, refl)
+ack-due laws session id index (Err NotMember) is e = tt
+ack-due laws session id index (Err IndexTooLarge) is e = tt
+
+one_each-due : (session : SessionState) (parameter : Parameter) (arguments : List ArgumentText) (text : List ℕ) → IsDue session (with_one_each parameter arguments (told text)).effect
+one_each-due session parameter arguments text = by (is_one_each parameter arguments) where
+  by : (enough : Bool) → IsDue session (cond enough (told text) (told (codes "wrong number of values"))).effect
+  by true = tt
+  by false = tt
+
+-- ---- of undo
+taken-sound : ChangeLaws → (before : ChangerState) (steps : List Step) (after : ChangerState) → Takes before steps after → IsSound before.tracker → IsSound after.tracker
+taken-sound laws before [] after taken sound = let Sound : ChangerState → Type 0 = λ c. IsSound c.tracker in subst Sound taken sound
+taken-sound laws before (step ∷ steps) after taken sound =
+    let accepts = taken.1 in
+    let Sound : ChangerState → Type 0 = λ c. IsSound c.tracker in
+    taken-sound laws taken.0 steps after taken.2 (subst Sound (sym accepts.whole) (laws.step before step taken.0.tracker.config sound accepts.configuration))
+
+-- where the plan leads
+pub record Arrives (session : SessionState) (older : Configuration) : Type 0 where
+  pub sound : IsSound (undone_changer session (planned (present session) older)).tracker
+  pub there : (undone_changer session (planned (present session) older)).tracker.config ≡ older
+
+pub arrives : ChangeLaws → PlanLaws → (session : SessionState) (count : ℕ) (older : Configuration) → IsSession session → 1 ≤ count → slice_get session.kept (count - 1) ≡ Some older → has_voter older ≡ true →
+    Arrives session older
+arrives laws plans session count older is some e voter =
+    let earlier = is-earlier laws session count older is some e in
+    let steps = planned (present session) older in
+    let back = plans.back older (present session) earlier.steps (valid older earlier.restorable voter) earlier.run in
+    let reached = plans.run session.changer steps older back in
+    let same : undone_changer session steps ≡ reached.0 = ap (λ o. unwrap_or o session.changer) reached.1 in
+    let Sound : ChangerState → Type 0 = λ c. IsSound c.tracker in
+    record {
+      sound = subst Sound (sym same) (taken-sound laws session.changer steps reached.0 ((plans.taken session.changer reached.0 steps).1 reached.1) is.sound);
+      there = ap (λ (c : ChangerState). c.tracker.config) same ∙ reached.2;
+    }
+
+voter-due : ChangeLaws → PlanLaws → (session : SessionState) (count : ℕ) (older : Configuration) (voter : Bool) → IsSession session → 1 ≤ count → slice_get session.kept (count - 1) ≡ Some older → has_voter older ≡ voter →
+    IsDue session (after_planned session count (plan_back session (Some older))).effect
+voter-due laws plans session count older true is some e voter =
+    let there = arrives laws plans session count older is some e voter in
+    let Due : Bool → Type 0 = λ b. IsDue session (after_planned session count (cond b (Ok (planned (present session) older)) (Err NoVoterTarget))).effect in
+    subst Due (sym voter) (some, there.sound, e ∙ ap Some (sym there.there))
+voter-due laws plans session count older false is some e voter =
+    let Due : Bool → Type 0 = λ b. IsDue session (after_planned session count (cond b (Ok (planned (present session) older)) (Err NoVoterTarget))).effect in
+    subst Due (sym voter) tt
+
+planned-due : ChangeLaws → PlanLaws → (session : SessionState) (count : ℕ) (found : Option Configuration) → IsSession session → 1 ≤ count → slice_get session.kept (count - 1) ≡ found →
+    IsDue session (after_planned session count (plan_back session found)).effect
+planned-due laws plans session count None is some e = tt
+planned-due laws plans session count (Some older) is some e = voter-due laws plans session count older (has_voter older) is some e refl
+
+undo-due : ChangeLaws → PlanLaws → (session : SessionState) (count : ℕ) → IsSession session → 1 ≤ count → IsDue session (undo_last session count).effect
+undo-due laws plans session count is some = planned-due laws plans session count (slice_get session.kept (count - 1)) is some refl
+
+-- at least one change is undone
+some-number : (small : Bool) (n : ℕ) → nat_lt n 1 ≡ small → 1 ≤ unwrap_or (cond small None (Some n)) 1
+some-number true n e = omega arith
+some-number false n e = grind (arith, nat_tests)
+
+some-read : (read : Option ℕ) → 1 ≤ unwrap_or (option_and_then (at_least 1) read) 1
+some-read None = omega arith
+some-read (Some n) = some-number (nat_lt n 1) n refl
+
+some-values : (values : List (List ℕ)) → 1 ≤ unwrap_or (number_from 1 values) 1
+some-values [] = omega arith
+some-values (first ∷ []) = some-read (number_in first)
+some-values (first ∷ second ∷ values) = omega arith
+
+some-argument : (argument : Option ArgumentText) → 1 ≤ unwrap_or (option_and_then (λ argument. number_from 1 argument.values) argument) 1
+some-argument None = omega arith
+some-argument (Some argument) = some-values argument.values
+
+command-due : ChangeLaws → PlanLaws → (command : Command) (session : SessionState) (input : List ℕ) (arguments : List ArgumentText) → IsSession session → IsDue session (reply_of command session input arguments).effect
+command-due laws plans Simple session input arguments is = changes-due session _ (changes_in input) (λ changes. step-due laws session (SimpleStep changes) _ refl)
+command-due laws plans EnterJoint session input arguments is =
+    changes-due session _ (changes_in input) (λ changes. arguments-due session EnterJoint arguments _ (step-due laws session (EnterStep (asks_auto_leave arguments) changes) _ refl))
+command-due laws plans LeaveJoint session input arguments is = changes-due session _ (changes_in input) (leave-due laws session)
+command-due laws plans ConfChange session input arguments is =
+    changes-due session _ (changes_in input) (λ changes. arguments-due session ConfChange arguments _ (step-due laws session (step_taken (asked_transition arguments) changes) _ refl))
+command-due laws plans ConfState session input arguments is = no_input-due session _ input (arguments-due session ConfState arguments _ tt)
+command-due laws plans Restore session input arguments is = restore-due laws session arguments (conf_state_in input)
+command-due laws plans Undo session input arguments is =
+    no_input-due session _ input (arguments-due session Undo arguments _ (undo-due laws plans session (steps_of arguments) is (some-argument (argument_of Steps arguments))))
+command-due laws plans Ack session input arguments is =
+    no_input-due session _ input (arguments-due session Ack arguments _ (ack-due laws session (number_given Id arguments) (number_given Index arguments) _ is refl))
+command-due laws plans CommitIndex session input arguments is = no_input-due session _ input (arguments-due session CommitIndex arguments _ tt)
+command-due laws plans Committed session input arguments is = no_input-due session _ input (arguments-due session Committed arguments _ (one_each-due session Indexes arguments _))
+command-due laws plans Vote session input arguments is = no_input-due session _ input (arguments-due session Vote arguments _ (one_each-due session Votes arguments _))
+command-due laws plans Unknown session input arguments is = changes-due session _ (changes_in input) (λ changes. tt)
+
+pub answer-keeps : ChangeLaws → PlanLaws → (session : SessionState) (directive : DirectiveText) → IsSession session → IsSession (answer session directive).session
+answer-keeps laws plans session directive is =
+    due-stays laws session _ is (command-due laws plans (command_in directive.command) session directive.input directive.arguments is)
+
+-- ---- the plan that undoes changes
+pub valid-older : (session : SessionState) (count : ℕ) (older : Configuration) → IsEarlier session count older → is_valid older ≡ true
+valid-older session count older earlier = first (is_valid older) (has_voter_or_nobody older) earlier.restorable
+
+pub plan-is : (session : SessionState) (count : ℕ) (older : Configuration) (plan : List Step) → slice_get session.kept (count - 1) ≡ Some older → has_voter older ≡ true → plan ≡ planned (present session) older →
+    undo_plan_of session count ≡ Ok plan
+plan-is session count older plan kept voter same =
+    ap (plan_back session) kept ∙ ap (λ b. cond b (Ok (planned (present session) older)) (Err NoVoterTarget)) voter ∙ ap Ok (sym same)
+
+-- what a law of conf_plan says of undoing a run
+pub record UndoLaw : Type 0 where
+  pub back : (before after : Configuration) (steps : List Step) → IsValidWithVoter before → IsRun before steps after → IsRun after (planned after before) before
+  pub at_most_four : (before after : Configuration) (steps : List Step) → IsValidWithVoter before → IsRun before steps after → length (planned after before) ≤ 4
+  pub at_most_three : (before after : Configuration) (steps : List Step) → IsValidWithVoter before → IsRun before steps after → length steps ≡ 1 → length (planned after before) ≤ 3
+
+pub leads-back : UndoLaw → (session : SessionState) (count : ℕ) (older : Configuration) (plan : List Step) → slice_get session.kept (count - 1) ≡ Some older → has_voter older ≡ true → IsEarlier session count older →
+    plan ≡ planned (present session) older → LeadsBack session count plan
+leads-back law session count older plan kept voter earlier same =
+    let settled = valid older earlier.restorable voter in
+    let now = present session in
+    let Back : List Step → Type 0 = λ steps. LeadsBack session count steps in
+    subst Back (sym same) (record {
+      older = older;
+      is_kept = kept;
+      run = law.back older now earlier.steps settled earlier.run;
+      at_most_four = law.at_most_four older now earlier.steps settled earlier.run;
+      at_most_three = λ one. law.at_most_three older now earlier.steps settled earlier.run (earlier.counted ∙ one);
+    })
+
+-- a test that cannot fail
+pub must-be : (b : Bool) → (b ≡ false → ⊥) → b ≡ true
+must-be true h = refl
+must-be false h = absurd (h refl)

@@ -1,0 +1,10 @@
+pub mod CommandReplies
+pub mod ToldLines
+pub mod ToldCharts
+pub mod ToldTexts
+pub mod ToldReplies
+pub mod WhiteEnds
+pub mod InputLines
+pub mod SameAnswer
+pub mod Kept
+pub mod QuorumValues

@@ -1,0 +1,75 @@
+-- A directive whose input is the same but for white space at line ends is answered the same.
+use Rattle.std.proofs.Common.{◌≡◌, ℕ, Bool, true, false, List, [], ◌∷◌, map, refl, sym, ap, ◌∙◌, subst, arith}
+use Rattle.std.specs.Prelude.{Option, Some, None, codes, flat_map}
+use Rattle.std.specs.List.{list_all}
+use Rattle.dd_file.specs.DirectiveText.{DirectiveText}
+use Rattle.dd_file.specs.Bytes.{without_trailing_space}
+use Rattle.dd_file.specs.Lines.{line_of}
+use Rattle.dd_file.specs.Words.{ArgumentText}
+use Rattle.dd_file.specs.Laws.{IsSameDirective}
+use Rattle.dd_file.proofs.Pieces.{pieces-first}
+use Rattle.conf_change.specs.Words.{words, trimmed}
+use Rattle.conf_change.specs.ChangeList.{changes_in, changes_in_words}
+use Rattle.conf_change.specs.ConfState.{ConfStateLists}
+use Rattle.conf_change.specs.ConfStateLine.{line_in, conf_state_in}
+use Rattle.conf_change.specs.declared.step.Step.TheVariants.{Simple as SimpleStep}
+use Rattle.conf_change.proofs.LineLemmas.{StandsForConfState-from_some}
+use Rattle.conf_session.specs.SessionState.{SessionState}
+use Rattle.conf_session.specs.Reply.{Reply, told}
+use Rattle.conf_session.specs.Commands.{command_in, with_changes, with_no_input, on_step, enter_with, leave_with, change_with, restore_with, reply_of, reply_to, answered, answer}
+use Rattle.conf_session.specs.declared.commands.Command.{Command}
+use Rattle.conf_session.specs.declared.commands.Command.TheVariants.{Simple, EnterJoint, LeaveJoint, ConfChange, ConfState, Restore, Undo, Ack, CommitIndex, Committed, Vote, Unknown}
+use Rattle.conf_session.specs.Told.{is_line_byte}
+use Rattle.conf_session.proofs.ToldLines.{saved-bytes}
+use Rattle.conf_session.proofs.InputLines.{IsOneLine, has_one, first_line, ends_of, words-told, trimmed-told}
+
+-- a text with a newline between its two ends is no saved configuration
+no-conf_state : (text : List ℕ) → list_all is_line_byte (trimmed text) ≡ false → conf_state_in text ≡ None
+no-conf_state text h = at (conf_state_in text) refl where
+  at : (found : Option ConfStateLists) → conf_state_in text ≡ found → conf_state_in text ≡ None
+  at None e = e
+  at (Some saved) e = let whole = saved-bytes text saved (StandsForConfState-from_some text saved e) in absurd cc
+
+-- three things are asked of an input: the saved configuration that it stands for, its changes, and whether it is empty
+conf_state-same : (input other : List ℕ) → ends_of input ≡ ends_of other → conf_state_in input ≡ conf_state_in other
+conf_state-same input other same = at (has_one (ends_of other)) (subst (λ ls. IsOneLine (has_one ls) (first_line ls) (trimmed input)) same (trimmed-told input)) (trimmed-told other) where
+  at : (one : Bool) → IsOneLine one (first_line (ends_of other)) (trimmed input) → IsOneLine one (first_line (ends_of other)) (trimmed other) → conf_state_in input ≡ conf_state_in other
+  at true e f = ap line_in (e ∙ sym f)
+  at false e f = no-conf_state input e ∙ sym (no-conf_state other f)
+
+changes-same : (input other : List ℕ) → ends_of input ≡ ends_of other → changes_in input ≡ changes_in other
+changes-same input other same = ap changes_in_words (words-told input ∙ ap (flat_map words) same ∙ sym (words-told other))
+
+-- bytes have a line
+some-line : (b : ℕ) (bs : List ℕ) → [] ≡ ends_of (b ∷ bs) → ⊥
+some-line b bs none = let first = none ∙ ap (λ ps. map without_trailing_space (map line_of ps)) (pieces-first (b ∷ bs) (omega arith)) in cc
+
+no_input-same : (reply : Reply) (input other : List ℕ) → ends_of input ≡ ends_of other → with_no_input reply input ≡ with_no_input reply other
+no_input-same reply [] [] same = refl
+no_input-same reply [] (b ∷ other) same = absurd (some-line b other same)
+no_input-same reply (b ∷ input) [] same = absurd (some-line b input (sym same))
+no_input-same reply (b ∷ input) (c ∷ other) same = refl
+
+command-same : (command : Command) (session : SessionState) (input other : List ℕ) (arguments : List ArgumentText) → ends_of input ≡ ends_of other → reply_of command session input arguments ≡ reply_of command session other arguments
+command-same Simple session input other arguments same = ap (with_changes (λ changes. on_step session.changer (SimpleStep changes))) (changes-same input other same)
+command-same EnterJoint session input other arguments same = ap (with_changes (enter_with session.changer arguments)) (changes-same input other same)
+command-same LeaveJoint session input other arguments same = ap (with_changes (leave_with session.changer)) (changes-same input other same)
+command-same ConfChange session input other arguments same = ap (with_changes (change_with session.changer arguments)) (changes-same input other same)
+command-same ConfState session input other arguments same = no_input-same _ input other same
+command-same Restore session input other arguments same = ap (restore_with session.changer arguments) (conf_state-same input other same)
+command-same Undo session input other arguments same = no_input-same _ input other same
+command-same Ack session input other arguments same = no_input-same _ input other same
+command-same CommitIndex session input other arguments same = no_input-same _ input other same
+command-same Committed session input other arguments same = no_input-same _ input other same
+command-same Vote session input other arguments same = no_input-same _ input other same
+command-same Unknown session input other arguments same = ap (with_changes (λ changes. told (codes "unknown command"))) (changes-same input other same)
+
+reply-same : (session : SessionState) (again directive : DirectiveText) → again.command ≡ directive.command → again.arguments ≡ directive.arguments → ends_of again.input ≡ ends_of directive.input →
+    reply_to session again ≡ reply_to session directive
+reply-same session again directive command arguments input =
+    ap (λ name. reply_of (command_in name) session again.input again.arguments) command
+    ∙ ap (reply_of (command_in directive.command) session again.input) arguments
+    ∙ command-same (command_in directive.command) session again.input directive.input directive.arguments input
+
+pub same-answer : (n : ℕ) (found : List ℕ) (directive again : DirectiveText) (session : SessionState) → IsSameDirective n found directive again → answer session again ≡ answer session directive
+same-answer n found directive again session same = ap (answered session) (reply-same session again directive same.command same.arguments same.input)

@@ -1,0 +1,102 @@
+-- A chart, a committed index and the result of a vote are told lines.
+use Rattle.std.proofs.Common.{◌≡◌, ℕ, zero, suc, ◌-◌, Bool, true, false, cond, ◌||◌, List, [], ◌∷◌, ◌++◌, length, map, refl, sym, ap, ◌∙◌, subst, arith}
+use Rattle.std.specs.Prelude.{nat_eq, Option, Some, None, unwrap_or, codes, decimal, flat_map, replicate}
+use Rattle.std.specs.FinMap as finite
+use Rattle.std.specs.List.{list_all, list_any}
+use Rattle.std.proofs.lemmas.List.{append_assoc}
+use Rattle.quorum_sets.specs.Chart.{bar_text, bar_width, in_five_places, row_text, chart_row, chart_text}
+use Rattle.quorum_sets.specs.Committed.{Acks, greatest_index}
+use Rattle.quorum_sets.specs.declared.voting.VoteResult.{VoteResult}
+use Rattle.quorum_sets.specs.declared.voting.VoteResult.TheVariants.{VotePending, VoteLost, VoteWon}
+use Rattle.dd_file.specs.Bytes.{newline}
+use Rattle.dd_file.specs.Lines.{text_of}
+use Rattle.conf_session.specs.QuorumArguments.{index_text, vote_text}
+use Rattle.conf_session.specs.Texts.{line}
+use Rattle.conf_session.specs.Told.{is_line_byte, is_told_line, IsTold}
+use Rattle.conf_session.proofs.ToldLines.{both, all-append, is_mark, IsBytes, IsLine, IsTail, ◌▸◌, ◌▹◌, starts, told, goes, number, decimal-high, decimal-bytes, high-mark, line-told, told-after}
+
+-- ---- a line with its mark at the end
+any-back : (xs ys : List ℕ) → list_any is_mark ys ≡ true → list_any is_mark (xs ++ ys) ≡ true
+any-back [] ys h = h
+any-back (x ∷ xs) ys h = either (is_mark x) (any-back xs ys h) where
+  either : (this : Bool) {rest : Bool} → rest ≡ true → (this || rest) ≡ true
+  either true e = refl
+  either false e = e
+
+leads : {front back : List ℕ} → IsTail front → IsLine back → IsLine (front ++ back)
+leads {front} {back} h k = record { mark = any-back front back k.mark; bytes = all-append is_line_byte front back h.tail k.bytes }
+
+-- ---- the lines of a chart
+same-bytes : (n b : ℕ) → is_line_byte b ≡ true → IsBytes (replicate n b)
+same-bytes zero b h = refl
+same-bytes (suc n) b h = both _ _ h (same-bytes n b h)
+
+spaces : (n : ℕ) → IsTail (replicate n 32)
+spaces n = goes (replicate n 32) (same-bytes n 32 refl)
+
+bar-tail : (n : ℕ) (acked : Option ℕ) (width : ℕ) → IsTail (bar_text n acked width)
+bar-tail n None width = goes (codes "?") refl ▹ spaces n
+bar-tail n (Some index) width = goes (replicate width 120) (same-bytes width 120 refl) ▹ goes (codes ">") refl ▹ spaces (n - width)
+
+-- the line of an id
+abbrev row_line : ℕ → ℕ → Option ℕ → ℕ → List ℕ
+row_line n id acked width =
+    bar_text n acked width ++ codes " " ++ in_five_places (unwrap_or acked 0) ++ codes "    (id=" ++ decimal id ++ codes ")"
+
+row-told : (n id : ℕ) (acked : Option ℕ) (width : ℕ) → is_told_line (row_line n id acked width) ≡ true
+row-told n id acked width =
+    let index = unwrap_or acked 0 in
+    let five : IsTail (in_five_places index) = spaces _ ▹ number index in
+    told (leads (bar-tail n acked width ▹ goes (codes " ") refl ▹ five) (starts (codes "    (id=") refl refl) ▸ number id ▸ goes (codes ")") refl)
+
+abbrev row_of : List ℕ → Acks → ℕ → List ℕ
+row_of ids acks id = row_line (length ids) id (finite.get acks id) (bar_width ids acks id)
+
+rows-told : (ids : List ℕ) (acks : Acks) (some : List ℕ) → list_all is_told_line (map (row_of ids acks) some) ≡ true
+rows-told ids acks [] = refl
+rows-told ids acks (id ∷ some) = both _ _ (row-told (length ids) id (finite.get acks id) (bar_width ids acks id)) (rows-told ids acks some)
+
+row-whole : (n id : ℕ) (acked : Option ℕ) (width : ℕ) → row_text n id acked width ≡ line (row_line n id acked width)
+row-whole n id acked width =
+    sym (append_assoc (bar_text n acked width ++ codes " " ++ in_five_places (unwrap_or acked 0) ++ codes "    (id=" ++ decimal id) (codes ")") newline)
+
+rows-whole : (ids : List ℕ) (acks : Acks) (some : List ℕ) → flat_map (chart_row ids acks) some ≡ text_of (map (row_of ids acks) some)
+rows-whole ids acks [] = refl
+rows-whole ids acks (id ∷ some) =
+    (λ i. row-whole (length ids) id (finite.get acks id) (bar_width ids acks id) i ++ rows-whole ids acks some i)
+
+-- the first line and the others
+all-told : (ids : List ℕ) (acks : Acks) → IsTold (replicate (length ids) 32 ++ codes "    idx\n" ++ flat_map (chart_row ids acks) ids)
+all-told ids acks =
+    let head : List ℕ = replicate (length ids) 32 ++ codes "    idx" in
+    record {
+      lines = head ∷ map (row_of ids acks) ids;
+      some = omega arith;
+      whole = ap (λ text. text ++ flat_map (chart_row ids acks) ids) (sym (append_assoc (replicate (length ids) 32) (codes "    idx") newline)) ∙ ap (λ rows. line head ++ rows) (rows-whole ids acks ids);
+      told = both _ _ (told (leads (spaces (length ids)) (starts (codes "    idx") refl refl))) (rows-told ids acks ids);
+    }
+
+-- ---- an index, behind a chart or alone
+index-line : (index : ℕ) → IsLine (index_text index)
+index-line index = by (nat_eq index greatest_index) where
+  by : (greatest : Bool) → IsLine (cond greatest (226 ∷ 136 ∷ 158 ∷ []) (decimal index))
+  by true = starts (226 ∷ 136 ∷ 158 ∷ []) refl refl
+  by false = starts (decimal index) (high-mark (decimal index) (decimal-high index)) (decimal-bytes index)
+
+pub index-told : (index : ℕ) → is_told_line (index_text index) ≡ true
+index-told index = told (index-line index)
+
+pub chart-told : (ids : List ℕ) (acks : Acks) (index : ℕ) → IsTold (line (chart_text ids acks ++ index_text index))
+chart-told ids acks index = by (nat_eq (length ids) 0) where
+  rows : List ℕ
+  rows = replicate (length ids) 32 ++ codes "    idx\n" ++ flat_map (chart_row ids acks) ids
+
+  by : (none : Bool) → IsTold (line (cond none (codes "<empty majority quorum>") rows ++ index_text index))
+  by true = line-told (codes "<empty majority quorum>" ++ index_text index) (told (starts (codes "<empty majority quorum>") refl refl ▸ goes (index_text index) (index-line index).bytes))
+  by false = subst IsTold (sym (append_assoc rows (index_text index) newline)) (told-after rows (line (index_text index)) (all-told ids acks) (line-told (index_text index) (index-told index)))
+
+-- ---- the result of a vote
+pub vote-told : (vote : VoteResult) → is_told_line (vote_text vote) ≡ true
+vote-told VotePending = refl
+vote-told VoteLost = refl
+vote-told VoteWon = refl

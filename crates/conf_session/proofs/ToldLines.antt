@@ -1,0 +1,347 @@
+-- Which texts are told lines.
+use Rattle.std.proofs.Common.{◌≡◌, ℕ, zero, suc, ◌/◌, ◌%◌, ◌≤◌, Bool, true, false, cond, not, ◌&&◌, List, [], ◌∷◌, ◌++◌, map, refl, sym, ap, ◌∙◌, arith}
+use Rattle.std.specs.Prelude.{◌==◌, ◌||◌, nat_le, codes, decimal, flat_map}
+use Rattle.std.specs.List.{AllZip, list_all, list_any, join_with_byte}
+use Rattle.std.specs.Fmt.{digit_glyph, digits_onto, digits}
+use Rattle.std.specs.FinMap as finite
+use Rattle.std.specs.Str.Parse.{AllDigits}
+use Rattle.std.proofs.lemmas.List.{append_assoc, append-nil, length-append}
+use Rattle.std.proofs.lemmas.Bool.Decides.{nat_tests}
+use Rattle.std.proofs.lemmas.Slice.Eq.{bytes_eq-Decides}
+use Rattle.std.proofs.lemmas.Str.Parse.{digit_at}
+use Rattle.quorum_sets.specs.Ids.{Ids, ascending, is_empty}
+use Rattle.dd_file.specs.Bytes.{is_space, is_blank}
+use Rattle.dd_file.specs.Lines.{text_of}
+use Rattle.dd_file.specs.Script.{is_dashes}
+use Rattle.conf_change.specs.Configuration.{Configuration, is_joint}
+use Rattle.conf_change.specs.ConfState.{ConfStateLists}
+use Rattle.conf_change.specs.Number.{SpellsNumber}
+use Rattle.conf_change.specs.Words.{trimmed}
+use Rattle.conf_change.specs.TrackerState.{TrackerState}
+use Rattle.conf_change.specs.Text.{where_there, spaced_numbers, set_text, config_text, progress_text, refused_text}
+use Rattle.conf_change.specs.ConfStateLine.{truth_text, line_text, conf_state_text, SpellsNumbers, StandsForConfState}
+use Rattle.conf_change.specs.declared.progress.Progress.{Progress}
+use Rattle.conf_change.specs.declared.refused.Refused.{Refused}
+use Rattle.conf_change.specs.declared.refused.Refused.TheVariants.{AlreadyJoint, ZeroVoterJoint, NotJoint, SimpleInJoint, RemovedAllVoters, MoreThanOneVoter, NoMemory}
+use Rattle.conf_change.specs.ChangeList.{letter_of}
+use Rattle.conf_change.specs.declared.change.Change.{Change}
+use Rattle.conf_change.specs.declared.change.Kind.{Kind}
+use Rattle.conf_change.specs.declared.change.Kind.TheVariants.{Voter, Learner, Remove, Update}
+use Rattle.conf_change.specs.declared.step.Step.{Step}
+use Rattle.conf_change.specs.declared.step.Step.TheVariants.{Simple, EnterJoint, LeaveJoint}
+use Rattle.conf_plan.specs.PlanText.{change_text, flag_word, line_and_newline, plan_text, line_text as step_text}
+use Rattle.conf_session.specs.Undo.{undo_fault_text}
+use Rattle.conf_session.specs.declared.undo_fault.UndoFault.{UndoFault}
+use Rattle.conf_session.specs.declared.undo_fault.UndoFault.TheVariants.{NotKept, NoVoterTarget, NoMemory as NoMemoryToUndo}
+use Rattle.conf_session.specs.Texts.{line, member_line, tracker_text}
+use Rattle.conf_session.specs.Told.{is_line_byte, is_told_line, IsTold}
+
+pub first : (a b : Bool) → (a && b) ≡ true → a ≡ true
+first true b e = refl
+first false b e = cc
+
+pub second : (a b : Bool) → (a && b) ≡ true → b ≡ true
+second true b e = e
+second false b e = cc
+
+pub both : (a b : Bool) → a ≡ true → b ≡ true → (a && b) ≡ true
+both true b p q = q
+both false b p q = cc
+
+pub all-append : {X : Type 0} (p : X → Bool) (xs ys : List X) → list_all p xs ≡ true → list_all p ys ≡ true → list_all p (xs ++ ys) ≡ true
+all-append p [] ys h k = k
+all-append p (x ∷ xs) ys h k = both _ _ (first _ _ h) (all-append p xs ys (second _ _ h) k)
+
+abbrev pub IsBytes : List ℕ → Type 0
+IsBytes text = list_all is_line_byte text ≡ true
+
+pub told-bytes : (text : List ℕ) → is_told_line text ≡ true → list_all is_line_byte text ≡ true
+told-bytes text h = second (not (is_blank text || is_dashes text)) _ h
+
+-- a byte that makes a line neither blank nor dashes
+abbrev pub is_mark : ℕ → Bool
+is_mark b = not (is_space b || b == 45)
+
+any-step : (this some more : Bool) → (this || some) ≡ true → (some ≡ true → more ≡ true) → (this || more) ≡ true
+any-step true some more h k = refl
+any-step false some more h k = k h
+
+any-front : {X : Type 0} (p : X → Bool) (xs ys : List X) → list_any p xs ≡ true → list_any p (xs ++ ys) ≡ true
+any-front p [] ys h = cc
+any-front p (x ∷ xs) ys h = any-step (p x) (list_any p xs) (list_any p (xs ++ ys)) h (any-front p xs ys)
+
+space-step : (space dash some all : Bool) → (not (space || dash) || some) ≡ true → (some ≡ true → all ≡ false) → (space && all) ≡ false
+space-step true dash some all h k = k h
+space-step false dash some all h k = refl
+
+no_blank : (bytes : List ℕ) → list_any is_mark bytes ≡ true → is_blank bytes ≡ false
+no_blank [] h = cc
+no_blank (b ∷ bs) h = space-step (is_space b) (b == 45) (list_any is_mark bs) (is_blank bs) h (no_blank bs)
+
+no_dashes-if : (bytes : List ℕ) (dashes : Bool) → is_dashes bytes ≡ dashes → list_any is_mark bytes ≡ true → dashes ≡ false
+no_dashes-if bytes true e h =
+    let same : bytes ≡ codes "----" = (bytes_eq-Decides bytes (codes "----")).0 e in
+    let none : list_any is_mark bytes ≡ false = ap (list_any is_mark) same in cc
+no_dashes-if bytes false e h = refl
+
+pub marked-told : (text : List ℕ) → list_any is_mark text ≡ true → IsBytes text → is_told_line text ≡ true
+marked-told text h k =
+    both _ _ (ap not (ap (λ t. t || is_dashes text) (no_blank text h) ∙ no_dashes-if text (is_dashes text) refl h)) k
+
+pub told-append : (front back : List ℕ) → list_any is_mark front ≡ true → IsBytes front → IsBytes back → is_told_line (front ++ back) ≡ true
+told-append front back h k l = marked-told (front ++ back) (any-front is_mark front back h) (all-append is_line_byte front back k l)
+
+where-bytes : (there : Bool) (text : List ℕ) → IsBytes text → IsBytes (where_there there text)
+where-bytes true text h = h
+where-bytes false text h = refl
+
+-- ---- numbers
+byte-high : (b : ℕ) → nat_le 48 b ≡ true → is_line_byte b ≡ true
+byte-high b h = grind (arith, nat_tests)
+
+bytes-high : (bs : List ℕ) → list_all (nat_le 48) bs ≡ true → IsBytes bs
+bytes-high [] h = refl
+bytes-high (b ∷ bs) h = both _ _ (byte-high b (first _ _ h)) (bytes-high bs (second _ _ h))
+
+glyph-high : (d : ℕ) → nat_le 48 (digit_glyph false d) ≡ true
+glyph-high d = grind (arith, nat_tests)
+
+-- bytes from 48 on, one at least
+abbrev is_high : List ℕ → Bool
+is_high [] = false
+is_high (b ∷ bs) = list_all (nat_le 48) (b ∷ bs)
+
+mark-high : (b : ℕ) → nat_le 48 b ≡ true → is_mark b ≡ true
+mark-high b h = grind (arith, nat_tests)
+
+pub high-mark : (bs : List ℕ) → is_high bs ≡ true → list_any is_mark bs ≡ true
+high-mark [] h = cc
+high-mark (b ∷ bs) h = ap (λ t. t || list_any is_mark bs) (mark-high b (first _ _ h))
+
+high-bytes : (bs : List ℕ) → is_high bs ≡ true → IsBytes bs
+high-bytes [] h = cc
+high-bytes (b ∷ bs) h = bytes-high (b ∷ bs) h
+
+pub either : (b : Bool) (xs ys : List ℕ) → is_high xs ≡ true → is_high ys ≡ true → is_high (cond b xs ys) ≡ true
+either true xs ys h k = h
+either false xs ys h k = k
+
+digits_onto-high : (k n : ℕ) (b : ℕ) (bs : List ℕ) → is_high (b ∷ bs) ≡ true → is_high (digits_onto k 10 false n (b ∷ bs)) ≡ true
+digits_onto-high zero n b bs h = h
+digits_onto-high (suc k) n b bs h =
+    let more : is_high (digit_glyph false (n % 10) ∷ b ∷ bs) ≡ true = both _ _ (glyph-high (n % 10)) h in
+    either (n / 10 == 0) _ _ more (digits_onto-high k (n / 10) (digit_glyph false (n % 10)) (b ∷ bs) more)
+
+number-high : (k n : ℕ) → is_high (digits_onto (suc k) 10 false n []) ≡ true
+number-high k n =
+    let one : is_high (digit_glyph false (n % 10) ∷ []) ≡ true = both _ _ (glyph-high (n % 10)) refl in
+    either (n / 10 == 0) _ _ one (digits_onto-high k (n / 10) (digit_glyph false (n % 10)) [] one)
+
+pub decimal-high : (n : ℕ) → is_high (decimal n) ≡ true
+unfolding digits
+decimal-high n = number-high 63 n
+
+pub decimal-bytes : (n : ℕ) → IsBytes (decimal n)
+decimal-bytes n = high-bytes (decimal n) (decimal-high n)
+
+spaced-bytes : (numbers : List ℕ) → IsBytes (spaced_numbers numbers)
+spaced-bytes [] = refl
+spaced-bytes (n ∷ []) = decimal-bytes n
+spaced-bytes (n ∷ m ∷ numbers) = all-append is_line_byte (decimal n) (32 ∷ spaced_numbers (m ∷ numbers)) (decimal-bytes n) (spaced-bytes (m ∷ numbers))
+
+-- ---- the texts of a configuration, of a member, of a refusal and of a saved form
+pub record IsLine (text : List ℕ) : Type 0 where
+  pub mark : list_any is_mark text ≡ true
+  pub bytes : list_all is_line_byte text ≡ true
+
+pub record IsTail (text : List ℕ) : Type 0 where
+  pub tail : list_all is_line_byte text ≡ true
+
+pub starts : (text : List ℕ) → list_any is_mark text ≡ true → IsBytes text → IsLine text
+starts text h k = record { mark = h; bytes = k }
+
+pub told : {text : List ℕ} → IsLine text → is_told_line text ≡ true
+told {text} h = marked-told text h.mark h.bytes
+
+pub goes : (text : List ℕ) → IsBytes text → IsTail text
+goes text h = record { tail = h }
+
+infixl 60 ◌▸◌
+pub ◌▸◌ : {front back : List ℕ} → IsLine front → IsTail back → IsLine (front ++ back)
+◌▸◌ {front} {back} h k = record { mark = any-front is_mark front back h.mark; bytes = all-append is_line_byte front back h.bytes k.tail }
+
+infixl 61 ◌▹◌
+pub ◌▹◌ : {front back : List ℕ} → IsTail front → IsTail back → IsTail (front ++ back)
+◌▹◌ {front} {back} h k = record { tail = all-append is_line_byte front back h.tail k.tail }
+
+pub number : (n : ℕ) → IsTail (decimal n)
+number n = goes (decimal n) (decimal-bytes n)
+
+numbers : (ns : List ℕ) → IsTail (spaced_numbers ns)
+numbers ns = goes (spaced_numbers ns) (spaced-bytes ns)
+
+set : (ids : Ids) → IsTail (set_text ids)
+set ids = goes (codes "(") refl ▹ numbers (ascending ids) ▹ goes (codes ")") refl
+
+named : (there : Bool) (name : List ℕ) (ids : Ids) → IsBytes name → IsTail (where_there there (name ++ set_text ids))
+named there name ids h = goes _ (where-bytes there (name ++ set_text ids) (all-append is_line_byte name (set_text ids) h (set ids).tail))
+
+config-line : (c : Configuration) → IsLine (config_text c)
+config-line c =
+    starts (codes "voters=") refl refl ▸ set c.incoming
+    ▸ named (is_joint c) (codes "&&") c.outgoing refl
+    ▸ named (not (is_empty c.learners)) (codes " learners=") c.learners refl
+    ▸ named (not (is_empty c.learners_next)) (codes " learners_next=") c.learners_next refl
+    ▸ goes (where_there c.auto_leave (codes " autoleave")) (where-bytes c.auto_leave (codes " autoleave") refl)
+
+pub config-told : (c : Configuration) → is_told_line (config_text c) ≡ true
+config-told c = told (config-line c)
+
+progress-line : (id : ℕ) (p : Progress) → IsLine (progress_text id p)
+progress-line id p =
+    starts (decimal id) (high-mark (decimal id) (decimal-high id)) (decimal-bytes id) ▸ goes (codes ": StateProbe match=") refl ▸ number p.matched ▸ goes (codes " next=") refl ▸ number p.next
+    ▸ goes (where_there p.learner (codes " learner")) (where-bytes p.learner (codes " learner") refl)
+
+pub progress-told : (id : ℕ) (p : Progress) → is_told_line (progress_text id p) ≡ true
+progress-told id p = told (progress-line id p)
+
+pub refused-told : (refused : Refused) → is_told_line (refused_text refused) ≡ true
+refused-told AlreadyJoint = refl
+refused-told ZeroVoterJoint = refl
+refused-told NotJoint = refl
+refused-told SimpleInJoint = refl
+refused-told RemovedAllVoters = refl
+refused-told MoreThanOneVoter = refl
+refused-told NoMemory = refl
+
+pub undo_fault-told : (fault : UndoFault) → is_told_line (undo_fault_text fault) ≡ true
+undo_fault-told (NotKept kept) = told (starts (codes "no plan: ") refl refl ▸ number kept ▸ goes (codes " earlier configurations are kept") refl)
+undo_fault-told NoVoterTarget = refl
+undo_fault-told NoMemoryToUndo = refl
+
+truth-bytes : (truth : Bool) → IsBytes (truth_text truth)
+truth-bytes true = refl
+truth-bytes false = refl
+
+saved-line : (a b c d : List ℕ) (auto_leave : Bool) → IsTail a → IsTail b → IsTail c → IsTail d → IsLine (line_text a b c d auto_leave)
+saved-line a b c d auto_leave voters voters_outgoing learners learners_next =
+    starts (codes "Voters:[") refl refl ▸ voters ▸ goes (codes "] VotersOutgoing:[") refl ▸ voters_outgoing
+    ▸ goes (codes "] Learners:[") refl ▸ learners ▸ goes (codes "] LearnersNext:[") refl ▸ learners_next
+    ▸ goes (codes "] AutoLeave:") refl ▸ goes (truth_text auto_leave) (truth-bytes auto_leave)
+
+pub conf_state-told : (saved : ConfStateLists) → is_told_line (conf_state_text saved) ≡ true
+conf_state-told saved =
+    told (saved-line _ _ _ _ saved.auto_leave (numbers saved.voters) (numbers saved.voters_outgoing) (numbers saved.learners) (numbers saved.learners_next))
+
+-- numbers that were read, with any zeros before them
+byte-from_zero : (b : ℕ) → 48 ≤ b → is_line_byte b ≡ true
+byte-from_zero b h = grind (arith, nat_tests)
+
+digits-bytes : (spelled : List ℕ) → AllDigits 10 spelled → IsBytes spelled
+digits-bytes [] h = refl
+digits-bytes (b ∷ bs) h = both _ _ (byte-from_zero b (digit_at (b ∷ bs) 0 h (omega arith)).0) (digits-bytes bs h.1)
+
+joined-bytes : (pieces : List (List ℕ)) (ns : List ℕ) → AllZip SpellsNumber pieces ns → IsBytes (join_with_byte 32 pieces)
+joined-bytes [] ns h = refl
+joined-bytes (piece ∷ pieces) [] h = absurd h
+joined-bytes (piece ∷ []) (n ∷ ns) h = digits-bytes piece h.0.numeral.1
+joined-bytes (piece ∷ next ∷ pieces) (n ∷ ns) h =
+    all-append is_line_byte piece (32 ∷ join_with_byte 32 (next ∷ pieces)) (digits-bytes piece h.0.numeral.1) (joined-bytes (next ∷ pieces) ns h.1)
+
+spelled-tail : (text ns : List ℕ) → SpellsNumbers text ns → IsTail text
+spelled-tail text ns h = goes text (ap (list_all is_line_byte) h.spaced ∙ joined-bytes h.pieces ns h.spelled)
+
+-- the text of a saved configuration is one line
+pub saved-bytes : (text : List ℕ) (saved : ConfStateLists) → StandsForConfState text saved → list_all is_line_byte (trimmed text) ≡ true
+saved-bytes text saved h =
+    let whole : IsLine (line_text h.voters h.voters_outgoing h.learners h.learners_next saved.auto_leave) = saved-line _ _ _ _ saved.auto_leave
+    (spelled-tail _ _ h.spells_voters) (spelled-tail _ _ h.spells_voters_outgoing) (spelled-tail _ _ h.spells_learners) (spelled-tail _ _ h.spells_learners_next) in
+    ap (list_all is_line_byte) h.line ∙ whole.bytes
+
+-- ---- texts of such lines
+pub line-told : (text : List ℕ) → is_told_line text ≡ true → IsTold (line text)
+line-told text h = record { lines = text ∷ []; some = omega arith; whole = sym (append-nil (line text)); told = both _ _ h refl }
+
+members-whole : (members : List (ℕ × Progress)) → flat_map member_line members ≡ text_of (map (λ member. progress_text member.0 member.1) members)
+members-whole [] = refl
+members-whole (member ∷ members) = ap (λ rest. member_line member ++ rest) (members-whole members)
+
+members-told : (members : List (ℕ × Progress)) → list_all is_told_line (map (λ member. progress_text member.0 member.1) members) ≡ true
+members-told [] = refl
+members-told (member ∷ members) = both _ _ (progress-told member.0 member.1) (members-told members)
+
+pub tracker-told : (tracker : TrackerState) → IsTold (tracker_text tracker)
+tracker-told tracker =
+    let members = finite.entries tracker.progress in
+    record {
+      lines = config_text tracker.config ∷ map (λ member. progress_text member.0 member.1) members;
+      some = omega arith;
+      whole = ap (λ rest. line (config_text tracker.config) ++ rest) (members-whole members);
+      told = both _ _ (config-told tracker.config) (members-told members);
+    }
+
+-- one text behind another
+texts-append : (xs ys : List (List ℕ)) → text_of xs ++ text_of ys ≡ text_of (xs ++ ys)
+texts-append [] ys = refl
+texts-append (x ∷ xs) ys = append_assoc (line x) (text_of xs) (text_of ys) ∙ ap (λ rest. line x ++ rest) (texts-append xs ys)
+
+pub told-after : (a b : List ℕ) → IsTold a → IsTold b → IsTold (a ++ b)
+told-after a b h k = record {
+  lines = h.lines ++ k.lines;
+  some = let n = length-append h.lines k.lines in let some = h.some in omega arith;
+  whole = ap (λ text. text ++ b) h.whole ∙ ap (λ text. text_of h.lines ++ text) k.whole ∙ texts-append h.lines k.lines;
+  told = all-append is_told_line h.lines k.lines h.told k.told;
+}
+
+-- ---- the lines of a plan
+kind-bytes : (kind : Kind) → IsBytes (letter_of kind ∷ [])
+kind-bytes Voter = refl
+kind-bytes Learner = refl
+kind-bytes Remove = refl
+kind-bytes Update = refl
+
+change-bytes : (change : Change) → IsBytes (change_text change)
+change-bytes change = all-append is_line_byte (letter_of change.kind ∷ []) (decimal change.id) (kind-bytes change.kind) (decimal-bytes change.id)
+
+-- words with one space between
+pub spaced-words : (words : List (List ℕ)) → list_all (λ word. list_all is_line_byte word) words ≡ true → IsBytes (join_with_byte 32 words)
+spaced-words [] h = refl
+spaced-words (word ∷ []) h = first _ _ h
+spaced-words (word ∷ next ∷ words) h = all-append is_line_byte word (32 ∷ join_with_byte 32 (next ∷ words)) (first _ _ h) (spaced-words (next ∷ words) (second _ _ h))
+
+pub changes-words : (changes : List Change) → list_all (λ word. list_all is_line_byte word) (map change_text changes) ≡ true
+changes-words [] = refl
+changes-words (change ∷ changes) = both _ _ (change-bytes change) (changes-words changes)
+
+-- a word, and others behind it
+words-line : (word : List ℕ) (words : List (List ℕ)) → IsLine word → list_all (λ w. list_all is_line_byte w) words ≡ true → IsLine (join_with_byte 32 (word ∷ words))
+words-line word [] h k = h
+words-line word (next ∷ words) h k = h ▸ goes (32 ∷ join_with_byte 32 (next ∷ words)) (spaced-words (next ∷ words) k)
+
+flag-bytes : (auto_leave : Bool) → IsBytes (flag_word auto_leave)
+flag-bytes true = refl
+flag-bytes false = refl
+
+step-line : (step : Step) → IsLine (step_text step)
+step-line (Simple changes) = words-line (codes "simple") (map change_text changes) (starts (codes "simple") refl refl) (changes-words changes)
+step-line (EnterJoint auto_leave changes) =
+    words-line (codes "enter-joint") (flag_word auto_leave ∷ map change_text changes) (starts (codes "enter-joint") refl refl)
+    (both _ _ (flag-bytes auto_leave) (changes-words changes))
+step-line LeaveJoint = words-line (codes "leave-joint") [] (starts (codes "leave-joint") refl refl) refl
+
+step-lines : (steps : List Step) → list_all is_told_line (map step_text steps) ≡ true
+step-lines [] = refl
+step-lines (step ∷ steps) = both _ _ (told (step-line step)) (step-lines steps)
+
+steps-whole : (steps : List Step) → flat_map line_and_newline steps ≡ text_of (map step_text steps)
+steps-whole [] = refl
+steps-whole (step ∷ steps) = ap (λ rest. line_and_newline step ++ rest) (steps-whole steps)
+
+pub plan-told : (steps : List Step) → IsTold (plan_text steps)
+plan-told [] = line-told (codes "nothing to do") refl
+plan-told (step ∷ steps) = record {
+  lines = step_text step ∷ map step_text steps;
+  some = omega arith;
+  whole = steps-whole (step ∷ steps);
+  told = step-lines (step ∷ steps);
+}

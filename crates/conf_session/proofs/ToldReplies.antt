@@ -1,0 +1,226 @@
+-- What each directive is answered is told lines.
+use Rattle.std.proofs.Common.{◌≡◌, ℕ, Bool, true, false, cond, not, List, [], ◌∷◌, ◌++◌, filter, refl, sym, ap, ◌∙◌, arith}
+use Rattle.std.specs.Prelude.{◌==◌, Option, Some, None, option_map, unwrap_or, Result, Ok, Err, codes}
+use Rattle.std.specs.Option.{option_or}
+use Rattle.std.specs.List.{list_all, slice_split, onto_first}
+use Rattle.std.proofs.lemmas.Bool.{eqb-true}
+use Rattle.std.proofs.lemmas.Bool.Decides.{nat_tests}
+use Rattle.quorum_sets.specs.Committed.{joint_committed_index}
+use Rattle.quorum_sets.specs.Ids.{ascending, union}
+use Rattle.quorum_sets.specs.Votes.{joint_vote_result}
+use Rattle.dd_file.specs.DirectiveText.{DirectiveText}
+use Rattle.dd_file.specs.Words.{ArgumentText, is_key, is_key_byte}
+use Rattle.conf_change.specs.ChangerState.{ChangerState}
+use Rattle.conf_change.specs.Acknowledgement.{ack_answer, matches}
+use Rattle.conf_change.specs.Configuration.{Configuration, voters_of}
+use Rattle.conf_change.specs.Words.{is_white, has_bytes, words}
+use Rattle.conf_change.specs.ChangeList.{BadToken, unknown_token, unknown_input, bad_number, token_of, IsFirstBad, changes_in}
+use Rattle.conf_change.specs.ConfState.{ConfStateLists, lists_of, restored}
+use Rattle.conf_change.specs.ConfStateLine.{conf_state_in, conf_state_text}
+use Rattle.conf_change.specs.Text.{refused_text, progress_text, bad_token_text}
+use Rattle.conf_change.specs.Transition.{step_taken}
+use Rattle.conf_change.specs.Changer.{begun_with, changer_after}
+use Rattle.conf_change.specs.declared.acknowledgement.AckFault.{AckFault}
+use Rattle.conf_change.specs.declared.acknowledgement.AckFault.TheVariants.{NotMember, IndexTooLarge}
+use Rattle.conf_change.specs.declared.change.Change.{Change}
+use Rattle.conf_change.specs.declared.progress.Progress.{Progress}
+use Rattle.conf_change.specs.declared.refused.Refused.{Refused}
+use Rattle.conf_change.specs.declared.step.Step.{Step}
+use Rattle.conf_change.specs.declared.step.Step.TheVariants.{Simple as SimpleStep, EnterJoint as EnterStep, LeaveJoint as LeaveStep}
+use Rattle.conf_session.specs.Parameter.{key_of}
+use Rattle.conf_session.specs.Arguments.{is_good, first_bad, bad_argument, missing_argument}
+use Rattle.conf_session.specs.SessionState.{SessionState}
+use Rattle.conf_session.specs.Reply.{Reply, told}
+use Rattle.conf_session.specs.Undo.{undo_plan_of, undo_fault_text, undone_changer}
+use Rattle.conf_session.specs.declared.undo_fault.UndoFault.{UndoFault}
+use Rattle.conf_session.specs.QuorumArguments.{number_given, voters_given, acks_given, votes_given, is_one_each, committed_text, vote_text}
+use Rattle.conf_session.specs.Commands.{command_in, parameters_of, with_changes, with_no_input, with_arguments, after_step, asks_auto_leave, asked_transition, leave_with, after_restored, restore_with, steps_of, after_planned, after_ack, with_one_each, reply_of, reply_to}
+use Rattle.conf_session.specs.Told.{is_line_byte, is_told_line, IsTold}
+use Rattle.dd_file.specs.Words.{has_keys}
+use Rattle.conf_session.specs.declared.parameter.Parameter.{Parameter}
+use Rattle.conf_session.specs.declared.parameter.Parameter.TheVariants.{AutoLeave, Transition, Steps, Id, Index, Incoming, Outgoing, Indexes, Votes}
+use Rattle.conf_session.specs.declared.commands.Command.{Command}
+use Rattle.conf_session.specs.declared.commands.Command.TheVariants.{Simple, EnterJoint, LeaveJoint, ConfChange, ConfState, Restore, Undo, Ack, CommitIndex, Committed, Vote, Unknown}
+use Rattle.conf_session.proofs.ToldCharts.{chart-told, index-told, vote-told}
+use Rattle.conf_session.proofs.ToldLines.{first, second, both, told-append, progress-told, refused-told, undo_fault-told, conf_state-told, line-told, told-after, plan-told, tracker-told}
+
+abbrev Tells : Reply → Type 0
+Tells reply = IsTold reply.found
+
+tells : (text : List ℕ) → is_told_line text ≡ true → Tells (told text)
+tells text h = line-told text h
+
+-- ---- the words of an input
+unequal : (b : Bool) → (b ≡ true → ⊥) → not b ≡ true
+unequal true h = absurd (h refl)
+unequal false h = refl
+
+abbrev has_no_white : List ℕ → Bool
+has_no_white word = list_all (λ b. not (is_white b)) word
+
+onto-whole : (b : ℕ) (pieces : List (List ℕ)) → is_white b ≡ false → list_all has_no_white pieces ≡ true → list_all has_no_white (onto_first b pieces) ≡ true
+onto-whole b [] e h = both _ _ (both _ _ (ap not e) refl) refl
+onto-whole b (piece ∷ pieces) e h = both _ _ (both _ _ (ap not e) (first _ _ h)) (second _ _ h)
+
+split-step : (b : ℕ) (pieces : List (List ℕ)) (white : Bool) → is_white b ≡ white → list_all has_no_white pieces ≡ true → list_all has_no_white (cond white ([] ∷ pieces) (onto_first b pieces)) ≡ true
+split-step b pieces true e h = h
+split-step b pieces false e h = onto-whole b pieces e h
+
+split-whole : (text : List ℕ) → list_all has_no_white (slice_split is_white text) ≡ true
+split-whole [] = refl
+split-whole (b ∷ text) = split-step b (slice_split is_white text) (is_white b) refl (split-whole text)
+
+filter-step : (test : List ℕ → Bool) (piece : List ℕ) (pieces : List (List ℕ)) (kept : Bool) → has_no_white piece ≡ true → list_all has_no_white pieces ≡ true → list_all has_no_white (cond kept (piece ∷ pieces) pieces) ≡ true
+filter-step test piece pieces true h k = both _ _ h k
+filter-step test piece pieces false h k = k
+
+filter-whole : (test : List ℕ → Bool) (pieces : List (List ℕ)) → list_all has_no_white pieces ≡ true → list_all has_no_white (filter test pieces) ≡ true
+filter-whole test [] h = refl
+filter-whole test (piece ∷ pieces) h = filter-step test piece (filter test pieces) (test piece) (first _ _ h) (filter-whole test pieces (second _ _ h))
+
+words-whole : (text : List ℕ) → list_all has_no_white (words text) ≡ true
+words-whole text = filter-whole has_bytes (slice_split is_white text) (split-whole text)
+
+among : (before : List (List ℕ)) (word : List ℕ) (after : List (List ℕ)) → list_all has_no_white (before ++ word ∷ after) ≡ true → has_no_white word ≡ true
+among [] word after h = first _ _ h
+among (w ∷ before) word after h = among before word after (second _ _ h)
+
+byte-black : (b : ℕ) → not (is_white b) ≡ true → is_line_byte b ≡ true
+byte-black b h = grind (arith, nat_tests)
+
+bytes-black : (word : List ℕ) → has_no_white word ≡ true → list_all is_line_byte word ≡ true
+bytes-black [] h = refl
+bytes-black (b ∷ word) h = both _ _ (byte-black b (first _ _ h)) (bytes-black word (second _ _ h))
+
+token-told : (bad : BadToken) → list_all is_line_byte (token_of bad) ≡ true → is_told_line (bad_token_text bad) ≡ true
+token-told (unknown_token token) h = told-append (codes "unknown token ") token refl refl h
+token-told (unknown_input token) h = told-append (codes "unknown input: ") token refl refl h
+token-told (bad_number token) h = told-append (codes "bad number: ") token refl refl h
+
+-- the first bad token of a text is one of its words
+abbrev FirstBads : Type 0
+FirstBads = (text : List ℕ) (bad : BadToken) → changes_in text ≡ Err bad → IsFirstBad (words text) bad
+
+bad-told : FirstBads → (text : List ℕ) (bad : BadToken) → changes_in text ≡ Err bad → is_told_line (bad_token_text bad) ≡ true
+bad-told first_bads text bad e =
+    let is : IsFirstBad (words text) bad = first_bads text bad e in
+    token-told bad (bytes-black (token_of bad) (among is.before (token_of bad) is.after (ap (list_all has_no_white) (sym is.place) ∙ words-whole text)))
+
+changes-tell : FirstBads → (reply : List Change → Reply) (text : List ℕ) (read : Result (List Change) BadToken) → changes_in text ≡ read → ((changes : List Change) → Tells (reply changes)) → Tells (with_changes reply read)
+changes-tell first_bads reply text (Ok changes) e h = h changes
+changes-tell first_bads reply text (Err bad) e h = tells (bad_token_text bad) (bad-told first_bads text bad e)
+
+-- ---- the arguments
+apart : (b n : ℕ) → is_key_byte n ≡ false → is_key_byte b ≡ true → not (b == n) ≡ true
+apart b n e h = unequal (b == n) (λ same. let f : is_key_byte b ≡ is_key_byte n = ap is_key_byte (eqb-true b n same) in cc)
+
+byte-key : (b : ℕ) → is_key_byte b ≡ true → is_line_byte b ≡ true
+byte-key b h = both _ _ (apart b 10 refl h) (apart b 13 refl h)
+
+bytes-key : (key : List ℕ) → list_all is_key_byte key ≡ true → list_all is_line_byte key ≡ true
+bytes-key [] h = refl
+bytes-key (b ∷ key) h = both _ _ (byte-key b (first _ _ h)) (bytes-key key (second _ _ h))
+
+abbrev are_keys : List ArgumentText → Bool
+are_keys arguments = list_all (λ argument. is_key argument.key) arguments
+
+bad-step : (argument : ArgumentText) (rest : Option (List ℕ)) (good : Bool) (key : List ℕ) → is_key argument.key ≡ true → (rest ≡ Some key → is_key key ≡ true) → cond good rest (Some argument.key) ≡ Some key → is_key key ≡ true
+bad-step argument rest true key h k e = k e
+bad-step argument rest false key h k e = let same : argument.key ≡ key = cc in ap is_key (sym same) ∙ h
+
+bad-key : (parameters : List Parameter) (before arguments : List ArgumentText) (key : List ℕ) → are_keys arguments ≡ true → first_bad parameters before arguments ≡ Some key → is_key key ≡ true
+bad-key parameters before [] key h e = cc
+bad-key parameters before (argument ∷ arguments) key h e =
+    bad-step argument (first_bad parameters (before ++ argument ∷ []) arguments) (is_good parameters before argument) key (first _ _ h) (bad-key parameters (before ++ argument ∷ []) arguments key (second _ _ h)) e
+
+parameter-bytes : (parameter : Parameter) → list_all is_line_byte (key_of parameter) ≡ true
+parameter-bytes AutoLeave = refl
+parameter-bytes Transition = refl
+parameter-bytes Steps = refl
+parameter-bytes Id = refl
+parameter-bytes Index = refl
+parameter-bytes Incoming = refl
+parameter-bytes Outgoing = refl
+parameter-bytes Indexes = refl
+parameter-bytes Votes = refl
+
+fault-tells : (bad : Option (List ℕ)) (missing : Option Parameter) (reply : Reply) → ((key : List ℕ) → bad ≡ Some key → is_key key ≡ true) → Tells reply →
+    Tells (unwrap_or (option_or (option_map (λ key. told (codes "bad argument: " ++ key)) bad) (option_map (λ parameter. told (codes "missing argument: " ++ key_of parameter)) missing)) reply)
+fault-tells (Some key) missing reply h t =
+    tells (codes "bad argument: " ++ key) (told-append (codes "bad argument: ") key refl refl (bytes-key key (second _ _ (h key refl))))
+fault-tells None (Some parameter) reply h t =
+    tells (codes "missing argument: " ++ key_of parameter) (told-append (codes "missing argument: ") (key_of parameter) refl refl (parameter-bytes parameter))
+fault-tells None None reply h t = t
+
+arguments-tell : (command : Command) (arguments : List ArgumentText) (reply : Reply) → are_keys arguments ≡ true → Tells reply → Tells (with_arguments command arguments reply)
+arguments-tell command arguments reply h t =
+    fault-tells (bad_argument (parameters_of command) arguments) (missing_argument (parameters_of command) arguments) reply
+    (λ key e. bad-key (parameters_of command) [] arguments key h e) t
+
+-- ---- the commands
+step-tells : (made : Result ChangerState Refused) → Tells (after_step made)
+step-tells (Ok after) = tracker-told after.tracker
+step-tells (Err refused) = tells (refused_text refused) (refused-told refused)
+
+leave-tells : (changer : ChangerState) (changes : List Change) → Tells (leave_with changer changes)
+leave-tells changer [] = step-tells (changer_after changer LeaveStep)
+leave-tells changer (change ∷ changes) = tells (codes "this command takes no input") refl
+
+no_input-tells : (reply : Reply) (input : List ℕ) → Tells reply → Tells (with_no_input reply input)
+no_input-tells reply [] h = h
+no_input-tells reply (b ∷ input) h = tells (codes "this command takes no input") refl
+
+restored-tells : (changer : ChangerState) (c : Option Configuration) → Tells (after_restored changer c)
+restored-tells changer None = tells (codes "not a configuration") refl
+restored-tells changer (Some c) = tracker-told (begun_with changer.tracker.floor changer.last_index c).tracker
+
+restore-tells : (changer : ChangerState) (arguments : List ArgumentText) (read : Option ConfStateLists) → are_keys arguments ≡ true → Tells (restore_with changer arguments read)
+restore-tells changer arguments None h = tells (codes "bad conf state") refl
+restore-tells changer arguments (Some saved) h = arguments-tell Restore arguments _ h (restored-tells changer (restored saved))
+
+undo-tells : (session : SessionState) (count : ℕ) (plan : Result (List Step) UndoFault) → Tells (after_planned session count plan)
+undo-tells session count (Ok steps) = told-after _ _ (plan-told steps) (tracker-told (undone_changer session steps).tracker)
+undo-tells session count (Err fault) = tells (undo_fault_text fault) (undo_fault-told fault)
+
+ack-tells : (changer : ChangerState) (id : ℕ) (made : Result Progress AckFault) → Tells (after_ack changer id made)
+ack-tells changer id (Ok p) = tells (progress_text id p) (progress-told id p)
+ack-tells changer id (Err NotMember) = tells (codes "not a member") refl
+ack-tells changer id (Err IndexTooLarge) = tells (codes "index too large") refl
+
+one_each-tells : (parameter : Parameter) (arguments : List ArgumentText) (reply : Reply) → Tells reply → Tells (with_one_each parameter arguments reply)
+one_each-tells parameter arguments reply t = by (is_one_each parameter arguments) where
+  by : (enough : Bool) → Tells (cond enough reply (told (codes "wrong number of values")))
+  by true = t
+  by false = tells (codes "wrong number of values") refl
+
+command-tells : FirstBads → (command : Command) (session : SessionState) (input : List ℕ) (arguments : List ArgumentText) → are_keys arguments ≡ true → Tells (reply_of command session input arguments)
+command-tells first_bads Simple session input arguments keys = changes-tell first_bads _ input _ refl (λ changes. step-tells (changer_after session.changer (SimpleStep changes)))
+command-tells first_bads EnterJoint session input arguments keys =
+    changes-tell first_bads _ input _ refl (λ changes. arguments-tell EnterJoint arguments _ keys (step-tells (changer_after session.changer (EnterStep (asks_auto_leave arguments) changes))))
+command-tells first_bads LeaveJoint session input arguments keys = changes-tell first_bads _ input _ refl (leave-tells session.changer)
+command-tells first_bads ConfChange session input arguments keys =
+    changes-tell first_bads _ input _ refl (λ changes. arguments-tell ConfChange arguments _ keys (step-tells (changer_after session.changer (step_taken (asked_transition arguments) changes))))
+command-tells first_bads ConfState session input arguments keys =
+    let saved = lists_of session.changer.tracker.config in
+    no_input-tells _ input (arguments-tell ConfState arguments _ keys (tells (conf_state_text saved) (conf_state-told saved)))
+command-tells first_bads Restore session input arguments keys = restore-tells session.changer arguments (conf_state_in input) keys
+command-tells first_bads Undo session input arguments keys =
+    let count = steps_of arguments in
+    no_input-tells _ input (arguments-tell Undo arguments _ keys (undo-tells session count (undo_plan_of session count)))
+command-tells first_bads Ack session input arguments keys =
+    let id = number_given Id arguments in
+    no_input-tells _ input (arguments-tell Ack arguments _ keys (ack-tells session.changer id (ack_answer session.changer.tracker id (number_given Index arguments))))
+command-tells first_bads CommitIndex session input arguments keys =
+    no_input-tells _ input (arguments-tell CommitIndex arguments _ keys (tells _ (index-told (joint_committed_index (voters_of session.changer.tracker.config) (matches session.changer.tracker)))))
+command-tells first_bads Committed session input arguments keys =
+    let voters = voters_given arguments in
+    let acks = acks_given arguments in
+    let chart : Tells (told (committed_text voters acks)) = chart-told (ascending (union voters.incoming voters.outgoing)) acks (joint_committed_index voters acks) in
+    no_input-tells _ input (arguments-tell Committed arguments _ keys (one_each-tells Indexes arguments _ chart))
+command-tells first_bads Vote session input arguments keys =
+    let result = joint_vote_result (voters_given arguments) (votes_given arguments) in
+    no_input-tells _ input (arguments-tell Vote arguments _ keys (one_each-tells Votes arguments _ (tells (vote_text result) (vote-told result))))
+command-tells first_bads Unknown session input arguments keys = changes-tell first_bads _ input _ refl (λ changes. tells (codes "unknown command") refl)
+
+pub reply-told : FirstBads → (session : SessionState) (directive : DirectiveText) → has_keys directive.arguments ≡ true → IsTold (reply_to session directive).found
+reply-told first_bads session directive keys = command-tells first_bads (command_in directive.command) session directive.input directive.arguments keys

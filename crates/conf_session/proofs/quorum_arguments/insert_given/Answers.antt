@@ -1,0 +1,6 @@
+use Rattle.conf_session.proofs.QuorumValues.{map-insert}
+use Rattle.conf_session.proofs.quorum_arguments.insert_given.Goals as goal
+
+pub returns-in_ok-insert : goal.returns-in_ok-insert
+returns-in_ok-insert g c =
+    rw c.in-Some.is (map-insert c.args.map.now c.insert.new.self c.args.id c.in-Some.value c.in_ok-insert.ensures.updates)

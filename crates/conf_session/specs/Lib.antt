@@ -1,0 +1,10 @@
+pub mod Texts
+pub mod History
+pub mod SessionState
+pub mod Parameter
+pub mod Arguments
+pub mod QuorumArguments
+pub mod Reply
+pub mod Undo
+pub mod Commands
+pub mod Told

@@ -1,0 +1,76 @@
+-- What a session holds.
+use Rattle.std.specs.Prelude.{◌≡◌, ℕ, ◌+◌, ◌-◌, ◌^◌, ◌≤◌, true, List, [], ◌∷◌, length, take, drop, min, Ok, ⊤, refl}
+use Rattle.std.specs.Coded.{Coded, coded_ℕ, coded_list, coded×, code_by}
+use Rattle.conf_change.specs.ChangerState.{ChangerState, changer_code}
+use Rattle.conf_change.specs.Changer.{IsSound, new_changer, with_last_index}
+use Rattle.conf_change.specs.Configuration.{Configuration, is_restorable}
+use Rattle.conf_change.specs.ConfigurationCode.{configuration_code}
+use Rattle.conf_change.specs.Outcome.{outcome}
+use Rattle.conf_change.specs.declared.floor.Floor.{Floor}
+use Rattle.conf_change.specs.declared.step.Step.{Step}
+use Rattle.conf_session.specs.declared.effect.Effect.{Effect}
+use Rattle.conf_session.specs.declared.effect.Effect.TheVariants.{Nothing, Acknowledged, Stepped, Restored, Undone}
+
+-- the changer, how many earlier configurations may be kept, and those that are, the newest first
+pub record SessionState : Type 0 where
+  pub changer : ChangerState
+  pub history : ℕ
+  pub kept : List Configuration
+
+abbrev pub session_code : Coded SessionState
+session_code =
+    code_by (ChangerState × (ℕ × List Configuration)) (coded× changer_code (coded× coded_ℕ (coded_list configuration_code)))
+    (λ s. (s.changer, (s.history, s.kept))) (λ p. record { changer = p.0; history = p.1.0; kept = p.1.1 }) (λ _. refl)
+
+-- nobody is in it, and no directive came yet
+abbrev pub new_session : ℕ → Floor → SessionState
+new_session history floor = record { changer = new_changer floor 0; history = history; kept = [] }
+
+-- the configuration of now
+abbrev pub present : SessionState → Configuration
+present session = session.changer.tracker.config
+
+-- ---- what a command makes of it
+-- the changer afterwards
+abbrev pub changer_left : SessionState → Effect → ChangerState
+changer_left session Nothing = session.changer
+changer_left session (Acknowledged after) = after
+changer_left session (Stepped after) = after
+changer_left session (Restored after) = after
+changer_left session (Undone after count) = after
+
+-- The configurations that are kept afterwards: that of before an accepted change is the newest, and the oldest goes where
+-- there would be too many.
+abbrev pub kept_after : SessionState → Effect → List Configuration
+kept_after session Nothing = session.kept
+kept_after session (Acknowledged after) = session.kept
+kept_after session (Stepped after) = take session.history (present session ∷ session.kept)
+kept_after session (Restored after) = []
+kept_after session (Undone after count) = drop count session.kept
+
+-- the last index after one more directive
+abbrev pub index_after : ℕ → ℕ
+index_after index = min (index + 1) (2 ^ 64 - 1)
+
+-- the session after a directive with this effect: the last index rises
+abbrev pub after_directive : SessionState → Effect → SessionState
+after_directive session effect =
+    let left = changer_left session effect in
+    record { changer = with_last_index left (index_after left.last_index); history = session.history; kept = kept_after session effect }
+
+-- ---- what holds of every session
+-- one accepted step leads from the one configuration to the other
+pub record Leads (before after : Configuration) : Type 0 where
+  pub step : Step
+  pub gives : outcome before step ≡ Ok after
+
+-- each of the kept configurations can be restored, and one accepted step leads from it to the next newer one, from the newest to this one
+abbrev pub LedTo : Configuration → List Configuration → Type 0
+LedTo now [] = ⊤
+LedTo now (older ∷ kept) = (is_restorable older ≡ true) × Leads older now × LedTo older kept
+
+-- its tracker is sound, no more configurations are kept than may be, and they lead to the one of now
+pub record IsSession (session : SessionState) : Type 0 where
+  pub sound : IsSound session.changer.tracker
+  pub few : length session.kept ≤ session.history
+  pub led : LedTo (present session) session.kept

@@ -1,0 +1,23 @@
+-- The texts that are answered, each a line or more.
+use Rattle.std.specs.Prelude.{ℕ, List, ◌++◌, flat_map}
+use Rattle.std.specs.FinMap as finite
+use Rattle.dd_file.specs.Bytes.{newline}
+use Rattle.conf_change.specs.TrackerState.{TrackerState}
+use Rattle.conf_change.specs.Text.{config_text, progress_text}
+use Rattle.conf_change.specs.declared.progress.Progress.{Progress}
+
+-- a text as a line
+abbrev pub line : List ℕ → List ℕ
+line text = text ++ newline
+
+-- a member with its progress, as a line
+abbrev pub member_line : ℕ × Progress → List ℕ
+member_line member = line (progress_text member.0 member.1)
+
+-- the members in ascending order
+abbrev pub member_lines : TrackerState → List ℕ
+member_lines tracker = flat_map member_line (finite.entries tracker.progress)
+
+-- a configuration and its members
+abbrev pub tracker_text : TrackerState → List ℕ
+tracker_text tracker = line (config_text tracker.config) ++ member_lines tracker

@@ -1,0 +1,56 @@
+-- Undoing the last changes of a session.
+use Rattle.std.specs.Prelude.{◌≡◌, ℕ, ◌-◌, ◌≤◌, true, List, ◌++◌, length, Option, Some, None, unwrap_or, Result, Ok, Err, if◌then◌else◌, slice_get, codes, decimal}
+use Rattle.conf_change.specs.ChangerState.{ChangerState}
+use Rattle.conf_change.specs.Configuration.{Configuration, has_voter, is_restorable}
+use Rattle.conf_change.specs.declared.step.Step.{Step}
+use Rattle.conf_plan.specs.Planned.{planned}
+use Rattle.conf_plan.specs.PlanText.{plan_text}
+use Rattle.conf_plan.specs.Run.{IsRun, after_steps}
+use Rattle.conf_session.specs.SessionState.{SessionState, present}
+use Rattle.conf_session.specs.Texts.{tracker_text}
+use Rattle.conf_session.specs.Reply.{Reply}
+use Rattle.conf_session.specs.declared.effect.Effect.TheVariants.{Undone}
+use Rattle.conf_session.specs.declared.undo_fault.UndoFault.{UndoFault}
+use Rattle.conf_session.specs.declared.undo_fault.UndoFault.TheVariants.{NotKept, NoVoterTarget, NoMemory}
+
+-- the plan to an earlier configuration, if it is kept
+abbrev pub plan_back : SessionState → Option Configuration → Result (List Step) UndoFault
+plan_back session None = Err (NotKept (length session.kept))
+plan_back session (Some older) = if has_voter older then Ok (planned (present session) older) else Err NoVoterTarget
+
+-- the plan that undoes so many changes, one at least: to the configuration of before the last of them
+abbrev pub undo_plan_of : SessionState → ℕ → Result (List Step) UndoFault
+undo_plan_of session count = plan_back session (slice_get session.kept (count - 1))
+
+-- why there is no plan; want of memory is no reason that a session has
+abbrev pub undo_fault_text : UndoFault → List ℕ
+undo_fault_text (NotKept kept) = codes "no plan: " ++ decimal kept ++ codes " earlier configurations are kept"
+undo_fault_text NoVoterTarget = codes "no plan: the earlier configuration has no voter"
+undo_fault_text NoMemory = codes "out of memory"
+
+-- the changer after the steps of a plan, each of which sees the same last index
+abbrev pub undone_changer : SessionState → List Step → ChangerState
+undone_changer session steps = unwrap_or (after_steps session.changer steps) session.changer
+
+-- the plan, and the changer after it; the undone changes are kept no more
+abbrev pub undone_by : ChangerState → ℕ → List Step → Reply
+undone_by after count steps = record { found = plan_text steps ++ tracker_text after.tracker; effect = Undone after count }
+
+abbrev pub undone : SessionState → ℕ → List Step → Reply
+undone session count steps = undone_by (undone_changer session steps) count steps
+
+-- the configuration can be restored, so many accepted steps lead from it to the one of now, and that one has a voter
+pub record IsEarlier (session : SessionState) (count : ℕ) (older : Configuration) : Type 0 where
+  pub restorable : is_restorable older ≡ true
+  pub steps : List Step
+  pub run : IsRun older steps (present session)
+  pub counted : length steps ≡ count
+  pub voter : has_voter (present session) ≡ true
+
+-- the steps lead from the configuration of now to the one of so many changes ago
+pub record LeadsBack (session : SessionState) (count : ℕ) (steps : List Step) : Type 0 where
+  pub older : Configuration
+  pub is_kept : slice_get session.kept (count - 1) ≡ Some older
+  pub run : IsRun (present session) steps older
+  pub at_most_four : length steps ≤ 4
+  pub at_most_three : count ≡ 1 → length steps ≤ 3

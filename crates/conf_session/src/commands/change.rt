@@ -1,0 +1,67 @@
+//! `conf-change`: makes the change that the list of its input takes, as etcd's `ConfChangeV2`.
+ghost use Rattle.std.specs.Prelude.{◌≡◌, IfOk};
+ghost use Rattle.conf_session.specs.Commands as says;
+
+use super::Command;
+use super::telling::{tell_arguments, tell_step, tell_token};
+use crate::arguments::argument_of;
+use crate::parameter::{Parameter, has_only};
+use crate::reply::Reply;
+use crate::session_ids::SessionIds;
+use conf_change::{Change, Changer, Transition, read_changes};
+use dd_file::item::Argument;
+use quorum_sets::NoMemory;
+use std::alloc::Global;
+
+/// Makes the change that the changes of the input take.
+pub(super) fn obey(
+    alloc: Global,
+    changer: &Changer<SessionIds>,
+    input: &[u8],
+    arguments: &[Argument],
+) -> Result<Reply, NoMemory>
+    ensures { IfOk result (λ reply. reply ≡ says.on_conf_change changer.now input.now arguments.now) }
+{
+    match read_changes(alloc, input) {
+        Ok(changes) => change_with(alloc, changer, arguments, changes.as_slice()),
+        Err(fault) => tell_token(alloc, fault),
+    }
+}
+
+fn change_with(
+    alloc: Global,
+    changer: &Changer<SessionIds>,
+    arguments: &[Argument],
+    changes: &[Change],
+) -> Result<Reply, NoMemory>
+    ensures { IfOk result (λ reply. reply ≡ says.change_with changer.now arguments.now changes.now) }
+{
+    if let Some(fault) = tell_arguments(alloc, Command::ConfChange, arguments)? {
+        return Ok(fault);
+    }
+    let transition = asked_transition(arguments);
+    tell_step(alloc, changer.after_change(transition, changes))
+}
+
+// The transition that is asked for: Auto, where it is left out.
+fn asked_transition(arguments: &[Argument]) -> Transition
+    ensures { result ≡ says.asked_transition arguments.now }
+{
+    match argument_of(Parameter::Transition, arguments) {
+        Some(argument) => transition_in(argument),
+        None => Transition::Auto,
+    }
+}
+
+// The transition that an argument names.
+fn transition_in(argument: &Argument) -> Transition
+    ensures { result ≡ says.transition_in argument.now.values }
+{
+    if has_only(argument, b"implicit") {
+        Transition::Implicit
+    } else if has_only(argument, b"explicit") {
+        Transition::Explicit
+    } else {
+        Transition::Auto
+    }
+}

@@ -1,0 +1,54 @@
+//! `enter-joint`: enters a joint configuration, which with `autoleave=true` is left by itself.
+ghost use Rattle.std.specs.Prelude.{◌≡◌, IfOk};
+ghost use Rattle.conf_session.specs.Commands as says;
+
+use super::Command;
+use super::telling::{tell_arguments, tell_step, tell_token};
+use crate::arguments::argument_of;
+use crate::parameter::{Parameter, has_only};
+use crate::reply::Reply;
+use crate::session_ids::SessionIds;
+use conf_change::{Change, Changer, read_changes};
+use dd_file::item::Argument;
+use quorum_sets::NoMemory;
+use std::alloc::Global;
+
+/// Enters with the changes of the input.
+pub(super) fn obey(
+    alloc: Global,
+    changer: &Changer<SessionIds>,
+    input: &[u8],
+    arguments: &[Argument],
+) -> Result<Reply, NoMemory>
+    ensures { IfOk result (λ reply. reply ≡ says.on_enter_joint changer.now input.now arguments.now) }
+{
+    match read_changes(alloc, input) {
+        Ok(changes) => enter_with(alloc, changer, arguments, changes.as_slice()),
+        Err(fault) => tell_token(alloc, fault),
+    }
+}
+
+fn enter_with(
+    alloc: Global,
+    changer: &Changer<SessionIds>,
+    arguments: &[Argument],
+    changes: &[Change],
+) -> Result<Reply, NoMemory>
+    ensures { IfOk result (λ reply. reply ≡ says.enter_with changer.now arguments.now changes.now) }
+{
+    if let Some(fault) = tell_arguments(alloc, Command::EnterJoint, arguments)? {
+        return Ok(fault);
+    }
+    let auto_leave = asks_auto_leave(arguments);
+    tell_step(alloc, changer.after_enter_joint(auto_leave, changes))
+}
+
+// Whether `autoleave` is `true`.
+fn asks_auto_leave(arguments: &[Argument]) -> bool
+    ensures { result ≡ says.asks_auto_leave arguments.now }
+{
+    match argument_of(Parameter::AutoLeave, arguments) {
+        Some(argument) => has_only(argument, b"true"),
+        None => false,
+    }
+}

@@ -1,0 +1,37 @@
+//! `leave-joint`: leaves a joint configuration.
+ghost use Rattle.std.specs.Prelude.{◌≡◌, IfOk};
+ghost use Rattle.conf_session.specs.Commands as says;
+
+use super::telling::{tell_no_input, tell_step, tell_token};
+use crate::reply::Reply;
+use crate::session_ids::SessionIds;
+use conf_change::{Change, Changer, read_changes};
+use quorum_sets::NoMemory;
+use std::alloc::Global;
+
+/// Leaves, where the input spells no change. It is read as a list of changes all the same.
+pub(super) fn obey(
+    alloc: Global,
+    changer: &Changer<SessionIds>,
+    input: &[u8],
+) -> Result<Reply, NoMemory>
+    ensures { IfOk result (λ reply. reply ≡ says.on_leave_joint changer.now input.now) }
+{
+    match read_changes(alloc, input) {
+        Ok(changes) => leave_with(alloc, changer, changes.as_slice()),
+        Err(fault) => tell_token(alloc, fault),
+    }
+}
+
+fn leave_with(
+    alloc: Global,
+    changer: &Changer<SessionIds>,
+    changes: &[Change],
+) -> Result<Reply, NoMemory>
+    ensures { IfOk result (λ reply. reply ≡ says.leave_with changer.now changes.now) }
+{
+    if !changes.is_empty() {
+        return tell_no_input(alloc);
+    }
+    tell_step(alloc, changer.after_leave_joint())
+}

@@ -1,0 +1,80 @@
+//! The replies that several commands give.
+ghost use Rattle.std.specs.Prelude.{◌≡◌, ◌≢◌, ◌++◌, IfOk, MatchResult, IsSomeAnd};
+ghost use Rattle.conf_change.specs.ChangeList.{bad_token};
+ghost use Rattle.conf_change.specs.Text.{refused_text};
+ghost use Rattle.conf_change.specs.Text.{bad_token_text};
+ghost use Rattle.conf_session.specs.Reply.{told, stepped};
+ghost use Rattle.conf_session.specs.Commands as says;
+ghost use Rattle.conf_session.specs.Commands.{no_input_text};
+
+use super::{Command, parameters_of};
+use crate::arguments::{bad_argument, missing_argument};
+use crate::effect::Effect;
+use crate::reply::Reply;
+use crate::session_ids::SessionIds;
+use crate::texts::{bad_token_line, line_of, refused_line, tracker_lines};
+use conf_change::{Changer, Refused, TokenFault};
+use dd_file::item::Argument;
+use quorum_sets::NoMemory;
+use std::alloc::Global;
+
+/// Tells a text, behind which may stand another.
+pub(super) fn tell(alloc: Global, front: &[u8], back: &[u8]) -> Result<Reply, NoMemory>
+    ensures { IfOk result (λ reply. reply ≡ told (front.now ++ back.now)) }
+{
+    Ok(Reply::told(line_of(alloc, front, back)?))
+}
+
+/// Tells that the command takes no input.
+pub(super) fn tell_no_input(alloc: Global) -> Result<Reply, NoMemory>
+    ensures { IfOk result (λ reply. reply ≡ told no_input_text) }
+{
+    tell(alloc, b"this command takes no input", b"")
+}
+
+/// Tells which word of the input spells no change.
+pub(super) fn tell_token(alloc: Global, fault: TokenFault<'_>) -> Result<Reply, NoMemory>
+    ensures { IfOk result (λ reply. IsSomeAnd (bad_token fault.entry) (λ bad. reply ≡ told (bad_token_text bad))) }
+{
+    Ok(Reply::told(bad_token_line(alloc, fault)?))
+}
+
+/// Tells the first argument that is bad, or else the first that is missing, if there is one.
+pub(super) fn tell_arguments(
+    alloc: Global,
+    command: Command,
+    arguments: &[Argument],
+) -> Result<Option<Reply>, NoMemory>
+    ensures { IfOk result (λ fault. fault ≡ says.argument_fault command arguments.now) }
+{
+    let parameters = parameters_of(command);
+    if let Some(key) = bad_argument(parameters, arguments) {
+        return Ok(Some(tell(alloc, b"bad argument: ", key)?));
+    }
+    if let Some(parameter) = missing_argument(parameters, arguments) {
+        return Ok(Some(tell(alloc, b"missing argument: ", parameter.key())?));
+    }
+    Ok(None)
+}
+
+/// Tells the changer after a step, or why the step was refused.
+pub(super) fn tell_step(
+    alloc: Global,
+    made: Result<Changer<SessionIds>, Refused>,
+) -> Result<Reply, NoMemory>
+    ensures { IfOk result (λ reply. MatchResult made (λ after. reply ≡ stepped after) (λ refused. (refused ≢ Refused.NoMemory) × (reply ≡ told (refused_text refused)))) }
+{
+    match made {
+        Ok(after) => tell_stepped(alloc, after),
+        Err(Refused::NoMemory) => Err(NoMemory),
+        Err(refused) => Ok(Reply::told(refused_line(alloc, refused)?)),
+    }
+}
+
+// Tells the changer after an accepted step.
+fn tell_stepped(alloc: Global, after: Changer<SessionIds>) -> Result<Reply, NoMemory>
+    ensures { IfOk result (λ reply. reply ≡ stepped after) }
+{
+    let found = tracker_lines(alloc, after.tracker())?;
+    Ok(Reply::new(found, Effect::Stepped(after)))
+}

@@ -1,0 +1,95 @@
+//! `undo`: undoes the last accepted changes, by the steps of a plan.
+ghost use Rattle.std.specs.Prelude.{◌≡◌, ◌≤◌, Ok, IfOk};
+ghost use Rattle.conf_session.specs.Commands as says;
+ghost use Rattle.conf_session.specs.Undo.{undo_plan_of, undone, undone_by};
+
+use super::Command;
+use super::telling::{tell_arguments, tell_no_input};
+use crate::arguments::argument_of;
+use crate::effect::Effect;
+use crate::parameter::{Parameter, number_from};
+use crate::reply::Reply;
+use crate::session::Session;
+use crate::session_ids::SessionIds;
+use crate::texts::{append_tracker, undo_fault_line};
+use crate::undo_fault::UndoFault;
+use conf_change::Changer;
+use conf_plan::{Plan, apply_plan, laws, print_plan};
+use dd_file::item::Argument;
+use quorum_sets::NoMemory;
+use std::alloc::Global;
+
+/// Undoes as many as `steps` says, where there is no input.
+pub(super) fn obey(
+    alloc: Global,
+    session: &Session,
+    input: &[u8],
+    arguments: &[Argument],
+) -> Result<Reply, NoMemory>
+    ensures { IfOk result (λ reply. reply ≡ says.on_undo session.now input.now arguments.now) }
+{
+    if !input.is_empty() {
+        return tell_no_input(alloc);
+    }
+    if let Some(fault) = tell_arguments(alloc, Command::Undo, arguments)? {
+        return Ok(fault);
+    }
+    undo(alloc, session, steps_of(arguments))
+}
+
+// How many changes are undone: one, where `steps` is left out.
+fn steps_of(arguments: &[Argument]) -> usize
+    ensures steps { result ≡ says.steps_of arguments.now }
+    ensures some { 1 ≤ result }
+{
+    match argument_of(Parameter::Steps, arguments) {
+        Some(argument) => match number_from(1, argument) {
+            Some(steps) => steps as usize,
+            None => 1,
+        },
+        None => 1,
+    }
+}
+
+// Undoes so many changes.
+fn undo(alloc: Global, session: &Session, count: usize) -> Result<Reply, NoMemory>
+    requires { 1 ≤ count }
+    ensures { IfOk result (λ reply. reply ≡ says.undo_last session.now count) }
+{
+    match session.undo_plan(count) {
+        Ok(plan) => take_back(alloc, session, count, &plan),
+        Err(fault) => match fault {
+            UndoFault::NoMemory => Err(NoMemory),
+            _ => Ok(Reply::told(undo_fault_line(alloc, fault)?)),
+        },
+    }
+}
+
+// Takes the steps of the plan, on a copy.
+fn take_back(alloc: Global, session: &Session, count: usize, plan: &Plan) -> Result<Reply, NoMemory>
+    requires { undo_plan_of session.now count ≡ Ok plan.now }
+    ensures { IfOk result (λ reply. reply ≡ undone session.now count plan.now) }
+{
+    laws::one_changer_after_steps();
+    let mut after = session.changer().try_clone()?;
+    match apply_plan(&mut after, plan) {
+        Ok(()) => tell_undone(alloc, after, count, plan),
+        // A plan is a run, so a step of it is refused for want of memory alone.
+        Err(_) => Err(NoMemory),
+    }
+}
+
+// Tells the plan, and the changer after it.
+fn tell_undone(
+    alloc: Global,
+    after: Changer<SessionIds>,
+    count: usize,
+    plan: &Plan,
+) -> Result<Reply, NoMemory>
+    ensures { IfOk result (λ reply. reply ≡ undone_by after count plan.now) }
+{
+    let mut found = Vec::new(alloc);
+    print_plan(&mut found, plan)?;
+    append_tracker(&mut found, after.tracker())?;
+    Ok(Reply::new(found, Effect::Undone(after, count)))
+}

@@ -1,0 +1,19 @@
+//! A session, which carries out the directives of a script: what each command answers, and the configurations that are kept.
+#![tactic(auto)]
+
+mod arguments;
+mod commands;
+mod effect;
+mod history;
+pub mod laws;
+mod parameter;
+mod quorum_arguments;
+mod reply;
+pub mod session;
+pub mod session_ids;
+mod texts;
+pub mod undo_fault;
+
+pub use session::Session;
+pub use session_ids::SessionIds;
+pub use undo_fault::{UndoFault, undo_fault_text};

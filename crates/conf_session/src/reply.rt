@@ -1,0 +1,48 @@
+//! What a command replies.
+ghost use Rattle.std.specs.Prelude.{◌≡◌};
+ghost use Rattle.conf_session.specs.Reply as says;
+
+use crate::effect::Effect;
+use std::marker::Model;
+
+/// The text that is found, and what becomes of the session.
+#[derive(Drop)]
+pub(crate) struct Reply {
+    found: Vec<u8>,
+    effect: Effect,
+}
+
+impl Model for Reply {
+    ghost use Rattle.conf_session.specs.Reply as says;
+
+    ghost Value = { says.Reply };
+
+    ghost coded = { says.reply_code };
+
+    ghost view = { λ r. record { found = r.found.items; effect = r.effect } };
+}
+
+impl Reply {
+    /// A text in lines, with an effect.
+    pub(crate) fn new(found: Vec<u8>, effect: Effect) -> Reply
+        ensures { result ≡ record { found = found.items; effect = effect } }
+    {
+        Reply { found, effect }
+    }
+
+    /// A text in lines, after which the session stays.
+    pub(crate) fn told(found: Vec<u8>) -> Reply
+        ensures { result ≡ record { found = found.items; effect = Effect.Nothing } }
+    {
+        Reply::new(found, Effect::Nothing)
+    }
+
+    /// Both parts.
+    pub(crate) fn into_parts(self) -> (Vec<u8>, Effect)
+        ensures found { result.0.items ≡ self.found }
+        ensures effect { result.1 ≡ self.effect }
+    {
+        let Reply { found, effect } = self;
+        (found, effect)
+    }
+}
