@@ -14,6 +14,7 @@ pub mod TrackerEdits
 pub mod Changer
 pub mod Acknowledgement
 pub mod ConfState
+pub mod Described
 pub mod Text
 pub mod Words
 pub mod Number

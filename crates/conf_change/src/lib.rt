@@ -35,7 +35,7 @@ pub use floor::Floor;
 pub use number::read_number;
 pub use progress::Progress;
 pub use refused::Refused;
-pub use restore::RestoreFault;
+pub use restore::{RestoreFault, described};
 pub use saved::{ConfState, ConfStateFault, conf_state};
 pub use saved_line::{read_conf_state, write_conf_state};
 pub use step::{Step, Taken};

@@ -5,6 +5,7 @@ ghost use Rattle.quorum_sets.specs.Ids.{has, ascending, ids_of};
 ghost use Rattle.quorum_sets.specs.Rising.{IsRising};
 ghost use Rattle.conf_change.specs.Configuration.{Configuration, has_voter_or_nobody, is_restorable};
 ghost use Rattle.conf_change.specs.ConfState.{Describes, Lists, names_once, restored};
+ghost use Rattle.conf_change.specs.Described.{described};
 ghost use Rattle.conf_change.specs.Progress.{all_fresh, fresh_progress};
 ghost use Rattle.conf_change.specs.declared.floor.Floor.TheVariants.{One};
 ghost use Rattle.conf_change.specs.Changer.{IsSound, begun_with};
@@ -73,7 +74,7 @@ impl<S: MemberSet> Changer<S> {
         // The same as a function of the saved form.
         ensures as_function { MatchResult result (λ changer. restored state.now ≡ Some changer.tracker.config) (λ fault. fault ≡ RestoreFault.NotAConfiguration → restored state.now ≡ None) }
     {
-        let config = config_of(alloc, state)?;
+        let config = described(alloc, state)?;
         if !is_restorable(&config) {
             return Err(RestoreFault::NotAConfiguration);
         }
@@ -82,10 +83,15 @@ impl<S: MemberSet> Changer<S> {
     }
 }
 
-// The configuration that the saved form describes, if each of its lists names each id once.
-fn config_of<S: MemberSet>(alloc: Global, state: &ConfState) -> Result<Config<S>, RestoreFault>
+/// The configuration that a saved form describes, be it valid or not. A saved form is refused, with NotAConfiguration,
+/// where one of its lists names an id twice.
+pub fn described<S: MemberSet>(alloc: Global, state: &ConfState) -> Result<Config<S>, RestoreFault>
     ensures described { IfOk result (λ config. Describes state.now config) }
     ensures refused { result ≡ Err RestoreFault.NotAConfiguration → (c : Configuration) → Describes state.now c → ⊥ }
+
+    // The same by the function.
+    ensures value { IfOk result (λ config. described state.now ≡ Some config) }
+    ensures fault { result ≡ Err RestoreFault.NotAConfiguration → described state.now ≡ None }
 {
     Ok(Config {
         incoming: set_from(alloc, &state.voters)?,

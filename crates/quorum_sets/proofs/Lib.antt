@@ -1,4 +1,5 @@
 pub mod IdLemmas
+pub mod MapLemmas
 pub mod TreeLemmas
 pub mod Counts
 pub mod VoteLemmas

@@ -1,7 +1,10 @@
 //! Saved configurations: their lines, and what is restored.
 use crate::changes::is_shown;
-use conf_change::{Changer, RestoreFault, conf_state, read_conf_state, write_conf_state};
-use quorum_sets::{NoMemory, TreeIds};
+use conf_change::{
+    Changer, Config, Invariant, RestoreFault, check, conf_state, described, read_conf_state,
+    write_conf_state,
+};
+use quorum_sets::{MemberSet, NoMemory, TreeIds};
 use std::alloc::Global;
 use std::test::Fail;
 
@@ -86,5 +89,22 @@ fn refuses_what_is_no_configuration(rt: HostRuntime) -> Result<(), Fail> {
     let state = read_conf_state(rt.alloc(), line)?;
     let found: Result<Changer<TreeIds>, RestoreFault> = Changer::restore(rt.alloc(), &state, 0);
     assert!(rt; found.err() == Some(RestoreFault::NotAConfiguration));
+    Ok(())
+}
+
+// Whether a line, of which no list names an id twice, describes a configuration with the incoming voters 2 and 3, and this is what is wrong with it.
+fn describes(alloc: Global, text: &[u8], broken: Invariant) -> Result<bool, Fail> {
+    let state = read_conf_state(alloc, text)?;
+    let config: Config<TreeIds> = described(alloc, &state)?;
+    let has_both = (config.incoming.len() == 2)
+        & config.incoming.contains(2)
+        & config.incoming.contains(3);
+    Ok(has_both & (check(&config) == Err(broken)))
+}
+
+#[test]
+fn describes_what_is_not_valid(rt: HostRuntime) -> Result<(), Fail> {
+    let text = b"Voters:[3 2] VotersOutgoing:[] Learners:[2] LearnersNext:[] AutoLeave:true";
+    assert!(rt; describes(rt.alloc(), text, Invariant::LearnerAndVoter)?);
     Ok(())
 }

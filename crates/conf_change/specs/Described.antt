@@ -1,0 +1,12 @@
+-- The configuration that a saved form names, be it valid or not.
+use Rattle.std.specs.Prelude.{Bool, ◌&&◌, Option, Some, None, if◌then◌else◌}
+use Rattle.conf_change.specs.Configuration.{Configuration}
+use Rattle.conf_change.specs.ConfState.{ConfStateLists, names_once, named_by}
+
+-- each list names each id once
+abbrev pub names_each_once : ConfStateLists → Bool
+names_each_once saved = names_once saved.voters && names_once saved.voters_outgoing && names_once saved.learners && names_once saved.learners_next
+
+-- the configuration whose sets the lists name, if each names each id once
+abbrev pub described : ConfStateLists → Option Configuration
+described saved = if names_each_once saved then Some (named_by saved) else None

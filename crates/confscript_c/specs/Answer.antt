@@ -1,0 +1,17 @@
+-- What a call answers: a status, and the number that goes with it.
+use Rattle.std.specs.Prelude.{ℕ}
+use Rattle.confscript_c.specs.Status.{code_of}
+use Rattle.confscript_c.specs.declared.answer.Answer.{Answer}
+use Rattle.confscript_c.specs.declared.status.Status.{Status}
+use Rattle.confscript_c.specs.declared.status.Status.TheVariants.{Done, NoMemory}
+
+abbrev pub answer : Status → ℕ → Answer
+answer status number = record { status = code_of status; number = number }
+
+-- the call did what it is for, with this number
+abbrev pub done : ℕ → Answer
+done number = answer Done number
+
+-- no memory is left
+abbrev pub no_memory : Answer
+no_memory = answer NoMemory 0

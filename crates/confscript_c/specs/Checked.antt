@@ -1,0 +1,38 @@
+-- What is wrong with the configuration that a line names.
+use Rattle.std.specs.Prelude.{ℕ, List, Option, Some, None, Result, Ok, Err}
+use Rattle.conf_change.specs.Configuration.{Configuration, first_broken}
+use Rattle.conf_change.specs.ConfState.{ConfStateLists}
+use Rattle.conf_change.specs.ConfStateLine.{conf_state_in}
+use Rattle.conf_change.specs.Described.{described}
+use Rattle.conf_change.specs.declared.config.Invariant.{Invariant}
+use Rattle.conf_change.specs.declared.config.Invariant.TheVariants as broken
+use Rattle.confscript_c.specs.Answer.{answer, done}
+use Rattle.confscript_c.specs.Reading.{read_as}
+use Rattle.confscript_c.specs.declared.answer.Answer.{Answer}
+use Rattle.confscript_c.specs.declared.status.Status.{Status}
+use Rattle.confscript_c.specs.declared.status.Status.TheVariants.{RepeatedId, ZeroId, NextNotOutgoing, NextAndIncoming, LearnerAndVoter, NotJointButNext, NotJointButAutoLeave}
+
+-- the status that tells of a broken invariant
+abbrev pub status_of : Invariant → Status
+status_of broken.ZeroId = ZeroId
+status_of broken.NextNotOutgoing = NextNotOutgoing
+status_of broken.NextAndIncoming = NextAndIncoming
+status_of broken.LearnerAndVoter = LearnerAndVoter
+status_of broken.NotJointButNext = NotJointButNext
+status_of broken.NotJointButAutoLeave = NotJointButAutoLeave
+
+abbrev pub broken_told : Option Invariant → Answer
+broken_told None = done 0
+broken_told (Some invariant) = answer (status_of invariant) 0
+
+-- the first invariant that is broken, where each list names each id once
+abbrev pub described_told : Option Configuration → Answer
+described_told None = answer RepeatedId 0
+described_told (Some c) = broken_told (first_broken c)
+
+abbrev pub saved_told : Result ConfStateLists Answer → Answer
+saved_told (Err why) = why
+saved_told (Ok saved) = described_told (described saved)
+
+abbrev pub check_told : List ℕ → Answer
+check_told line = saved_told (read_as 1 (conf_state_in line))

@@ -1,0 +1,8 @@
+pub mod Status
+pub mod Answer
+pub mod Quorums
+pub mod Written
+pub mod Reading
+pub mod Checked
+pub mod PlanTold
+pub mod Applied

@@ -1,0 +1,53 @@
+-- What is committed and how a vote stands, where ids and what is known of each come as two lists.
+use Rattle.std.specs.Prelude.{ℕ, Bool, not, ◌==◌, ◌||◌, List, length, map, nat_eq, if◌then◌else◌}
+use Rattle.std.specs.List.{zip, list_all}
+use Rattle.std.specs.Ordering.{nat_cmp}
+use Rattle.std.specs.FinMap as finite
+use Rattle.quorum_sets.specs.Ids.{ids_of}
+use Rattle.quorum_sets.specs.Voters.{Voters, pair}
+use Rattle.quorum_sets.specs.Committed.{joint_committed_index}
+use Rattle.quorum_sets.specs.Votes.{joint_vote_result}
+use Rattle.quorum_sets.specs.declared.voting.VoteResult.{VoteResult}
+use Rattle.quorum_sets.specs.declared.voting.VoteResult.TheVariants.{VotePending, VoteLost, VoteWon}
+use Rattle.conf_change.specs.ConfState.{names_once}
+use Rattle.confscript_c.specs.Answer.{answer, done}
+use Rattle.confscript_c.specs.declared.answer.Answer.{Answer}
+use Rattle.confscript_c.specs.declared.status.Status.TheVariants.{RepeatedId, DifferentLengths, BadVote}
+
+-- the voters of two lists, each id counting once
+abbrev pub voters_named : List ℕ → List ℕ → Voters
+voters_named incoming outgoing = pair (ids_of incoming) (ids_of outgoing)
+
+-- what is known of each id: the value at its place
+abbrev pub known : {V : Type 0} → List ℕ → List V → finite.FinMap nat_cmp V
+known ids values = finite.from_entries (zip ids values)
+
+-- there is a value for each id and no id stands twice, else the call is refused
+abbrev pub of_each : {V : Type 0} → List ℕ → List V → Answer → Answer
+of_each ids values otherwise =
+    if not (nat_eq (length ids) (length values)) then answer DifferentLengths 0
+    else (if not (names_once ids) then answer RepeatedId 0 else otherwise)
+
+-- the committed index of a pair of sets
+abbrev pub committed_told : List ℕ → List ℕ → List ℕ → List ℕ → Answer
+committed_told incoming outgoing ids acknowledged =
+    of_each ids acknowledged (done (joint_committed_index (voters_named incoming outgoing) (known ids acknowledged)))
+
+-- 0 is no, 1 is yes, and nothing else is a vote
+abbrev pub is_vote : ℕ → Bool
+is_vote byte = (byte == 0) || (byte == 1)
+
+abbrev pub is_yes : ℕ → Bool
+is_yes byte = byte == 1
+
+abbrev pub vote_number : VoteResult → ℕ
+vote_number VotePending = 0
+vote_number VoteLost = 1
+vote_number VoteWon = 2
+
+-- how the vote of a pair of sets stands
+abbrev pub vote_told : List ℕ → List ℕ → List ℕ → List ℕ → Answer
+vote_told incoming outgoing ids votes =
+    of_each ids votes
+    (if not (list_all is_vote votes) then answer BadVote 0
+    else done (vote_number (joint_vote_result (voters_named incoming outgoing) (known ids (map is_yes votes)))))

@@ -1,0 +1,106 @@
+//! What the steps of a plan make of a configuration.
+ghost use Rattle.std.specs.Prelude.{◌≡◌, ◌⊎◌, Ok, Err, IfOk, IfErr, OnOk, MatchResult};
+ghost use Rattle.conf_change.specs.ConfState.{lists_of};
+ghost use Rattle.conf_change.specs.ConfStateLine.{conf_state_in, conf_state_text};
+ghost use Rattle.conf_plan.specs.PlanCode.{plan_in};
+ghost use Rattle.confscript_c.specs.Answer.{no_memory};
+ghost use Rattle.confscript_c.specs.Applied.{apply_told, restored_of, steps_told, fault_told, refusal_told};
+ghost use Rattle.confscript_c.specs.Reading.{read_as};
+ghost use Rattle.confscript_c.specs.Written.{Writes};
+
+use crate::answer::Answer;
+use crate::buffer::write_text;
+use crate::reading::read_saved;
+use crate::status::Status;
+use conf_change::{Changer, Config, Refused, RestoreFault, conf_state, write_conf_state};
+use conf_plan::{Plan, PlanTextFault, StepRefused, apply_plan, read_plan};
+use quorum_sets::{InlineIds, NoMemory};
+use std::alloc::Global;
+
+/// Takes the steps of a plan from the configuration of a ConfState line, and writes the line of the one behind them.
+#[unsafe(no_mangle)]
+pub extern "C" fn confscript_apply(
+    alloc: Global,
+    state: &[u8],
+    plan: &[u8],
+    out: &mut [u8],
+) -> Answer
+    ensures { Writes (apply_told state.now plan.now) out.old result out.new }
+{
+    match line_after(alloc, state, plan) {
+        Ok(line) => write_text(line.as_slice(), out),
+        Err(why) => why,
+    }
+}
+
+// The line of the configuration behind the steps of a plan.
+fn line_after(alloc: Global, state: &[u8], plan: &[u8]) -> Result<Vec<u8>, Answer>
+    ensures line { IfOk result (λ line. apply_told state.now plan.now ≡ Ok line.items) }
+    ensures refused { IfErr result (λ why. (why ≡ no_memory) ⊎ (apply_told state.now plan.now ≡ Err why)) }
+{
+    let mut changer = read_changer(alloc, state)?;
+    let plan = read_steps(alloc, plan)?;
+    take(&mut changer, &plan)?;
+    Ok(line_of(alloc, changer.tracker().config())?)
+}
+
+// A changer with the configuration of a line.
+fn read_changer(alloc: Global, state: &[u8]) -> Result<Changer<InlineIds>, Answer>
+    ensures restored { IfOk result (λ changer. restored_of (read_as 1 (conf_state_in state.now)) ≡ Ok changer.tracker.config) }
+    ensures refused { IfErr result (λ why. (why ≡ no_memory) ⊎ (restored_of (read_as 1 (conf_state_in state.now)) ≡ Err why)) }
+{
+    let saved = read_saved(alloc, 1, state)?;
+    match Changer::restore(alloc, &saved, 0) {
+        Ok(changer) => Ok(changer),
+        Err(RestoreFault::NotAConfiguration) => Err(Answer::new(Status::NotAConfiguration, 1)),
+        Err(RestoreFault::NoMemory) => Err(Answer::no_memory()),
+    }
+}
+
+// The plan that a text stands for.
+fn read_steps(alloc: Global, text: &[u8]) -> Result<Plan, Answer>
+    ensures plan { IfOk result (λ plan. plan_in text.now ≡ Ok plan) }
+    ensures refused { IfErr result (λ why. (why ≡ no_memory) ⊎ MatchResult (plan_in text.now) (λ _. ⊥) (λ fault. why ≡ fault_told fault)) }
+{
+    match read_plan(alloc, text) {
+        Ok(plan) => Ok(plan),
+        Err(PlanTextFault::BadLine(number)) => Err(Answer::new(Status::BadLine, number as u64)),
+        Err(PlanTextFault::TooManySteps) => Err(Answer::new(Status::TooManySteps, 0)),
+        Err(PlanTextFault::NoMemory) => Err(Answer::no_memory()),
+    }
+}
+
+// Takes the steps of a plan.
+fn take(changer: &mut Changer<InlineIds>, plan: &Plan) -> Result<(), Answer>
+    ensures taken { OnOk result (steps_told 1 changer.old.tracker.config plan.now ≡ Ok (conf_state_text (lists_of changer.new.tracker.config))) }
+    ensures refused { IfErr result (λ why. (why ≡ no_memory) ⊎ (steps_told 1 changer.old.tracker.config plan.now ≡ Err why)) }
+{
+    match apply_plan(changer, plan) {
+        Ok(()) => Ok(()),
+        Err(stop) => Err(refusal(stop.refused, stop.step as u64)),
+    }
+}
+
+// Why the step with this number is refused.
+fn refusal(refused: Refused, number: u64) -> Answer
+    ensures { result ≡ refusal_told refused number }
+{
+    match refused {
+        Refused::AlreadyJoint => Answer::new(Status::AlreadyJoint, number),
+        Refused::ZeroVoterJoint => Answer::new(Status::ZeroVoterJoint, number),
+        Refused::NotJoint => Answer::new(Status::NotJoint, number),
+        Refused::SimpleInJoint => Answer::new(Status::SimpleInJoint, number),
+        Refused::RemovedAllVoters => Answer::new(Status::RemovedAllVoters, number),
+        Refused::MoreThanOneVoter => Answer::new(Status::MoreThanOneVoter, number),
+        Refused::NoMemory => Answer::no_memory(),
+    }
+}
+
+// The ConfState line of a configuration.
+fn line_of(alloc: Global, config: &Config<InlineIds>) -> Result<Vec<u8>, NoMemory>
+    ensures { IfOk result (λ line. line.items ≡ conf_state_text (lists_of config.now)) }
+{
+    let mut line = Vec::new(alloc);
+    write_conf_state(&mut line, &conf_state(alloc, config)?)?;
+    Ok(line)
+}

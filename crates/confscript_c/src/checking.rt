@@ -1,0 +1,56 @@
+//! What is wrong with a configuration.
+ghost use Rattle.std.specs.Prelude.{◌≡◌, ◌⊎◌, Ok, IfOk, IfErr};
+ghost use Rattle.confscript_c.specs.Answer.{no_memory};
+ghost use Rattle.confscript_c.specs.Checked.{check_told, saved_told, broken_told, status_of};
+ghost use Rattle.conf_change.specs.Configuration.{first_broken};
+
+use crate::answer::Answer;
+use crate::reading::read_saved;
+use crate::status::Status;
+use conf_change::{ConfState, Config, Invariant, RestoreFault, check, described};
+use quorum_sets::InlineIds;
+use std::alloc::Global;
+
+/// Tells the first broken invariant of the configuration that a ConfState line names.
+#[unsafe(no_mangle)]
+pub extern "C" fn confscript_check(alloc: Global, state: &[u8]) -> Answer
+    ensures { (result ≡ no_memory) ⊎ (result ≡ check_told state.now) }
+{
+    match read_saved(alloc, 1, state) {
+        Ok(saved) => check_saved(alloc, &saved),
+        Err(why) => why,
+    }
+}
+
+fn check_saved(alloc: Global, saved: &ConfState) -> Answer
+    ensures { (result ≡ no_memory) ⊎ (result ≡ saved_told (Ok saved.now)) }
+{
+    match described(alloc, saved) {
+        Ok(config) => checked(&config),
+        Err(RestoreFault::NotAConfiguration) => Answer::new(Status::RepeatedId, 0),
+        Err(RestoreFault::NoMemory) => Answer::no_memory(),
+    }
+}
+
+fn checked(config: &Config<InlineIds>) -> Answer
+    ensures { result ≡ broken_told (first_broken config.now) }
+{
+    match check(config) {
+        Ok(()) => Answer::done(0),
+        Err(broken) => Answer::new(status_of(broken), 0),
+    }
+}
+
+// The status that tells of a broken invariant.
+fn status_of(broken: Invariant) -> Status
+    ensures { result ≡ status_of broken }
+{
+    match broken {
+        Invariant::ZeroId => Status::ZeroId,
+        Invariant::NextNotOutgoing => Status::NextNotOutgoing,
+        Invariant::NextAndIncoming => Status::NextAndIncoming,
+        Invariant::LearnerAndVoter => Status::LearnerAndVoter,
+        Invariant::NotJointButNext => Status::NotJointButNext,
+        Invariant::NotJointButAutoLeave => Status::NotJointButAutoLeave,
+    }
+}

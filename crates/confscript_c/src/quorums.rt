@@ -1,0 +1,180 @@
+//! What is committed, and how a vote stands.
+ghost use Rattle.std.specs.Prelude.{◌≡◌, ◌⊎◌, true, false, not, ◌&&◌, length, map, nat_eq, IfOk, IfErr};
+ghost use Rattle.std.specs.List.{zip, list_all};
+ghost use Rattle.std.specs.Ordering.{nat_cmp};
+ghost use Rattle.std.specs.FinMap as finite;
+ghost use Rattle.quorum_sets.specs.Ids.{ids_of};
+ghost use Rattle.quorum_sets.specs.Committed.{joint_committed_index};
+ghost use Rattle.quorum_sets.specs.Votes.{joint_vote_result};
+ghost use Rattle.conf_change.specs.ConfState.{names_once};
+ghost use Rattle.confscript_c.specs.Answer.{no_memory};
+ghost use Rattle.confscript_c.specs.Quorums as says;
+ghost use Rattle.confscript_c.specs.Quorums.{committed_told, vote_told, voters_named, is_vote, is_yes};
+
+use crate::answer::Answer;
+use crate::status::Status;
+use quorum_sets::{InlineIds, MemberSet, NoMemory, VoteResult, joint_committed, joint_vote};
+use std::alloc::Global;
+use std::collections::BTreeMap;
+
+/// The committed index of a pair of voter sets, or of one set where `outgoing` is empty: the id at each place of `ids` has
+/// acknowledged the index at that place, and an id that is not there counts as 0.
+#[unsafe(no_mangle)]
+pub extern "C" fn confscript_committed(
+    alloc: Global,
+    incoming: &[u64],
+    outgoing: &[u64],
+    ids: &[u64],
+    acknowledged: &[u64],
+) -> Answer
+    ensures { (result ≡ no_memory) ⊎ (result ≡ committed_told incoming.now outgoing.now ids.now acknowledged.now) }
+{
+    committed_answer(alloc, incoming, outgoing, ids, acknowledged).unwrap_or(Answer::no_memory())
+}
+
+fn committed_answer(
+    alloc: Global,
+    incoming: &[u64],
+    outgoing: &[u64],
+    ids: &[u64],
+    acknowledged: &[u64],
+) -> Result<Answer, NoMemory>
+    ensures { IfOk result (λ told. told ≡ committed_told incoming.now outgoing.now ids.now acknowledged.now) }
+{
+    if ids.len() != acknowledged.len() {
+        return Ok(Answer::new(Status::DifferentLengths, 0));
+    }
+    if !names_once(alloc, ids)? {
+        return Ok(Answer::new(Status::RepeatedId, 0));
+    }
+    let index = index_of(alloc, incoming, outgoing, ids, acknowledged)?;
+    Ok(Answer::done(index))
+}
+
+// What the sets of two lists have committed.
+fn index_of(
+    alloc: Global,
+    incoming: &[u64],
+    outgoing: &[u64],
+    ids: &[u64],
+    acknowledged: &[u64],
+) -> Result<u64, NoMemory>
+    requires { length ids.now ≡ length acknowledged.now }
+    ensures { IfOk result (λ index. index ≡ joint_committed_index (voters_named incoming.now outgoing.now) (says.known ids.now acknowledged.now)) }
+{
+    let incoming = named(alloc, incoming)?;
+    let outgoing = named(alloc, outgoing)?;
+    let acks = known(alloc, ids, acknowledged)?;
+    joint_committed(alloc, &incoming, &outgoing, &acks)
+}
+
+/// How the vote of a pair of voter sets stands, or of one set where `outgoing` is empty: the id at each place of `ids` said
+/// yes where the byte at that place is 1, and no where it is 0; an id that is not there has not voted.
+#[unsafe(no_mangle)]
+pub extern "C" fn confscript_vote(
+    alloc: Global,
+    incoming: &[u64],
+    outgoing: &[u64],
+    ids: &[u64],
+    votes: &[u8],
+) -> Answer
+    ensures { (result ≡ no_memory) ⊎ (result ≡ vote_told incoming.now outgoing.now ids.now votes.now) }
+{
+    vote_answer(alloc, incoming, outgoing, ids, votes).unwrap_or(Answer::no_memory())
+}
+
+fn vote_answer(
+    alloc: Global,
+    incoming: &[u64],
+    outgoing: &[u64],
+    ids: &[u64],
+    votes: &[u8],
+) -> Result<Answer, NoMemory>
+    ensures { IfOk result (λ told. told ≡ vote_told incoming.now outgoing.now ids.now votes.now) }
+{
+    if ids.len() != votes.len() {
+        return Ok(Answer::new(Status::DifferentLengths, 0));
+    }
+    if !names_once(alloc, ids)? {
+        return Ok(Answer::new(Status::RepeatedId, 0));
+    }
+    if !are_votes(votes) {
+        return Ok(Answer::new(Status::BadVote, 0));
+    }
+    let said = truths(alloc, votes)?;
+    let result = result_of(alloc, incoming, outgoing, ids, said.as_slice())?;
+    Ok(Answer::done(vote_number(result)))
+}
+
+// How the vote of the sets of two lists stands.
+fn result_of(
+    alloc: Global,
+    incoming: &[u64],
+    outgoing: &[u64],
+    ids: &[u64],
+    said: &[bool],
+) -> Result<VoteResult, NoMemory>
+    requires { length ids.now ≡ length said.now }
+    ensures { IfOk result (λ vote. vote ≡ joint_vote_result (voters_named incoming.now outgoing.now) (says.known ids.now said.now)) }
+{
+    let incoming = named(alloc, incoming)?;
+    let outgoing = named(alloc, outgoing)?;
+    let votes = known(alloc, ids, said)?;
+    Ok(joint_vote(&incoming, &outgoing, &votes))
+}
+
+// Whether each byte is a vote.
+fn are_votes(votes: &[u8]) -> bool
+    ensures { result ≡ list_all is_vote votes.now }
+{
+    votes.iter().all(|byte| *byte == 0 || *byte == 1)
+}
+
+// What each byte says.
+fn truths(alloc: Global, votes: &[u8]) -> Result<Vec<bool>, NoMemory>
+    ensures { IfOk result (λ said. said.items ≡ map is_yes votes.now) }
+{
+    Ok(votes.iter().map(|byte| *byte == 1).collect(alloc)?)
+}
+
+fn vote_number(vote: VoteResult) -> u64
+    ensures { result ≡ says.vote_number vote }
+{
+    match vote {
+        VoteResult::VotePending => 0,
+        VoteResult::VoteLost => 1,
+        VoteResult::VoteWon => 2,
+    }
+}
+
+// The set of the ids of a list, in any order and with repeats.
+fn named(alloc: Global, ids: &[u64]) -> Result<InlineIds, NoMemory>
+    ensures { IfOk result (λ set. set ≡ ids_of ids.now) }
+{
+    let mut sorted = ids.to_vec(alloc)?;
+    quorum_sets::set_of(alloc, sorted.as_mut_slice())
+}
+
+// Whether no id stands twice.
+fn names_once(alloc: Global, ids: &[u64]) -> Result<bool, NoMemory>
+    ensures { IfOk result (λ once. once ≡ names_once ids.now) }
+{
+    Ok(named(alloc, ids)?.len() == ids.len())
+}
+
+// What is known of each id: the value at its place. The last are put in first, for no reason but that the map is then
+// that of the list of pairs.
+fn known<V: Copy + Drop>(
+    alloc: Global,
+    ids: &[u64],
+    values: &[V],
+) -> Result<BTreeMap<u64, V>, NoMemory>
+    requires { length ids.now ≡ length values.now }
+    ensures { IfOk result (λ map. finite.from_entries {R = nat_cmp} map.entries ≡ says.known ids.now values.now) }
+{
+    let mut map = BTreeMap::new(alloc);
+    for place in (0..ids.len()).rev() {
+        map.insert(ids[place], values[place])?;
+    }
+    Ok(map)
+}

@@ -1,0 +1,31 @@
+/* Plans the change that puts 5 in the place of 1, and applies the plan. README tells how this is built. */
+#include <stdio.h>
+#include <string.h>
+
+#include "confscript.h"
+
+static const char now[] = "Voters:[1 2 3] VotersOutgoing:[] Learners:[] LearnersNext:[] AutoLeave:false";
+static const char wanted[] = "Voters:[2 3 5] VotersOutgoing:[] Learners:[] LearnersNext:[] AutoLeave:false";
+
+static const uint8_t *bytes(const char *text) { return (const uint8_t *)text; }
+
+int main(void) {
+    uint8_t plan[512], after[512];
+
+    struct confscript_answer planned =
+        confscript_plan(bytes(now), strlen(now), bytes(wanted), strlen(wanted), plan, sizeof plan);
+    if (planned.status != CONFSCRIPT_DONE) {
+        fprintf(stderr, "no plan: status %u, number %llu\n", (unsigned)planned.status, (unsigned long long)planned.number);
+        return 1;
+    }
+    printf("%.*s", (int)planned.number, (const char *)plan);
+
+    struct confscript_answer applied =
+        confscript_apply(bytes(now), strlen(now), plan, planned.number, after, sizeof after);
+    if (applied.status != CONFSCRIPT_DONE) {
+        fprintf(stderr, "refused: status %u, number %llu\n", (unsigned)applied.status, (unsigned long long)applied.number);
+        return 1;
+    }
+    printf("%.*s\n", (int)applied.number, (const char *)after);
+    return 0;
+}

@@ -1,0 +1,273 @@
+/*
+ * The library as a C program meets it: each call once for each answer. A line for each case, 'ok: ..' or 'FAILED: ..'.
+ * It is linked with malloc, realloc and free wrapped, so that each allocation of a call can be refused in turn.
+ */
+#include <stdio.h>
+#include <stdlib.h>
+#include <string.h>
+
+#include "confscript.h"
+
+void *__real_malloc(size_t size);
+void *__real_realloc(void *block, size_t size);
+void __real_free(void *block);
+
+static int counts;       /* whether a call of the library is under way */
+static long left = -1;   /* how many more allocations are granted; -1: all */
+static long live;        /* blocks that are not given back */
+
+static int is_refused(void) {
+    if (!counts || left < 0) return 0;
+    if (left == 0) return 1;
+    left--;
+    return 0;
+}
+
+void *__wrap_malloc(size_t size) {
+    if (is_refused()) return NULL;
+    void *block = __real_malloc(size);
+    if (counts && block) live++;
+    return block;
+}
+
+void *__wrap_realloc(void *block, size_t size) {
+    if (is_refused()) return NULL;
+    void *moved = __real_realloc(block, size);
+    if (counts && moved && !block) live++;
+    return moved;
+}
+
+void __wrap_free(void *block) {
+    if (counts && block) live--;
+    __real_free(block);
+}
+
+enum { ROOM = 256, MARK = 0xA5 };
+static uint8_t out[ROOM];
+
+static void report(const char *name, int holds, struct confscript_answer got) {
+    if (holds) printf("ok: %s\n", name);
+    else printf("FAILED: %s: status %u, number %llu\n", name, (unsigned)got.status, (unsigned long long)got.number);
+}
+
+static const uint8_t *bytes(const char *text) { return (const uint8_t *)text; }
+
+/* Whether the buffer begins with the text, and is as it was behind it. */
+static int holds_text(const char *text) {
+    size_t len = strlen(text);
+    if (memcmp(out, text, len) != 0) return 0;
+    for (size_t i = len; i < ROOM; i++) if (out[i] != MARK) return 0;
+    return 1;
+}
+
+/* A call of any of the five, on texts or numbers that are set before. */
+typedef struct confscript_answer (*call)(void);
+
+static const char *first, *second;
+static size_t room;
+
+static struct confscript_answer plan(void) {
+    return confscript_plan(bytes(first), strlen(first), bytes(second), strlen(second), out, room);
+}
+static struct confscript_answer apply(void) {
+    return confscript_apply(bytes(first), strlen(first), bytes(second), strlen(second), out, room);
+}
+static struct confscript_answer check(void) { return confscript_check(bytes(first), strlen(first)); }
+
+static uint64_t incoming[16], outgoing[16], ids[16], acknowledged[16];
+static uint8_t votes[16];
+static size_t incoming_len, outgoing_len, ids_len, values_len;
+
+static struct confscript_answer committed(void) {
+    return confscript_committed(incoming, incoming_len, outgoing, outgoing_len, ids, ids_len, acknowledged, values_len);
+}
+static struct confscript_answer vote(void) {
+    return confscript_vote(incoming, incoming_len, outgoing, outgoing_len, ids, ids_len, votes, values_len);
+}
+
+static struct confscript_answer called(call which, long granted) {
+    memset(out, MARK, ROOM);
+    left = granted;
+    counts = 1;
+    struct confscript_answer answer = which();
+    counts = 0;
+    left = -1;
+    return answer;
+}
+
+/* The call answers so and leaves the buffer so, and before that NO_MEMORY as long as an allocation is refused. */
+static void expect(const char *name, call which, uint32_t status, uint64_t number, const char *text) {
+    struct confscript_answer got;
+    for (long granted = 0;; granted++) {
+        got = called(which, granted);
+        if (live != 0) { report(name, 0, got); printf("FAILED: %s: %ld blocks are kept\n", name, live); live = 0; return; }
+        if (got.status != CONFSCRIPT_NO_MEMORY) break;
+        if (got.number != 0 || !holds_text("") || granted > 1000) { report(name, 0, got); return; }
+    }
+    report(name, got.status == status && got.number == number && holds_text(text), got);
+}
+
+static void on_texts(const char *a, const char *b) { first = a; second = b; room = ROOM; }
+
+#define LINE(voters, leaving, learners, next, leave) \
+    "Voters:[" voters "] VotersOutgoing:[" leaving "] Learners:[" learners "] LearnersNext:[" next "] AutoLeave:" leave
+
+static void plans(void) {
+    const char *one = LINE("1", "", "", "", "false"), *two = LINE("2", "", "", "", "false");
+    const char *steps = "enter-joint autoleave=false r1 v2\nleave-joint\n";
+    on_texts(one, two);
+    expect("plan: steps", plan, CONFSCRIPT_DONE, strlen(steps), steps);
+    room = strlen(steps);
+    expect("plan: it just fits", plan, CONFSCRIPT_DONE, strlen(steps), steps);
+    room = strlen(steps) - 1;
+    expect("plan: one byte too small", plan, CONFSCRIPT_TOO_SMALL, strlen(steps), "");
+    room = 0;
+    expect("plan: no room", plan, CONFSCRIPT_TOO_SMALL, strlen(steps), "");
+    on_texts(one, LINE("01", "", "", "", "false") "\n");
+    expect("plan: nothing to do", plan, CONFSCRIPT_DONE, 14, "nothing to do\n");
+    on_texts("Voters:[1]", two);
+    expect("plan: the first is no line", plan, CONFSCRIPT_BAD_CONF_STATE, 1, "");
+    on_texts(one, "");
+    expect("plan: the second is no line", plan, CONFSCRIPT_BAD_CONF_STATE, 2, "");
+    on_texts(LINE("1 1", "", "", "", "false"), "");
+    expect("plan: the first is no configuration", plan, CONFSCRIPT_NOT_A_CONFIGURATION, 1, "");
+    on_texts(one, LINE("2", "", "2", "", "false"));
+    expect("plan: the second is no configuration", plan, CONFSCRIPT_NOT_A_CONFIGURATION, 2, "");
+    on_texts(LINE("", "", "1", "", "false"), LINE("", "", "", "", "false"));
+    expect("plan: the first has no voter", plan, CONFSCRIPT_NO_VOTER, 1, "");
+    on_texts(one, LINE("", "", "", "", "false"));
+    expect("plan: the second has no voter", plan, CONFSCRIPT_NO_VOTER, 2, "");
+}
+
+static void applies(void) {
+    const char *one = LINE("1", "", "", "", "false"), *joint = LINE("2", "1", "", "", "false"), *none = LINE("", "", "", "", "false");
+    const char *both = LINE("1 2", "", "", "", "false");
+    on_texts(one, "simple v2");
+    expect("apply: one change", apply, CONFSCRIPT_DONE, strlen(both), both);
+    room = strlen(both);
+    expect("apply: it just fits", apply, CONFSCRIPT_DONE, strlen(both), both);
+    room = strlen(both) - 1;
+    expect("apply: one byte too small", apply, CONFSCRIPT_TOO_SMALL, strlen(both), "");
+    on_texts(one, "nothing to do\n");
+    expect("apply: nothing to do", apply, CONFSCRIPT_DONE, strlen(one), one);
+    on_texts(none, "simple v1\n");
+    expect("apply: from nobody", apply, CONFSCRIPT_DONE, strlen(one), one);
+    on_texts("", "simple v1\n");
+    expect("apply: no line", apply, CONFSCRIPT_BAD_CONF_STATE, 1, "");
+    on_texts(LINE("1", "2", "2", "", "false"), "simple v1\n");
+    expect("apply: no configuration", apply, CONFSCRIPT_NOT_A_CONFIGURATION, 1, "");
+    on_texts(LINE("", "", "2", "", "false"), "simple v1\n");
+    expect("apply: a learner and no voter", apply, CONFSCRIPT_NOT_A_CONFIGURATION, 1, "");
+    on_texts(one, "");
+    expect("apply: the empty plan text", apply, CONFSCRIPT_BAD_LINE, 1, "");
+    on_texts(one, "simple v2\nsimple x\n");
+    expect("apply: a bad line", apply, CONFSCRIPT_BAD_LINE, 2, "");
+    on_texts(one, "simple\nsimple\nsimple\nsimple\nsimple\n");
+    expect("apply: a fifth line", apply, CONFSCRIPT_TOO_MANY_STEPS, 0, "");
+    on_texts(one, "simple v2\nenter-joint autoleave=true v3\nenter-joint autoleave=true\n");
+    expect("apply: already joint", apply, CONFSCRIPT_ALREADY_JOINT, 3, "");
+    on_texts(none, "enter-joint autoleave=false v1\n");
+    expect("apply: no voter to enter from", apply, CONFSCRIPT_ZERO_VOTER_JOINT, 1, "");
+    on_texts(one, "leave-joint\n");
+    expect("apply: not joint", apply, CONFSCRIPT_NOT_JOINT, 1, "");
+    on_texts(joint, "simple v3\n");
+    expect("apply: simple in a joint configuration", apply, CONFSCRIPT_SIMPLE_IN_JOINT, 1, "");
+    on_texts(one, "simple v2\nsimple r1\nsimple r2\n");
+    expect("apply: no voter is left", apply, CONFSCRIPT_REMOVED_ALL_VOTERS, 3, "");
+    on_texts(one, "simple v2 v3\n");
+    expect("apply: two voters at once", apply, CONFSCRIPT_MORE_THAN_ONE_VOTER, 1, "");
+}
+
+static void checks(void) {
+    on_texts(LINE("3 1 2", "6 1 2 4", "5", "4", "true"), "");
+    expect("check: nothing is wrong", check, CONFSCRIPT_DONE, 0, "");
+    on_texts(LINE("", "", "5", "", "false"), "");
+    expect("check: no voter", check, CONFSCRIPT_DONE, 0, "");
+    on_texts(LINE("1", "", "", "", "no"), "");
+    expect("check: no line", check, CONFSCRIPT_BAD_CONF_STATE, 1, "");
+    on_texts(LINE("0", "", "2 2", "", "false"), "");
+    expect("check: an id twice", check, CONFSCRIPT_REPEATED_ID, 0, "");
+    on_texts(LINE("0", "", "0", "", "false"), "");
+    expect("check: the id 0", check, CONFSCRIPT_ZERO_ID, 0, "");
+    on_texts(LINE("1", "2", "", "1", "false"), "");
+    expect("check: next, not outgoing", check, CONFSCRIPT_NEXT_NOT_OUTGOING, 0, "");
+    on_texts(LINE("1", "1", "", "1", "false"), "");
+    expect("check: next and incoming", check, CONFSCRIPT_NEXT_AND_INCOMING, 0, "");
+    on_texts(LINE("1", "", "1", "", "true"), "");
+    expect("check: learner and voter", check, CONFSCRIPT_LEARNER_AND_VOTER, 0, "");
+    on_texts(LINE("1", "", "", "", "true"), "");
+    expect("check: auto-leave, not joint", check, CONFSCRIPT_NOT_JOINT_BUT_AUTO_LEAVE, 0, "");
+}
+
+static size_t set(uint64_t *to, size_t n, const uint64_t *from) { memcpy(to, from, n * sizeof *to); return n; }
+#define SET(name, ...) name##_len = set(name, sizeof((uint64_t[]){__VA_ARGS__}) / sizeof(uint64_t), (const uint64_t[]){__VA_ARGS__})
+
+static void quorums(void) {
+    SET(incoming, 1, 2, 3);
+    outgoing_len = 0;
+    SET(ids, 1, 3);
+    values_len = set(acknowledged, 2, (const uint64_t[]){5, 7});
+    expect("committed: one set", committed, CONFSCRIPT_DONE, 5, "");
+    SET(outgoing, 4, 4);
+    expect("committed: nobody of the outgoing", committed, CONFSCRIPT_DONE, 0, "");
+    SET(ids, 4, 3, 2);
+    values_len = set(acknowledged, 3, (const uint64_t[]){4, 9, 6});
+    expect("committed: both sets", committed, CONFSCRIPT_DONE, 4, "");
+    values_len = 2;
+    expect("committed: an index is missing", committed, CONFSCRIPT_DIFFERENT_LENGTHS, 0, "");
+    SET(ids, 4, 3, 4);
+    values_len = 3;
+    expect("committed: an id twice", committed, CONFSCRIPT_REPEATED_ID, 0, "");
+    incoming_len = outgoing_len = ids_len = values_len = 0;
+    expect("committed: nobody votes", committed, CONFSCRIPT_DONE, UINT64_MAX, "");
+    expect("vote: nobody votes", vote, CONFSCRIPT_DONE, CONFSCRIPT_VOTE_WON, "");
+
+    SET(incoming, 1, 2, 3);
+    SET(ids, 2, 1);
+    values_len = 2;
+    votes[0] = votes[1] = 1;
+    expect("vote: won", vote, CONFSCRIPT_DONE, CONFSCRIPT_VOTE_WON, "");
+    SET(outgoing, 3, 4);
+    expect("vote: it hangs on the outgoing", vote, CONFSCRIPT_DONE, CONFSCRIPT_VOTE_PENDING, "");
+    votes[0] = votes[1] = 0;
+    expect("vote: lost", vote, CONFSCRIPT_DONE, CONFSCRIPT_VOTE_LOST, "");
+    votes[1] = 2;
+    expect("vote: no vote", vote, CONFSCRIPT_BAD_VOTE, 0, "");
+    values_len = 3;
+    expect("vote: a vote too many", vote, CONFSCRIPT_DIFFERENT_LENGTHS, 0, "");
+    SET(ids, 2, 2);
+    values_len = 2;
+    expect("vote: an id twice", vote, CONFSCRIPT_REPEATED_ID, 0, "");
+}
+
+/* Plans from each line to each other, and applies the plan: the other line comes out. */
+static void rounds(void) {
+    static const char *const lines[] = {
+        LINE("1", "", "", "", "false"),
+        LINE("1 2 3", "", "4", "", "false"),
+        LINE("3 4", "1 2 3", "", "", "true"),
+        LINE("1 2 3", "1 2 4 6", "5", "4", "false"),
+        LINE("7 18446744073709551615", "", "1 2", "", "false"),
+    };
+    size_t n = sizeof lines / sizeof *lines;
+    for (size_t i = 0; i < n; i++) for (size_t k = 0; k < n; k++) {
+        char steps[ROOM + 1], name[32];
+        on_texts(lines[i], lines[k]);
+        struct confscript_answer planned = called(plan, -1);
+        snprintf(name, sizeof name, "round: %zu to %zu", i, k);
+        if (planned.status != CONFSCRIPT_DONE) { report(name, 0, planned); continue; }
+        memcpy(steps, out, planned.number);
+        steps[planned.number] = '\0';
+        on_texts(lines[i], steps);
+        expect(name, apply, CONFSCRIPT_DONE, strlen(lines[k]), lines[k]);
+    }
+}
+
+int main(void) {
+    plans();
+    applies();
+    checks();
+    quorums();
+    rounds();
+    return 0;
+}
