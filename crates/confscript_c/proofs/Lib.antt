@@ -1,3 +1,4 @@
 pub mod Pairs
 pub mod VoteTold
 pub mod StepsTold
+pub mod PlanLeads

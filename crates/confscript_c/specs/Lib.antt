@@ -4,5 +4,5 @@ pub mod Quorums
 pub mod Written
 pub mod Reading
 pub mod Checked
-pub mod PlanTold
 pub mod Applied
+pub mod PlanTold

@@ -1,9 +1,12 @@
 -- The plan from the configuration of one line to that of another.
-use Rattle.std.specs.Prelude.{ℕ, List, Result, Ok, Err, if◌then◌else◌}
+use Rattle.std.specs.Prelude.{◌≡◌, ℕ, List, Result, Ok, Err, if◌then◌else◌}
 use Rattle.conf_change.specs.Configuration.{Configuration, has_voter}
+use Rattle.conf_change.specs.ConfState.{lists_of}
+use Rattle.conf_change.specs.ConfStateLine.{conf_state_text}
 use Rattle.conf_plan.specs.Planned.{planned}
 use Rattle.conf_plan.specs.PlanText.{plan_text}
 use Rattle.confscript_c.specs.Answer.{answer}
+use Rattle.confscript_c.specs.Applied.{apply_told}
 use Rattle.confscript_c.specs.Reading.{configuration_in}
 use Rattle.confscript_c.specs.Written.{Told}
 use Rattle.confscript_c.specs.declared.answer.Answer.{Answer}
@@ -23,3 +26,7 @@ both_told (Ok now) (Ok target) = planned_told now target
 
 abbrev pub plan_told : List ℕ → List ℕ → Told
 plan_told now target = both_told (configuration_in 1 now) (configuration_in 2 target)
+
+-- a plan's text leads from the configuration of one line to that of another: taken from the one, it gives the other's line
+abbrev pub Leads : List ℕ → List ℕ → List ℕ → Type 0
+Leads now target text = (c : Configuration) × (configuration_in 2 target ≡ Ok c) × (apply_told now text ≡ Ok (conf_state_text (lists_of c)))

@@ -1,8 +1,12 @@
 //! The plan from one configuration to another.
-ghost use Rattle.std.specs.Prelude.{◌≡◌, ◌⊎◌, true, Ok, Err, IfOk, IfErr};
-ghost use Rattle.conf_change.specs.Configuration.{is_valid};
+ghost use Rattle.std.specs.Prelude.{◌≡◌, ◌≢◌, ◌⊎◌, ℕ, List, true, Ok, Err, IfOk, IfErr};
+ghost use Rattle.conf_change.specs.Configuration.{is_valid, has_voter};
+ghost use Rattle.conf_change.specs.ConfState.{lists_of};
+ghost use Rattle.conf_change.specs.ConfStateLine.{conf_state_text};
+ghost use Rattle.conf_plan.specs.PlanCode.{plan_in};
 ghost use Rattle.confscript_c.specs.Answer.{no_memory};
-ghost use Rattle.confscript_c.specs.PlanTold.{plan_told, planned_told};
+ghost use Rattle.confscript_c.specs.Applied.{applied};
+ghost use Rattle.confscript_c.specs.PlanTold.{plan_told, planned_told, Leads};
 ghost use Rattle.confscript_c.specs.Written.{Writes};
 
 use crate::answer::Answer;
@@ -22,7 +26,10 @@ pub extern "C" fn confscript_plan(
     target: &[u8],
     out: &mut [u8],
 ) -> Answer
-    ensures { Writes (plan_told now.now target.now) out.old result out.new }
+    ensures writes { Writes (plan_told now.now target.now) out.old result out.new }
+
+    // The plan that is told leads there, if memory was not wanting.
+    ensures leads { result ≢ no_memory → (text : List ℕ) → plan_told now.now target.now ≡ Ok text → Leads now.now target.now text }
 {
     match text_between_lines(alloc, now, target) {
         Ok(text) => write_text(text.as_slice(), out),
@@ -33,6 +40,7 @@ pub extern "C" fn confscript_plan(
 // The text of the plan between the configurations of two lines.
 fn text_between_lines(alloc: Global, now: &[u8], target: &[u8]) -> Result<Vec<u8>, Answer>
     ensures text { IfOk result (λ text. plan_told now.now target.now ≡ Ok text.items) }
+    ensures leads { IfOk result (λ text. Leads now.now target.now text.items) }
     ensures refused { IfErr result (λ why. (why ≡ no_memory) ⊎ (plan_told now.now target.now ≡ Err why)) }
 {
     let now = read_configuration(alloc, 1, now)?;
@@ -49,6 +57,7 @@ fn text_between(
     requires valid_now { is_valid now.now ≡ true }
     requires valid_target { is_valid target.now ≡ true }
     ensures text { IfOk result (λ text. planned_told now.now target.now ≡ Ok text.items) }
+    ensures leads { IfOk result (λ text. (has_voter now.now ≡ true) × (applied (Ok now.now) (plan_in text.items) ≡ Ok (conf_state_text (lists_of target.now)))) }
     ensures refused { IfErr result (λ why. (why ≡ no_memory) ⊎ (planned_told now.now target.now ≡ Err why)) }
 {
     match plan(alloc, now, target) {

@@ -1,8 +1,9 @@
 //! Reading the lines that a call is given.
 ghost use Rattle.std.specs.Prelude.{◌≡◌, ◌⊎◌, true, Ok, Err, IfOk, IfErr};
-ghost use Rattle.conf_change.specs.Configuration.{is_valid};
+ghost use Rattle.conf_change.specs.Configuration.{is_valid, has_voter};
 ghost use Rattle.conf_change.specs.ConfStateLine.{conf_state_in};
 ghost use Rattle.confscript_c.specs.Answer.{no_memory};
+ghost use Rattle.confscript_c.specs.Applied.{restored_of};
 ghost use Rattle.confscript_c.specs.Reading.{read_as, valid_of, configuration_in};
 
 use crate::answer::Answer;
@@ -33,6 +34,7 @@ pub(crate) fn read_configuration(
 ) -> Result<Config<InlineIds>, Answer>
     ensures configuration { IfOk result (λ c. configuration_in number line.now ≡ Ok c) }
     ensures valid { IfOk result (λ c. is_valid c ≡ true) }
+    ensures restored { IfOk result (λ c. has_voter c ≡ true → restored_of (read_as number (conf_state_in line.now)) ≡ Ok c) }
     ensures refused { IfErr result (λ why. (why ≡ no_memory) ⊎ (configuration_in number line.now ≡ Err why)) }
 {
     let saved = read_saved(alloc, number, line)?;
@@ -43,6 +45,7 @@ pub(crate) fn read_configuration(
 fn valid(alloc: Global, number: u64, saved: &ConfState) -> Result<Config<InlineIds>, Answer>
     ensures configuration { IfOk result (λ c. valid_of number (Ok saved.now) ≡ Ok c) }
     ensures valid { IfOk result (λ c. is_valid c ≡ true) }
+    ensures restored { IfOk result (λ c. has_voter c ≡ true → restored_of (Ok saved.now) ≡ Ok c) }
     ensures refused { IfErr result (λ why. (why ≡ no_memory) ⊎ (valid_of number (Ok saved.now) ≡ Err why)) }
 {
     let config: Config<InlineIds> = match described(alloc, saved) {
