@@ -3,21 +3,32 @@ use dd_file::device::{FromRead, ToWrite};
 use dd_file::item::Item;
 use dd_file::reader::Reader;
 use dd_file::rewriter::Rewriter;
+use std::alloc::Global;
 use std::test::Fail;
 
-#[test]
-fn writes_blank_lines_between_double_dashes(rt: HostRuntime) -> Result<(), Fail> {
-    let mut source = FromRead::new(b"vote\n\n----\n".as_slice());
-    let mut reader = Reader::new(rt.alloc())?;
-    let item = reader.next(&mut source)?.ok_or("no item")?;
-    let mut sink = ToWrite::new(Vec::new(rt.alloc()));
+// The first item of a text.
+fn first_item(alloc: Global, text: &[u8]) -> Result<Item, Fail> {
+    let mut source = FromRead::new(text);
+    Ok(Reader::new(alloc)?.next(&mut source)?.ok_or("no item")?)
+}
+
+// An item, written with a blank line found where it is a directive.
+fn written(alloc: Global, item: &Item) -> Result<Vec<u8>, Fail> {
+    let mut sink = ToWrite::new(Vec::new(alloc));
     let mut rewriter = Rewriter::new();
-    rewriter.keep(&mut sink, &item)?;
-    if let Item::Directive(_) = &item {
+    rewriter.keep(&mut sink, item)?;
+    if let Item::Directive(_) = item {
         rewriter.found(&mut sink, b"a\n\n")?;
     }
     rewriter.end(&mut sink)?;
+    Ok(sink.into_inner())
+}
+
+#[test]
+fn writes_blank_lines_between_double_dashes(rt: HostRuntime) -> Result<(), Fail> {
+    let item = first_item(rt.alloc(), b"vote\n\n----\n")?;
+    let text = written(rt.alloc(), &item)?;
     let wanted = b"vote\n\n----\n----\na\n\n----\n----\n".as_slice();
-    assert!(rt; sink.into_inner().as_slice() == wanted);
+    assert!(rt; text.as_slice() == wanted);
     Ok(())
 }

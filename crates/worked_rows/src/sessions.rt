@@ -299,6 +299,12 @@ fn found_for(alloc: Global, session: &mut Session, text: &str) -> Result<Vec<u8>
     }
 }
 
+// Whether a session finds the text for the directive.
+fn is_found(alloc: Global, session: &mut Session, row: &Row) -> Result<bool, Fail> {
+    let found = found_for(alloc, session, row.0)?;
+    Ok(found.as_slice().strip_suffix(b"\n") == Some(row.1.as_bytes()))
+}
+
 // Gives a session each directive in turn.
 fn finds(rt: &impl Abort, alloc: Global, rows: &[Row]) -> Result<(), Fail> {
     finds_keeping(rt, alloc, 100, rows)
@@ -307,13 +313,12 @@ fn finds(rt: &impl Abort, alloc: Global, rows: &[Row]) -> Result<(), Fail> {
 // The same of a session that keeps so many earlier configurations. The last index counts the directives.
 fn finds_keeping(rt: &impl Abort, alloc: Global, history: usize, rows: &[Row]) -> Result<(), Fail> {
     let mut session = Session::new(alloc, history)?;
-    let mut directives: u64 = 0;
-    for (text, want) in rows {
-        let mut found = found_for(alloc, &mut session, *text)?;
-        assert_eq!(rt; found.pop(), Some(b'\n'), "at {text}");
-        assert_eq!(rt; found.as_slice(), want.as_bytes(), "at {text}");
-        directives = directives.saturating_add(1);
-        assert_eq!(rt; session.changer().last_index(), directives, "after {text}");
+    for (place, row) in rows.iter().enumerate() {
+        assert!(rt; is_found(alloc, &mut session, row)?, "at row {place}");
+        assert!(rt;
+            session.changer().last_index() == place as u64 + 1,
+            "after row {place}"
+        );
     }
     Ok(())
 }
