@@ -1,0 +1,242 @@
+//! Changes of a configuration.
+use crate::texts::appends;
+use crate::twice::twice;
+use conf_change::{
+    Change, Changer, Refused, TokenFault, Transition, read_changes, write_config, write_progress,
+};
+use quorum_sets::{InlineIds, MemberSet, NoMemory, TreeIds};
+use std::alloc::Global;
+
+/// The text of a configuration, and those of its members' progress in ascending order.
+pub(crate) type Shown = (&'static str, &'static [&'static str]);
+
+// A call that changes a changer.
+#[derive(Clone, Copy)]
+enum Call {
+    One,
+    Simple,
+    Enter(bool),
+    Leave,
+    Change(Transition),
+}
+
+// A call with the text of its changes, and what is shown after it or why it is refused.
+type Row = (Call, &'static [u8], Result<Shown, Refused>);
+
+const ONE: Shown = ("voters=(1)", &["1: StateProbe match=0 next=1"]);
+
+static ENTERED: [Row; 4] = [
+    (Call::One, b"v1", Ok(ONE)),
+    (
+        Call::Enter(false),
+        b"r1 r2 r9 v2 v3 v4 v2 v3 v4 l2 l2 r4 r4 l1 l1",
+        Ok((
+            "voters=(3)&&(1) learners=(2) learners_next=(1)",
+            &[
+                "1: StateProbe match=0 next=1",
+                "2: StateProbe match=0 next=1 learner",
+                "3: StateProbe match=0 next=1",
+            ],
+        )),
+    ),
+    (Call::Enter(true), b"v4", Err(Refused::AlreadyJoint)),
+    (
+        Call::Leave,
+        b"",
+        Ok((
+            "voters=(3) learners=(1 2)",
+            &[
+                "1: StateProbe match=0 next=1 learner",
+                "2: StateProbe match=0 next=1 learner",
+                "3: StateProbe match=0 next=1",
+            ],
+        )),
+    ),
+];
+
+static MANY: [Row; 4] = [
+    (Call::Simple, b"v1", Ok(ONE)),
+    (Call::Simple, b"r1", Err(Refused::RemovedAllVoters)),
+    (Call::Simple, b"v2 v3", Err(Refused::MoreThanOneVoter)),
+    (
+        Call::Enter(true),
+        b"v9 v8 v7 v6 v5 v4 v3 v2 v10",
+        Ok((
+            "voters=(1 2 3 4 5 6 7 8 9 10)&&(1) autoleave",
+            &[
+                "1: StateProbe match=0 next=1",
+                "2: StateProbe match=0 next=3",
+                "3: StateProbe match=0 next=3",
+                "4: StateProbe match=0 next=3",
+                "5: StateProbe match=0 next=3",
+                "6: StateProbe match=0 next=3",
+                "7: StateProbe match=0 next=3",
+                "8: StateProbe match=0 next=3",
+                "9: StateProbe match=0 next=3",
+                "10: StateProbe match=0 next=3",
+            ],
+        )),
+    ),
+];
+
+static TAKEN: [Row; 7] = [
+    (Call::Change(Transition::Auto), b"v1", Ok(ONE)),
+    (
+        Call::Change(Transition::Auto),
+        b"v2",
+        Ok((
+            "voters=(1 2)",
+            &[
+                "1: StateProbe match=0 next=1",
+                "2: StateProbe match=0 next=1",
+            ],
+        )),
+    ),
+    (
+        Call::Change(Transition::Auto),
+        b"r1 v3",
+        Ok((
+            "voters=(2 3)&&(1 2) autoleave",
+            &[
+                "1: StateProbe match=0 next=1",
+                "2: StateProbe match=0 next=1",
+                "3: StateProbe match=0 next=2",
+            ],
+        )),
+    ),
+    (
+        Call::Change(Transition::Auto),
+        b"v4",
+        Err(Refused::SimpleInJoint),
+    ),
+    (
+        Call::Change(Transition::Auto),
+        b"",
+        Ok((
+            "voters=(2 3)",
+            &[
+                "2: StateProbe match=0 next=1",
+                "3: StateProbe match=0 next=2",
+            ],
+        )),
+    ),
+    (Call::Change(Transition::Auto), b"", Err(Refused::NotJoint)),
+    (
+        Call::Change(Transition::Explicit),
+        b"",
+        Ok((
+            "voters=(2 3)&&(2 3)",
+            &[
+                "2: StateProbe match=0 next=1",
+                "3: StateProbe match=0 next=2",
+            ],
+        )),
+    ),
+];
+
+fn make<S: MemberSet>(
+    changer: &mut Changer<S>,
+    call: Call,
+    changes: &[Change],
+) -> Result<(), Refused> {
+    match call {
+        Call::One => match changes.first() {
+            Some(change) => changer.simple_one(*change),
+            None => Ok(()),
+        },
+        Call::Simple => changer.simple(changes),
+        Call::Enter(auto_leave) => changer.enter_joint(auto_leave, changes),
+        Call::Leave => changer.leave_joint(),
+        Call::Change(transition) => changer.change(transition, changes),
+    }
+}
+
+/// Whether two changers are the same. It takes no memory.
+pub(crate) fn is_same<S: MemberSet>(changer: &Changer<S>, other: &Changer<S>) -> bool {
+    let tracker = changer.tracker();
+    let others = other.tracker();
+    let mut is_so = tracker.config().same(others.config())
+        & (tracker.member_count() == others.member_count())
+        & (changer.last_index() == other.last_index())
+        & (changer.floor() == other.floor());
+    for place in 0..tracker.member_count() {
+        is_so &= tracker.member_at(place) == others.member_at(place);
+    }
+    is_so
+}
+
+/// Whether a changer is shown so.
+pub(crate) fn is_shown<S: MemberSet>(alloc: Global, changer: &Changer<S>, shown: Shown) -> bool {
+    let tracker = changer.tracker();
+    let (config, members) = shown;
+    let mut is_so = appends(alloc, config, |text| write_config(text, tracker.config()))
+        & (tracker.member_count() == members.len());
+    for (place, member) in members.iter().enumerate() {
+        is_so &= match tracker.member_at(place) {
+            Some((id, progress)) => {
+                appends(alloc, *member, |text| write_progress(text, id, progress))
+            }
+            None => false,
+        };
+    }
+    is_so
+}
+
+// Whether a call gives what a row says; where it found no memory the changer is its copy from before.
+fn is_changed<S: MemberSet>(
+    alloc: Global,
+    changer: &mut Changer<S>,
+    copy: &Changer<S>,
+    row: &Row,
+    changes: &[Change],
+) -> bool {
+    let (call, _, found) = row;
+    let mut answer = make(changer, *call, changes);
+    let mut stays = true;
+    if answer == Err(Refused::NoMemory) {
+        stays = is_same(changer, copy);
+        answer = make(changer, *call, changes);
+    }
+    stays
+        & match (answer, found) {
+            (Ok(()), Ok(shown)) => is_shown(alloc, changer, *shown),
+            (Err(fault), Err(refused)) => (fault == *refused) & is_same(changer, copy),
+            _ => false,
+        }
+}
+
+fn is_made<S: MemberSet>(alloc: Global, changer: &mut Changer<S>, row: &Row) -> bool {
+    match (
+        twice(NoMemory, || changer.try_clone()),
+        twice(TokenFault::NoMemory, || read_changes(alloc, row.1)),
+    ) {
+        (Ok(copy), Ok(changes)) => is_changed(alloc, changer, &copy, row, changes.as_slice()),
+        _ => false,
+    }
+}
+
+// Whether the calls of rows give what these say, one after another. The last index counts them.
+fn are_made<S: MemberSet>(alloc: Global, rows: &[Row]) -> bool {
+    let mut changer: Changer<S> = Changer::new(alloc, 0);
+    let mut is_so = true;
+    for row in rows {
+        is_so &= is_made(alloc, &mut changer, row);
+        let last_index = changer.last_index();
+        changer.set_last_index(last_index.saturating_add(1));
+    }
+    is_so
+}
+
+#[test]
+fn changes_over_trees(rt: HostRuntime) {
+    assert!(rt; are_made::<TreeIds>(rt.alloc(), &ENTERED));
+    assert!(rt; are_made::<TreeIds>(rt.alloc(), &MANY));
+    assert!(rt; are_made::<TreeIds>(rt.alloc(), &TAKEN));
+}
+
+#[test]
+fn changes_over_lists(rt: HostRuntime) {
+    assert!(rt; are_made::<InlineIds>(rt.alloc(), &ENTERED));
+    assert!(rt; are_made::<InlineIds>(rt.alloc(), &MANY));
+    assert!(rt; are_made::<InlineIds>(rt.alloc(), &TAKEN));
+}

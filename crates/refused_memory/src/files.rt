@@ -1,0 +1,125 @@
+//! Script files: their lines and items, and items written again.
+use crate::matching::Matching;
+use crate::twice::twice;
+use dd_file::device::{FromRead, ToWrite};
+use dd_file::fault::FileFault;
+use dd_file::item::Item;
+use dd_file::lines::Lines;
+use dd_file::reader::Reader;
+use dd_file::rewriter::Rewriter;
+use std::alloc::Global;
+
+const SCRIPT: &[u8] =
+    b"# c\n\nsimple\nv1\n----\nvoters=(1)\n\nenter-joint autoleave=(true,false) \\\n  x\nr1 r2\nr9\n----\n----\na\n\nb\n----\n----\n\nsimple\nv2\n----";
+
+// The items: what stands in the script with `a` found, and what a directive expects.
+static ITEMS: [(&[u8], &[u8]); 5] = [
+    (b"# c\n", b""),
+    (b"\n", b""),
+    (b"simple\nv1\n----\na\n", b"voters=(1)\n"),
+    (
+        b"enter-joint autoleave=(true,false) \\\n  x\nr1 r2\nr9\n----\na\n",
+        b"a\n\nb\n",
+    ),
+    (b"simple\nv2\n----\na\n", b""),
+];
+
+// Whether an item is written again as it stands. This takes no memory.
+fn is_written(item: &Item, wanted: &'static [u8]) -> bool {
+    let mut writer = ToWrite::new(Matching::with(wanted));
+    let mut rewriter = Rewriter::new();
+    let mut is_kept = rewriter.keep(&mut writer, item).is_ok();
+    if let Item::Directive(_) = item {
+        is_kept &= rewriter.found(&mut writer, b"a\n").is_ok();
+    }
+    is_kept & rewriter.end(&mut writer).is_ok() & writer.into_inner().is_whole()
+}
+
+fn is_item(item: &Item, wanted: &'static [u8], expected: &[u8]) -> bool {
+    let expects = match item {
+        Item::Directive(directive) => directive.expected() == expected,
+        _ => expected.is_empty(),
+    };
+    expects & is_written(item, wanted)
+}
+
+// Whether a reader gives the items, as far as it finds memory, and whether it does. Once it found none it finds none.
+fn gives_items(reader: &mut Reader) -> (bool, bool) {
+    let mut source = FromRead::new(SCRIPT);
+    let mut is_so = true;
+    let mut has_memory = true;
+    for (wanted, expected) in &ITEMS {
+        match reader.next(&mut source) {
+            Ok(Some(item)) => is_so &= has_memory & is_item(&item, *wanted, *expected),
+            Err(FileFault::NoMemory) => has_memory = false,
+            _ => is_so = false,
+        }
+    }
+    match reader.next(&mut source) {
+        Ok(None) => is_so &= has_memory,
+        Err(FileFault::NoMemory) => has_memory = false,
+        _ => is_so = false,
+    }
+    (is_so, has_memory)
+}
+
+// Whether a reader gives the items, or else, where it found no memory, another does.
+fn reads_items(reader: &mut Reader, other: &mut Reader) -> bool {
+    let (is_so, has_memory) = gives_items(reader);
+    is_so & (has_memory || gives_items(other) == (true, true))
+}
+
+fn items(alloc: Global) -> bool {
+    match (
+        twice(FileFault::NoMemory, || Reader::new(alloc)),
+        twice(FileFault::NoMemory, || Reader::new(alloc)),
+    ) {
+        (Ok(mut reader), Ok(mut other)) => reads_items(&mut reader, &mut other),
+        _ => false,
+    }
+}
+
+const INPUT: &[u8] = b"a\r\n\nbb\nc";
+
+static LINES: [&[u8]; 4] = [b"a", b"", b"bb", b"c"];
+
+// The same of lines.
+fn gives_lines(lines: &mut Lines) -> (bool, bool) {
+    let mut source = FromRead::new(INPUT);
+    let mut is_so = true;
+    let mut has_memory = true;
+    for wanted in &LINES {
+        match lines.next(&mut source) {
+            Ok(Some(line)) => is_so &= has_memory & (line.as_slice() == *wanted),
+            Err(FileFault::NoMemory) => has_memory = false,
+            _ => is_so = false,
+        }
+    }
+    match lines.next(&mut source) {
+        Ok(None) => is_so &= has_memory,
+        Err(FileFault::NoMemory) => has_memory = false,
+        _ => is_so = false,
+    }
+    (is_so, has_memory)
+}
+
+fn reads_lines(lines: &mut Lines, other: &mut Lines) -> bool {
+    let (is_so, has_memory) = gives_lines(lines);
+    is_so & (has_memory || gives_lines(other) == (true, true))
+}
+
+fn lines(alloc: Global) -> bool {
+    match (
+        twice(FileFault::NoMemory, || Lines::new(alloc)),
+        twice(FileFault::NoMemory, || Lines::new(alloc)),
+    ) {
+        (Ok(mut lines), Ok(mut other)) => reads_lines(&mut lines, &mut other),
+        _ => false,
+    }
+}
+
+#[test]
+fn script_files(rt: HostRuntime) {
+    assert!(rt; lines(rt.alloc()));
+    assert!(rt; items(rt.alloc()));
+}

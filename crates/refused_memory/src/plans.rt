@@ -1,0 +1,286 @@
+//! Plans: made, taken, printed and read.
+ghost use Rattle.std.specs.Prelude.{◌≡◌, true};
+ghost use Rattle.conf_change.specs.Configuration.{is_valid};
+
+use crate::changers::{Shown, is_shown};
+use crate::saved::{read, restored};
+use crate::texts::appends;
+use crate::twice::twice;
+use conf_change::{Changer, ConfState, Config, Floor, Refused, check};
+use conf_plan::{
+    Plan, PlanFault, PlanTextFault, StepRefused, apply_plan, changes_text, plan, print_plan,
+    read_plan,
+};
+use quorum_sets::{InlineIds, MemberSet, NoMemory, TreeIds};
+use std::alloc::Global;
+
+// Where a changer stands, where the plan leads, the plan's text, and what is shown before its first step and after each.
+struct Row {
+    now: &'static str,
+    target: &'static str,
+    plan: &'static str,
+    shown: &'static [Shown],
+}
+
+const TEN: &[&str] = &[
+    "1: StateProbe match=0 next=1",
+    "2: StateProbe match=0 next=1",
+    "3: StateProbe match=0 next=1",
+    "4: StateProbe match=0 next=1",
+    "5: StateProbe match=0 next=1",
+    "6: StateProbe match=0 next=1",
+    "7: StateProbe match=0 next=1",
+    "8: StateProbe match=0 next=1",
+    "9: StateProbe match=0 next=1",
+    "10: StateProbe match=0 next=1",
+];
+
+static ROWS: [Row; 4] = [
+    Row {
+        now: "Voters:[3] VotersOutgoing:[] Learners:[1 2] LearnersNext:[] AutoLeave:false",
+        target: "Voters:[3] VotersOutgoing:[1] Learners:[2] LearnersNext:[1] AutoLeave:false",
+        plan: "enter-joint autoleave=false v1 l3\nleave-joint\nenter-joint autoleave=false l1 v3\n",
+        shown: &[
+            (
+                "voters=(3) learners=(1 2)",
+                &[
+                    "1: StateProbe match=0 next=1 learner",
+                    "2: StateProbe match=0 next=1 learner",
+                    "3: StateProbe match=0 next=1",
+                ],
+            ),
+            (
+                "voters=(1)&&(3) learners=(2) learners_next=(3)",
+                &[
+                    "1: StateProbe match=0 next=1",
+                    "2: StateProbe match=0 next=1 learner",
+                    "3: StateProbe match=0 next=1",
+                ],
+            ),
+            (
+                "voters=(1) learners=(2 3)",
+                &[
+                    "1: StateProbe match=0 next=1",
+                    "2: StateProbe match=0 next=1 learner",
+                    "3: StateProbe match=0 next=1 learner",
+                ],
+            ),
+            (
+                "voters=(3)&&(1) learners=(2) learners_next=(1)",
+                &[
+                    "1: StateProbe match=0 next=1",
+                    "2: StateProbe match=0 next=1 learner",
+                    "3: StateProbe match=0 next=1",
+                ],
+            ),
+        ],
+    },
+    Row {
+        now: "Voters:[3] VotersOutgoing:[2] Learners:[] LearnersNext:[] AutoLeave:false",
+        target: "Voters:[2] VotersOutgoing:[1] Learners:[] LearnersNext:[] AutoLeave:false",
+        plan: "leave-joint\nenter-joint autoleave=false v1 r3\nleave-joint\nenter-joint autoleave=false r1 v2\n",
+        shown: &[
+            (
+                "voters=(3)&&(2)",
+                &[
+                    "2: StateProbe match=0 next=1",
+                    "3: StateProbe match=0 next=1",
+                ],
+            ),
+            ("voters=(3)", &["3: StateProbe match=0 next=1"]),
+            (
+                "voters=(1)&&(3)",
+                &[
+                    "1: StateProbe match=0 next=1",
+                    "3: StateProbe match=0 next=1",
+                ],
+            ),
+            ("voters=(1)", &["1: StateProbe match=0 next=1"]),
+            (
+                "voters=(2)&&(1)",
+                &[
+                    "1: StateProbe match=0 next=1",
+                    "2: StateProbe match=0 next=1",
+                ],
+            ),
+        ],
+    },
+    Row {
+        now: "Voters:[1 2 3 4 5 6 7 8 9 10] VotersOutgoing:[1] Learners:[] LearnersNext:[] AutoLeave:false",
+        target: "Voters:[1] VotersOutgoing:[] Learners:[] LearnersNext:[] AutoLeave:false",
+        plan: "leave-joint\nenter-joint autoleave=false r2 r3 r4 r5 r6 r7 r8 r9 r10\nleave-joint\n",
+        shown: &[
+            ("voters=(1 2 3 4 5 6 7 8 9 10)&&(1)", TEN),
+            ("voters=(1 2 3 4 5 6 7 8 9 10)", TEN),
+            ("voters=(1)&&(1 2 3 4 5 6 7 8 9 10)", TEN),
+            ("voters=(1)", &["1: StateProbe match=0 next=1"]),
+        ],
+    },
+    Row {
+        now: "Voters:[1] VotersOutgoing:[] Learners:[] LearnersNext:[] AutoLeave:false",
+        target: "Voters:[1] VotersOutgoing:[] Learners:[] LearnersNext:[] AutoLeave:false",
+        plan: "nothing to do\n",
+        shown: &[("voters=(1)", &["1: StateProbe match=0 next=1"])],
+    },
+];
+
+/// The plan that a text stands for.
+pub(crate) fn plan_of(alloc: Global, text: &str) -> Result<Plan, PlanTextFault> {
+    twice(
+        PlanTextFault::NoMemory,
+        || read_plan(alloc, text.as_bytes()),
+    )
+}
+
+// Whether this plan leads from one configuration to another.
+fn is_planned<S: MemberSet>(
+    alloc: Global,
+    now: &Config<S>,
+    target: &Config<S>,
+    wanted: &Plan,
+) -> bool
+    requires now { is_valid now.now ≡ true }
+    requires target { is_valid target.now ≡ true }
+{
+    let answer = match plan(alloc, now, target) {
+        Err(PlanFault::NoMemory) => plan(alloc, now, target),
+        answer => answer,
+    };
+    answer.is_ok_and(|plan| plan == *wanted)
+}
+
+fn leads<S: MemberSet>(alloc: Global, now: &Config<S>, target: &ConfState, wanted: &Plan) -> bool {
+    match restored::<S>(alloc, target, Floor::One) {
+        Ok(changer) => {
+            let target = changer.tracker().config();
+            check(now).is_ok() && check(target).is_ok() && is_planned(alloc, now, target, wanted)
+        }
+        Err(_) => false,
+    }
+}
+
+// How many steps of a plan a changer takes, all of them unless it finds no memory.
+fn steps_taken<S: MemberSet>(changer: &mut Changer<S>, plan: &Plan) -> Option<usize> {
+    match apply_plan(changer, plan) {
+        Ok(()) => Some(plan.len()),
+        Err(
+            StepRefused {
+                step,
+                refused: Refused::NoMemory,
+            },
+        ) => Some(step.saturating_sub(1)),
+        Err(_) => None,
+    }
+}
+
+fn is_shown_after<S: MemberSet>(
+    alloc: Global,
+    changer: &Changer<S>,
+    steps: Option<usize>,
+    shown: &[Shown],
+) -> bool {
+    match steps.and_then(|steps| shown.get(steps)) {
+        Some(shown) => is_shown(alloc, changer, *shown),
+        None => false,
+    }
+}
+
+// Whether a changer takes a plan; where it found no memory it stands after the steps before, and another takes it whole.
+fn takes<S: MemberSet>(
+    alloc: Global,
+    changer: &mut Changer<S>,
+    other: &mut Changer<S>,
+    plan: &Plan,
+    shown: &[Shown],
+) -> bool {
+    let whole = Some(plan.len());
+    let steps = steps_taken(changer, plan);
+    let stands = is_shown_after(alloc, changer, steps, shown);
+    if steps == whole {
+        return stands;
+    }
+    stands & (steps_taken(other, plan) == whole) & is_shown_after(alloc, other, whole, shown)
+}
+
+fn is_row<S: MemberSet>(
+    alloc: Global,
+    row: &Row,
+    now: &ConfState,
+    target: &ConfState,
+    plan: &Plan,
+) -> bool {
+    match (
+        restored::<S>(alloc, now, Floor::One),
+        restored::<S>(alloc, now, Floor::One),
+    ) {
+        (Ok(mut changer), Ok(mut other)) => {
+            leads(alloc, changer.tracker().config(), target, plan)
+                & takes(alloc, &mut changer, &mut other, plan, row.shown)
+        }
+        _ => false,
+    }
+}
+
+fn is_row_of_both(alloc: Global, row: &Row) -> bool {
+    match (
+        read(alloc, row.now),
+        read(alloc, row.target),
+        plan_of(alloc, row.plan),
+    ) {
+        (Ok(now), Ok(target), Ok(plan)) => {
+            appends(alloc, row.plan, |text| print_plan(text, &plan))
+                & is_row::<TreeIds>(alloc, row, &now, &target, &plan)
+                & is_row::<InlineIds>(alloc, row, &now, &target, &plan)
+        }
+        _ => false,
+    }
+}
+
+#[test]
+fn plans(rt: HostRuntime) {
+    for row in &ROWS {
+        assert!(rt; is_row_of_both(rt.alloc(), row), "{}", row.plan);
+    }
+}
+
+static NO_PLANS: [(&str, PlanTextFault); 6] = [
+    ("", PlanTextFault::BadLine(1)),
+    ("enter-joint v1", PlanTextFault::BadLine(1)),
+    ("leave-joint v1", PlanTextFault::BadLine(1)),
+    ("nothing to do\nleave-joint", PlanTextFault::BadLine(1)),
+    ("leave-joint\nsimple v1 x1", PlanTextFault::BadLine(2)),
+    (
+        "leave-joint\nleave-joint\nleave-joint\nleave-joint\nleave-joint",
+        PlanTextFault::TooManySteps,
+    ),
+];
+
+// Whether the first step of a plan's text has these changes.
+fn has_changes(alloc: Global, text: &str, wanted: &str) -> bool {
+    match plan_of(alloc, text) {
+        Ok(plan) => match plan.step(0) {
+            Some(step) => {
+                let changes = step.changes();
+                twice(NoMemory, || changes_text(alloc, changes)).is_ok_and(|text| text.as_slice()
+                    == wanted.as_bytes())
+            }
+            None => false,
+        },
+        Err(_) => false,
+    }
+}
+
+#[test]
+fn texts_of_plans(rt: HostRuntime) {
+    for (text, wanted) in &NO_PLANS {
+        assert!(rt; plan_of(rt.alloc(), *text).err() == Some(*wanted), "{text}");
+    }
+    assert!(rt; has_changes(rt.alloc(), "simple", ""));
+    assert!(rt;
+        has_changes(
+            rt.alloc(),
+            "simple v1 r2 l03 u4\nleave-joint",
+            "v1 r2 l3 u4"
+        )
+    );
+}

@@ -1,0 +1,169 @@
+//! Saved configurations, and copies of configurations and changers.
+use crate::changers::{Shown, is_same, is_shown};
+use crate::texts::appends;
+use crate::twice::twice;
+use conf_change::{
+    AckFault, Changer, ConfState, ConfStateFault, Config, Floor, Progress, RestoreFault, check,
+    conf_state, read_conf_state, write_conf_state,
+};
+use quorum_sets::{InlineIds, MemberSet, NoMemory, TreeIds};
+use std::alloc::Global;
+
+// A line, and what is shown of what it restores.
+static RESTORED: [(&str, Shown); 3] = [
+    (
+        "Voters:[1 2 3] VotersOutgoing:[1 2 4 6] Learners:[5] LearnersNext:[4] AutoLeave:false",
+        (
+            "voters=(1 2 3)&&(1 2 4 6) learners=(5) learners_next=(4)",
+            &[
+                "1: StateProbe match=0 next=1",
+                "2: StateProbe match=0 next=1",
+                "3: StateProbe match=0 next=1",
+                "4: StateProbe match=0 next=1",
+                "5: StateProbe match=0 next=1 learner",
+                "6: StateProbe match=0 next=1",
+            ],
+        ),
+    ),
+    (
+        "Voters:[1 2 3 4 5 6 7 8 9 10] VotersOutgoing:[1] Learners:[] LearnersNext:[] AutoLeave:true",
+        (
+            "voters=(1 2 3 4 5 6 7 8 9 10)&&(1) autoleave",
+            &[
+                "1: StateProbe match=0 next=1",
+                "2: StateProbe match=0 next=1",
+                "3: StateProbe match=0 next=1",
+                "4: StateProbe match=0 next=1",
+                "5: StateProbe match=0 next=1",
+                "6: StateProbe match=0 next=1",
+                "7: StateProbe match=0 next=1",
+                "8: StateProbe match=0 next=1",
+                "9: StateProbe match=0 next=1",
+                "10: StateProbe match=0 next=1",
+            ],
+        ),
+    ),
+    (
+        "Voters:[] VotersOutgoing:[] Learners:[] LearnersNext:[] AutoLeave:false",
+        ("voters=()", &[]),
+    ),
+];
+
+/// The saved configuration of a line.
+pub(crate) fn read(alloc: Global, line: &str) -> Result<ConfState, ConfStateFault> {
+    twice(ConfStateFault::NoMemory, || {
+        read_conf_state(alloc, line.as_bytes())
+    })
+}
+
+/// The changer with a saved configuration.
+pub(crate) fn restored<S: MemberSet>(
+    alloc: Global,
+    state: &ConfState,
+    floor: Floor,
+) -> Result<Changer<S>, RestoreFault> {
+    twice(RestoreFault::NoMemory, || {
+        Changer::restore_with_floor(alloc, state, 0, floor)
+    })
+}
+
+// Whether a configuration is copied and saved again as it was.
+fn is_saved<S: MemberSet>(alloc: Global, config: &Config<S>, state: &ConfState) -> bool {
+    let is_copied = twice(NoMemory, || config.try_clone()).is_ok_and(|copy| copy.same(config));
+    let is_saved = twice(NoMemory, || conf_state(alloc, config)).is_ok_and(|saved| saved == *state);
+    is_copied & is_saved & check(config).is_ok()
+}
+
+// Whether a changer and its copy are the same and shown so.
+fn is_copied<S: MemberSet>(alloc: Global, changer: &Changer<S>, shown: Shown) -> bool {
+    match twice(NoMemory, || changer.try_clone()) {
+        Ok(copy) => is_same(&copy, changer) & is_shown(alloc, &copy, shown),
+        Err(_) => false,
+    }
+}
+
+fn is_restored<S: MemberSet>(alloc: Global, state: &ConfState, shown: Shown) -> bool {
+    match twice(RestoreFault::NoMemory, || {
+        Changer::<S>::restore(alloc, state, 0)
+    }) {
+        Ok(changer) => {
+            is_saved(alloc, changer.tracker().config(), state) & is_copied(alloc, &changer, shown)
+        }
+        Err(_) => false,
+    }
+}
+
+fn is_line<S: MemberSet>(alloc: Global, line: &str, shown: Shown) -> bool {
+    match read(alloc, line) {
+        Ok(state) => {
+            appends(alloc, line, |text| write_conf_state(text, &state))
+                & is_restored::<S>(alloc, &state, shown)
+        }
+        Err(_) => false,
+    }
+}
+
+// Whether what a line says is refused as no configuration.
+fn is_refused<S: MemberSet>(alloc: Global, line: &str) -> bool {
+    match read(alloc, line) {
+        Ok(state) => {
+            restored::<S>(alloc, &state, Floor::One).err() == Some(RestoreFault::NotAConfiguration)
+        }
+        Err(_) => false,
+    }
+}
+
+#[test]
+fn saved_configurations(rt: HostRuntime) {
+    for (line, shown) in &RESTORED {
+        assert!(rt; is_line::<TreeIds>(rt.alloc(), *line, *shown));
+        assert!(rt; is_line::<InlineIds>(rt.alloc(), *line, *shown));
+    }
+    let no_configuration =
+        "Voters:[1 2 3] VotersOutgoing:[1 2 4 6] Learners:[5] LearnersNext:[7] AutoLeave:false";
+    assert!(rt; is_refused::<InlineIds>(rt.alloc(), no_configuration));
+    let no_line = read(rt.alloc(), "Voters:[1 2 3] VotersOutgoing:[1 2 x]");
+    assert!(rt; no_line.err() == Some(ConfStateFault::BadConfState));
+}
+
+// Whether members acknowledge indexes as they do, in a changer that has begun with floor zero. This takes no memory.
+fn acknowledges<S: MemberSet>(changer: &mut Changer<S>) -> bool {
+    let acked = changer.ack(3, 7);
+    let again = changer.ack(3, 6);
+    let stranger = changer.ack(9, u64::MAX);
+    let greatest = changer.ack(3, u64::MAX);
+    let progress = Progress {
+        matched: 7,
+        next: 8,
+        learner: false,
+    };
+    (acked == Ok(progress))
+        & (again == Ok(progress))
+        & (stranger == Err(AckFault::NotMember))
+        & (greatest == Err(AckFault::IndexTooLarge))
+        & (changer.tracker().progress(3) == Some(progress))
+        & (changer.floor() == Floor::Zero)
+}
+
+const BEGUN: Shown = (
+    "voters=(3) learners=(1)",
+    &[
+        "1: StateProbe match=0 next=0 learner",
+        "3: StateProbe match=0 next=0",
+    ],
+);
+
+fn begins_with_zero<S: MemberSet>(alloc: Global, state: &ConfState) -> bool {
+    match restored::<S>(alloc, state, Floor::Zero) {
+        Ok(mut changer) => is_copied(alloc, &changer, BEGUN) & acknowledges(&mut changer),
+        Err(_) => false,
+    }
+}
+
+#[test]
+fn acknowledgements(rt: HostRuntime) {
+    let line = "Voters:[3] VotersOutgoing:[] Learners:[1] LearnersNext:[] AutoLeave:false";
+    let state = read(rt.alloc(), line).expect(&rt, "a saved configuration");
+    assert!(rt; begins_with_zero::<TreeIds>(rt.alloc(), &state));
+    assert!(rt; begins_with_zero::<InlineIds>(rt.alloc(), &state));
+}

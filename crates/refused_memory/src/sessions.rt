@@ -1,0 +1,226 @@
+//! Sessions.
+use crate::changers::is_same;
+use crate::plans::plan_of;
+use crate::twice::twice;
+use conf_change::Floor;
+use conf_session::{Session, UndoFault, undo_fault_text};
+use dd_file::device::FromRead;
+use dd_file::fault::FileFault;
+use dd_file::item::{Directive, Item};
+use dd_file::reader::Reader;
+use quorum_sets::NoMemory;
+use std::alloc::Global;
+
+// A directive as it stands in a script, and the text that it finds.
+type Row = (&'static [u8], &'static [u8]);
+
+static JOINT: [Row; 5] = [
+    (b"simple\nv1", b"voters=(1)\n1: StateProbe match=0 next=1\n"),
+    (
+        b"enter-joint\nr1 r2 r9 v2 v3 v4 v2 v3 v4 l2 l2 r4 r4 l1 l1",
+        b"voters=(3)&&(1) learners=(2) learners_next=(1)\n1: StateProbe match=0 next=1\n2: StateProbe match=0 next=1 learner\n3: StateProbe match=0 next=1\n",
+    ),
+    (
+        b"leave-joint",
+        b"voters=(3) learners=(1 2)\n1: StateProbe match=0 next=1 learner\n2: StateProbe match=0 next=1 learner\n3: StateProbe match=0 next=1\n",
+    ),
+    (b"ack id=3 index=7", b"3: StateProbe match=7 next=8\n"),
+    (
+        b"undo",
+        b"enter-joint autoleave=false v1 l3\nleave-joint\nenter-joint autoleave=false l1 v3\nvoters=(3)&&(1) learners=(2) learners_next=(1)\n1: StateProbe match=0 next=1\n2: StateProbe match=0 next=1 learner\n3: StateProbe match=7 next=8\n",
+    ),
+];
+
+static UNDONE_TWICE: [Row; 5] = [
+    (b"simple\nv1", b"voters=(1)\n1: StateProbe match=0 next=1\n"),
+    (
+        b"enter-joint\nr1 v2",
+        b"voters=(2)&&(1)\n1: StateProbe match=0 next=1\n2: StateProbe match=0 next=1\n",
+    ),
+    (
+        b"leave-joint",
+        b"voters=(2)\n2: StateProbe match=0 next=1\n",
+    ),
+    (
+        b"enter-joint\nr2 v3",
+        b"voters=(3)&&(2)\n2: StateProbe match=0 next=1\n3: StateProbe match=0 next=3\n",
+    ),
+    (
+        b"undo steps=2",
+        b"leave-joint\nenter-joint autoleave=false v1 r3\nleave-joint\nenter-joint autoleave=false r1 v2\nvoters=(2)&&(1)\n1: StateProbe match=0 next=4\n2: StateProbe match=0 next=4\n",
+    ),
+];
+
+static SAVED: [Row; 4] = [
+    (
+        b"restore\nVoters:[1 2 3] VotersOutgoing:[1 2 4 6] Learners:[5] LearnersNext:[4] AutoLeave:false",
+        b"voters=(1 2 3)&&(1 2 4 6) learners=(5) learners_next=(4)\n1: StateProbe match=0 next=1\n2: StateProbe match=0 next=1\n3: StateProbe match=0 next=1\n4: StateProbe match=0 next=1\n5: StateProbe match=0 next=1 learner\n6: StateProbe match=0 next=1\n",
+    ),
+    (
+        b"restore\nVoters:[1 2 3] VotersOutgoing:[1 2 4 6] Learners:[5] LearnersNext:[7] AutoLeave:false",
+        b"not a configuration\n",
+    ),
+    (
+        b"conf-state",
+        b"Voters:[1 2 3] VotersOutgoing:[1 2 4 6] Learners:[5] LearnersNext:[4] AutoLeave:false\n",
+    ),
+    (b"undo", b"no plan: 0 earlier configurations are kept\n"),
+];
+
+static DECIDED: [Row; 8] = [
+    (b"committed", b"<empty majority quorum>\xe2\x88\x9e\n"),
+    (
+        b"committed cfg=(1,2,3,4) idx=(1,2,3,4)",
+        b"        idx\n>         1    (id=1)\nx>        2    (id=2)\nxx>       3    (id=3)\nxxx>      4    (id=4)\n2\n",
+    ),
+    (
+        b"committed cfg=(1) cfgj=(2) idx=(100,_)",
+        b"      idx\nx>    100    (id=1)\n?       0    (id=2)\n0\n",
+    ),
+    (
+        b"vote cfg=(1,2,3) cfgj=(3,4,5) votes=(y,y,_,n,_)",
+        b"VotePending\n",
+    ),
+    (b"vote cfg=(1,2) votes=(y)", b"wrong number of values\n"),
+    (b"commit-index", b"\xe2\x88\x9e\n"),
+    (b"simple\nv1 x5", b"unknown input: x5\n"),
+    (b"frob", b"unknown command\n"),
+];
+
+static MANY: [Row; 4] = [
+    (
+        b"conf-change\nv1",
+        b"voters=(1)\n1: StateProbe match=0 next=1\n",
+    ),
+    (
+        b"conf-change transition=maybe\nv2 v3",
+        b"bad argument: transition\n",
+    ),
+    (
+        b"enter-joint\nv9 v8 v7 v6 v5 v4 v3 v2 v10",
+        b"voters=(1 2 3 4 5 6 7 8 9 10)&&(1)\n1: StateProbe match=0 next=1\n2: StateProbe match=0 next=2\n3: StateProbe match=0 next=2\n4: StateProbe match=0 next=2\n5: StateProbe match=0 next=2\n6: StateProbe match=0 next=2\n7: StateProbe match=0 next=2\n8: StateProbe match=0 next=2\n9: StateProbe match=0 next=2\n10: StateProbe match=0 next=2\n",
+    ),
+    (
+        b"undo",
+        b"leave-joint\nenter-joint autoleave=false r2 r3 r4 r5 r6 r7 r8 r9 r10\nleave-joint\nvoters=(1)\n1: StateProbe match=0 next=1\n",
+    ),
+];
+
+static FROM_ZERO: [Row; 2] = [
+    (
+        b"restore\nVoters:[2] VotersOutgoing:[] Learners:[] LearnersNext:[] AutoLeave:false",
+        b"voters=(2)\n2: StateProbe match=0 next=0\n",
+    ),
+    (
+        b"simple\nv1",
+        b"voters=(1 2)\n1: StateProbe match=0 next=1\n2: StateProbe match=0 next=0\n",
+    ),
+];
+
+// The item that a text begins with.
+fn first_item(alloc: Global, text: &[u8]) -> Result<Option<Item>, FileFault> {
+    let mut reader = Reader::new(alloc)?;
+    reader.next(&mut FromRead::new(text))
+}
+
+// Whether two sessions are the same. It takes no memory.
+fn is_same_session(session: &Session, other: &Session) -> bool {
+    let mut is_so = is_same(session.changer(), other.changer()) & (session.kept() == other.kept());
+    for place in 0..session.kept() {
+        is_so &= match (session.kept_at(place), other.kept_at(place)) {
+            (Some(config), Some(others)) => config.same(others),
+            _ => false,
+        };
+    }
+    is_so
+}
+
+// Whether a directive finds a text; where the session found no memory it is its copy from before.
+fn is_found(session: &mut Session, copy: &Session, directive: &Directive, wanted: &[u8]) -> bool {
+    let mut answer = session.step(directive);
+    let mut stays = true;
+    if answer.is_err() {
+        stays = is_same_session(session, copy);
+        answer = session.step(directive);
+    }
+    stays & answer.is_ok_and(|found| found.as_slice() == wanted)
+}
+
+// Gives a directive to the copy too.
+fn follows(copy: &mut Session, directive: &Directive) -> bool {
+    copy.step(directive).is_ok() || copy.step(directive).is_ok()
+}
+
+fn is_row(alloc: Global, session: &mut Session, copy: &mut Session, row: Row) -> bool {
+    let (text, wanted) = row;
+    match twice(FileFault::NoMemory, || first_item(alloc, text)) {
+        Ok(Some(Item::Directive(directive))) => {
+            is_found(session, copy, &directive, wanted)
+                & follows(copy, &directive)
+                & is_same_session(session, copy)
+        }
+        _ => false,
+    }
+}
+
+fn are_found(alloc: Global, session: &mut Session, copy: &mut Session, rows: &[Row]) -> bool {
+    let mut is_so = true;
+    for row in rows {
+        is_so &= is_row(alloc, session, copy, *row);
+    }
+    is_so
+}
+
+// Whether one more undo has this plan, or none for this fault.
+fn is_undone_by(alloc: Global, session: &Session, wanted: Result<&str, UndoFault>) -> bool {
+    let answer = twice(UndoFault::NoMemory, || session.undo_plan(1));
+    match (answer, wanted) {
+        (Ok(plan), Ok(text)) => plan_of(alloc, text).is_ok_and(|wanted| plan == wanted),
+        (Err(fault), Err(wanted)) => fault == wanted,
+        _ => false,
+    }
+}
+
+// A session that begins with a floor; one is what a new session begins with.
+fn begun(alloc: Global, floor: Floor) -> Result<Session, NoMemory> {
+    match floor {
+        Floor::One => Session::new(alloc, 100),
+        Floor::Zero => Session::with_floor(alloc, 100, floor),
+    }
+}
+
+// Whether the directives of rows find their texts one after another, and what would then be undone.
+fn holds(alloc: Global, floor: Floor, rows: &[Row], undone: Result<&str, UndoFault>) -> bool {
+    match (
+        twice(NoMemory, || begun(alloc, floor)),
+        twice(NoMemory, || Session::with_floor(alloc, 100, floor)),
+    ) {
+        (Ok(mut session), Ok(mut copy)) => {
+            are_found(alloc, &mut session, &mut copy, rows) & is_undone_by(alloc, &session, undone)
+        }
+        _ => false,
+    }
+}
+
+#[test]
+fn sessions(rt: HostRuntime) {
+    let nobody = Err(UndoFault::NoVoterTarget);
+    let none = Err(UndoFault::NotKept(0));
+    let left = Ok("leave-joint\nenter-joint autoleave=false v1 r2 r3\nleave-joint\n");
+    let two = Ok("leave-joint\nenter-joint autoleave=false v1 r2\nleave-joint\n");
+    assert!(rt; holds(rt.alloc(), Floor::One, &JOINT, left));
+    assert!(rt; holds(rt.alloc(), Floor::One, &UNDONE_TWICE, two));
+    assert!(rt; holds(rt.alloc(), Floor::One, &SAVED, none));
+    assert!(rt; holds(rt.alloc(), Floor::One, &DECIDED, none));
+    assert!(rt; holds(rt.alloc(), Floor::One, &MANY, nobody));
+    assert!(rt; holds(rt.alloc(), Floor::Zero, &FROM_ZERO, Ok("simple r1\n")));
+}
+
+#[test]
+fn undo_faults(rt: HostRuntime) {
+    let text = twice(NoMemory, || {
+        undo_fault_text(rt.alloc(), UndoFault::NotKept(12))
+    });
+    let wanted = b"no plan: 12 earlier configurations are kept".as_slice();
+    assert!(rt; text.is_ok_and(|text| text.as_slice() == wanted));
+}
