@@ -3,7 +3,7 @@ use Rattle.std.proofs.Common.{◌≡◌, ℕ, zero, suc, List, [], ◌∷◌, �
 use Rattle.std.specs.Prelude.{Option, Some, None}
 use Rattle.std.proofs.Common.{◌≤◌, ◌-◌, ◌+◌, arith, rules}
 use Rattle.std.proofs.lemmas.Grind.{common_steps}
-use Rattle.std.proofs.lemmas.List.{append_assoc, take-append-drop, take_all, length-drop, drop-drop}
+use Rattle.std.proofs.lemmas.List.{append-nil, append_assoc, take-append-drop, take_all, length-drop, drop-drop}
 use Rattle.std.specs.Io.KnownBytes.{Appends, Keeps, append_known}
 use Rattle.std.specs.Prelude.{Bool, true, false, Ok, ◌||◌}
 use Rattle.dd_file.specs.Device.{AppendsPart, is_failed_write}
@@ -48,7 +48,7 @@ take-more zero k (b ∷ bytes) = search (rules, common_steps)
 take-more (suc n) k (b ∷ bytes) = let e : suc n + k ≡ suc (n + k) = omega arith in rw e (ap (λ t. b ∷ t) (take-more n k bytes))
 
 -- all bytes from a place on
-rest-whole : (n : ℕ) (bytes : List ℕ) → take (length bytes - n) (drop n bytes) ≡ drop n bytes
+pub rest-whole : (n : ℕ) (bytes : List ℕ) → take (length bytes - n) (drop n bytes) ≡ drop n bytes
 rest-whole n bytes = take_all _ _ (subst (λ m. m ≤ length bytes - n) (sym (length-drop n bytes)) (omega arith))
 
 -- a front of some bytes, and a front of the rest
@@ -77,3 +77,8 @@ gathered-more old new n k bytes block e a =
       at (Some o) None b = absurd b
       at (Some o) (Some x) b = ap (λ t. t ++ drop (n + k) bytes) b ∙ append_assoc o (take k (drop n bytes)) (drop (n + k) bytes)
           ∙ ap (λ t. o ++ (take k (drop n bytes) ++ t)) (sym (drop-drop k n bytes)) ∙ ap (λ t. o ++ t) (take-append-drop k (drop n bytes))
+
+-- nothing behind known bytes
+pub append_nothing : (known : Option (List ℕ)) → append_known known [] ≡ known
+append_nothing None = refl
+append_nothing (Some bytes) = ap Some (append-nil bytes)

@@ -78,13 +78,6 @@ words_of-first text begun e some =
     sym (words_of-without_leading_space text) ∙ ap words_of (sym e)
     ∙ subst BeginsWithWord (sym e) (begins_with_word text) some
 
-pub length-without_leading_space : (text : List ℕ) → length (without_leading_space text) ≤ length text
-length-without_leading_space [] = omega arith
-length-without_leading_space (b ∷ bs) = at (is_space b) (length-without_leading_space bs) where
-  at : (c : Bool) → length (without_leading_space bs) ≤ length bs → length (cond c (without_leading_space bs) (b ∷ bs)) ≤ suc (length bs)
-  at true h = omega (arith, h)
-  at false h = omega arith
-
 pub word_len-bound : (inside : Bool) (bytes : List ℕ) → word_len inside bytes ≤ length bytes
 word_len-bound inside [] = omega arith
 word_len-bound inside (b ∷ bs) = at (is_space b && not inside) (word_len-bound (inside_after inside b) bs) where

@@ -20,6 +20,7 @@ pub mod DraftSteps
 pub mod DraftEnd
 pub mod ItemRead
 pub mod ItemLoop
+pub mod HeldItem
 pub mod Locality
 pub mod WholeText
 pub mod LinesWritten

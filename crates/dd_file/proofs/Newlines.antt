@@ -77,6 +77,10 @@ newlines_at_end-two xs a b =
       at false true = refl
       at false false = refl
 
+-- .. and no byte before them
+pub newlines_at_end-last : (xs : List ℕ) (a b : ℕ) → newlines_at_end ((xs ++ a ∷ []) ++ b ∷ []) ≡ newlines_at_end (a ∷ b ∷ [])
+newlines_at_end-last xs a b = newlines_at_end-two xs a b ∙ sym (newlines_at_end-two [] a b)
+
 counted-zero : (q p : Bool) → (counted q p == 0) ≡ not q
 counted-zero false p = refl
 counted-zero true false = refl

@@ -1,7 +1,7 @@
 -- A piece that is read part by part.
 use Rattle.std.proofs.Common.{◌≡◌, ℕ, suc, ◌+◌, ◌-◌, ◌≤◌, ◌<◌, Bool, true, false, cond, List, [], ◌∷◌, ◌++◌, length, take, drop, refl, sym, ◌∙◌, ap, arith, rules}
 use Rattle.std.specs.Prelude.{◌==◌, Option, Some, None}
-use Rattle.std.proofs.lemmas.List.{append_assoc, append-nil, take-append-drop, length-append, length-take, length-drop}
+use Rattle.std.proofs.lemmas.List.{append_assoc, append-nil, take-append-drop, length-append, length-take, length-drop, drop-drop, drop-take}
 use Rattle.std.specs.Io.KnownBytes.{Consumes}
 use Rattle.dd_file.specs.FirstPiece.{first_len}
 use Rattle.dd_file.specs.Lines.{is_whole}
@@ -111,3 +111,11 @@ pub left-falls : (ended now_ended : Bool) (limit count part held more : ℕ) →
 left-falls true now_ended limit count part held more e some fits = cc
 left-falls false true limit count part held more e some fits = omega arith
 left-falls false false limit count part held more e some fits = let h = some refl in omega (arith, h, fits)
+
+-- a part of the bytes that begins later
+pub take-drop-later : (start end count : ℕ) (bytes : List ℕ) → start + count ≤ end →
+    take (end - (start + count)) (drop (start + count) bytes) ≡ drop count (take (end - start) (drop start bytes))
+take-drop-later start end count bytes fits =
+    let sum : end - start ≡ count + (end - (start + count)) = omega (arith, fits) in
+    ap (take (end - (start + count))) (sym (drop-drop count start bytes)) ∙ sym (drop-take count (end - (start + count)) (drop start bytes))
+    ∙ ap (λ n. drop count (take n (drop start bytes))) (sym sum)

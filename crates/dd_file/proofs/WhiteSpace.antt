@@ -1,5 +1,5 @@
 -- White space at the ends of bytes.
-use Rattle.std.proofs.Common.{◌≡◌, ℕ, Bool, true, false, cond, ◌&&◌, List, [], ◌∷◌, ◌++◌, refl, sym, ◌∙◌, ap}
+use Rattle.std.proofs.Common.{◌≡◌, ℕ, suc, ◌≤◌, Bool, true, false, cond, ◌&&◌, List, [], ◌∷◌, ◌++◌, length, take, refl, sym, ◌∙◌, ap, arith}
 use Rattle.std.proofs.lemmas.List.Folds.{list_all-append}
 use Rattle.dd_file.specs.Bytes.{is_space, is_blank, without_leading_space, without_trailing_space, trimmed}
 
@@ -53,3 +53,28 @@ is_blank-without_leading_space (b ∷ bytes) = at (is_space b) refl (is_blank-wi
 
 pub is_blank-trimmed : (bytes : List ℕ) → is_blank (trimmed bytes) ≡ is_blank bytes
 is_blank-trimmed bytes = is_blank-without_leading_space (without_trailing_space bytes) ∙ is_blank-without_trailing_space bytes
+
+-- the bytes up to the last one that is not white space are a front part
+pub take-without_trailing_space : (bytes : List ℕ) → take (length (without_trailing_space bytes)) bytes ≡ without_trailing_space bytes
+take-without_trailing_space [] = refl
+take-without_trailing_space (b ∷ bytes) = at (is_blank (b ∷ bytes)) (take-without_trailing_space bytes) where
+  at : (c : Bool) → take (length (without_trailing_space bytes)) bytes ≡ without_trailing_space bytes →
+      take (length (cond c [] (b ∷ without_trailing_space bytes))) (b ∷ bytes) ≡ cond c [] (b ∷ without_trailing_space bytes)
+  at true same = refl
+  at false same = ap (λ t. b ∷ t) same
+
+-- bytes of which none is left out in front
+pub length-without_leading_space : (bytes : List ℕ) → length (without_leading_space bytes) ≤ length bytes
+length-without_leading_space [] = omega arith
+length-without_leading_space (b ∷ bytes) = at (is_space b) (length-without_leading_space bytes) where
+  at : (c : Bool) → length (without_leading_space bytes) ≤ length bytes → length (cond c (without_leading_space bytes) (b ∷ bytes)) ≤ suc (length bytes)
+  at true le = omega (arith, le)
+  at false le = omega arith
+
+pub without_leading_space-whole : (bytes : List ℕ) → length (without_leading_space bytes) ≡ length bytes → without_leading_space bytes ≡ bytes
+without_leading_space-whole [] same = refl
+without_leading_space-whole (b ∷ bytes) same = at (is_space b) (length-without_leading_space bytes) same where
+  at : (c : Bool) → length (without_leading_space bytes) ≤ length bytes → length (cond c (without_leading_space bytes) (b ∷ bytes)) ≡ suc (length bytes) →
+      cond c (without_leading_space bytes) (b ∷ bytes) ≡ b ∷ bytes
+  at true le same = absurd (omega (arith, le, same))
+  at false le same = refl

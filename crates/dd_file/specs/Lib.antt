@@ -9,6 +9,7 @@ pub mod Reading
 pub mod ReaderState
 pub mod Draft
 pub mod Answer
+pub mod InHand
 pub mod InOrder
 pub mod Rewritten
 pub mod RewriterState

@@ -112,6 +112,8 @@ impl<W: Sink> Sink for Blocks<W> {
 
     ghost contents = { gathered_bytes W.contents };
 
+    ghost reached = { λ s. W.reached s.writer };
+
     ghost has_failed = { λ s. W.has_failed s.writer };
 
     fn write(&mut self, bytes: &[u8]) -> Result<usize, DeviceFault> {
@@ -124,6 +126,11 @@ impl<W: Sink> Sink for Blocks<W> {
         let count = bytes.len().min(BLOCK_BYTES - self.block.len());
         append(&mut self.block, &bytes[..count]);
         Ok(count)
+    }
+
+    fn write_on(&mut self) -> Result<(), DeviceFault> {
+        self.pass_on()?;
+        self.writer.write_on()
     }
 
     fn failed(&self) -> bool {

@@ -48,6 +48,21 @@ impl Buffer {
         self.start == self.end
     }
 
+    /// What it holds.
+    pub(crate) fn held(&self) -> &[u8]
+        ensures { result.now ≡ self.now }
+    {
+        &self.bytes[self.start..self.end]
+    }
+
+    /// Gives out so many bytes from the front of what it holds.
+    pub(crate) fn pass(&mut self, count: usize)
+        requires { count ≤ length self.old }
+        ensures { self.new ≡ drop count self.old }
+    {
+        self.start += count;
+    }
+
     /// Holds what one read gives in place of what it held.
     pub(crate) fn fill<R: Source>(&mut self, reader: &mut R) -> Result<(), DeviceFault>
         ensures bound { length self.new ≤ longest_lookahead }

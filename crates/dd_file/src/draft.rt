@@ -82,6 +82,18 @@ impl Draft {
         Ok(self.phase.is_done())
     }
 
+    /// Takes in a copy of the next line, and answers whether it is the item's last one.
+    pub(crate) fn add_copy(&mut self, line: &[u8]) -> Result<bool, AllocError>
+        requires fits { Fits self.old }
+        requires open_end { is_done self.old.phase ≡ false }
+        requires room { self.old.line + self.old.count < 2 ^ 62 }
+        ensures added { OnOk result (AddsIn self.old.phase self.old self.new line.now) }
+        ensures done { IfOk result (λ done. done ≡ is_done self.new.phase) }
+    {
+        let copy = Vec::from_slice(self.alloc, line)?;
+        self.add(copy)
+    }
+
     /// Counts a line, behind which the item is in this phase.
     fn enter(&mut self, phase: Phase)
         requires { self.old.count < 2 ^ 62 }

@@ -5,7 +5,7 @@ mod arguments;
 pub mod blocks;
 mod buffer;
 mod command;
-mod cut;
+pub mod cut;
 pub mod device;
 mod directive;
 mod draft;

@@ -1,14 +1,15 @@
 //! Reading an input line by line.
 ghost use Rattle.std.specs.Prelude.{◌≡◌, ◌≤◌, ◌<◌, ◌+◌, ◌||◌, None, [], true, false, IfOk, IfErr, IsOkUnless, MatchOption, length, vec_len};
 ghost use Rattle.dd_file.specs.Place.{longest_input};
-ghost use Rattle.dd_file.specs.Lines.{line_of, without_last, is_whole};
+ghost use Rattle.dd_file.specs.InHand.{HeldReadsOn, is_line_in_hand, CanTell, passed};
+ghost use Rattle.dd_file.specs.Lines.{line_of, without_last};
 ghost use Rattle.dd_file.specs.PieceRead.{PieceRead, PieceFault};
 ghost use Rattle.dd_file.specs.Reading.{next_line};
-ghost use Rattle.dd_file.specs.ReaderState.{fresh};
+ghost use Rattle.dd_file.specs.ReaderState.{fresh, IsWithin};
 ghost use Rattle.dd_file.specs.Answer.{ReadsOn, MovesOn, IsLineFault, is_read_fault};
 
 use crate::buffer::Buffer;
-use crate::cut::without_end;
+use crate::cut::{is_whole, line_of, piece_len, without_end};
 use crate::device::Source;
 use crate::fault::FileFault;
 use std::alloc::Global;
@@ -82,6 +83,63 @@ impl Lines {
         }
     }
 
+    /// The next line where its newline is in hand, so that no reader is asked. Nothing is done where what is held does
+    /// not tell: it has no newline, or the end was met or a fault, or the limit may be passed in it (own).
+    pub fn next_held<R: Source>(&mut self, reader: &R) -> Option<Result<Option<Vec<u8>>, FileFault>>
+        ensures { HeldReadsOn R.remaining R.has_failed (λ line. line.items) (next_line longest_input) IsLineFault is_line_in_hand self.old self.new reader.now result }
+    {
+        let _ = reader;
+        if !self.can_tell() {
+            return None;
+        }
+        let held = self.held();
+        let len = piece_len(held);
+        let piece = &held[..len];
+        if !is_whole(piece) {
+            return None;
+        }
+        match Vec::from_slice(self.alloc, line_of(piece)) {
+            Ok(line) => {
+                self.pass(1, len);
+                Some(Ok(Some(line)))
+            }
+            Err(_) => {
+                self.fault = Some(FileFault::NoMemory);
+                Some(Err(FileFault::NoMemory))
+            }
+        }
+    }
+
+    /// Whether what is held is told line by line: there is no fault, the end was not met, and the limit is not passed in it.
+    pub(crate) fn can_tell(&self) -> bool
+        ensures told { result ≡ true → CanTell self.now }
+        ensures untold { CanTell self.now → result ≡ true }
+        ensures within { IsWithin self.now.held self.now.is_ended self.now.place.lines self.now.place.bytes }
+    {
+        self.fault.is_none()
+            && !self.is_ended
+            && self.buffer.held().len() <= LONGEST_INPUT - self.bytes
+    }
+
+    /// The bytes that are held.
+    pub(crate) fn held(&self) -> &[u8]
+        ensures { result.now ≡ self.now.held }
+    {
+        self.buffer.held()
+    }
+
+    /// Gives out so many lines of so many bytes of what is held.
+    pub(crate) fn pass(&mut self, lines: usize, bytes: usize)
+        requires held { bytes ≤ length self.old.held }
+        requires some { lines ≤ bytes }
+        requires limit { self.old.place.bytes + bytes ≤ longest_input }
+        ensures { self.new ≡ passed self.old lines bytes }
+    {
+        self.buffer.pass(bytes);
+        self.lines += lines;
+        self.bytes += bytes;
+    }
+
     /// Whether the end was met, and so everything before it was given out.
     pub(crate) fn is_over(&self) -> bool
         ensures ended { result ≡ self.now.is_ended }
@@ -120,7 +178,7 @@ impl Lines {
             if piece.len() > LONGEST_INPUT - self.bytes {
                 return Err(FileFault::InputTooLong(self.lines + 1));
             }
-            if self.is_ended || ends_line(piece.as_slice()) {
+            if self.is_ended || is_whole(piece.as_slice()) {
                 return Ok(piece);
             }
             self.buffer.fill(reader).map_err(|_| FileFault::Read)?;
@@ -144,16 +202,6 @@ impl Lines {
         drop_end(&mut piece, b'\n');
         drop_end(&mut piece, b'\r');
         Some(piece)
-    }
-}
-
-/// Whether the bytes end in a newline.
-fn ends_line(bytes: &[u8]) -> bool
-    ensures { result ≡ is_whole bytes.now }
-{
-    match bytes.split_last() {
-        Some((last, _)) => *last == b'\n',
-        None => false,
     }
 }
 

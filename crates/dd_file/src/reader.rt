@@ -1,10 +1,12 @@
 //! Reading a script item by item.
-ghost use Rattle.std.specs.Prelude.{◌≡◌, None, false, IfOk, IsOkUnless, OnOk};
+ghost use Rattle.std.specs.Prelude.{◌≡◌, None, false, IfOk, IfSome, IsOkUnless, OnOk};
 ghost use Rattle.dd_file.specs.Place.{longest_input};
 ghost use Rattle.dd_file.specs.Reading.{next_item};
-ghost use Rattle.dd_file.specs.ReaderState.{fresh};
+ghost use Rattle.dd_file.specs.ReaderState.{fresh, IsWithin};
+ghost use Rattle.dd_file.specs.InHand.{CanTell, HeldReadsOn, is_item_in_hand};
 ghost use Rattle.dd_file.specs.Answer.{ReadsOn, IsItemFault, fault_of};
 
+use crate::cut::{is_whole, line_of, piece_len};
 use crate::device::Source;
 use crate::draft::Draft;
 use crate::fault::FileFault;
@@ -61,6 +63,19 @@ impl Reader {
         self.fault = fault_in(&found);
         found
     }
+
+    /// The next item where all its lines are in hand, so that no reader is asked. Nothing is done where what is held
+    /// does not tell: no item ends in it, or the end was met or a fault, or the limit may be passed in it (own).
+    pub fn next_held<R: Source>(&mut self, reader: &R) -> Option<Result<Option<Item>, FileFault>>
+        ensures { HeldReadsOn R.remaining R.has_failed (λ item. item) (next_item longest_input) IsItemFault is_item_in_hand self.old self.new reader.now result }
+    {
+        if self.fault.is_some() || !self.lines.can_tell() {
+            return None;
+        }
+        let answer = held_item(self.alloc, &mut self.lines, reader)?;
+        self.fault = fault_in(&answer);
+        Some(answer)
+    }
 }
 
 /// The fault of an answer, if it is one.
@@ -95,6 +110,43 @@ fn read_item<R: Source>(
             },
             Ok(None) => return draft.finish(),
             Err(fault) => return Err(draft.fault_at(fault)),
+        }
+    }
+}
+
+/// Reads the lines of one item off what is held, where all of them are there. Else nothing is taken.
+fn held_item<R: Source>(
+    alloc: Global,
+    lines: &mut Lines,
+    reader: &R,
+) -> Option<Result<Option<Item>, FileFault>>
+    requires tells { CanTell lines.old }
+    requires within { IsWithin lines.old.held lines.old.is_ended lines.old.place.lines lines.old.place.bytes }
+    ensures told { IfSome result (λ answer. ReadsOn R.remaining R.has_failed (λ item. item) (next_item longest_input) IsItemFault lines.old
+        (record lines.new { fault = fault_of answer }) reader.now reader.now answer) }
+    ensures untold { result ≡ None → (lines.new ≡ lines.old) × (is_item_in_hand lines.old.place lines.old.held ≡ false) }
+    ensures faultless { lines.new.fault ≡ None }
+{
+    let _ = reader;
+    let mut draft = Draft::new(alloc, lines.count() + 1);
+    let mut count = 0;
+    let mut taken = 0;
+    'held: loop {
+        let rest = &lines.held()[taken..];
+        let len = piece_len(rest);
+        let piece = &rest[..len];
+        if !is_whole(piece) {
+            return None;
+        }
+        count += 1;
+        taken += len;
+        match draft.add_copy(line_of(piece)) {
+            Ok(true) => {
+                lines.pass(count, taken);
+                return Some(draft.finish());
+            }
+            Ok(false) => {}
+            Err(_) => return Some(Err(FileFault::NoMemory)),
         }
     }
 }

@@ -5,10 +5,12 @@ ghost use Rattle.dd_file.specs.Lines.{text_of, without_last};
 ghost use Rattle.dd_file.specs.RewriterState.{CanKeep, WantsFound, HasWritten, Continues, BreaksOff, Finishes, FinishesPart};
 ghost use Rattle.dd_file.specs.Rewritten.{kept_text, found_text, opening, closing, has_blank_line, is_output, is_directive, newlines_at_end};
 
+use crate::cut::next_piece;
 use crate::device::Sink;
 use crate::fault::WriteFault;
 use crate::item::Item;
 use crate::stage::Stage;
+use crate::white_space::is_blank;
 use crate::writing::write_all;
 use std::marker::Model;
 
@@ -22,15 +24,17 @@ fn count_newline(newlines: u8, byte: u8) -> u8
     if newlines == 0 { 1 } else { 2 }
 }
 
-/// How many newlines end a text after more bytes.
+/// How many newlines end a text after more bytes, of which the last two tell.
 fn count_newlines(newlines: u8, bytes: &[u8]) -> u8
     ensures { (text : List ℕ) → newlines ≡ newlines_at_end text → result ≡ newlines_at_end (text ++ bytes.now) }
 {
-    let mut count = newlines;
-    for b in bytes {
-        count = count_newline(count, *b);
+    let Some((last, front)) = bytes.split_last() else {
+        return newlines;
+    };
+    match front.split_last() {
+        None => count_newline(newlines, *last),
+        Some((before, _)) => count_newline(count_newline(0, *before), *last),
     }
-    count
 }
 
 /// The bytes without a newline at their end.
@@ -102,21 +106,14 @@ fn write_lines<W: Sink>(writer: &mut W, newlines: u8, lines: &[Vec<u8>]) -> Resu
 fn needs_double(text: &[u8]) -> bool
     ensures { result ≡ has_blank_line text.now }
 {
-    let mut is_blank = true;
-    let mut is_begun = false;
-    for b in text {
-        if *b == b'\n' {
-            if is_blank {
-                return true;
-            }
-            is_blank = true;
-            is_begun = false;
-        } else {
-            is_begun = true;
-            is_blank = is_blank && matches!(*b, 9..=13 | 32);
+    let mut rest = text;
+    while let Some((piece, behind)) = next_piece(rest) {
+        if is_blank(piece) {
+            return true;
         }
+        rest = behind;
     }
-    is_begun && is_blank
+    false
 }
 
 /// What stands before an output, in double dashes or not.

@@ -5,7 +5,7 @@ ghost use Rattle.dd_file.specs.Lines.{text_of};
 ghost use Rattle.dd_file.specs.Script.{joined};
 
 use crate::cut::without_end;
-use crate::white_space::trimmed;
+use crate::white_space::{trimmed, without_leading_space, without_trailing_space};
 use std::alloc::{AllocError, Global};
 
 /// The lines of a head as one text: each is trimmed, and a space stands for the backslash before the next.
@@ -40,6 +40,12 @@ pub(crate) fn text_of(alloc: Global, lines: &[Vec<u8>]) -> Result<Vec<u8>, Alloc
 pub(crate) fn trimmed_text_of(alloc: Global, lines: &[Vec<u8>]) -> Result<Vec<u8>, AllocError>
     ensures { IfOk result (λ text. text.items ≡ trimmed (text_of (map (λ line. line.items) lines.now))) }
 {
-    let text = text_of(alloc, lines)?;
-    Vec::from_slice(alloc, trimmed(text.as_slice()))
+    let mut text = text_of(alloc, lines)?;
+    let end = without_trailing_space(text.as_slice()).len();
+    text.truncate(end);
+    let begun = without_leading_space(text.as_slice());
+    if begun.len() == text.len() {
+        return Ok(text);
+    }
+    Vec::from_slice(alloc, begun)
 }

@@ -31,7 +31,7 @@ pub(crate) fn without_leading_space(bytes: &[u8]) -> &[u8]
 }
 
 /// The bytes up to the last one that is not white space.
-fn without_trailing_space(bytes: &[u8]) -> &[u8]
+pub(crate) fn without_trailing_space(bytes: &[u8]) -> &[u8]
     ensures { result.now ≡ without_trailing_space bytes.now }
 {
     let mut rest = bytes;

@@ -2,7 +2,8 @@ use Rattle.std.proofs.Common.{◌≡◌, ◌≤◌, ◌<◌, false, length, sym,
 use Rattle.std.specs.Prelude.{◌==◌}
 use Rattle.dd_file.specs.Words.{words_of}
 use Rattle.dd_file.proofs.Ends.{no-length}
-use Rattle.dd_file.proofs.FirstWord.{words_of-without_leading_space, words_of-first, length-without_leading_space, word_len-bound, word_len-some}
+use Rattle.dd_file.proofs.FirstWord.{words_of-without_leading_space, words_of-first, word_len-bound, word_len-some}
+use Rattle.dd_file.proofs.WhiteSpace.{length-without_leading_space}
 use Rattle.dd_file.proofs.words.next_word.Goals as goal
 
 pub returns-then-is_empty-clause-words : goal.returns-then-is_empty-clause-words

@@ -6,7 +6,7 @@ use Rattle.dd_file.specs.Lines.{is_whole}
 use Rattle.dd_file.specs.Place.{longest_input}
 use Rattle.dd_file.proofs.PieceParts.{part-moved, part-filled, unfinished-rest, no-bytes, some-bytes, length-moved, left-falls}
 use Rattle.dd_file.proofs.lines.Lines.read_piece.Goals as goal
-use Rattle.dd_file.proofs.lines.Lines.read_piece.Goals.{then-self-via-then-self, then-self-via-else-self+then-ends_line}
+use Rattle.dd_file.proofs.lines.Lines.read_piece.Goals.{then-self-via-then-self, then-self-via-else-self+then-is_whole}
 
 pub returns-then-len-self-clause-fault : goal.returns-then-len-self-clause-fault
 returns-then-len-self-clause-fault g c =
@@ -34,7 +34,7 @@ returns-then-self-clause-piece g c =
       fits = omega (arith, c.move_piece.new.line.ok.0);
       done = elim c.then-self.branch [
         | then-self-via-then-self w ↦ inr (w.if-self.true, rest ∙ ap (λ bytes. drop (first_len bytes) bytes) (loop.within.ended w.if-self.true))
-        | then-self-via-else-self+then-ends_line w ↦ inl (ap is_whole (sym w.as_slice.ensures.value) ∙ sym w.if-ends_line.ensures)
+        | then-self-via-else-self+then-is_whole w ↦ inl (ap is_whole (sym w.as_slice.ensures.value) ∙ sym w.if-is_whole.ensures)
       ];
     }
 
@@ -44,7 +44,7 @@ loop-piece-preserved g c =
     let held = c.loop-piece.self-inside.buffer in
     let line : c.move_piece.new.line.items ≡ c.loop-piece.piece.items ++ take (first_len held) held = search rules in
     let rest : c.move_piece.new.self ≡ drop (first_len held) held = search rules in
-    let unfinished : is_whole c.move_piece.new.line.items ≡ false = ap is_whole (sym c.as_slice.ensures.value) ∙ sym c.if-ends_line.ensures in
+    let unfinished : is_whole c.move_piece.new.line.items ≡ false = ap is_whole (sym c.as_slice.ensures.value) ∙ sym c.if-is_whole.ensures in
     let none : c.move_piece.new.self ≡ [] = rest ∙ unfinished-rest c.loop-piece.piece.items held (ap is_whole (sym line) ∙ unfinished) in
     let moved = part-moved _ _ _ _ _ _ _ loop.part loop.unfinished line rest in
     let remaining = g.R.Source.remaining in
@@ -68,7 +68,7 @@ loop-piece-smaller g c =
     let held = inside.buffer in
     let line : c.move_piece.new.line.items ≡ c.loop-piece.piece.items ++ take (first_len held) held = search rules in
     let rest : c.move_piece.new.self ≡ drop (first_len held) held = search rules in
-    let unfinished : is_whole c.move_piece.new.line.items ≡ false = ap is_whole (sym c.as_slice.ensures.value) ∙ sym c.if-ends_line.ensures in
+    let unfinished : is_whole c.move_piece.new.line.items ≡ false = ap is_whole (sym c.as_slice.ensures.value) ∙ sym c.if-is_whole.ensures in
     let none : c.move_piece.new.self ≡ [] = rest ∙ unfinished-rest c.loop-piece.piece.items held (ap is_whole (sym line) ∙ unfinished) in
     let all = length-moved c.loop-piece.piece.items held c.move_piece.new.line.items c.move_piece.new.self line rest none in
     let len : vec_len c.move_piece.new.line ≡ vec_len c.loop-piece.piece + length held = omega (arith, all, c.move_piece.new.line.ok.0, c.loop-piece.piece.ok.0) in

@@ -1,0 +1,29 @@
+use Rattle.std.proofs.Common.{◌≡◌, true, take, vec_items, refl, sym, ap, subst, ◌∙◌}
+use Rattle.std.specs.Prelude.{Ok, Some}
+use Rattle.dd_file.specs.FirstPiece.{first_len}
+use Rattle.dd_file.specs.Lines.{line_of, is_whole}
+use Rattle.dd_file.specs.Place.{longest_input}
+use Rattle.dd_file.specs.Reading.{next_line}
+use Rattle.dd_file.specs.ReaderState.{ReaderState}
+use Rattle.dd_file.specs.InHand.{passed}
+use Rattle.dd_file.specs.Answer.{ReadsOn, IsLineFault}
+use Rattle.dd_file.proofs.HeldItem.{held-line, held-no-line, same-piece}
+use Rattle.dd_file.proofs.lines.Lines.next_held.Goals as goal
+
+pub returns-then-not-is_whole : goal.returns-then-not-is_whole
+returns-then-not-is_whole g c =
+    let state = c.args.self.now in
+    let piece = same-piece _ _ c.piece_len-len.result c.held-held.ensures c.piece_len-len.ensures.count in
+    (refl, λ tells. held-no-line state (ap is_whole (sym piece) ∙ sym c.is_whole.ensures ∙ c.if-not-is_whole.true))
+
+pub returns-in-Ok : goal.returns-in-Ok
+returns-in-Ok g c =
+    let state = c.args.self.now in
+    let remaining = g.R.Source.remaining in
+    let has_failed = g.R.Source.has_failed in
+    let len : c.piece_len-len.result ≡ first_len state.held = c.piece_len-len.ensures.count ∙ ap first_len c.held-held.ensures in
+    let piece = same-piece _ _ c.piece_len-len.result c.held-held.ensures c.piece_len-len.ensures.count in
+    let whole : is_whole (take (first_len state.held) state.held) ≡ true = ap is_whole (sym piece) ∙ sym c.is_whole.ensures ∙ c.if-not-is_whole.false in
+    let line : c.in-Ok.line.items ≡ line_of (take (first_len state.held) state.held) = c.in-Ok.ensures.items ∙ c.line_of.ensures ∙ ap line_of piece in
+    let read = held-line remaining has_failed vec_items state c.args.reader.now c.in-Ok.line (c.can_tell.ensures.told c.if-not-can_tell.false) c.can_tell.ensures.within whole line in
+    subst (λ (s : ReaderState). ReadsOn remaining has_failed vec_items (next_line longest_input) IsLineFault state s c.args.reader.now c.args.reader.now (Ok (Some c.in-Ok.line))) (sym (c.pass.ensures ∙ ap (passed state 1) len)) read
