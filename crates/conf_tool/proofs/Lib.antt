@@ -2,6 +2,7 @@ pub mod Replies
 pub mod Script
 pub mod Reached
 pub mod Faults
+pub mod WrittenOn
 pub mod WrittenFront
 pub mod Checking
 pub mod Rewriting

@@ -1,20 +1,18 @@
--- Lines behind a sign, byte by byte.
-use Rattle.std.proofs.Common.{ℕ, Bool, true, false, List, [], ◌∷◌, ◌++◌, flat_map}
+-- Lines behind a sign, piece by piece.
+use Rattle.std.proofs.Common.{◌≡◌, ℕ, List, ◌∷◌, ◌++◌, flat_map, sym, ap, ◌∙◌, append_assoc}
 use Rattle.dd_file.specs.Bytes.{newline}
 use Rattle.dd_file.specs.Lines.{pieces, without_last}
 use Rattle.conf_session.specs.Texts.{line}
 use Rattle.conf_tool.specs.Reports.{marked}
 
--- pieces behind a sign
 abbrev marked_pieces : List ℕ → List (List ℕ) → List ℕ
 marked_pieces sign ps = flat_map (λ piece. line (sign ++ without_last 10 piece)) ps
 
--- pieces of which the first goes on with a line that is begun
-abbrev begun_pieces : List ℕ → List (List ℕ) → List ℕ
-begun_pieces sign [] = newline
-begun_pieces sign (piece ∷ ps) = line (without_last 10 piece) ++ marked_pieces sign ps
-
--- what is still written of some bytes, at the front of a line or behind it
-abbrev pub marked_rest : List ℕ → Bool → List ℕ → List ℕ
-marked_rest sign false bytes = marked sign bytes
-marked_rest sign true bytes = begun_pieces sign (pieces bytes)
+-- the first piece is appended behind the sign, before those of the rest
+pub marked-first : (so_far sign bytes piece rest : List ℕ) → pieces bytes ≡ piece ∷ pieces rest →
+    (((so_far ++ sign) ++ without_last 10 piece) ++ newline) ++ marked sign rest ≡ so_far ++ marked sign bytes
+marked-first so_far sign bytes piece rest first =
+    let bare = without_last 10 piece in
+    let more = marked sign rest in
+    ap (λ t. (t ++ newline) ++ more) (append_assoc so_far sign bare) ∙ ap (λ t. t ++ more) (append_assoc so_far (sign ++ bare) newline)
+    ∙ append_assoc so_far (line (sign ++ bare)) more ∙ ap (λ t. so_far ++ t) (sym (ap (marked_pieces sign) first))

@@ -23,12 +23,13 @@ use Rattle.conf_tool.specs.Answered.{script, behind, undo_left, HasObeyed}
 use Rattle.conf_tool.specs.Run.{Wrote}
 use Rattle.conf_tool.specs.declared.status.Status.{Status}
 use Rattle.conf_tool.proofs.Rewriting.{breaks-nothing}
+use Rattle.conf_tool.proofs.WrittenOn.{keeps-still, kept-part, kept-appends, kept-written}
 use Rattle.conf_tool.proofs.WrittenFront.{appends-nothing, part-nothing, behind-part, behind-nothing}
 
 pub obeyed-nothing : (history : ℕ) (floor : Floor) (count : ℕ) (session : SessionState) (rewriter : RewriterState) (held : Option (List ℕ)) → session ≡ new_session history floor → rewriter.stage ≡ Ready →
     ((start : Option (List ℕ)) → HasWritten rewriter.newlines start start []) → HasObeyed session rewriter count (undone_script history floor count) [] held held
 obeyed-nothing history floor count session rewriter held is_new ready nothing = record {
-  unwritten = refl;
+  unwritten = keeps-still held;
   ready = ready;
   nothing = nothing;
   is = λ rest. ap (λ s. undo_left s count rest) (sym is_new);
@@ -47,7 +48,7 @@ obeyed-part s t rewriter count item total parts before held obeyed after = recor
 -- nothing is a front part of each output
 pub obeyed-front : (s : SessionState) (rewriter : RewriterState) (count : ℕ) (total : Script Item → Output) (parts : List Item) (before held : Option (List ℕ)) (text : List ℕ) →
     HasObeyed s rewriter count total parts before held → AppendsPart before held text
-obeyed-front s rewriter count total parts before held text obeyed = subst (λ now. AppendsPart before now text) (sym obeyed.unwritten) (part-nothing before text)
+obeyed-front s rewriter count total parts before held text obeyed = kept-part before before held text (part-nothing before text) obeyed.unwritten
 
 -- ---- the items that are written at the end
 session-append : (s : SessionState) (xs ys : List Item) → session_after_all s (xs ++ ys) ≡ session_after_all (session_after_all s xs) ys
@@ -151,7 +152,7 @@ pub obeyed-fault : (s : SessionState) (rewriter : RewriterState) (count : ℕ) (
     HasObeyed s rewriter count total parts before held → Wrote (total (script parts (Some fault))) (Err fault) before held
 obeyed-fault s rewriter count total parts before held fault obeyed =
     let is = ap total (behind-nothing parts (Some fault)) ∙ obeyed.is (script [] (Some fault)) in
-    (ap (λ (o : Output). o.outcome) is, subst (λ t. Appends before held t) (sym (ap (λ (o : Output). o.text) is)) (subst (λ now. Appends before now []) (sym obeyed.unwritten) (appends-nothing before)))
+    (ap (λ (o : Output). o.outcome) is, subst (λ t. Appends before held t) (sym (ap (λ (o : Output). o.text) is)) (kept-appends before before held [] (appends-nothing before) obeyed.unwritten))
 
 whole : (s : SessionState) (rewriter : RewriterState) (count : ℕ) (total : Script Item → Output) (parts : List Item) (before held : Option (List ℕ)) →
     HasObeyed s rewriter count total parts before held → total (script parts None) ≡ undone_by s (undo_plan_of s count)
@@ -160,7 +161,7 @@ whole s rewriter count total parts before held obeyed = ap total (behind-nothing
 -- nothing was written before
 begun : (s : SessionState) (rewriter : RewriterState) (count : ℕ) (total : Script Item → Output) (parts : List Item) (before held : Option (List ℕ)) →
     HasObeyed s rewriter count total parts before held → HasWritten rewriter.newlines before held []
-begun s rewriter count total parts before held obeyed = subst (λ now. HasWritten rewriter.newlines before now []) (sym obeyed.unwritten) (obeyed.nothing before)
+begun s rewriter count total parts before held obeyed = kept-written rewriter.newlines before before held [] (obeyed.nothing before) obeyed.unwritten
 
 pub obeyed-end : (s : SessionState) (rewriter : RewriterState) (count newlines : ℕ) (total : Script Item → Output) (parts : List Item) (before held mid new : Option (List ℕ)) (status : Status) →
     HasObeyed s rewriter count total parts before held → status ≡ undo_status (undo_plan_of s count) → Continues rewriter.newlines newlines held mid (obeyed_text s (undo_items (undo_plan_of s count))) →

@@ -1,7 +1,7 @@
 -- What was written so far of an output, where an input is answered part by part, and what is left of it.
 use Rattle.std.specs.Prelude.{◌≡◌, ◌≤◌, ℕ, ◌+◌, ◌||◌, List, [], ◌++◌, flat_map, count_by, nat_lt, length, Option, Some, None, Ok, Err}
 use Rattle.std.specs.List.{list_any}
-use Rattle.std.specs.Io.KnownBytes.{Appends}
+use Rattle.std.specs.Io.KnownBytes.{Appends, Keeps}
 use Rattle.dd_file.specs.Reading.{Script}
 use Rattle.dd_file.specs.Rewritten.{Entry, is_directive, without_double_end}
 use Rattle.dd_file.specs.RewriterState.{RewriterState, HasWritten}
@@ -63,7 +63,7 @@ abbrev pub undo_left : SessionState → ℕ → Script Item → Output
 undo_left session count rest = undone_unless (session_after_all session rest.items) count rest.fault
 
 pub record HasObeyed (session : SessionState) (rewriter : RewriterState) (count : ℕ) (total : Script Item → Output) (parts : List Item) (before after : Option (List ℕ)) : Type 0 where
-  pub unwritten : after ≡ before
+  pub unwritten : Keeps before after
   pub ready : rewriter.stage ≡ Ready
   pub nothing : (held : Option (List ℕ)) → HasWritten rewriter.newlines held held []
   pub is : (rest : Script Item) → total (behind parts rest) ≡ undo_left session count rest

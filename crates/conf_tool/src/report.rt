@@ -1,10 +1,10 @@
 //! What the mode `check` reports: each directive that found another text than it expects, and how many there were.
-ghost use Rattle.std.specs.Prelude.{◌≡◌, ◌≤◌, ◌<◌, ◌+◌, ◌^◌, ◌++◌, [], decimal, nat_lt, OnOk, if◌then◌else◌};
-ghost use Rattle.dd_file.specs.Bytes.{newline};
+ghost use Rattle.std.specs.Prelude.{◌≡◌, ◌≤◌, ◌<◌, ◌+◌, ◌^◌, ◌++◌, decimal, nat_lt, OnOk, if◌then◌else◌};
 ghost use Rattle.conf_tool.specs.Outputs.{status_of};
 ghost use Rattle.conf_tool.specs.Reports.{marked, difference_text, counts_line};
 
 use crate::status::Status;
+use dd_file::cut::{next_piece, without_end};
 use dd_file::item::Directive;
 use itoa::Buffer;
 use quorum_sets::NoMemory;
@@ -93,31 +93,12 @@ fn append_number(text: &mut Vec<u8>, number: usize) -> Result<(), NoMemory>
 fn append_marked(text: &mut Vec<u8>, sign: &[u8], bytes: &[u8]) -> Result<(), NoMemory>
     ensures { OnOk result (text.new.items ≡ text.old.items ++ marked sign.now bytes.now) }
 {
-    let mut is_begun = false;
-    for b in bytes {
-        begin_line(text, is_begun, sign)?;
-        text.push(*b)?;
-        is_begun = *b != b'\n';
-    }
-    end_line(text, is_begun)
-}
-
-// Appends the sign, unless the line is begun.
-fn begin_line(text: &mut Vec<u8>, is_begun: bool, sign: &[u8]) -> Result<(), NoMemory>
-    ensures { OnOk result (text.new.items ≡ text.old.items ++ (if is_begun then [] else sign.now)) }
-{
-    if !is_begun {
+    let mut rest = bytes;
+    while let Some((piece, behind)) = next_piece(rest) {
         text.extend_from_slice(sign)?;
-    }
-    Ok(())
-}
-
-// Appends a newline where a line is begun.
-fn end_line(text: &mut Vec<u8>, is_begun: bool) -> Result<(), NoMemory>
-    ensures { OnOk result (text.new.items ≡ text.old.items ++ (if is_begun then newline else [])) }
-{
-    if is_begun {
+        text.extend_from_slice(without_end(piece, b'\n'))?;
         text.push(b'\n')?;
+        rest = behind;
     }
     Ok(())
 }

@@ -75,6 +75,7 @@ impl PartByPart for Checking {
     type Part = Item;
 
     ghost use Rattle.dd_file.specs.Place.{longest_input};
+    ghost use Rattle.dd_file.specs.InHand.{is_item_in_hand};
     ghost use Rattle.dd_file.specs.Reading.{next_item};
     ghost use Rattle.dd_file.specs.Answer.{IsItemFault};
     ghost use Rattle.dd_file.specs.declared.item.Item.{Item as ItemTold};
@@ -87,6 +88,8 @@ impl PartByPart for Checking {
 
     ghost coming = { next_item longest_input };
 
+    ghost in_hand = { is_item_in_hand };
+
     ghost IsFault = { IsItemFault };
 
     ghost mode = { OfCheck };
@@ -95,7 +98,16 @@ impl PartByPart for Checking {
 
     ghost HasAnswered = { λ s. HasChecked s.session s.counts.directives s.counts.mismatches };
 
-    fn next<R: Source>(&mut self, reader: &mut R) -> Result<Option<Item>, FileFault> {
+    fn next_held<R: Source>(&mut self, reader: &R) -> Option<Result<Option<Item>, FileFault>> {
+        self.items.next_held(reader)
+    }
+
+    fn next<R: Source, W: Sink>(
+        &mut self,
+        reader: &mut R,
+        writer: &W,
+    ) -> Result<Option<Item>, FileFault> {
+        let _ = writer;
         self.items.next(reader)
     }
 

@@ -50,6 +50,7 @@ impl PartByPart for LineByLine {
 
     ghost use Rattle.std.specs.Prelude.{ℕ, List};
     ghost use Rattle.dd_file.specs.Place.{longest_input};
+    ghost use Rattle.dd_file.specs.InHand.{is_line_in_hand};
     ghost use Rattle.dd_file.specs.Reading.{next_line};
     ghost use Rattle.dd_file.specs.Answer.{IsLineFault};
     ghost use Rattle.conf_tool.specs.Answered.{WroteFront};
@@ -62,6 +63,8 @@ impl PartByPart for LineByLine {
 
     ghost coming = { next_line longest_input };
 
+    ghost in_hand = { is_line_in_hand };
+
     ghost IsFault = { IsLineFault };
 
     ghost mode = { OfLines };
@@ -70,7 +73,16 @@ impl PartByPart for LineByLine {
 
     ghost HasAnswered = { λ s total. WroteFront total (lined_from s.changer.tracker.config) };
 
-    fn next<R: Source>(&mut self, reader: &mut R) -> Result<Option<Vec<u8>>, FileFault> {
+    fn next_held<R: Source>(&mut self, reader: &R) -> Option<Result<Option<Vec<u8>>, FileFault>> {
+        self.lines.next_held(reader)
+    }
+
+    fn next<R: Source, W: Sink>(
+        &mut self,
+        reader: &mut R,
+        writer: &W,
+    ) -> Result<Option<Vec<u8>>, FileFault> {
+        let _ = writer;
         self.lines.next(reader)
     }
 

@@ -1,7 +1,10 @@
-use Rattle.std.proofs.Common.{◌≡◌, ◌++◌, drop}
+use Rattle.std.proofs.Common.{◌≡◌, ◌++◌, length}
 use Rattle.conf_tool.specs.Reports.{marked}
-use Rattle.conf_tool.proofs.Marked.{marked_rest}
 use Rattle.conf_tool.proofs.report.append_marked.Given as goal
 
-abbrev pub invariant-loop-b : goal.invariant-loop-b
-invariant-loop-b l = l.text.items ++ marked_rest l.sign l.is_begun (drop l.b-index l.bytes) ≡ l.initial.text.items ++ marked l.sign l.bytes
+-- the text so far, and the lines that are left behind the sign
+abbrev pub invariant-loop-piece : goal.invariant-loop-piece
+invariant-loop-piece l = l.text.items ++ marked l.sign l.rest ≡ l.initial.text.items ++ marked l.sign l.bytes
+
+abbrev pub decreases-loop-piece : goal.decreases-loop-piece
+decreases-loop-piece l = length l.rest

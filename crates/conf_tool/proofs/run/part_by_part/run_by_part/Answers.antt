@@ -1,18 +1,18 @@
 use Rattle.std.proofs.Common.{ap, ◌≤◌, ◌∙◌, ◌++◌, ◌∷◌, [], sym, subst, refl, arith}
 use Rattle.std.specs.Prelude.{Some}
 use Rattle.std.proofs.lemmas.Result.{err_from_is_err_and}
-use Rattle.dd_file.specs.Device.{AppendsPart}
+use Rattle.dd_file.specs.Device.{AppendsPart, LosesFront}
 use Rattle.dd_file.specs.Place.{longest_input, start}
 use Rattle.dd_file.specs.Reading.{script_from}
 use Rattle.dd_file.specs.ReaderState.{ReaderState}
 use Rattle.conf_tool.specs.Answered.{script}
 use Rattle.conf_tool.specs.Run.{Means}
-use Rattle.conf_tool.proofs.Reached.{Reached, loses-more, reached-begin, reached-end, reached-fault, reached-part, reached-next, reached-front}
+use Rattle.conf_tool.proofs.Reached.{Reached, loses-nothing, loses-more, reached-begin, reached-end, reached-fault, reached-part, reached-next, reached-front}
 use Rattle.conf_tool.proofs.Faults.{input-fault, input-uncut, reader-fault, reader-means, reader-read, reader-unwritten, answer-means, or-false, or-fault}
 use Rattle.conf_tool.proofs.run.part_by_part.run_by_part.Goals as goal
 
-pub loop-part-init : goal.loop-part-init
-loop-part-init g c = record {
+pub loop-mode-init : goal.loop-mode-init
+loop-mode-init g c = record {
   parts = [];
   reached = reached-begin _ _ _ c.requires.unread;
   answered = λ total begun. begun _;
@@ -21,37 +21,55 @@ loop-part-init g c = record {
   unwritten = refl;
 }
 
+pub returns-in_err-found : goal.returns-in_err-found
+returns-in_err-found g c =
+    let p = err_from_is_err_and c.from_residual.result c.from_residual.ensures.1 in
+    let remaining = g.R.Source.remaining in
+    let before = g.W.Sink.contents c.args.writer.now in
+    let after = g.W.Sink.contents c.next_part.new.writer in
+    let same = c.in_err-found.ensures.unread in
+    let lost = subst (λ r. LosesFront (remaining c.loop-mode.reader) (remaining r)) (sym same) (loses-nothing (remaining c.loop-mode.reader)) in
+    rw (p.1, p.2) (record {
+      output = λ total begun input more agrees.
+          let front = reached-front _ _ _ _ _ _ c.loop-mode.invariant.reached lost input more agrees in
+          subst (λ s. AppendsPart before after (total s).text) (sym front.is) (c.next_part.ensures.front _ _ front.rest.items front.rest.fault _ (c.loop-mode.invariant.answered total begun));
+      taken = loses-more _ _ _ c.loop-mode.invariant.reached.taken lost;
+      read = ap g.R.Source.has_failed same ∙ c.loop-mode.invariant.unread ∙ sym (or-false _);
+      write = or-fault _ _ _ _ _ c.in_err-found.ensures.write refl c.loop-mode.invariant.unwritten;
+      kinds = tt;
+    })
+
 pub answer-requires : goal.answer-requires
 answer-requires g c = (
   c.requires.unwritten.0,
-  c.loop-part.invariant.parts,
+  c.loop-mode.invariant.parts,
   _,
-  c.next.ensures.kept _ _ _ _ (c.loop-part.invariant.answered _ c.requires.unwritten.1),
-  omega (arith, c.loop-part.invariant.reached.few, c.loop-part.invariant.counted),
+  c.next_part.ensures.kept _ _ _ (c.loop-mode.invariant.answered _ c.requires.unwritten.1),
+  omega (arith, c.loop-mode.invariant.reached.few, c.loop-mode.invariant.counted),
 )
 
-pub loop-part-preserved : goal.loop-part-preserved
-loop-part-preserved g c =
-    let reads = rw c.in-Ok-Some.field-0-is at c.in-Ok-Some.ensures.reads in
+pub loop-mode-preserved : goal.loop-mode-preserved
+loop-mode-preserved g c =
+    let reads = rw (c.in-Ok-Some.is, c.in-Ok-Some.field-0-is) at c.in_ok-found.ensures.reads in
     let same = sym c.in_ok-answer-in-Ok-Some.ensures.reading in
     let mode = g.M.PartByPart in
-    let parts = c.loop-part.invariant.parts ++ mode.told c.in-Ok-Some.part ∷ [] in
+    let parts = c.loop-mode.invariant.parts ++ mode.told c.in-Ok-Some.part ∷ [] in
     record {
       parts = parts;
-      reached = subst (λ (s : ReaderState). Reached {A = mode.Told} mode.coming (g.R.Source.remaining c.args.reader.now) (g.R.Source.remaining c.next.new.reader) s parts) same
-          (reached-next _ _ _ _ _ _ _ _ _ _ _ _ c.next.ensures.in_turn c.loop-part.invariant.reached reads);
-      answered = λ total begun. c.in_ok-answer-in-Ok-Some.ensures.answered _ _ _ (c.next.ensures.kept _ _ _ _ (c.loop-part.invariant.answered total begun));
+      reached = subst (λ (s : ReaderState). Reached {A = mode.Told} mode.coming (g.R.Source.remaining c.args.reader.now) (g.R.Source.remaining c.next_part.new.reader) s parts) same
+          (reached-next _ _ _ _ _ _ _ _ _ _ _ _ c.next_part.ensures.in_turn c.loop-mode.invariant.reached reads);
+      answered = λ total begun. c.in_ok-answer-in-Ok-Some.ensures.answered _ _ _ (c.next_part.ensures.kept _ _ _ (c.loop-mode.invariant.answered total begun));
       counted = subst (λ (s : ReaderState). s.place.lines ≤ longest_input) same reads.counted;
-      unread = reads.read c.loop-part.invariant.reached.open_end ∙ or-false _ ∙ c.loop-part.invariant.unread;
-      unwritten = c.in_ok-answer-in-Ok-Some.ensures.write ∙ or-false _ ∙ c.loop-part.invariant.unwritten;
+      unread = reads.read c.loop-mode.invariant.reached.open_end ∙ or-false _ ∙ c.loop-mode.invariant.unread;
+      unwritten = c.in_ok-answer-in-Ok-Some.ensures.write ∙ or-false _ ∙ c.in_ok-found.ensures.write ∙ or-false _ ∙ c.loop-mode.invariant.unwritten;
     }
 
 pub returns-in_err-answer-in-Ok-Some-clause-output : goal.returns-in_err-answer-in-Ok-Some-clause-output
 returns-in_err-answer-in-Ok-Some-clause-output g c = λ total begun input more agrees.
-    let p = err_from_is_err_and c.from_residual.result c.from_residual.ensures.1 in
-    let reads = rw c.in-Ok-Some.field-0-is at c.in-Ok-Some.ensures.reads in
-    let front = reached-part _ _ _ _ _ _ _ _ _ _ _ _ c.next.ensures.in_turn c.loop-part.invariant.reached reads input more agrees in
-    let answered = c.next.ensures.kept _ _ _ _ (c.loop-part.invariant.answered total begun) in
+    let p = err_from_is_err_and c.from_residual-in_err-answer-in-Ok-Some.result c.from_residual-in_err-answer-in-Ok-Some.ensures.1 in
+    let reads = rw (c.in-Ok-Some.is, c.in-Ok-Some.field-0-is) at c.in_ok-found.ensures.reads in
+    let front = reached-part _ _ _ _ _ _ _ _ _ _ _ _ c.next_part.ensures.in_turn c.loop-mode.invariant.reached reads input more agrees in
+    let answered = c.next_part.ensures.kept _ _ _ (c.loop-mode.invariant.answered total begun) in
     let part = c.in_err-answer-in-Ok-Some.ensures.part _ _ front.rest.items front.rest.fault _ answered in
     let before = g.W.Sink.contents c.args.writer.now in
     let after = g.W.Sink.contents c.answer.new.writer in
@@ -59,47 +77,58 @@ returns-in_err-answer-in-Ok-Some-clause-output g c = λ total begun input more a
     (subst (λ s. AppendsPart before after (total s).text) (sym front.is) part))
 
 pub returns-in_err-answer-in-Ok-Some-clause-taken : goal.returns-in_err-answer-in-Ok-Some-clause-taken
-returns-in_err-answer-in-Ok-Some-clause-taken g c = loses-more _ _ _ c.loop-part.invariant.reached.taken c.next.ensures.reads.moves.taken
+returns-in_err-answer-in-Ok-Some-clause-taken g c = loses-more _ _ _ c.loop-mode.invariant.reached.taken c.in_ok-found.ensures.reads.moves.taken
 
 pub end-requires : goal.end-requires
-end-requires g c = (c.requires.unwritten.0, c.loop-part.invariant.parts, _, c.next.ensures.kept _ _ _ _ (c.loop-part.invariant.answered _ c.requires.unwritten.1))
+end-requires g c = (c.requires.unwritten.0, c.loop-mode.invariant.parts, _, c.next_part.ensures.kept _ _ _ (c.loop-mode.invariant.answered _ c.requires.unwritten.1))
 
 pub returns-in-Ok-None-clause-output : goal.returns-in-Ok-None-clause-output
 returns-in-Ok-None-clause-output g c = λ total begun input more agrees.
-    let reads = rw c.in-Ok-None.field-0-is at c.in-Ok-None.ensures.reads in
-    let front = reached-end _ _ _ _ _ _ _ _ _ _ _ c.next.ensures.in_turn c.loop-part.invariant.reached reads input more agrees in
-    let answered = c.next.ensures.kept _ _ _ _ (c.loop-part.invariant.answered total begun) in
+    let reads = rw (c.in-Ok-None.is, c.in-Ok-None.field-0-is) at c.in_ok-found.ensures.reads in
+    let front = reached-end _ _ _ _ _ _ _ _ _ _ _ c.next_part.ensures.in_turn c.loop-mode.invariant.reached reads input more agrees in
+    let answered = c.next_part.ensures.kept _ _ _ (c.loop-mode.invariant.answered total begun) in
     subst (λ s. Means (total s) c.end.result (g.W.Sink.contents c.args.writer.now) (g.W.Sink.contents c.end.new.writer)) (sym front) (c.end.ensures.output _ _ _ answered)
 
 pub returns-in-Ok-None-clause-taken : goal.returns-in-Ok-None-clause-taken
-returns-in-Ok-None-clause-taken g c = loses-more _ _ _ c.loop-part.invariant.reached.taken c.next.ensures.reads.moves.taken
+returns-in-Ok-None-clause-taken g c = loses-more _ _ _ c.loop-mode.invariant.reached.taken c.in_ok-found.ensures.reads.moves.taken
 
 pub end-requires-in-Script : goal.end-requires-in-Script
-end-requires-in-Script g c = (c.requires.unwritten.0, c.loop-part.invariant.parts, _, c.next.ensures.kept _ _ _ _ (c.loop-part.invariant.answered _ c.requires.unwritten.1))
+end-requires-in-Script g c = (c.requires.unwritten.0, c.loop-mode.invariant.parts, _, c.next_part.ensures.kept _ _ _ (c.loop-mode.invariant.answered _ c.requires.unwritten.1))
 
 pub returns-in-Script-clause-output : goal.returns-in-Script-clause-output
 returns-in-Script-clause-output g c = λ total begun input more agrees.
     let told = input-fault c.in-Err.fault c.in-Script.fault (sym c.in-Script.is ∙ c.from.ensures) in
-    let front = reached-fault _ _ _ _ _ _ _ _ _ _ _ _ c.next.ensures.in_turn c.loop-part.invariant.reached c.in-Err.ensures.reads (input-uncut _ _ told) input more agrees
-    ∙ ap (λ f. script c.loop-part.invariant.parts (Some f)) told.same in
-    let answered = c.next.ensures.kept _ _ _ _ (c.loop-part.invariant.answered total begun) in
+    let front = reached-fault _ _ _ _ _ _ _ _ _ _ _ _ c.next_part.ensures.in_turn c.loop-mode.invariant.reached (rw c.in-Err.is at c.in_ok-found.ensures.reads) (input-uncut _ _ told) input more agrees
+    ∙ ap (λ f. script c.loop-mode.invariant.parts (Some f)) told.same in
+    let answered = c.next_part.ensures.kept _ _ _ (c.loop-mode.invariant.answered total begun) in
     subst (λ s. Means (total s) c.end-in-Script.result (g.W.Sink.contents c.args.writer.now) (g.W.Sink.contents c.end-in-Script.new.writer)) (sym front) (c.end-in-Script.ensures.output _ _ _ answered)
 
 pub returns-in-Script-clause-taken : goal.returns-in-Script-clause-taken
-returns-in-Script-clause-taken g c = loses-more _ _ _ c.loop-part.invariant.reached.taken c.next.ensures.reads.moves.taken
+returns-in-Script-clause-taken g c = loses-more _ _ _ c.loop-mode.invariant.reached.taken c.in_ok-found.ensures.reads.moves.taken
 
 pub returns-in_default : goal.returns-in_default
 returns-in_default g c =
     let told = reader-fault c.in-Err.fault c.from.result c.from.ensures c.in_default.not-Script in
     let before = g.W.Sink.contents c.args.writer.now in
-    let after = g.W.Sink.contents c.loop-part.writer in
+    let after = g.W.Sink.contents c.next_part.new.writer in
     record {
       output = λ total begun input more agrees.
-          let front = reached-front _ _ _ _ _ _ c.loop-part.invariant.reached c.next.ensures.reads.moves.taken input more agrees in
+          let front = reached-front _ _ _ _ _ _ c.loop-mode.invariant.reached c.in_ok-found.ensures.reads.moves.taken input more agrees in
           reader-means _ _ told (total (script_from g.M.PartByPart.coming start input)) before after
-          (subst (λ s. AppendsPart before after (total s).text) (sym front.is) (c.next.ensures.front _ _ front.rest.items front.rest.fault _ _ (c.loop-part.invariant.answered total begun)));
-      taken = loses-more _ _ _ c.loop-part.invariant.reached.taken c.next.ensures.reads.moves.taken;
-      read = or-fault _ _ _ _ _ (c.in-Err.ensures.reads.read c.loop-part.invariant.reached.open_end) (reader-read _ _ told) c.loop-part.invariant.unread;
-      write = or-fault _ _ _ _ _ (sym (or-false _)) (reader-unwritten _ _ told) c.loop-part.invariant.unwritten;
-      kinds = rw c.from.ensures (c.next.ensures.kinds _ _ (c.in-Err.ensures.reads.kind c.loop-part.invariant.reached.open_end));
+          (subst (λ s. AppendsPart before after (total s).text) (sym front.is) (c.next_part.ensures.front _ _ front.rest.items front.rest.fault _ (c.loop-mode.invariant.answered total begun)));
+      taken = loses-more _ _ _ c.loop-mode.invariant.reached.taken c.in_ok-found.ensures.reads.moves.taken;
+      read = or-fault _ _ _ _ _ ((rw c.in-Err.is at c.in_ok-found.ensures.reads).read c.loop-mode.invariant.reached.open_end) (reader-read _ _ told) c.loop-mode.invariant.unread;
+      write = or-fault _ _ _ _ _ c.in_ok-found.ensures.write (reader-unwritten _ _ told) c.loop-mode.invariant.unwritten;
+      kinds = rw c.from.ensures (c.next_part.ensures.faults _ _ ((rw c.in-Err.is at c.in_ok-found.ensures.reads).kind c.loop-mode.invariant.reached.open_end));
     }
+
+pub returns-in_err-answer-in-Ok-Some-clause-write : goal.returns-in_err-answer-in-Ok-Some-clause-write
+returns-in_err-answer-in-Ok-Some-clause-write g c =
+    let p = err_from_is_err_and c.from_residual-in_err-answer-in-Ok-Some.result c.from_residual-in_err-answer-in-Ok-Some.ensures.1 in
+    rw (p.1, p.2) (or-fault _ _ _ _ _ c.in_err-answer-in-Ok-Some.ensures.write refl (c.in_ok-found.ensures.write ∙ or-false _ ∙ c.loop-mode.invariant.unwritten))
+
+pub returns-in-Ok-None-clause-write : goal.returns-in-Ok-None-clause-write
+returns-in-Ok-None-clause-write g c = or-fault _ _ _ _ _ c.end.ensures.write refl (c.in_ok-found.ensures.write ∙ or-false _ ∙ c.loop-mode.invariant.unwritten)
+
+pub returns-in-Script-clause-write : goal.returns-in-Script-clause-write
+returns-in-Script-clause-write g c = or-fault _ _ _ _ _ c.end-in-Script.ensures.write refl (c.in_ok-found.ensures.write ∙ or-false _ ∙ c.loop-mode.invariant.unwritten)

@@ -7,8 +7,8 @@ use Rattle.conf_tool.proofs.Reached.{Reached}
 use Rattle.conf_tool.proofs.run.part_by_part.run_by_part.Given as goal
 
 -- the parts so far were read and answered, and no device failed
-abbrev pub invariant-loop-part : goal.invariant-loop-part
-invariant-loop-part g l =
+abbrev pub invariant-loop-mode : goal.invariant-loop-mode
+invariant-loop-mode g l =
     let remaining = g.R.Source.remaining in
     let contents = g.W.Sink.contents in
     let mode = g.M.PartByPart in
@@ -23,5 +23,5 @@ invariant-loop-part g l =
     }
 
 -- an input has only so many lines, and each part has one
-abbrev pub decreases-loop-part : goal.decreases-loop-part
-decreases-loop-part g l = longest_input - (g.M.PartByPart.reading l.mode).place.lines
+abbrev pub decreases-loop-mode : goal.decreases-loop-mode
+decreases-loop-mode g l = longest_input - (g.M.PartByPart.reading l.mode).place.lines

@@ -1,0 +1,66 @@
+-- What was answered stays answered where what waits is written on: known bytes stay as they were.
+use Rattle.std.proofs.Common.{ℕ, List, refl, ◌∙◌}
+use Rattle.std.specs.Prelude.{Option, Some, None}
+use Rattle.std.specs.Io.KnownBytes.{Appends, Keeps}
+use Rattle.dd_file.specs.Device.{AppendsPart}
+use Rattle.dd_file.specs.Reading.{Script}
+use Rattle.dd_file.specs.RewriterState.{RewriterState, HasWritten}
+use Rattle.dd_file.specs.declared.item.Item.{Item}
+use Rattle.conf_session.specs.SessionState.{SessionState}
+use Rattle.conf_tool.specs.Outputs.{Output}
+use Rattle.conf_tool.specs.Answered.{WroteFront, HasChecked, HasRewritten, HasObeyed}
+
+pub keeps-still : (held : Option (List ℕ)) → Keeps held held
+keeps-still None = tt
+keeps-still (Some bytes) = refl
+
+pub keeps-keeps : (old mid new : Option (List ℕ)) → Keeps old mid → Keeps mid new → Keeps old new
+keeps-keeps None mid new a b = tt
+keeps-keeps (Some o) None new a b = absurd a
+keeps-keeps (Some o) (Some m) None a b = absurd b
+keeps-keeps (Some o) (Some m) (Some n) a b = b ∙ a
+
+pub kept-appends : (old mid new : Option (List ℕ)) (bytes : List ℕ) → Appends old mid bytes → Keeps mid new → Appends old new bytes
+kept-appends None mid new bytes a k = tt
+kept-appends (Some o) None new bytes a k = absurd a
+kept-appends (Some o) (Some m) None bytes a k = absurd k
+kept-appends (Some o) (Some m) (Some n) bytes a k = k ∙ a
+
+pub kept-part : (old mid new : Option (List ℕ)) (bytes : List ℕ) → AppendsPart old mid bytes → Keeps mid new → AppendsPart old new bytes
+kept-part None mid new bytes a k = tt
+kept-part (Some o) None new bytes a k = absurd a
+kept-part (Some o) (Some m) None bytes a k = absurd k
+kept-part (Some o) (Some m) (Some n) bytes a k = (a.0, a.1, a.2, k ∙ a.3)
+
+pub kept-written : (newlines : ℕ) (start mid new : Option (List ℕ)) (text : List ℕ) → HasWritten newlines start mid text → Keeps mid new → HasWritten newlines start new text
+kept-written newlines start mid new text written k = record {
+  counted = written.counted;
+  gained = kept-appends start mid new _ written.gained k;
+  begun = λ rest. kept-part start mid new _ (written.begun rest) k;
+}
+
+-- the same of what each mode has answered
+pub kept-front : {A : Type 0} (total left : Script A → Output) (parts : List A) (before mid new : Option (List ℕ)) → WroteFront total left parts before mid → Keeps mid new → WroteFront total left parts before new
+kept-front total left parts before mid new front k = record { text = front.text; wrote = kept-appends before mid new front.text front.wrote k; is = front.is }
+
+pub kept-checked : (session : SessionState) (directives mismatches : ℕ) (total : Script Item → Output) (parts : List Item) (before mid new : Option (List ℕ)) →
+    HasChecked session directives mismatches total parts before mid → Keeps mid new → HasChecked session directives mismatches total parts before new
+kept-checked session directives mismatches total parts before mid new checked k = record { front = kept-front total _ parts before mid new checked.front k; few = checked.few }
+
+pub kept-rewritten : (session : SessionState) (rewriter : RewriterState) (total : Script Item → Output) (parts : List Item) (before mid new : Option (List ℕ)) →
+    HasRewritten session rewriter total parts before mid → Keeps mid new → HasRewritten session rewriter total parts before new
+kept-rewritten session rewriter total parts before mid new rewritten k = record {
+  text = rewritten.text;
+  wrote = kept-written rewriter.newlines before mid new rewritten.text rewritten.wrote k;
+  ready = rewritten.ready;
+  is = rewritten.is;
+}
+
+pub kept-obeyed : (session : SessionState) (rewriter : RewriterState) (count : ℕ) (total : Script Item → Output) (parts : List Item) (before mid new : Option (List ℕ)) →
+    HasObeyed session rewriter count total parts before mid → Keeps mid new → HasObeyed session rewriter count total parts before new
+kept-obeyed session rewriter count total parts before mid new obeyed k = record {
+  unwritten = keeps-keeps before mid new obeyed.unwritten k;
+  ready = obeyed.ready;
+  nothing = obeyed.nothing;
+  is = obeyed.is;
+}
