@@ -1,4 +1,5 @@
-//! Readers and writers that give and take little at once, and that fail where a test wants it.
+//! Readers and writers that give and take little at once, and that fail where a test wants it, with the error after which
+//! other programs try again.
 use dd_file::device::{FromRead, ToWrite};
 use std::alloc::Global;
 use std::io;
@@ -17,7 +18,7 @@ impl Read for Trickle {
         self.calls = self.calls.saturating_add(1);
         if self.until_fault == 0 {
             self.until_fault = usize::MAX;
-            return Err(ErrorKind::Other.into());
+            return Err(ErrorKind::Interrupted.into());
         }
         self.until_fault = self.until_fault.saturating_sub(1);
         if self.bytes.is_empty() || buffer.is_empty() {
@@ -61,7 +62,7 @@ impl Write for Taker {
         if self.room == 0 {
             self.room = usize::MAX;
             return match self.stop {
-                Stop::Fault => Err(ErrorKind::Other.into()),
+                Stop::Fault => Err(ErrorKind::Interrupted.into()),
                 Stop::TakesNone => Ok(0),
             };
         }

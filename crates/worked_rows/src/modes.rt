@@ -40,7 +40,7 @@ const NO_PLAN: &[u8] = b"# no plan: the earlier configuration has no voter\n";
 // A mode, its input and its output, and how it ends.
 type Case = (Mode, &'static [u8], &'static [u8], Status);
 
-static CASES: [Case; 10] = [
+static CASES: [Case; 11] = [
     (Mode::Lines, CHANGES, ANSWERS, Status::Clean),
     (Mode::Check, CUT, NONE_DIFFERS, Status::Clean),
     (Mode::Check, BARE, BARE_REPORT, Status::Different),
@@ -56,6 +56,7 @@ static CASES: [Case; 10] = [
     (Mode::Rewrite, ENTERED, ENTERED, Status::Clean),
     (Mode::Undo, ENTERED, BACK, Status::Clean),
     (Mode::Undo, CUT, NO_PLAN, Status::Different),
+    (Mode::Undo, BARE, NO_PLAN, Status::Different),
 ];
 
 fn run_mode<R: Source, W: Sink>(
