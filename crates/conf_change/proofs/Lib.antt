@@ -8,7 +8,6 @@ pub mod Soundness
 pub mod ConfStateLemmas
 pub mod Fresh
 pub mod Rows
-pub mod Looking
 pub mod LastWordLemmas
 pub mod Joining
 pub mod Picking

@@ -23,8 +23,21 @@ pub(crate) fn append_where(text: &mut Vec<u8>, there: bool, part: &[u8]) -> Resu
     if there { append(text, part) } else { Ok(()) }
 }
 
-// Appends a number in decimal.
+// Appends a number in decimal. Most ids have one digit, which needs no buffer.
 pub(crate) fn append_number(text: &mut Vec<u8>, number: u64) -> Result<(), NoMemory>
+    ensures ok { OnOk result (text.new.items ≡ text.old.items ++ decimal number) }
+    ensures extends { Extends text.old.items text.new.items }
+{
+    if number >= 10 {
+        return append_digits(text, number);
+    }
+    text.push(b'0' + number as u8)?;
+    Ok(())
+}
+
+// Appends a number of any size. It stays a call, so that its buffer costs nothing where one digit is appended.
+#[inline(never)]
+fn append_digits(text: &mut Vec<u8>, number: u64) -> Result<(), NoMemory>
     ensures ok { OnOk result (text.new.items ≡ text.old.items ++ decimal number) }
     ensures extends { Extends text.old.items text.new.items }
 {

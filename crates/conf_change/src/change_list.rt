@@ -6,7 +6,7 @@ ghost use Rattle.conf_change.specs.ChangeList.{StandsFor, IsFirstBad, bad_token,
 use crate::change::{Change, Kind};
 use crate::number::read_number;
 use crate::words::next_token;
-use std::alloc::{AllocFailed, Global};
+use std::alloc::{AllocError, AllocFailed, Global};
 use thiserror::Error;
 
 /// Why a text is no list of changes, with the token that decides: the first one that spells no change.
@@ -35,6 +35,16 @@ impl From<AllocFailed<Change>> for TokenFault<'_> {
     }
 }
 
+impl From<AllocError> for TokenFault<'_> {
+    ghost use Rattle.conf_change.specs.declared.change_list.TokenFault.TheVariants.{NoMemory};
+
+    ghost from_gives = { λ _ fault. fault ≡ NoMemory };
+
+    fn from(_error: AllocError) -> Self {
+        TokenFault::NoMemory
+    }
+}
+
 /// Reads a list of changes: tokens separated by white space, each a letter and a decimal number. Numbers are below
 /// 2^64 and may have leading zeros; the first token that is none of these decides. A text without tokens is the empty
 /// list.
@@ -47,7 +57,8 @@ pub fn read_changes(alloc: Global, text: &[u8]) -> Result<Vec<Change>, TokenFaul
     ensures value { IfOk result (λ changes. changes_in text.now ≡ Ok changes.items) }
     ensures fault { IfErr result (λ fault. IfSome (bad_token fault) (λ bad. changes_in text.now ≡ Err bad)) }
 {
-    let mut changes = Vec::new(alloc);
+    // Room for a usual list at once: a token and the space behind it have three bytes at least.
+    let mut changes = Vec::with_capacity(alloc, text.len().div_ceil(3).min(64))?;
     let mut rest = text;
     while let Some((token, behind)) = next_token(rest) {
         changes.push(read_change(token)?)?;

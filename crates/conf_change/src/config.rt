@@ -1,9 +1,10 @@
 //! Configurations: who votes, who learns, and what is wrong with one that is not valid.
 ghost use Rattle.std.specs.Prelude.{◌≡◌, ◌↔◌, Some, true, false, not, ◌&&◌, IfOk, IfErr, OnOk, OnErr, IsOk, IsTrue, if◌then◌else◌};
+ghost use Rattle.quorum_sets.specs.Ids.{has};
 ghost use Rattle.conf_change.specs.Configuration.{first_broken, is_valid, keeps, is_within, is_apart, is_same, is_same_set};
 ghost use Rattle.conf_change.specs.declared.config.Invariant.{Invariant};
 
-use quorum_sets::{MemberSet, NoMemory, symdiff};
+use quorum_sets::{MemberSet, NoMemory, has_next, symdiff};
 use std::marker::Model;
 use thiserror::Error;
 
@@ -124,10 +125,17 @@ pub fn check<S: MemberSet>(config: &Config<S>) -> Result<(), Invariant>
 fn holds_zero<S: MemberSet>(config: &Config<S>) -> bool
     ensures { result ≡ not (keeps config.now Invariant.ZeroId) }
 {
-    config.incoming.contains(0)
-        || config.outgoing.contains(0)
-        || config.learners.contains(0)
-        || config.learners_next.contains(0)
+    begins_with_zero(&config.incoming)
+        || begins_with_zero(&config.outgoing)
+        || begins_with_zero(&config.learners)
+        || begins_with_zero(&config.learners_next)
+}
+
+// Whether the set has 0, which would stand at its first place.
+fn begins_with_zero<S: MemberSet>(set: &S) -> bool
+    ensures { result ≡ has (S.ids set.now) 0 }
+{
+    has_next(set, &mut 0, 0)
 }
 
 // Answers the first invariant of the next learners that is broken. One walk sees to both.
@@ -137,12 +145,14 @@ fn check_next<S: MemberSet>(next: &S, incoming: &S, outgoing: &S) -> Result<(), 
     ensures broken { IfErr result (λ broken. broken ≡ (if is_within (S.ids next.now) (S.ids outgoing.now) then Invariant.NextAndIncoming else Invariant.NextNotOutgoing)) }
 {
     let mut apart = true;
+    let mut incoming_place = 0;
+    let mut outgoing_place = 0;
     for place in 0..next.len() {
         if let Some(id) = next.at(place) {
-            if !outgoing.contains(id) {
+            if !has_next(outgoing, &mut outgoing_place, id) {
                 return Err(Invariant::NextNotOutgoing);
             }
-            if incoming.contains(id) {
+            if has_next(incoming, &mut incoming_place, id) {
                 apart = false;
             }
         }
@@ -158,9 +168,11 @@ fn check_next<S: MemberSet>(next: &S, incoming: &S, outgoing: &S) -> Result<(), 
 fn is_apart_from_both<S: MemberSet>(ids: &S, first: &S, second: &S) -> bool
     ensures { result ≡ (is_apart (S.ids ids.now) (S.ids first.now) && is_apart (S.ids ids.now) (S.ids second.now)) }
 {
+    let mut first_place = 0;
+    let mut second_place = 0;
     for place in 0..ids.len() {
         if let Some(id) = ids.at(place) {
-            if first.contains(id) || second.contains(id) {
+            if has_next(first, &mut first_place, id) || has_next(second, &mut second_place, id) {
                 return false;
             }
         }

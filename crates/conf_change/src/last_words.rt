@@ -1,5 +1,5 @@
 //! What a list of changes says of each id: one entry an id, in rising order.
-ghost use Rattle.std.specs.Prelude.{◌≡◌, ◌++◌, map, IfOk, OnOk};
+ghost use Rattle.std.specs.Prelude.{◌≡◌, [], ◌∷◌, ◌++◌, map, option_to_list, IfOk, OnOk, IsNone};
 ghost use Rattle.std.specs.List.Sorted.{IsNonDecreasingBy};
 ghost use Rattle.conf_change.specs.LastWords.{silent, own_word, and_later, IsAdded, Joins, ListsLastWords};
 
@@ -64,26 +64,28 @@ pub(crate) fn last_words(
 ) -> Result<SmallVec<LastWord, 16>, NoMemory>
     ensures { IfOk result (λ words. ListsLastWords (map (λ m. m.0) members.now) changes.now words.items) }
 {
-    let mut each = in_turn(alloc, members, changes)?;
+    let mut each = SmallVec::new(alloc);
+    add_in_turn(&mut each, members, changes)?;
     joined_by_id(alloc, each.as_mut_slice())
 }
 
-// The members, of whom nothing is said, and what each change says of its id.
-fn in_turn(
-    alloc: Global,
+// Adds the members, of whom nothing is said, and what each change says of its id.
+fn add_in_turn(
+    words: &mut SmallVec<LastWord, 16>,
     members: &[(u64, Progress)],
     changes: &[Change],
-) -> Result<SmallVec<LastWord, 16>, NoMemory>
-    ensures { IfOk result (λ words. words.items ≡ map (λ m. silent m.0) members.now ++ map own_word changes.now) }
+) -> Result<(), NoMemory>
+    requires { words.old.items ≡ [] }
+    ensures { OnOk result (words.new.items ≡ map (λ m. silent m.0) members.now ++ map own_word changes.now) }
 {
-    let mut words = SmallVec::with_capacity(alloc, members.len().saturating_add(changes.len()))?;
+    words.reserve(members.len().saturating_add(changes.len()))?;
     for member in members {
         words.push(LastWord::silent(member.0))?;
     }
     for change in changes {
         words.push(LastWord::of(*change))?;
     }
-    Ok(words)
+    Ok(())
 }
 
 // What is said of each id, as one entry. The sort keeps the order of what is said of one id.
@@ -99,24 +101,34 @@ fn joined(alloc: Global, each: &[LastWord]) -> Result<SmallVec<LastWord, 16>, No
     requires { IsNonDecreasingBy (λ w. w.id) each.now }
     ensures { IfOk result (λ words. Joins each.now words.items) }
 {
-    let mut words = SmallVec::with_capacity(alloc, each.len())?;
+    let mut words = SmallVec::new(alloc);
+    words.reserve(each.len())?;
+    let mut last = None;
     for word in each {
-        add(&mut words, *word)?;
+        last = Some(add(&mut words, last, *word)?);
+    }
+    if let Some(word) = last {
+        words.push(word)?;
     }
     Ok(words)
 }
 
-// Adds what is said of an id that is the last one or behind it.
-fn add(words: &mut SmallVec<LastWord, 16>, word: LastWord) -> Result<(), NoMemory>
-    ensures { OnOk result (IsAdded words.old.items word words.new.items) }
+// Adds what is said of an id that is the last one or behind it. The last entry stands apart, and goes behind the others
+// once another comes.
+fn add(
+    words: &mut SmallVec<LastWord, 16>,
+    last: Option<LastWord>,
+    word: LastWord,
+) -> Result<LastWord, NoMemory>
+    requires { IsNone last → words.old.items ≡ [] }
+    ensures { IfOk result (λ added. IsAdded (words.old.items ++ option_to_list last) word (words.new.items ++ added ∷ [])) }
 {
-    match words.pop() {
-        Some(last) if last.id == word.id => words.push(last.and_later(word))?,
+    match last {
+        Some(last) if last.id == word.id => Ok(last.and_later(word)),
         Some(last) => {
             words.push(last)?;
-            words.push(word)?;
+            Ok(word)
         }
-        None => words.push(word)?,
+        None => Ok(word),
     }
-    Ok(())
 }

@@ -17,7 +17,7 @@ use crate::floor::Floor;
 use crate::progress::Progress;
 use crate::saved::ConfState;
 use crate::tracker::Tracker;
-use quorum_sets::{MemberSet, NoMemory, set_of};
+use quorum_sets::{MemberSet, NoMemory, has_next, set_of};
 use smallvec::SmallVec;
 use std::alloc::Global;
 use thiserror::Error;
@@ -165,9 +165,10 @@ fn fresh_of<S: MemberSet>(
 {
     let fresh = Progress::fresh(next_index);
     let mut members = SmallVec::with_capacity(alloc, ids.len())?;
+    let mut learner_place = 0;
     for place in 0..ids.len() {
         if let Some(id) = ids.at(place) {
-            let learner = learners.contains(id);
+            let learner = has_next(learners, &mut learner_place, id);
             members.push((id, Progress { learner, ..fresh }))?;
         }
     }

@@ -11,7 +11,7 @@ use crate::number::read_number;
 use crate::saved::{ConfState, ConfStateFault};
 use crate::words::trimmed;
 use quorum_sets::NoMemory;
-use std::alloc::{AllocFailed, Global};
+use std::alloc::{AllocError, AllocFailed, Global};
 
 impl From<AllocFailed<u64>> for ConfStateFault {
     ghost use Rattle.conf_change.specs.declared.saved.ConfStateFault.TheVariants.{NoMemory};
@@ -19,6 +19,16 @@ impl From<AllocFailed<u64>> for ConfStateFault {
     ghost from_gives = { λ _ fault. fault ≡ NoMemory };
 
     fn from(_error: AllocFailed<u64>) -> ConfStateFault {
+        ConfStateFault::NoMemory
+    }
+}
+
+impl From<AllocError> for ConfStateFault {
+    ghost use Rattle.conf_change.specs.declared.saved.ConfStateFault.TheVariants.{NoMemory};
+
+    ghost from_gives = { λ _ fault. fault ≡ NoMemory };
+
+    fn from(_error: AllocError) -> ConfStateFault {
         ConfStateFault::NoMemory
     }
 }
@@ -128,7 +138,8 @@ fn read_numbers(alloc: Global, text: &[u8]) -> Result<Vec<u64>, ConfStateFault>
     ensures ok { IfOk result (λ numbers. numbers_in text.now ≡ Some numbers.items) }
     ensures bad { result ≡ Err ConfStateFault.BadConfState → numbers_in text.now ≡ None }
 {
-    let mut numbers = Vec::new(alloc);
+    // Room for a usual list at once: a number and the space behind it have two bytes at least.
+    let mut numbers = Vec::with_capacity(alloc, text.len().div_ceil(2).min(64))?;
     if text.is_empty() {
         return Ok(numbers);
     }

@@ -16,10 +16,10 @@ use crate::config::Config;
 use crate::edits;
 use crate::floor::Floor;
 use crate::last_words::{LastWord, last_words};
-use crate::places::{Places, has_next};
+use crate::places::Places;
 use crate::progress::Progress;
 use crate::seat::Seat;
-use quorum_sets::{MemberSet, NoMemory, symdiff};
+use quorum_sets::{MemberSet, NoMemory, has_next, symdiff};
 use smallvec::SmallVec;
 use std::alloc::Global;
 use std::marker::Model;
@@ -300,8 +300,9 @@ impl<S: MemberSet> Tracker<S> {
         ensures kept { IfOk result (λ members. (q : ℕ) → finite.get (finite.from_entries {R = nat_cmp} members.items) q ≡ kept_by (is_member config.now q) (has config.now.learners q) (finite.get self.now.progress q)) }
     {
         let mut members = SmallVec::with_capacity(self.alloc, self.members.len())?;
+        let mut places = Places::default();
         for member in self.members.as_slice() {
-            let entry = kept(config, member.0, member.1);
+            let entry = kept(config, member.0, member.1, &mut places);
             push_entry(&mut members, member.0, entry)?;
         }
         Ok(members)
@@ -331,11 +332,17 @@ fn set_progress_of(members: &mut [(u64, Progress)], id: u64, progress: Progress)
 }
 
 // What an id keeps that has progress: a member all of it, with its mark, and anybody else nothing.
-fn kept<S: MemberSet>(config: &Config<S>, id: u64, progress: Progress) -> Option<Progress>
+fn kept<S: MemberSet>(
+    config: &Config<S>,
+    id: u64,
+    progress: Progress,
+    places: &mut Places,
+) -> Option<Progress>
     ensures { result ≡ kept_by (is_member config.now id) (has config.now.learners id) (Some progress) }
 {
-    let learner = config.learners.contains(id);
-    if config.incoming.contains(id) || config.outgoing.contains(id) || learner {
+    let learner = has_next(&config.learners, &mut places.learners, id);
+    let incoming = has_next(&config.incoming, &mut places.incoming, id);
+    if learner || incoming || has_next(&config.outgoing, &mut places.outgoing, id) {
         Some(Progress {
             learner,
             ..progress

@@ -11,3 +11,5 @@ pub mod RankingLemmas
 pub mod UnionLemmas
 pub mod Overlapping
 pub mod CommonWalk
+pub mod PlaceLemmas
+pub mod Differing

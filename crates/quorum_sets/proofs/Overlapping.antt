@@ -1,23 +1,20 @@
 -- More than half and more than half have something in common: in one set, and across two sets that differ in one id.
 use Rattle.std.proofs.Common.{◌≡◌, ℕ, ◌+◌, ◌*◌, ◌<◌, ◌≤◌, Bool, true, false, cond, not, ◌&&◌, ◌||◌, List, [], ◌∷◌, length, refl, sym, ap, ◌∙◌, arith, inl, inr}
 use Rattle.std.specs.Prelude.{count_by, filter, nat_le, if◌then◌else◌}
-use Rattle.std.specs.Ordering.{nat_cmp}
 use Rattle.std.specs.List.{list_any}
-use Rattle.std.proofs.Math.Bool.{and_comm}
 use Rattle.std.proofs.lemmas.Bool.{cases_Bool, both_ways, and_parts, and_from, or_cases, or_parts, or_left, or_right, ltb-true, lt-ltb, leb-true, le-leb, eqb-true}
 use Rattle.std.proofs.lemmas.List.Folds.{Any-from_list_any}
-use Rattle.std.proofs.lemmas.List.Kept.{IsStrictlySortedBy-filter}
 use Rattle.std.proofs.lemmas.List.Filters.{length-filter_both}
 use Rattle.std.proofs.lemmas.List.Sorted.{IsPermutation-filter_both, sum_by-IsPermutation}
 use Rattle.std.proofs.lemmas.List.Sums.{sum_by-cons, count_by-le-length, length-filter, sum_by-append}
-use Rattle.quorum_sets.specs.Ids.{Ids, has, ascending, size, on_most, is_empty, ids_of, difference_count}
+use Rattle.quorum_sets.specs.Ids.{Ids, has, ascending, size, on_most, is_empty, difference_count}
 use Rattle.quorum_sets.specs.Voters.{Voters, AreNeighbours}
 use Rattle.quorum_sets.specs.Committed.{Acks, acked_index, committed_index}
 use Rattle.quorum_sets.specs.Votes.{Votes, is_yes, is_won, is_lost}
 use Rattle.quorum_sets.specs.Overlap.{QuorumsMeet, CommitsAndWins, CommittedMeetsWon}
 use Rattle.quorum_sets.specs.declared.voting.VoteResult.TheVariants.{VotePending, VoteLost, VoteWon}
-use Rattle.quorum_sets.proofs.IdLemmas.{has-ascending, has-ids_where, ascending-is_sorted, ascending-ids_of, same_ids}
 use Rattle.quorum_sets.proofs.Counts.{count_by-mono}
+use Rattle.quorum_sets.proofs.Differing.{kept-is_common}
 use Rattle.quorum_sets.proofs.CommitLemmas.{IsCommitted-committed_index}
 
 abbrev both : {X : Type 0} → (X → Bool) → (X → Bool) → X → Bool
@@ -67,17 +64,6 @@ meet_in_one p q xs most_p most_q = elim (cases_Bool (list_any (both p q) xs)) [
 ]
 
 -- ---- across two sets
--- the ids of the one that the other has are those of the other that the one has
-kept-is_common : (a b : Ids) → filter (has b) (ascending a) ≡ filter (has a) (ascending b)
-kept-is_common a b =
-    let in_a = filter (has b) (ascending a) in
-    let in_b = filter (has a) (ascending b) in
-    sym (ascending-ids_of in_a (IsStrictlySortedBy-filter nat_cmp (has b) (ascending a) (ascending-is_sorted a)))
-    ∙ ap ascending (same_ids (ids_of in_a) (ids_of in_b) (λ q.
-    has-ids_where (has b) (ascending a) q ∙ (λ i. has b q && sym (has-ascending a q) i) ∙ and_comm (has b q) (has a q)
-    ∙ (λ i. has a q && has-ascending b q i) ∙ sym (has-ids_where (has a) (ascending b) q)))
-    ∙ ascending-ids_of in_b (IsStrictlySortedBy-filter nat_cmp (has a) (ascending b) (ascending-is_sorted b))
-
 -- the sets differ in at most one id
 meet_across : (p q : ℕ → Bool) (a b : Ids) → difference_count a b ≤ 1 → Most p (ascending a) → Most q (ascending b) → Shared p q
 meet_across p q a b few most_p most_q = elim (cases_Bool (list_any (both p q) (ascending a))) [

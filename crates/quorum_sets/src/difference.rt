@@ -1,8 +1,8 @@
 //! How far two sets differ.
-ghost use Rattle.std.specs.Prelude.{◌≡◌, ◌-◌, ◌^◌, min};
-ghost use Rattle.quorum_sets.specs.Ids.{difference_count};
+ghost use Rattle.std.specs.Prelude.{◌≡◌, ◌-◌, ◌^◌, ◌≤◌, min};
+ghost use Rattle.quorum_sets.specs.Ids.{has, size, count_of, difference_count};
 
-use crate::counting::count_where;
+use crate::looking::has_next;
 use crate::member_set::MemberSet;
 
 /// How many ids are in just one of the sets, or the greatest `usize` where that is less. It is
@@ -10,7 +10,24 @@ use crate::member_set::MemberSet;
 pub fn symdiff<S: MemberSet>(a: &S, b: &S) -> usize
     ensures { result ≡ min (difference_count (S.ids a.now) (S.ids b.now)) (2 ^ 64 - 1) }
 {
-    let only_first = count_where(a, |id| !b.contains(id));
-    let only_second = count_where(b, |id| !a.contains(id));
-    only_first.saturating_add(only_second)
+    let common = common_count(a, b);
+    (a.len() - common).saturating_add(b.len() - common)
+}
+
+// How many ids are in both sets: one walk over both, in rising order.
+fn common_count<S: MemberSet>(a: &S, b: &S) -> usize
+    ensures count { result ≡ count_of (has (S.ids b.now)) (S.ids a.now) }
+    ensures within { result ≤ size (S.ids a.now) }
+    ensures within_other { result ≤ size (S.ids b.now) }
+{
+    let mut count = 0;
+    let mut other_place = 0;
+    for place in 0..a.len() {
+        if let Some(id) = a.at(place) {
+            if has_next(b, &mut other_place, id) {
+                count += 1;
+            }
+        }
+    }
+    count
 }

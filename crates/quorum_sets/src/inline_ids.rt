@@ -1,6 +1,7 @@
 //! A set of ids as a sorted list, which lies in the value while it is short.
-ghost use Rattle.std.specs.Prelude.{◌≡◌, ◌<◌, ◌≤◌, not, IfOk, OnOk, OnErr, IsOk, MatchResult};
+ghost use Rattle.std.specs.Prelude.{◌≡◌, ◌<◌, ◌≤◌, not, insert, IfOk, OnOk, OnErr, IsOk, MatchResult};
 ghost use Rattle.quorum_sets.specs.Ids.{has, with_id, size};
+ghost use Rattle.smallvec.specs.SmallVec.{small_vec_len, HasRoomFor};
 ghost use Rattle.quorum_sets.specs.Rising.{IsRising, StandsAt, GoesTo};
 
 use crate::member_set::MemberSet;
@@ -61,7 +62,7 @@ impl MemberSet for InlineIds {
         let Err(place) = place_of(self.list.as_slice(), id) else {
             return Ok(false);
         };
-        self.list.insert(place, id)?;
+        put_in(&mut self.list, place, id)?;
         Ok(true)
     }
 
@@ -95,4 +96,20 @@ fn place_of(list: &[u64], id: u64) -> Result<usize, usize>
         Some(last) if *last < id => Err(list.len()),
         _ => list.binary_search(&id),
     }
+}
+
+// Puts an id in at a place. At the end of the list nothing is moved.
+fn put_in(list: &mut SmallVec<u64, 8>, place: usize, id: u64) -> Result<(), NoMemory>
+    requires { place ≤ small_vec_len list.old }
+    ensures ok { OnOk result (list.new.items ≡ insert list.old.items place id) }
+    ensures succeeds { HasRoomFor list.old 1 → IsOk result }
+    ensures err { OnErr result (list.new ≡ list.old) }
+    ensures capacity { list.old.capacity ≤ list.new.capacity }
+{
+    if place == list.len() {
+        list.push(id)?;
+    } else {
+        list.insert(place, id)?;
+    }
+    Ok(())
 }

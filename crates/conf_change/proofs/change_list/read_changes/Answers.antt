@@ -11,7 +11,7 @@ use Rattle.conf_change.proofs.change_list.read_changes.Goals as goal
 pub returns-in_err-read_change-clause-first_bad : goal.returns-in_err-read_change-clause-first_bad
 returns-in_err-read_change-clause-first_bad c =
     let text = c.args.text.now in
-    let fault : IfErr c.from_residual.result (λ fault. IfSome (bad_token fault) (λ bad. changes_in text ≡ Err bad)) = grind (arith, common_steps) in
+    let fault : IfErr c.from_residual-in_err-read_change.result (λ fault. IfSome (bad_token fault) (λ bad. changes_in text ≡ Err bad)) = grind (arith, common_steps) in
     IfErr-weaker _ _ _ (λ fault told. IfSome_then (bad_token fault) told (λ bad is. IsFirstBad-from_err (words text) bad is)) fault
 
 pub returns-clause-stands : goal.returns-clause-stands

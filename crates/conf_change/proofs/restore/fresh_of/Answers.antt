@@ -12,7 +12,7 @@ loop-place-preserved g c = elim c.match-at.branch [
       let own = g.S.MemberSet.ids in
       mapped_more (λ id. (id, fresh_progress c.args.next_index (has (own c.args.learners.now) id))) (ascending (own c.args.ids.now)) c.loop-place.members.items c.match-at.members.items c.loop-place.place w.in-Some.id _
       (sym w.in-Some.ensures) c.loop-place.invariant
-      (λ i. (w.in-Some.id, with_mark (w.contains-learner.ensures i) (c.fresh-fresh.ensures i)))
+      (λ i. (w.in-Some.id, with_mark (w.has_next-learner.ensures i) (c.fresh-fresh.ensures i)))
       (ap (λ v. v.items) w.members-is ∙ w.in_ok-push.ensures.ok)
   | in_default w ↦ has_item _ _ _ (sym w.in_default.is ∙ c.at.ensures) c.len-place-end.ensures c.loop-place-test.true
 ]

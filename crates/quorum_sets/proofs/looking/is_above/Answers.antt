@@ -1,6 +1,6 @@
 use Rattle.std.proofs.Common.{sym, rules, ◌<◌}
-use Rattle.conf_change.proofs.Looking.{above_last}
-use Rattle.conf_change.proofs.places.is_above.Goals as goal
+use Rattle.quorum_sets.proofs.PlaceLemmas.{above_last}
+use Rattle.quorum_sets.proofs.looking.is_above.Goals as goal
 
 pub returns-in-Some : goal.returns-in-Some
 returns-in-Some g c = λ is.
