@@ -1,11 +1,11 @@
--- The shared members, found in a walk over the voters and one over the learners.
+-- The shared members, found in one walk over the voters and the learners.
 use Rattle.std.proofs.Common.{◌≡◌, ℕ, ◌+◌, ◌≤◌, Bool, true, false, ◌&&◌, ◌||◌, ◌==◌, ◌++◌, refl, sym, ap, ◌∙◌, slice_get, eqb-true}
 use Rattle.std.proofs.Math.Bool.{or-false}
 use Rattle.std.specs.Prelude.{Some}
 use Rattle.std.specs.List.{list_any}
 use Rattle.std.proofs.lemmas.List.Folds.{list_any-append}
-use Rattle.quorum_sets.specs.Ids.{Ids, no_ids, has, with_id, ascending, size}
-use Rattle.quorum_sets.proofs.IdLemmas.{has-no_ids, has-with_id, has-ascending, has-ids_where, same_ids}
+use Rattle.quorum_sets.specs.Ids.{Ids, no_ids, has, with_id, ascending, size, ids_of}
+use Rattle.quorum_sets.proofs.IdLemmas.{has-no_ids, has-with_id, has-ascending, has-ids_of, has-ids_where, same_ids}
 use Rattle.conf_change.specs.Configuration.{Configuration, members}
 use Rattle.conf_change.proofs.Passing.{is_passed, is_passed-more, is_passed-all}
 use Rattle.conf_plan.specs.Planned.{is_shared, shared_members, single_with}
@@ -55,27 +55,32 @@ pub shared_all : (before ids now : Ids) (target : Configuration) (place : ℕ) �
     → (q : ℕ) → has now q ≡ (has before q || (has ids q && is_shared target q))
 shared_all before ids now target place end so_far q = so_far q ∙ ap (λ b. has before q || (b && is_shared target q)) (is_passed-all ids place q end)
 
--- both walks
-pub shared_made : (voters learners none one both : Ids) (target : Configuration) → none ≡ no_ids
-    → ((q : ℕ) → has one q ≡ (has none q || (has voters q && is_shared target q))) → ((q : ℕ) → has both q ≡ (has one q || (has learners q && is_shared target q)))
-    → both ≡ shared_members (single_with voters learners) target
-shared_made voters learners none one both target empty first second =
-    same_ids both (shared_members (single_with voters learners) target) (λ q.
-    second q ∙ ap (λ b. b || (has learners q && is_shared target q)) (first q ∙ ap (λ b. b || (has voters q && is_shared target q)) (ap (λ s. has s q) empty ∙ has-no_ids q))
+-- the walk over both
+pub shared_made : (voters learners all none shared : Ids) (target : Configuration) → all ≡ ids_of (ascending voters ++ ascending learners) → none ≡ no_ids
+    → ((q : ℕ) → has shared q ≡ (has none q || (has all q && is_shared target q)))
+    → shared ≡ shared_members (single_with voters learners) target
+shared_made voters learners all none shared target both empty walked =
+    same_ids shared (shared_members (single_with voters learners) target) (λ q.
+    walked q ∙ ap (λ b. b || (has all q && is_shared target q)) (ap (λ s. has s q) empty ∙ has-no_ids q)
+    ∙ ap (λ b. b && is_shared target q) (in_both q)
     ∙ by_member (has voters q) (has learners q) (is_shared target q)
     ∙ sym (has-ids_where (is_shared target) (members (single_with voters learners)) q ∙ ap (λ b. is_shared target q && b) (is_one q)))
   where
+    in_both : (q : ℕ) → has all q ≡ (has voters q || has learners q)
+    in_both q =
+        ap (λ s. has s q) both ∙ has-ids_of (ascending voters ++ ascending learners) q
+        ∙ list_any-append (λ x. q == x) (ascending voters) (ascending learners)
+        ∙ sym (λ i. has-ascending voters q i || has-ascending learners q i)
+
     is_one : (q : ℕ) → list_any (λ x. q == x) (members (single_with voters learners)) ≡ ((has voters q || false) || has learners q)
     is_one q =
         list_any-append (λ x. q == x) (ascending voters ++ ascending no_ids) (ascending learners)
         ∙ ap (λ b. b || list_any (λ x. q == x) (ascending learners)) (list_any-append (λ x. q == x) (ascending voters) (ascending no_ids))
         ∙ sym (λ i. (has-ascending voters q i || (sym (has-no_ids q) ∙ has-ascending no_ids q) i) || has-ascending learners q i)
 
-    by_member : (v l s : Bool) → ((v && s) || (l && s)) ≡ (s && ((v || false) || l))
-    by_member true true true = refl
-    by_member true true false = refl
-    by_member true false true = refl
-    by_member true false false = refl
+    by_member : (v l s : Bool) → ((v || l) && s) ≡ (s && ((v || false) || l))
+    by_member true l true = refl
+    by_member true l false = refl
     by_member false true true = refl
     by_member false true false = refl
     by_member false false true = refl

@@ -4,11 +4,12 @@ ghost use Rattle.quorum_sets.specs.Ids.{has};
 ghost use Rattle.conf_plan.specs.Planned as planned;
 ghost use Rattle.conf_plan.specs.Planned.{single_with, is_shared};
 
-use conf_change::Config;
+use conf_change::{Config, union};
 use quorum_sets::{MemberSet, NoMemory};
 use std::alloc::Global;
 
-// Those of these voters and learners that are members of the target and no outgoing voters of it.
+// Those of these voters and learners that are members of the target and no outgoing voters of it. They are walked together,
+// so that each is put behind the last one.
 pub(crate) fn shared_members<S: MemberSet>(
     alloc: Global,
     incoming: &S,
@@ -17,9 +18,9 @@ pub(crate) fn shared_members<S: MemberSet>(
 ) -> Result<S, NoMemory>
     ensures { IfOk result (λ shared. S.ids shared ≡ planned.shared_members (single_with (S.ids incoming.now) (S.ids learners.now)) target.now) }
 {
+    let members = union(incoming, learners)?;
     let mut shared = S::empty(alloc);
-    add_shared(&mut shared, incoming, target)?;
-    add_shared(&mut shared, learners, target)?;
+    add_shared(&mut shared, &members, target)?;
     Ok(shared)
 }
 
