@@ -135,9 +135,15 @@ pub(crate) fn append_tracker(
 ) -> Result<(), NoMemory>
     ensures { OnOk result (text.new.items ≡ text.old.items ++ tracker_text tracker.now) }
 {
+    text.reserve(usual_room(tracker))?;
     write_config(text, tracker.config())?;
     text.push(b'\n')?;
     append_members(tracker, text)
+}
+
+// The room that the text mostly needs, so that it seldom grows while it is written.
+fn usual_room(tracker: &Tracker<SessionIds>) -> usize {
+    tracker.member_count().saturating_mul(64).saturating_add(64)
 }
 
 // Appends each member with its progress. After want of memory only some may be appended.
