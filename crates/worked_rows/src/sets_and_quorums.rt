@@ -1,7 +1,8 @@
 //! Sets of ids, and the worked values of quorums, committed indexes, votes and differences.
 use quorum_sets::{
     AckSource, InlineIds, MemberSet, NoMemory, TreeIds, VoteResult, chart, committed,
-    common_member, is_quorum, joint_chart, joint_committed, joint_vote, quorum, symdiff, vote,
+    common_member, has_next, is_quorum, joint_chart, joint_committed, joint_vote, quorum, symdiff,
+    vote,
 };
 use std::alloc::Global;
 use std::collections::BTreeMap;
@@ -363,6 +364,34 @@ fn differences(rt: HostRuntime) -> Result<(), Fail> {
     for (place, (a, b, count)) in DIFFERENCES.iter().enumerate() {
         assert!(rt; difference(rt.alloc(), *a, *b)? == *count, "row {place}");
     }
+    Ok(())
+}
+
+// Ids in the order of a walk that also goes back, and whether 2, 4 and 9 are asked for.
+static LOOKED_UP: [(u64, bool); 8] = [
+    (1, false),
+    (2, true),
+    (4, true),
+    (3, false),
+    (2, true),
+    (9, true),
+    (10, false),
+    (4, true),
+];
+
+fn looks_up(alloc: Global) -> Result<bool, NoMemory> {
+    let set = set_of(alloc, &[2, 4, 9])?;
+    let mut place = 0;
+    let mut is_told = true;
+    for (id, there) in &LOOKED_UP {
+        is_told &= has_next(&set, &mut place, *id) == *there;
+    }
+    Ok(is_told)
+}
+
+#[test]
+fn looked_up_in_a_walk(rt: HostRuntime) -> Result<(), Fail> {
+    assert!(rt; looks_up(rt.alloc())?);
     Ok(())
 }
 
