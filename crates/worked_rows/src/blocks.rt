@@ -43,3 +43,18 @@ fn nothing_is_written_after_a_fault(rt: HostRuntime) -> Result<(), Fail> {
     assert!(rt; takes(rt.alloc(), 5_000, Stop::TakesNone)?);
     Ok(())
 }
+
+// Whether two bytes that wait reach the device when they are written on.
+fn writes_on(alloc: Global) -> Result<bool, AllocError> {
+    let mut blocks = Blocks::new(alloc, taking(alloc, 20, 20, Stop::Fault))?;
+    let was_told = write_all(&mut blocks, b"12").is_err();
+    let is_told = blocks.write_on().is_err();
+    let device = blocks.into_inner().into_inner();
+    Ok(!was_told & !is_told & (device.taken.len() == 2) & (device.calls == 1))
+}
+
+#[test]
+fn what_waits_is_written_on(rt: HostRuntime) -> Result<(), Fail> {
+    assert!(rt; writes_on(rt.alloc())?);
+    Ok(())
+}

@@ -1,5 +1,6 @@
 //! Scripts and the items that are read of them, and the lines of inputs.
 use crate::devices::byte_by_byte;
+use dd_file::cut::{next_piece, without_end};
 use dd_file::device::{FromRead, Source};
 use dd_file::item::{Argument, Directive, Item};
 use dd_file::lines::Lines;
@@ -40,6 +41,61 @@ fn gives_lines(rt: HostRuntime) -> Result<(), Fail> {
         let shown = lines_of(rt.alloc(), *input)?;
         assert!(rt; shown.as_slice() == want.as_bytes(), "at {input}");
     }
+    Ok(())
+}
+
+// The lines of a text, cut off its front one by one.
+fn pieces_of(alloc: Global, text: &str) -> Result<Vec<u8>, AllocError> {
+    let mut shown = Vec::new(alloc);
+    let mut rest = text.as_bytes();
+    for _ in 0..9 {
+        if let Some((piece, behind)) = next_piece(rest) {
+            show_line(&mut shown, without_end(piece, b'\n'))?;
+            rest = behind;
+        }
+    }
+    Ok(shown)
+}
+
+static PIECES: [(&str, &str); 5] = [
+    ("", ""),
+    ("a\n\nbc", "<a><><bc>"),
+    ("\n", "<>"),
+    ("a\r\n", "<a\r>"),
+    ("abc", "<abc>"),
+];
+
+#[test]
+fn cuts_texts_behind_newlines(rt: HostRuntime) -> Result<(), Fail> {
+    for (text, want) in &PIECES {
+        let shown = pieces_of(rt.alloc(), *text)?;
+        assert!(rt; shown.as_slice() == want.as_bytes(), "at {text}");
+    }
+    Ok(())
+}
+
+// The lines of an input, each with an h before it where it was in hand.
+fn held_lines(alloc: Global, input: &str) -> Result<Vec<u8>, Fail> {
+    let mut source = FromRead::new(input.as_bytes());
+    let mut lines = Lines::new(alloc)?;
+    let mut shown = Vec::new(alloc);
+    for _ in 0..9 {
+        if let Some(held) = lines.next_held(&source) {
+            shown.push(b'h')?;
+            if let Some(line) = held? {
+                show_line(&mut shown, line.as_slice())?;
+            }
+        } else if let Some(line) = lines.next(&mut source)? {
+            show_line(&mut shown, line.as_slice())?;
+        }
+    }
+    Ok(shown)
+}
+
+#[test]
+fn tells_lines_in_hand(rt: HostRuntime) -> Result<(), Fail> {
+    let shown = held_lines(rt.alloc(), "a\nb\r\n\nc")?;
+    assert!(rt; shown.as_slice() == b"<a>h<b>h<><c>".as_slice());
     Ok(())
 }
 
@@ -107,6 +163,31 @@ fn shown<R: Source>(alloc: Global, source: &mut R) -> Result<Vec<u8>, Fail> {
         }
     }
     Ok(shown)
+}
+
+// The items of a script, each with an h before it where it was in hand.
+fn held_items(alloc: Global, input: &str) -> Result<Vec<u8>, Fail> {
+    let mut source = FromRead::new(input.as_bytes());
+    let mut reader = Reader::new(alloc)?;
+    let mut shown = Vec::new(alloc);
+    for _ in 0..9 {
+        if let Some(held) = reader.next_held(&source) {
+            shown.push(b'h')?;
+            if let Some(item) = held? {
+                show_item(&mut shown, &item)?;
+            }
+        } else if let Some(item) = reader.next(&mut source)? {
+            show_item(&mut shown, &item)?;
+        }
+    }
+    Ok(shown)
+}
+
+#[test]
+fn tells_items_in_hand(rt: HostRuntime) -> Result<(), Fail> {
+    let shown = held_items(rt.alloc(), "# a\nb\n\n----\n1\n\n\nc\n----\n2\n")?;
+    assert!(rt; shown.as_slice() == b"lines:<# a>|h2:b//1\n|hlines:<>|8:c//2\n|".as_slice());
+    Ok(())
 }
 
 static SCRIPTS: [(&str, &str); 51] = [
