@@ -1,8 +1,10 @@
 //! Changes of a configuration.
+use crate::sets::{has_ids, ids};
 use crate::texts::appends;
 use crate::twice::twice;
 use conf_change::{
-    Change, Changer, Refused, TokenFault, Transition, read_changes, write_config, write_progress,
+    Change, Changer, Refused, TokenFault, Transition, read_changes, union, write_config,
+    write_progress, write_refused, write_token_fault,
 };
 use quorum_sets::{InlineIds, MemberSet, NoMemory, TreeIds};
 use std::alloc::Global;
@@ -79,7 +81,7 @@ static MANY: [Row; 4] = [
     ),
 ];
 
-static TAKEN: [Row; 7] = [
+static TAKEN: [Row; 9] = [
     (Call::Change(Transition::Auto), b"v1", Ok(ONE)),
     (
         Call::Change(Transition::Auto),
@@ -122,13 +124,38 @@ static TAKEN: [Row; 7] = [
     ),
     (Call::Change(Transition::Auto), b"", Err(Refused::NotJoint)),
     (
-        Call::Change(Transition::Explicit),
-        b"",
+        Call::Change(Transition::Implicit),
+        b"v4",
         Ok((
-            "voters=(2 3)&&(2 3)",
+            "voters=(2 3 4)&&(2 3) autoleave",
             &[
                 "2: StateProbe match=0 next=1",
                 "3: StateProbe match=0 next=2",
+                "4: StateProbe match=0 next=6",
+            ],
+        )),
+    ),
+    (
+        Call::Leave,
+        b"",
+        Ok((
+            "voters=(2 3 4)",
+            &[
+                "2: StateProbe match=0 next=1",
+                "3: StateProbe match=0 next=2",
+                "4: StateProbe match=0 next=6",
+            ],
+        )),
+    ),
+    (
+        Call::Change(Transition::Explicit),
+        b"",
+        Ok((
+            "voters=(2 3 4)&&(2 3 4)",
+            &[
+                "2: StateProbe match=0 next=1",
+                "3: StateProbe match=0 next=2",
+                "4: StateProbe match=0 next=6",
             ],
         )),
     ),
@@ -239,4 +266,40 @@ fn changes_over_lists(rt: HostRuntime) {
     assert!(rt; are_made::<InlineIds>(rt.alloc(), &ENTERED));
     assert!(rt; are_made::<InlineIds>(rt.alloc(), &MANY));
     assert!(rt; are_made::<InlineIds>(rt.alloc(), &TAKEN));
+}
+
+// Whether the ids of two sets are put together.
+fn are_together<S: MemberSet>(alloc: Global) -> bool {
+    match (
+        ids::<S>(alloc, &[1, 3, 5, 7, 9, 11, 13, 15, 17]),
+        ids::<S>(alloc, &[2, 3, 4, 6, 8, 10, 12, 14, 16]),
+    ) {
+        (Ok(odd), Ok(even)) => twice(NoMemory, || union(&odd, &even)).is_ok_and(|both| has_ids(
+            &both,
+            &[1, 2, 3, 4, 5, 6, 7, 8, 9, 10, 11, 12, 13, 14, 15, 16, 17],
+        )),
+        _ => false,
+    }
+}
+
+#[test]
+fn unions(rt: HostRuntime) {
+    assert!(rt; are_together::<TreeIds>(rt.alloc()));
+    assert!(rt; are_together::<InlineIds>(rt.alloc()));
+}
+
+#[test]
+fn texts_of_faults(rt: HostRuntime) {
+    let refused = appends(
+        rt.alloc(),
+        "removed all voters",
+        |text| write_refused(text, Refused::RemovedAllVoters),
+    );
+    assert!(rt; refused);
+    let bad_number = appends(
+        rt.alloc(),
+        "bad number: v1x",
+        |text| write_token_fault(text, TokenFault::BadNumber(b"v1x")),
+    );
+    assert!(rt; bad_number);
 }

@@ -1,13 +1,13 @@
 //! Script files: their lines and items, and items written again.
 use crate::matching::Matching;
 use crate::twice::twice;
-use dd_file::device::{FromRead, ToWrite};
+use dd_file::device::{FromRead, Source, ToWrite};
 use dd_file::fault::FileFault;
 use dd_file::item::Item;
 use dd_file::lines::Lines;
 use dd_file::reader::Reader;
 use dd_file::rewriter::Rewriter;
-use std::alloc::Global;
+use std::alloc::{AllocError, Global};
 
 const SCRIPT: &[u8] =
     b"# c\n\nsimple\nv1\n----\nvoters=(1)\n\nenter-joint autoleave=(true,false) \\\n  x\nr1 r2\nr9\n----\n----\na\n\nb\n----\n----\n\nsimple\nv2\n----";
@@ -23,6 +23,22 @@ static ITEMS: [(&[u8], &[u8]); 5] = [
     ),
     (b"simple\nv2\n----\na\n", b""),
 ];
+
+// What a reader gives next: what is in hand, or else what it reads.
+fn next_item<R: Source>(reader: &mut Reader, source: &mut R) -> Result<Option<Item>, FileFault> {
+    match reader.next_held(source) {
+        Some(found) => found,
+        None => reader.next(source),
+    }
+}
+
+// The same of lines.
+fn next_line<R: Source>(lines: &mut Lines, source: &mut R) -> Result<Option<Vec<u8>>, FileFault> {
+    match lines.next_held(source) {
+        Some(found) => found,
+        None => lines.next(source),
+    }
+}
 
 // Whether an item is written again as it stands. This takes no memory.
 fn is_written(item: &Item, wanted: &'static [u8]) -> bool {
@@ -49,13 +65,13 @@ fn gives_items(reader: &mut Reader) -> (bool, bool) {
     let mut is_so = true;
     let mut has_memory = true;
     for (wanted, expected) in &ITEMS {
-        match reader.next(&mut source) {
+        match next_item(reader, &mut source) {
             Ok(Some(item)) => is_so &= has_memory & is_item(&item, *wanted, *expected),
             Err(FileFault::NoMemory) => has_memory = false,
             _ => is_so = false,
         }
     }
-    match reader.next(&mut source) {
+    match next_item(reader, &mut source) {
         Ok(None) => is_so &= has_memory,
         Err(FileFault::NoMemory) => has_memory = false,
         _ => is_so = false,
@@ -89,13 +105,13 @@ fn gives_lines(lines: &mut Lines) -> (bool, bool) {
     let mut is_so = true;
     let mut has_memory = true;
     for wanted in &LINES {
-        match lines.next(&mut source) {
+        match next_line(lines, &mut source) {
             Ok(Some(line)) => is_so &= has_memory & (line.as_slice() == *wanted),
             Err(FileFault::NoMemory) => has_memory = false,
             _ => is_so = false,
         }
     }
-    match lines.next(&mut source) {
+    match next_line(lines, &mut source) {
         Ok(None) => is_so &= has_memory,
         Err(FileFault::NoMemory) => has_memory = false,
         _ => is_so = false,
@@ -122,4 +138,26 @@ fn lines(alloc: Global) -> bool {
 fn script_files(rt: HostRuntime) {
     assert!(rt; lines(rt.alloc()));
     assert!(rt; items(rt.alloc()));
+}
+
+// A comment of one line.
+fn made_comment(alloc: Global) -> Result<Item, AllocError> {
+    Item::comment(alloc, b"# a".to_vec(alloc)?)
+}
+
+// The directive that a line says, without input.
+fn made_directive(alloc: Global) -> Result<Option<Item>, AllocError> {
+    Item::directive(alloc, b"simple x=(1,2)".to_vec(alloc)?, Vec::new(alloc))
+}
+
+#[test]
+fn made_items(rt: HostRuntime) {
+    let comment = twice(AllocError, || made_comment(rt.alloc()));
+    assert!(rt; comment.is_ok_and(|item| is_written(&item, b"# a\n")));
+    let directive = twice(AllocError, || made_directive(rt.alloc()));
+    let is_made = match directive {
+        Ok(Some(item)) => is_written(&item, b"simple x=(1,2)\n----\na\n"),
+        _ => false,
+    };
+    assert!(rt; is_made);
 }

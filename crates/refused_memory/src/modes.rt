@@ -1,9 +1,10 @@
 //! The modes of the program, over devices that take no memory.
 use crate::matching::Matching;
-use conf_tool::run::run;
+use conf_tool::run::{run, run_and_flush};
 use conf_tool::{Mode, Options, Status, ToolFault};
+use dd_file::blocks::Blocks;
 use dd_file::device::{FromRead, ToWrite};
-use std::alloc::Global;
+use std::alloc::{AllocError, Global};
 
 const CHANGES: &[u8] = b"v1\nv2\nl3\nr1\nr2\n";
 
@@ -75,5 +76,36 @@ fn ends(alloc: Global, case: Case) -> bool {
 fn modes(rt: HostRuntime) {
     for case in &CASES {
         assert!(rt; ends(rt.alloc(), *case));
+    }
+}
+
+// The same of a run over blocks, which are written on at the end.
+fn gathered_outcome(
+    alloc: Global,
+    case: Case,
+) -> Result<(Result<Status, ToolFault>, Matching), AllocError> {
+    let (mode, input, output, _) = case;
+    let mut reader = FromRead::new(input);
+    let mut blocks = match Blocks::new(alloc, ToWrite::new(Matching::with(output))) {
+        Ok(blocks) => blocks,
+        Err(_) => Blocks::new(alloc, ToWrite::new(Matching::with(output)))?,
+    };
+    let outcome = run_and_flush(alloc, mode, Options::default(), &mut reader, &mut blocks);
+    Ok((outcome, blocks.into_inner().into_inner()))
+}
+
+// Whether it ends as it does and writes its output, or else, where it found no memory, a front part of it.
+fn gathers(alloc: Global, case: Case) -> bool {
+    match gathered_outcome(alloc, case) {
+        Ok((Err(ToolFault::NoMemory), taken)) => taken.is_front(),
+        Ok((found, taken)) => (found == Ok(case.3)) & taken.is_whole(),
+        Err(_) => false,
+    }
+}
+
+#[test]
+fn modes_over_blocks(rt: HostRuntime) {
+    for case in &CASES {
+        assert!(rt; gathers(rt.alloc(), *case));
     }
 }

@@ -4,7 +4,7 @@ use crate::texts::appends;
 use crate::twice::twice;
 use conf_change::{
     AckFault, Changer, ConfState, ConfStateFault, Config, Floor, Progress, RestoreFault, check,
-    conf_state, read_conf_state, write_conf_state,
+    conf_state, described, read_conf_state, write_conf_state,
 };
 use quorum_sets::{InlineIds, MemberSet, NoMemory, TreeIds};
 use std::alloc::Global;
@@ -74,6 +74,13 @@ fn is_saved<S: MemberSet>(alloc: Global, config: &Config<S>, state: &ConfState) 
     is_copied & is_saved & check(config).is_ok()
 }
 
+// Whether a saved form describes a configuration.
+fn is_described<S: MemberSet>(alloc: Global, state: &ConfState, config: &Config<S>) -> bool {
+    twice(RestoreFault::NoMemory, || described::<S>(alloc, state)).is_ok_and(|found| found.same(
+        config,
+    ))
+}
+
 // Whether a changer and its copy are the same and shown so.
 fn is_copied<S: MemberSet>(alloc: Global, changer: &Changer<S>, shown: Shown) -> bool {
     match twice(NoMemory, || changer.try_clone()) {
@@ -87,7 +94,9 @@ fn is_restored<S: MemberSet>(alloc: Global, state: &ConfState, shown: Shown) -> 
         Changer::<S>::restore(alloc, state, 0)
     }) {
         Ok(changer) => {
-            is_saved(alloc, changer.tracker().config(), state) & is_copied(alloc, &changer, shown)
+            is_saved(alloc, changer.tracker().config(), state)
+                & is_described(alloc, state, changer.tracker().config())
+                & is_copied(alloc, &changer, shown)
         }
         Err(_) => false,
     }
