@@ -10,8 +10,7 @@ use Rattle.std.proofs.lemmas.List.Folds.{list_any-append}
 use Rattle.std.proofs.lemmas.Option.{slice_get_within, get_or_from_slice_get}
 use Rattle.quorum_sets.specs.Ids.{Ids, has, ascending, ids_of}
 use Rattle.quorum_sets.specs.Rising.{IsRising}
-use Rattle.quorum_sets.proofs.IdLemmas.{has-ascending, has-ids_of}
-use Rattle.quorum_sets.proofs.RisingLemmas.{ascending-is_rising}
+use Rattle.quorum_sets.proofs.Offered.{has-ascending, has-ids_of, ascending-is_rising}
 use Rattle.conf_change.specs.Configuration.{Configuration, is_member}
 use Rattle.conf_change.specs.Progress.{all_fresh, fresh_progress}
 use Rattle.conf_change.specs.declared.progress.Progress.{Progress}

@@ -6,7 +6,7 @@ use Rattle.std.proofs.lemmas.Bool.{cases_lt, eq-eqb, ne_eqb}
 use Rattle.std.proofs.lemmas.List.{take_more, take_all, length-append, map-append, length-map, get_or_append_left, get_or_at}
 use Rattle.std.proofs.lemmas.List.Folds.{list_any-append}
 use Rattle.quorum_sets.specs.Rising.{IsRising}
-use Rattle.quorum_sets.proofs.RisingLemmas.{rising-push}
+use Rattle.quorum_sets.proofs.Offered.{rising-push}
 use Rattle.conf_change.specs.LastWords.{silent, own_word, later_of, and_later, last_said, removal_said, has_entry, IsAdded, Joins, ListsLastWords}
 use Rattle.conf_change.specs.declared.change.Change.{Change}
 use Rattle.conf_change.specs.declared.progress.Progress.{Progress}

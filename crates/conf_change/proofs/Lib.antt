@@ -1,26 +1,27 @@
-pub mod Sound
-pub mod ResultLemmas
-pub mod ProgressLemmas
-pub mod Walks
-pub mod Validity
-pub mod Outcomes
-pub mod Soundness
-pub mod ConfStateLemmas
-pub mod Fresh
-pub mod Rows
-pub mod LastWordLemmas
-pub mod Joining
-pub mod Picking
-pub mod Stepping
-pub mod Making
-pub mod StepLaws
-pub mod Acknowledging
-pub mod SameForms
-pub mod Passing
-pub mod WordLemmas
-pub mod TextLemmas
-pub mod NumberLemmas
-pub mod ChangeLemmas
-pub mod LineLemmas
-pub mod MemberLemmas
-pub mod SameSets
+pub mod Offered
+mod Sound
+mod ResultLemmas
+mod ProgressLemmas
+mod Walks
+mod Validity
+mod Outcomes
+mod Soundness
+mod ConfStateLemmas
+mod Fresh
+mod Rows
+mod LastWordLemmas
+mod Joining
+mod Picking
+mod Stepping
+mod Making
+mod StepLaws
+mod Acknowledging
+mod SameForms
+mod Passing
+mod WordLemmas
+mod TextLemmas
+mod NumberLemmas
+mod ChangeLemmas
+mod LineLemmas
+mod MemberLemmas
+mod SameSets

@@ -6,7 +6,7 @@ use Rattle.std.specs.FinMap as finite
 use Rattle.std.specs.FinMap.{nat_cmp-IsAntisymmetric}
 use Rattle.std.proofs.lemmas.Bool.{and_parts, or_left, or_right, true≢false, false_from_ne_true}
 use Rattle.quorum_sets.specs.Ids.{no_ids, has, difference_count}
-use Rattle.quorum_sets.proofs.IdLemmas.{has-no_ids}
+use Rattle.quorum_sets.proofs.Offered.{has-no_ids}
 use Rattle.conf_change.specs.Configuration.{Configuration, is_member, is_joint, has_voter}
 use Rattle.conf_change.specs.Change.{result_of, removes}
 use Rattle.conf_change.specs.Outcome.{outcome, with_outgoing, after_leave}

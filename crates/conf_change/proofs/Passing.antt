@@ -6,7 +6,7 @@ use Rattle.std.proofs.lemmas.Option.{slice_get_within, get_or_from_slice_get}
 use Rattle.std.proofs.lemmas.List.{take_more, take_all}
 use Rattle.std.proofs.lemmas.List.Folds.{list_any-append}
 use Rattle.quorum_sets.specs.Ids.{Ids, has, ascending, size}
-use Rattle.quorum_sets.proofs.IdLemmas.{has-ascending}
+use Rattle.quorum_sets.proofs.Offered.{has-ascending}
 
 -- whether the id is at one of the first places
 abbrev pub is_passed : Ids → ℕ → ℕ → Bool

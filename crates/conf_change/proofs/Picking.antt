@@ -10,7 +10,7 @@ use Rattle.std.specs.List.{list_any, flat_map, AllByRecursion}
 use Rattle.std.specs.List.Sorted.{IsStrictlySortedBy}
 use Rattle.std.proofs.lemmas.List.{map-id, flat_map_more, take_more}
 use Rattle.quorum_sets.specs.Rising.{IsRising}
-use Rattle.quorum_sets.proofs.RisingLemmas.{rising-sorted, sorted-rising}
+use Rattle.quorum_sets.proofs.Offered.{rising-sorted, sorted-rising}
 use Rattle.conf_change.specs.TrackerEdits.{entries_of, kept_by}
 use Rattle.conf_change.specs.declared.progress.Progress.{Progress}
 

@@ -8,7 +8,7 @@ use Rattle.std.specs.FinMap.{find}
 use Rattle.std.specs.List.{list_any}
 use Rattle.std.proofs.lemmas.List.Folds.{list_any-append}
 use Rattle.quorum_sets.specs.Ids.{ascending}
-use Rattle.quorum_sets.proofs.IdLemmas.{has-ascending}
+use Rattle.quorum_sets.proofs.Offered.{has-ascending}
 use Rattle.conf_change.specs.Configuration.{Configuration, is_member, members}
 use Rattle.conf_change.specs.Progress.{progress_by}
 use Rattle.conf_change.specs.declared.progress.Progress.{Progress}

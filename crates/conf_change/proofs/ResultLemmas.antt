@@ -7,7 +7,7 @@ use Rattle.std.proofs.lemmas.List.{reverse-append}
 use Rattle.std.proofs.lemmas.List.Folds.{list_any-append}
 use Rattle.std.specs.List.{list_any}
 use Rattle.quorum_sets.specs.Ids.{Ids, has, ascending, ids_where, with_id, without_id}
-use Rattle.quorum_sets.proofs.IdLemmas.{has-ids_where, has-ascending, same_ids, has-with_id, has-without_id}
+use Rattle.quorum_sets.proofs.Offered.{has-ids_where, has-ascending, same_ids, has-with_id, has-without_id}
 use Rattle.conf_change.specs.Configuration.{Configuration}
 use Rattle.conf_change.specs.Change.{names, last_word, named_or_in, is_update, is_incoming_after, is_learner_after, is_next_after, result_of}
 use Rattle.conf_change.specs.declared.change.Change.{Change}

@@ -6,7 +6,7 @@ use Rattle.std.specs.Cmp.{nat_cmp_total}
 use Rattle.std.specs.FinMap as finite
 use Rattle.std.specs.FinMap.{put, find}
 use Rattle.quorum_sets.specs.Ids.{Ids, has, ids_of, no_ids}
-use Rattle.quorum_sets.proofs.IdLemmas.{has-ids_of, entries-no_ids}
+use Rattle.quorum_sets.proofs.Offered.{has-ids_of, entries-no_ids}
 use Rattle.conf_change.specs.Configuration.{Configuration, first_broken}
 use Rattle.conf_change.specs.Change.{result_of, last_word, is_learner_after, is_next_after}
 use Rattle.conf_change.specs.Outcome.{simple_outcome, enter_outcome, leave_outcome}

@@ -6,7 +6,7 @@ use Rattle.std.specs.List.{list_any}
 use Rattle.std.proofs.lemmas.Bool.{true≢false, or_cases, or_left, or_right, and_parts, and_from, not_from_true}
 use Rattle.std.proofs.lemmas.List.Sums.{sum_by-cons}
 use Rattle.quorum_sets.specs.Ids.{Ids, has, ascending, difference_count}
-use Rattle.quorum_sets.proofs.IdLemmas.{has-ascending, same_ids}
+use Rattle.quorum_sets.proofs.Offered.{has-ascending, same_ids}
 use Rattle.conf_change.specs.Configuration.{Configuration, is_same_set, is_same}
 
 -- ---- a count of 0

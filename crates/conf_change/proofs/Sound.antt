@@ -3,7 +3,7 @@ use Rattle.std.proofs.Common.{◌≡◌, ℕ, true, refl, sym, ap, subst, ◌∙
 use Rattle.std.specs.Prelude.{None, IfSome, Option}
 use Rattle.std.specs.Ordering.{nat_cmp}
 use Rattle.std.specs.FinMap as finite
-use Rattle.quorum_sets.proofs.IdLemmas.{has-no_ids, ascending-no_ids}
+use Rattle.quorum_sets.proofs.Offered.{has-no_ids, ascending-no_ids}
 use Rattle.conf_change.specs.Configuration.{empty_configuration, is_restorable}
 use Rattle.conf_change.specs.Changer.{IsSound, nobody}
 use Rattle.conf_change.specs.declared.floor.Floor.{Floor}

@@ -7,8 +7,7 @@ use Rattle.std.proofs.lemmas.List.Folds.{list_any-append}
 use Rattle.quorum_sets.specs.Ids.{has, ascending, is_empty, difference_count}
 use Rattle.quorum_sets.specs.Overlap.{Overlap}
 use Rattle.quorum_sets.specs.Voters.{AreNeighbours}
-use Rattle.quorum_sets.proofs.IdLemmas.{has-ascending, has-no_ids, has-ids_of}
-use Rattle.quorum_sets.proofs.Overlapping.{quorums_meet, quorums_meet_back, committed_before_meets, committed_after_meets}
+use Rattle.quorum_sets.proofs.Offered.{has-ascending, has-no_ids, has-ids_of, quorums_meet, quorums_meet_back, committed_before_meets, committed_after_meets}
 use Rattle.conf_change.specs.Configuration.{Configuration, voters_of, is_joint, has_voter, is_valid, is_restorable, is_member}
 use Rattle.conf_change.specs.Change.{names, last_word, is_update, is_incoming_after, is_learner_after, is_next_after, result_of}
 use Rattle.conf_change.specs.Outcome.{outcome, with_outgoing, after_leave}

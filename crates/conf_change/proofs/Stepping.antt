@@ -9,7 +9,7 @@ use Rattle.std.proofs.lemmas.List.{take_more, take_all, flat_map_more, length-ma
 use Rattle.std.proofs.lemmas.List.Folds.{list_any-append}
 use Rattle.quorum_sets.specs.Ids.{Ids, no_ids, has, with_id, ids_where}
 use Rattle.quorum_sets.specs.Rising.{IsRising}
-use Rattle.quorum_sets.proofs.IdLemmas.{has-no_ids, has-with_id, has-ids_where, same_ids}
+use Rattle.quorum_sets.proofs.Offered.{has-no_ids, has-with_id, has-ids_where, same_ids}
 use Rattle.conf_change.specs.Configuration.{is_member}
 use Rattle.conf_change.specs.Change.{last_word, is_incoming_after, is_learner_after, is_next_after, result_of}
 use Rattle.conf_change.specs.LastWords.{has_entry, SaysOf, ListsLastWords}

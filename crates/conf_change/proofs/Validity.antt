@@ -3,7 +3,7 @@ use Rattle.std.proofs.Common.{◌≡◌, ℕ, Bool, true, false, not, ◌||◌, 
 use Rattle.std.specs.List.{list_any, list_all}
 use Rattle.std.proofs.lemmas.Bool.{or_cases, or_parts, or_from, or_left, or_right, and_parts, and_from, not-true, not_from_false, true≢false, false_from_ne_true}
 use Rattle.quorum_sets.specs.Ids.{Ids, no_ids, has, ascending, size, is_empty}
-use Rattle.quorum_sets.proofs.IdLemmas.{has-ascending, has-no_ids, ascending-no_ids, same_ids}
+use Rattle.quorum_sets.proofs.Offered.{has-ascending, has-no_ids, ascending-no_ids, same_ids}
 use Rattle.conf_change.specs.Configuration.{Configuration, is_joint, is_within, is_apart, is_valid}
 pub use Rattle.conf_change.specs.Configuration.{ValidByMember}
 

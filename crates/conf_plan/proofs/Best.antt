@@ -3,7 +3,7 @@ use Rattle.std.proofs.Common.{List, [], ◌∷◌}
 use Rattle.quorum_sets.specs.Overlap.{Overlap}
 use Rattle.conf_change.specs.Configuration.{Configuration, voters_of}
 use Rattle.conf_change.specs.declared.step.Step.{Step}
-use Rattle.conf_change.proofs.Soundness.{outcome-overlaps}
+use Rattle.conf_change.proofs.Offered.{outcome-overlaps}
 use Rattle.conf_plan.specs.Best.{IsBest}
 use Rattle.conf_plan.specs.Planned.{planned}
 use Rattle.conf_plan.specs.Run.{IsValidWithVoter, IsRun, IsRunWith}

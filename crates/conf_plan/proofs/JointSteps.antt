@@ -4,22 +4,18 @@ use Rattle.std.specs.Prelude.{Ok}
 use Rattle.std.proofs.lemmas.Bool.{cond_both, not-true, true≢false, or_from, and_right, false_from_ne_true}
 use Rattle.std.proofs.lemmas.List.{length-append}
 use Rattle.quorum_sets.specs.Ids.{has, is_empty}
-use Rattle.quorum_sets.proofs.IdLemmas.{has-ids_where}
+use Rattle.quorum_sets.proofs.Offered.{has-ids_where}
 use Rattle.conf_change.specs.Configuration.{Configuration, is_joint, is_member, members, is_same_set}
 use Rattle.conf_change.specs.Change.{result_of}
 use Rattle.conf_change.specs.Outcome.{outcome, with_outgoing}
 use Rattle.conf_change.specs.declared.step.Step.{Step}
-use Rattle.conf_change.proofs.Outcomes.{enter_accepted}
-use Rattle.conf_change.proofs.ProgressLemmas.{any-members}
-use Rattle.conf_change.proofs.ResultLemmas.{same_configuration}
-use Rattle.conf_change.proofs.Validity.{members_from_valid, is_empty-no_ids}
+use Rattle.conf_change.proofs.Offered.{enter_accepted, any-members, same_configuration, members_from_valid, is_empty-no_ids, same_sets}
 use Rattle.conf_plan.specs.Run.{IsValidWithVoter, Gives, IsRun}
 use Rattle.conf_plan.specs.Planned.{single_with, moves, union_of, shared_members, inserted_steps, configuration_after, entering_step, joint_steps}
 use Rattle.conf_plan.proofs.Runs.{run-is_settled, IsChain-append, IsRun-one, configuration_after-run}
 use Rattle.conf_plan.proofs.Moves.{has-union_of}
 use Rattle.conf_plan.proofs.Moved.{IsSingle, AreWanted, moves-has_wanted}
 use Rattle.conf_plan.proofs.SingleSteps.{single_steps-is_run, single_steps-at_most_two}
-use Rattle.conf_change.proofs.SameSets.{same_sets}
 
 -- a voter is wanted as nothing else
 apart_from : (a b : Bool) → (b ≡ true → a ≡ false) → a ≡ true → b ≡ false

@@ -9,8 +9,7 @@ use Rattle.conf_change.specs.Configuration.{Configuration, is_member, is_valid, 
 use Rattle.conf_change.specs.Progress.{fresh_next_of, fresh_progress, with_mark, is_replaced, keeps_progress}
 use Rattle.conf_change.specs.declared.progress.Progress.{Progress}
 use Rattle.conf_change.specs.declared.step.Step.{Step}
-use Rattle.conf_change.proofs.Soundness.{get-after, moved_to-is_sound}
-use Rattle.conf_change.proofs.Validity.{none_from_is_empty}
+use Rattle.conf_change.proofs.Offered.{get-after, moved_to-is_sound, none_from_is_empty}
 use Rattle.conf_plan.specs.Best.{Spares}
 use Rattle.conf_plan.specs.Planned.{planned}
 use Rattle.conf_plan.specs.Run.{IsValidWithVoter, Takes, HasKeptProgress}

@@ -1,29 +1,30 @@
-pub mod Runs
-pub mod Moves
-pub mod Parts
-pub mod Moved
-pub mod SingleSteps
-pub mod JointSteps
-pub mod RunEnds
-pub mod PlannedRun
-pub mod Rows
-pub mod Taking
-pub mod OneChanger
-pub mod Rising
-pub mod OneWalk
-pub mod Sharing
-pub mod PlanCases
-pub mod Shapes
-pub mod Shortest
-pub mod Sparing
-pub mod Naming
-pub mod Plain
-pub mod Best
-pub mod KeptProgress
-pub mod Lines
-pub mod StepWords
-pub mod PlanLines
-pub mod PrintedLines
-pub mod PrintedParts
-pub mod ReadSoFar
-pub mod SamePlans
+pub mod Offered
+mod Runs
+mod Moves
+mod Parts
+mod Moved
+mod SingleSteps
+mod JointSteps
+mod RunEnds
+mod PlannedRun
+mod Rows
+mod Taking
+mod OneChanger
+mod Rising
+mod OneWalk
+mod Sharing
+mod PlanCases
+mod Shapes
+mod Shortest
+mod Sparing
+mod Naming
+mod Plain
+mod Best
+mod KeptProgress
+mod Lines
+mod StepWords
+mod PlanLines
+mod PrintedLines
+mod PrintedParts
+mod ReadSoFar
+mod SamePlans

@@ -3,11 +3,10 @@ use Rattle.std.proofs.Common.{◌≡◌, ℕ, Bool, true, false, not, ◌&&◌, 
 use Rattle.std.specs.Prelude.{None}
 use Rattle.std.proofs.lemmas.Bool.{not-false, true≢false, false_from_ne_true}
 use Rattle.quorum_sets.specs.Ids.{Ids, has, is_empty}
-use Rattle.quorum_sets.proofs.IdLemmas.{same_ids}
-use Rattle.conf_change.specs.Configuration.{Configuration, is_joint}
+use Rattle.quorum_sets.proofs.Offered.{same_ids}
+use Rattle.conf_change.specs.Configuration.{Configuration, is_joint, ValidByMember}
 use Rattle.conf_change.specs.Change.{is_incoming_after, is_learner_after, is_next_after, result_of}
-use Rattle.conf_change.proofs.ResultLemmas.{has-incoming_after, has-learners_after, has-next_after}
-use Rattle.conf_change.proofs.Validity.{ValidByMember, members_from_valid, none_from_is_empty}
+use Rattle.conf_change.proofs.Offered.{has-incoming_after, has-learners_after, has-next_after, members_from_valid, none_from_is_empty}
 use Rattle.conf_plan.specs.Run.{IsValidWithVoter}
 use Rattle.conf_plan.specs.Planned.{kind_by, kind_of_move, moves}
 use Rattle.conf_plan.proofs.Moves.{last_word-moves}

@@ -8,12 +8,12 @@ use Rattle.std.proofs.lemmas.Bool.{not-false}
 use Rattle.std.proofs.lemmas.List.{reverse-append}
 use Rattle.std.proofs.lemmas.List.Folds.{find-append, list_any-append}
 use Rattle.quorum_sets.specs.Ids.{Ids, has, ascending}
-use Rattle.quorum_sets.proofs.IdLemmas.{has-ascending, has-ids_of}
+use Rattle.quorum_sets.proofs.Offered.{has-ascending, has-ids_of}
 use Rattle.conf_change.specs.Configuration.{Configuration}
 use Rattle.conf_change.specs.Change.{names, last_word, is_update}
 use Rattle.conf_change.specs.declared.change.Change.{Change}
 use Rattle.conf_change.specs.declared.change.Kind.{Kind}
-use Rattle.conf_change.proofs.ResultLemmas.{last_word-one}
+use Rattle.conf_change.proofs.Offered.{last_word-one}
 use Rattle.conf_plan.specs.Planned.{kind_by, kind_of_move, union_of, moves}
 
 -- ---- a list with one change per id

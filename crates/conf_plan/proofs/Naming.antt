@@ -9,7 +9,7 @@ use Rattle.std.specs.Cmp.{nat_eq_equiv}
 use Rattle.std.proofs.lemmas.Bool.{true≢false, false_from_ne_true, cond_both, and_right, or_from}
 use Rattle.std.proofs.lemmas.List.Sums.{sum_by-cons, sum_by-append}
 use Rattle.quorum_sets.specs.Ids.{Ids, has, difference_count}
-use Rattle.quorum_sets.proofs.IdLemmas.{has-no_ids, ascending-is_sorted}
+use Rattle.quorum_sets.proofs.Offered.{has-no_ids, ascending-is_sorted}
 use Rattle.conf_change.specs.Configuration.{Configuration, is_joint, is_member}
 use Rattle.conf_change.specs.Change.{names, is_update}
 use Rattle.conf_change.specs.Outcome.{after_leave}
@@ -18,8 +18,7 @@ use Rattle.conf_change.specs.declared.change.Change.{Change}
 use Rattle.conf_change.specs.declared.change.Kind.{Kind}
 use Rattle.conf_change.specs.declared.step.Step.{Step}
 use Rattle.conf_change.specs.declared.step.Step.TheVariants.{Simple, EnterJoint, LeaveJoint}
-use Rattle.conf_change.proofs.Outcomes.{no_outgoing}
-use Rattle.conf_change.proofs.Validity.{members_from_valid}
+use Rattle.conf_change.proofs.Offered.{no_outgoing, members_from_valid}
 use Rattle.conf_plan.specs.Best.{times_named, is_any_learner}
 use Rattle.conf_plan.specs.Planned.{kind_by, kind_of_move, union_of, single_with, moves, single_steps, shared_members, entering_step, planned_from_single, planned}
 use Rattle.conf_plan.specs.Run.{IsValidWithVoter, IsRun}

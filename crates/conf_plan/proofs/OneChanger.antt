@@ -6,7 +6,7 @@ use Rattle.conf_change.specs.Configuration.{Configuration}
 use Rattle.conf_change.specs.Changer.{ChangerState, moved_by, moved_to, changer_after}
 use Rattle.conf_change.specs.declared.refused.Refused.{Refused}
 use Rattle.conf_change.specs.declared.step.Step.{Step}
-use Rattle.conf_change.proofs.StepLaws.{accepted_is_given, given_is_accepted}
+use Rattle.conf_change.proofs.Offered.{accepted_is_given, given_is_accepted}
 use Rattle.conf_plan.specs.Run.{IsRun, Takes, after_steps}
 
 -- the steps behind one that is accepted

@@ -7,7 +7,7 @@ use Rattle.std.proofs.lemmas.List.{drop_all, append_assoc, append-nil}
 use Rattle.std.proofs.lemmas.List.Elements.{All-nil, All-push}
 use Rattle.std.proofs.lemmas.Option.{slice_get_within, get_or_from_slice_get, slice_get-get_or}
 use Rattle.quorum_sets.specs.Ids.{Ids, has, ascending}
-use Rattle.quorum_sets.proofs.IdLemmas.{has-ascending, ascending-is_sorted}
+use Rattle.quorum_sets.proofs.Offered.{has-ascending, ascending-is_sorted}
 use Rattle.conf_change.specs.Configuration.{Configuration}
 use Rattle.conf_change.specs.declared.change.Change.{Change}
 use Rattle.conf_change.specs.declared.change.Kind.{Kind}

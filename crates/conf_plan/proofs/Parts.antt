@@ -5,7 +5,7 @@ use Rattle.std.specs.Prelude.{Option, Some, None, Ok, count_by}
 use Rattle.std.specs.Option.{option_or}
 use Rattle.std.proofs.lemmas.List.Sums.{sum_by-cons}
 use Rattle.quorum_sets.specs.Ids.{has}
-use Rattle.quorum_sets.proofs.IdLemmas.{has-no_ids}
+use Rattle.quorum_sets.proofs.Offered.{has-no_ids}
 use Rattle.conf_change.specs.Configuration.{Configuration}
 use Rattle.conf_change.specs.Change.{names, last_word, is_incoming_after, is_learner_after, is_next_after, result_of}
 use Rattle.conf_change.specs.Outcome.{outcome, with_outgoing}
@@ -15,9 +15,7 @@ use Rattle.conf_change.specs.declared.change.Kind.{Kind}
 use Rattle.conf_change.specs.declared.change.Kind.TheVariants.{Voter, Learner, Remove, Update}
 use Rattle.conf_change.specs.declared.step.Step.{Step}
 use Rattle.conf_change.specs.declared.step.Step.TheVariants.{Simple, EnterJoint, LeaveJoint}
-use Rattle.conf_change.proofs.Outcomes.{simple_taken, enter_taken, leave_taken}
-use Rattle.conf_change.proofs.ResultLemmas.{has-incoming_after, has-learners_after, has-next_after}
-use Rattle.conf_change.proofs.Soundness.{has-after_leave}
+use Rattle.conf_change.proofs.Offered.{simple_taken, enter_taken, leave_taken, has-incoming_after, has-learners_after, has-next_after, has-after_leave}
 use Rattle.conf_plan.specs.Run.{IsRun}
 use Rattle.conf_plan.specs.Best.{times_named, is_any_learner, HasSamePart}
 use Rattle.conf_plan.proofs.Moves.{last_word-cons}

@@ -13,7 +13,7 @@ use Rattle.conf_change.specs.declared.change.Change.{Change}
 use Rattle.conf_change.specs.declared.change.Kind.{Kind}
 use Rattle.conf_change.specs.declared.step.Step.{Step}
 use Rattle.conf_change.specs.declared.step.Step.TheVariants.{Simple, EnterJoint, LeaveJoint}
-use Rattle.conf_change.proofs.Validity.{members_from_valid}
+use Rattle.conf_change.proofs.Offered.{members_from_valid}
 use Rattle.conf_plan.specs.Best.{IsPlain}
 use Rattle.conf_plan.specs.Planned.{kind_of_move, union_of, single_with, moves, single_steps, shared_members, entering_step, planned_from_single, planned}
 use Rattle.conf_plan.specs.Run.{IsValidWithVoter}

@@ -9,8 +9,7 @@ use Rattle.quorum_sets.specs.Ids.{Ids, size, difference_count}
 use Rattle.conf_change.specs.Configuration.{Configuration, is_joint, has_voter, is_same_set, is_same}
 use Rattle.conf_change.specs.declared.step.Step.{Step}
 use Rattle.conf_change.specs.declared.step.Step.TheVariants.{LeaveJoint}
-use Rattle.conf_change.proofs.SameSets.{same_sets, same_configurations, same_is_equal}
-use Rattle.conf_change.proofs.Validity.{is_empty-no_ids}
+use Rattle.conf_change.proofs.Offered.{same_sets, same_configurations, same_is_equal, is_empty-no_ids}
 use Rattle.conf_plan.specs.Run.{IsValidWithVoter}
 use Rattle.conf_plan.specs.PlanSteps.{HasWordIds, IsPlan}
 use Rattle.conf_plan.specs.Planned.{union_of, single_with, single_steps, shared_members, inserted_steps, configuration_after, entering_step, joint_steps, planned_from_single, planned}

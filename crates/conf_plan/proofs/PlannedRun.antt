@@ -3,15 +3,12 @@ use Rattle.std.proofs.Common.{◌≡◌, ◌≤◌, true, false, not, ◌&&◌, 
 use Rattle.std.specs.Prelude.{Ok}
 use Rattle.std.proofs.lemmas.Bool.{cond_both, not-true, true≢false, false_from_ne_true, and_left, and_right}
 use Rattle.quorum_sets.specs.Ids.{is_empty}
-use Rattle.quorum_sets.proofs.IdLemmas.{has-no_ids}
+use Rattle.quorum_sets.proofs.Offered.{has-no_ids}
 use Rattle.conf_change.specs.Configuration.{Configuration, is_joint, is_same}
 use Rattle.conf_change.specs.Outcome.{outcome, after_leave}
 use Rattle.conf_change.specs.declared.step.Step.{Step}
 use Rattle.conf_change.specs.declared.step.Step.TheVariants.{LeaveJoint}
-use Rattle.conf_change.proofs.Outcomes.{no_outgoing, leave_accepted}
-use Rattle.conf_change.proofs.ResultLemmas.{same_configuration}
-use Rattle.conf_change.proofs.Soundness.{outcome-are_neighbours}
-use Rattle.conf_change.proofs.Validity.{members_from_valid, is_empty-no_ids}
+use Rattle.conf_change.proofs.Offered.{no_outgoing, leave_accepted, same_configuration, outcome-are_neighbours, members_from_valid, is_empty-no_ids, same_configurations}
 use Rattle.conf_plan.specs.Run.{IsValidWithVoter, IsRun}
 use Rattle.conf_plan.specs.Planned.{single_with, single_steps, planned_from_single, planned}
 use Rattle.conf_plan.proofs.Runs.{run-is_settled, IsRun-one}
@@ -19,7 +16,6 @@ use Rattle.conf_plan.proofs.Moved.{IsSingle, AreWanted, no_next}
 use Rattle.conf_plan.proofs.SingleSteps.{single_steps-is_run, single_steps-at_most_two}
 use Rattle.conf_plan.proofs.RunEnds.{no_joint}
 use Rattle.conf_plan.proofs.JointSteps.{joint_steps-is_run, joint_steps-at_most_three}
-use Rattle.conf_change.proofs.SameSets.{same_configurations}
 
 -- ---- from a configuration that is not joint
 -- one that is not joint is told by its voters and learners

@@ -7,7 +7,7 @@ use Rattle.std.specs.FinMap as finite
 use Rattle.std.specs.FinMap.{put, find}
 use Rattle.std.proofs.lemmas.Bool.{cond-true, cond-false}
 use Rattle.quorum_sets.specs.Ids.{Ids, ids_of, ids_where}
-use Rattle.quorum_sets.proofs.IdLemmas.{entries-no_ids}
+use Rattle.quorum_sets.proofs.Offered.{entries-no_ids}
 use Rattle.conf_change.specs.Configuration.{Configuration, is_joint, members, is_same_set, is_same}
 use Rattle.conf_change.specs.declared.change.Change.{Change}
 use Rattle.conf_change.specs.declared.change.Kind.{Kind}

@@ -7,9 +7,7 @@ use Rattle.conf_change.specs.Configuration.{Configuration, is_joint}
 use Rattle.conf_change.specs.Outcome.{outcome, after_leave}
 use Rattle.conf_change.specs.declared.step.Step.{Step}
 use Rattle.conf_change.specs.declared.step.Step.TheVariants.{Simple, EnterJoint, LeaveJoint}
-use Rattle.conf_change.proofs.Outcomes.{simple_taken, enter_taken, leave_taken}
-use Rattle.conf_change.proofs.Soundness.{outcome-are_neighbours}
-use Rattle.conf_change.proofs.Validity.{is_empty-no_ids}
+use Rattle.conf_change.proofs.Offered.{simple_taken, enter_taken, leave_taken, outcome-are_neighbours, is_empty-no_ids}
 use Rattle.conf_plan.specs.Run.{IsRun}
 
 pub no_joint : (c : Configuration) → c.outgoing ≡ no_ids → is_joint c ≡ false

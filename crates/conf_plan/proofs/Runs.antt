@@ -6,7 +6,7 @@ use Rattle.std.proofs.lemmas.Bool.{and_parts, and_from, or_left}
 use Rattle.conf_change.specs.Configuration.{Configuration, is_valid, has_voter, is_restorable}
 use Rattle.conf_change.specs.Outcome.{outcome}
 use Rattle.conf_change.specs.declared.step.Step.{Step}
-use Rattle.conf_change.proofs.Soundness.{outcome-is_restorable, outcome-has_voter}
+use Rattle.conf_change.proofs.Offered.{outcome-is_restorable, outcome-has_voter}
 use Rattle.conf_plan.specs.Run.{IsValidWithVoter, IsChain, IsRun, IsRunWith}
 use Rattle.conf_plan.specs.Planned.{configuration_after}
 

@@ -9,7 +9,7 @@ use Rattle.conf_change.specs.declared.change.Change.{Change}
 use Rattle.conf_change.specs.declared.change.Kind.{Kind}
 use Rattle.conf_change.specs.declared.step.Step.{Step}
 use Rattle.conf_change.specs.declared.step.Step.TheVariants.{Simple, EnterJoint, LeaveJoint}
-use Rattle.conf_change.proofs.ChangeLemmas.{kind_in-letter_of}
+use Rattle.conf_change.proofs.Offered.{kind_in-letter_of}
 use Rattle.conf_change.specs.Step.{changes_of}
 use Rattle.conf_plan.specs.SamePlans.{form_of, is_same_step, is_same_plan}
 

@@ -6,7 +6,7 @@ use Rattle.conf_change.specs.Configuration.{Configuration, is_joint, is_same_set
 use Rattle.conf_change.specs.Outcome.{after_leave}
 use Rattle.conf_change.specs.declared.step.Step.{Step}
 use Rattle.conf_change.specs.declared.step.Step.TheVariants.{LeaveJoint}
-use Rattle.conf_change.proofs.SameSets.{same_sets, is_same_set-refl, same_configurations, same_is_equal}
+use Rattle.conf_change.proofs.Offered.{same_sets, is_same_set-refl, same_configurations, same_is_equal}
 use Rattle.conf_plan.specs.Run.{IsValidWithVoter}
 use Rattle.conf_plan.specs.Planned.{single_with, single_steps, shared_members, configuration_after, entering_step, joint_steps, planned_from_single, planned}
 use Rattle.conf_plan.proofs.Moved.{IsSingle}

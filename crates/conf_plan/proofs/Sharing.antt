@@ -5,9 +5,9 @@ use Rattle.std.specs.Prelude.{Some}
 use Rattle.std.specs.List.{list_any}
 use Rattle.std.proofs.lemmas.List.Folds.{list_any-append}
 use Rattle.quorum_sets.specs.Ids.{Ids, no_ids, has, with_id, ascending, size, ids_of}
-use Rattle.quorum_sets.proofs.IdLemmas.{has-no_ids, has-with_id, has-ascending, has-ids_of, has-ids_where, same_ids}
+use Rattle.quorum_sets.proofs.Offered.{has-no_ids, has-with_id, has-ascending, has-ids_of, has-ids_where, same_ids}
 use Rattle.conf_change.specs.Configuration.{Configuration, members}
-use Rattle.conf_change.proofs.Passing.{is_passed, is_passed-more, is_passed-all}
+use Rattle.conf_change.proofs.Offered.{is_passed, is_passed-more, is_passed-all}
 use Rattle.conf_plan.specs.Planned.{is_shared, shared_members, single_with}
 
 -- of those at the first places, the shared ones were put in

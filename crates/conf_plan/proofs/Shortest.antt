@@ -7,8 +7,7 @@ use Rattle.quorum_sets.specs.Ids.{Ids, is_empty, difference_count}
 use Rattle.conf_change.specs.Configuration.{Configuration, is_joint}
 use Rattle.conf_change.specs.Outcome.{outcome, after_leave}
 use Rattle.conf_change.specs.declared.step.Step.{Step}
-use Rattle.conf_change.proofs.SameSets.{is_same_set-refl}
-use Rattle.conf_change.proofs.Soundness.{outcome-are_neighbours}
+use Rattle.conf_change.proofs.Offered.{is_same_set-refl, outcome-are_neighbours}
 use Rattle.conf_plan.specs.Run.{IsValidWithVoter, IsRun}
 use Rattle.conf_plan.specs.Planned.{single_steps, shared_members, planned_from_single, planned}
 use Rattle.conf_plan.proofs.Moved.{IsSingle}

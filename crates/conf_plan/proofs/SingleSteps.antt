@@ -4,16 +4,13 @@ use Rattle.std.proofs.Math.Bool.{and-true}
 use Rattle.std.specs.Prelude.{Ok, nat_le}
 use Rattle.std.proofs.lemmas.Bool.{cond_both, cond-true, leb-true, le-leb, not_from_false, and_right}
 use Rattle.quorum_sets.specs.Ids.{Ids, has, is_empty, difference_count}
-use Rattle.quorum_sets.proofs.IdLemmas.{has-no_ids}
+use Rattle.quorum_sets.proofs.Offered.{has-no_ids}
 use Rattle.conf_change.specs.Configuration.{Configuration}
 use Rattle.conf_change.specs.Change.{result_of}
 use Rattle.conf_change.specs.Outcome.{with_outgoing, after_leave}
 use Rattle.conf_change.specs.declared.step.Step.{Step}
 use Rattle.conf_change.specs.declared.step.Step.TheVariants.{Simple, EnterJoint, LeaveJoint}
-use Rattle.conf_change.proofs.Outcomes.{no_outgoing, simple_accepted, enter_accepted, leave_accepted}
-use Rattle.conf_change.proofs.ResultLemmas.{same_configuration}
-use Rattle.conf_change.proofs.Soundness.{has-after_leave}
-use Rattle.conf_change.proofs.Validity.{members_from_valid}
+use Rattle.conf_change.proofs.Offered.{no_outgoing, simple_accepted, enter_accepted, leave_accepted, same_configuration, has-after_leave, members_from_valid}
 use Rattle.conf_plan.specs.Run.{Gives, IsChain, IsRun}
 use Rattle.conf_plan.specs.Planned.{single_with, moves, single_steps}
 use Rattle.conf_plan.proofs.Moved.{IsSingle, AreWanted, moves-has_wanted}

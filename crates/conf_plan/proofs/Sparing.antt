@@ -5,7 +5,7 @@ use Rattle.std.specs.Prelude.{Option, Some, None, IfSome, option_map, filter_map
 use Rattle.std.specs.List.{cons_option}
 use Rattle.std.proofs.lemmas.Bool.{and_parts, and_from, and_left, and_right, not_from_true, not_from_false}
 use Rattle.quorum_sets.specs.Ids.{Ids, has}
-use Rattle.quorum_sets.proofs.IdLemmas.{has-no_ids}
+use Rattle.quorum_sets.proofs.Offered.{has-no_ids}
 use Rattle.conf_change.specs.Configuration.{Configuration, is_member}
 use Rattle.conf_change.specs.Change.{is_removal, removes}
 use Rattle.conf_change.specs.Outcome.{after_leave}
@@ -14,8 +14,7 @@ use Rattle.conf_change.specs.declared.change.Change.{Change}
 use Rattle.conf_change.specs.declared.change.Kind.{Kind}
 use Rattle.conf_change.specs.declared.step.Step.{Step}
 use Rattle.conf_change.specs.declared.step.Step.TheVariants.{Simple, EnterJoint, LeaveJoint}
-use Rattle.conf_change.proofs.Outcomes.{leave_taken, leave_accepted}
-use Rattle.conf_change.proofs.Validity.{members_from_valid}
+use Rattle.conf_change.proofs.Offered.{leave_taken, leave_accepted, members_from_valid}
 use Rattle.conf_plan.specs.Best.{Spares, outlasts_leave}
 use Rattle.conf_plan.specs.Planned.{kind_by, kind_of_move, union_of, single_with, moves, single_steps, shared_members, entering_step, planned_from_single, planned}
 use Rattle.conf_plan.specs.Run.{IsValidWithVoter, Gives}

@@ -9,7 +9,7 @@ use Rattle.conf_change.specs.ChangeList.{Spells, BadToken, changes_in_words}
 use Rattle.conf_change.specs.declared.change.Change.{Change}
 use Rattle.conf_change.specs.declared.step.Step.{Step}
 use Rattle.conf_change.specs.declared.step.Step.TheVariants.{Simple, EnterJoint, LeaveJoint}
-use Rattle.conf_change.proofs.ChangeLemmas.{changes_in_ok, AllZip-from_ok}
+use Rattle.conf_change.proofs.Offered.{changes_in_ok, AllZip-from_ok}
 use Rattle.conf_change.specs.Step.{changes_of}
 use Rattle.conf_plan.specs.PlanSteps.{HasWordIds}
 use Rattle.conf_plan.specs.PlanText.{flag_word, command_words, IsLineOf}

@@ -9,8 +9,7 @@ use Rattle.std.proofs.lemmas.List.Folds.{list_all-append}
 use Rattle.dd_file.specs.Bytes.{newline, is_space, is_blank, without_leading_space, without_trailing_space}
 use Rattle.dd_file.specs.Bytes as bytes
 use Rattle.dd_file.specs.Lines.{pieces, before_first_piece, line_of, lines_of, without_last}
-use Rattle.dd_file.proofs.CarriageReturns.{without_trailing_space-without_return}
-use Rattle.dd_file.proofs.Newlines.{split_last, without_last-push}
+use Rattle.dd_file.proofs.Offered.{without_trailing_space-without_return, split_last, without_last-push}
 use Rattle.conf_change.specs.Words.{words, trimmed}
 use Rattle.conf_session.specs.Told.{is_line_byte}
 use Rattle.conf_session.proofs.WhiteEnds.{blank-behind, ends-before_blank, ends-before_other, is_blank-ends, leads-blank, leads-behind_blank, leads-behind_other, leads-ends, trimmed-is, words-at_white, words-ends}

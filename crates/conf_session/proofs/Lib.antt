@@ -1,10 +1,11 @@
-pub mod CommandReplies
-pub mod ToldLines
-pub mod ToldCharts
-pub mod ToldTexts
-pub mod ToldReplies
-pub mod WhiteEnds
-pub mod InputLines
-pub mod SameAnswer
-pub mod Kept
-pub mod QuorumValues
+pub mod Offered
+mod CommandReplies
+mod ToldLines
+mod ToldCharts
+mod ToldTexts
+mod ToldReplies
+mod WhiteEnds
+mod InputLines
+mod SameAnswer
+mod Kept
+mod QuorumValues

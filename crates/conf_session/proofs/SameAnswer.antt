@@ -7,13 +7,13 @@ use Rattle.dd_file.specs.Bytes.{without_trailing_space}
 use Rattle.dd_file.specs.Lines.{line_of}
 use Rattle.dd_file.specs.Words.{ArgumentText}
 use Rattle.dd_file.specs.Laws.{IsSameDirective}
-use Rattle.dd_file.proofs.Pieces.{pieces-first}
+use Rattle.dd_file.proofs.Offered.{pieces-first}
 use Rattle.conf_change.specs.Words.{words, trimmed}
 use Rattle.conf_change.specs.ChangeList.{changes_in, changes_in_words}
 use Rattle.conf_change.specs.ConfState.{ConfStateLists}
 use Rattle.conf_change.specs.ConfStateLine.{line_in, conf_state_in}
 use Rattle.conf_change.specs.declared.step.Step.TheVariants.{Simple as SimpleStep}
-use Rattle.conf_change.proofs.LineLemmas.{StandsForConfState-from_some}
+use Rattle.conf_change.proofs.Offered.{StandsForConfState-from_some}
 use Rattle.conf_session.specs.SessionState.{SessionState}
 use Rattle.conf_session.specs.Reply.{Reply, told}
 use Rattle.conf_session.specs.Commands.{command_in, with_changes, with_no_input, on_step, enter_with, leave_with, change_with, restore_with, reply_of, reply_to, answered, answer}

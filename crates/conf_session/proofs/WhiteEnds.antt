@@ -9,8 +9,7 @@ use Rattle.std.proofs.lemmas.List.Folds.{list_all-append}
 use Rattle.std.proofs.lemmas.List.Splits.{length-slice_split}
 use Rattle.dd_file.specs.Bytes.{is_space, is_blank, without_leading_space, without_trailing_space}
 use Rattle.dd_file.specs.Bytes as bytes
-use Rattle.dd_file.proofs.Newlines.{split_last}
-use Rattle.dd_file.proofs.WhiteSpace.{without_trailing_space-append}
+use Rattle.dd_file.proofs.Offered.{split_last, without_trailing_space-append}
 use Rattle.conf_change.specs.Words.{is_white, has_bytes, words, without_white_before, without_white_after, trimmed}
 
 -- ---- bytes with white space, or with other bytes, behind them ..

@@ -33,7 +33,7 @@ use Rattle.conf_tool.specs.Laws.{JoinedClean}
 use Rattle.conf_tool.specs.declared.status.Status.{Status}
 use Rattle.conf_tool.specs.declared.status.Status.TheVariants.{Clean}
 use Rattle.conf_session.specs.declared.undo_fault.UndoFault.{UndoFault}
-use Rattle.conf_session.proofs.ToldLines.{first, second, both, told-bytes, undo_fault-told, spaced-words, changes-words}
+use Rattle.conf_session.proofs.Offered.{first, second, both, told-bytes, undo_fault-told, spaced-words, changes-words}
 use Rattle.conf_tool.proofs.RewrittenClean.{FoundStands, outputs, items-of, clean-items}
 
 -- ---- whether a script is clean is told by its directives

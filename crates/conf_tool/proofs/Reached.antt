@@ -9,8 +9,7 @@ use Rattle.dd_file.specs.Reading.{Next, Script, script_from, followed}
 use Rattle.dd_file.specs.ReaderState.{ReaderState, fresh}
 use Rattle.dd_file.specs.Answer.{Agrees, ReadsOn, IsCutShort, answered}
 use Rattle.dd_file.specs.declared.fault.FileFault.{FileFault}
-use Rattle.dd_file.proofs.PieceParts.{consumes-append}
-use Rattle.dd_file.proofs.InOrder.{agrees-in-turn}
+use Rattle.dd_file.proofs.Offered.{consumes-append, agrees-in-turn}
 use Rattle.conf_tool.specs.Answered.{script, behind}
 
 -- known bytes that lose a part at their front

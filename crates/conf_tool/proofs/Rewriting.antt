@@ -13,7 +13,7 @@ use Rattle.dd_file.specs.declared.item.Item.TheVariants.{Directive}
 use Rattle.dd_file.specs.declared.stage.Stage.{Stage}
 use Rattle.dd_file.specs.declared.stage.Stage.TheVariants.{Ready, Failed}
 use Rattle.dd_file.specs.declared.fault.FileFault.{FileFault}
-use Rattle.dd_file.proofs.LinesWritten.{begun-more}
+use Rattle.dd_file.proofs.Offered.{begun-more}
 use Rattle.conf_change.specs.declared.floor.Floor.{Floor}
 use Rattle.conf_session.specs.SessionState.{SessionState, new_session}
 use Rattle.conf_tool.specs.Reports.{found_for, session_after}

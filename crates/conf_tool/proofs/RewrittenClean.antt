@@ -16,8 +16,7 @@ use Rattle.conf_tool.specs.Reports.{found_for, session_after, entries_of, differ
 use Rattle.conf_tool.specs.Outputs.{checked_entries, status_of}
 use Rattle.conf_session.specs.Told.{CanStand}
 use Rattle.conf_tool.specs.Laws.{RewrittenClean}
-use Rattle.conf_session.proofs.ToldLines.{first, second, both}
-use Rattle.conf_session.proofs.SameAnswer.{same-answer}
+use Rattle.conf_session.proofs.Offered.{first, second, both, same-answer}
 
 -- the texts that are found can stand as outputs
 abbrev pub FoundStands : Type 0

@@ -3,8 +3,7 @@ use Rattle.std.specs.Prelude.{◌≡◌, ℕ, List}
 use Rattle.dd_file.specs.Place.{Place, longest_input}
 use Rattle.dd_file.specs.Reading.{Script, script_from, followed, next_item, next_line}
 use Rattle.dd_file.specs.declared.item.Item.{Item}
-use Rattle.dd_file.proofs.InOrder.{script_from-followed}
-use Rattle.dd_file.proofs.Takes.{next_item-takes, next_line-takes}
+use Rattle.dd_file.proofs.Offered.{script_from-followed, next_item-takes, next_line-takes}
 
 -- the items from a place on
 abbrev pub items_from : Place → List ℕ → Script Item

@@ -10,9 +10,9 @@ use Rattle.dd_file.specs.RewriterState.{RewriterState, HasWritten, Continues, Br
 use Rattle.dd_file.specs.declared.item.Item.{Item}
 use Rattle.dd_file.specs.declared.fault.FileFault.{FileFault}
 use Rattle.dd_file.specs.declared.stage.Stage.TheVariants.{Ready}
-use Rattle.dd_file.proofs.LinesWritten.{continues-append, breaks-first, breaks-second}
+use Rattle.dd_file.proofs.Offered.{continues-append, breaks-first, breaks-second}
 use Rattle.conf_change.specs.declared.step.Step.{Step}
-use Rattle.conf_plan.proofs.Taking.{take_one_more}
+use Rattle.conf_plan.proofs.Offered.{take_one_more}
 use Rattle.conf_change.specs.declared.floor.Floor.{Floor}
 use Rattle.conf_session.specs.SessionState.{SessionState, new_session}
 use Rattle.conf_tool.specs.Reports.{found_for, session_after, obeyed_text}

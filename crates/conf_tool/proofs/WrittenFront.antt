@@ -7,7 +7,7 @@ use Rattle.dd_file.specs.Bytes.{newline}
 use Rattle.dd_file.specs.Device.{AppendsPart}
 use Rattle.dd_file.specs.Reading.{Script}
 use Rattle.dd_file.specs.declared.fault.FileFault.{FileFault}
-use Rattle.dd_file.proofs.Appending.{appends-append, part-append, part-part, append-part}
+use Rattle.dd_file.proofs.Offered.{appends-append, part-append, part-part, append-part}
 use Rattle.conf_tool.specs.Answered.{script, behind, with_front, WroteFront}
 use Rattle.conf_change.specs.Configuration.{Configuration}
 use Rattle.conf_tool.specs.LineReply.{line_reply}

@@ -6,7 +6,7 @@ use Rattle.conf_change.specs.Configuration.{Configuration, is_valid, has_voter}
 use Rattle.conf_change.specs.ConfState.{ConfStateLists, Describes, lists_of, restored}
 use Rattle.conf_change.specs.ConfStateLine.{conf_state_text}
 use Rattle.conf_change.specs.declared.step.Step.{Step}
-use Rattle.conf_change.proofs.ConfStateLemmas.{restored_from_Describes}
+use Rattle.conf_change.proofs.Offered.{restored_from_Describes}
 use Rattle.conf_plan.specs.Run.{IsRun}
 use Rattle.confscript_c.specs.Applied.{steps_told, then_told}
 

@@ -1,40 +1,41 @@
-pub mod ArgumentWords
-pub mod Commas
-pub mod FirstWord
-pub mod WhiteSpace
-pub mod WorkedWords
-pub mod WorkedScripts
-pub mod Appending
-pub mod Newlines
-pub mod Ends
-pub mod BlankLines
-pub mod Pieces
-pub mod PieceParts
-pub mod NextLine
-pub mod LineRead
-pub mod InOrder
-pub mod Takes
-pub mod LinesOn
-pub mod Drafting
-pub mod DraftSteps
-pub mod DraftEnd
-pub mod ItemRead
-pub mod ItemLoop
-pub mod HeldItem
-pub mod Locality
-pub mod WholeText
-pub mod LinesWritten
-pub mod CarriageReturns
-pub mod WrittenLines
-pub mod Scanning
-pub mod SameText
-pub mod ReadItem
-pub mod ScriptItems
-pub mod WrittenItem
-pub mod FrontLines
-pub mod OpenFront
-pub mod ScriptLines
-pub mod JoinedItems
-pub mod WrittenScript
-pub mod WorkedRewriting
-pub mod Keys
+pub mod Offered
+mod ArgumentWords
+mod Commas
+mod FirstWord
+mod WhiteSpace
+mod WorkedWords
+mod WorkedScripts
+mod Appending
+mod Newlines
+mod Ends
+mod BlankLines
+mod Pieces
+mod PieceParts
+mod NextLine
+mod LineRead
+mod InOrder
+mod Takes
+mod LinesOn
+mod Drafting
+mod DraftSteps
+mod DraftEnd
+mod ItemRead
+mod ItemLoop
+mod HeldItem
+mod Locality
+mod WholeText
+mod LinesWritten
+mod CarriageReturns
+mod WrittenLines
+mod Scanning
+mod SameText
+mod ReadItem
+mod ScriptItems
+mod WrittenItem
+mod FrontLines
+mod OpenFront
+mod ScriptLines
+mod JoinedItems
+mod WrittenScript
+mod WorkedRewriting
+mod Keys

@@ -1,15 +1,16 @@
-pub mod IdLemmas
-pub mod MapLemmas
-pub mod TreeLemmas
-pub mod Counts
-pub mod VoteLemmas
-pub mod CommitLemmas
-pub mod SortedLemmas
-pub mod RisingLemmas
-pub mod Rows
-pub mod RankingLemmas
-pub mod UnionLemmas
-pub mod Overlapping
-pub mod CommonWalk
-pub mod PlaceLemmas
-pub mod Differing
+pub mod Offered
+mod IdLemmas
+mod MapLemmas
+mod TreeLemmas
+mod Counts
+mod VoteLemmas
+mod CommitLemmas
+mod SortedLemmas
+mod RisingLemmas
+mod Rows
+mod RankingLemmas
+mod UnionLemmas
+mod Overlapping
+mod CommonWalk
+mod PlaceLemmas
+mod Differing

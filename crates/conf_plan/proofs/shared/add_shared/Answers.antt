@@ -1,6 +1,6 @@
 use Rattle.std.proofs.Common.{sym, ap, ◌∙◌, arith}
 use Rattle.quorum_sets.specs.Ids.{has}
-use Rattle.quorum_sets.proofs.Counts.{not_past}
+use Rattle.quorum_sets.proofs.Offered.{not_past}
 use Rattle.conf_plan.proofs.Sharing.{shared_more, shared_same, shared_all}
 use Rattle.conf_plan.proofs.shared.add_shared.Goals as goal
 use Rattle.conf_plan.proofs.shared.add_shared.Goals.{in-Some+then-is_shared+in_ok-insert, in-Some+else-is_shared, in_default}

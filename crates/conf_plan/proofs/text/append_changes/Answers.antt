@@ -1,4 +1,4 @@
-use Rattle.conf_change.proofs.TextLemmas.{Extends-append}
+use Rattle.conf_change.proofs.Offered.{Extends-append}
 use Rattle.conf_plan.proofs.text.append_changes.Goals as goal
 
 pub returns-in_err-append_change-clause-extends : goal.returns-in_err-append_change-clause-extends

@@ -3,7 +3,7 @@ use Rattle.std.specs.List.{zip}
 use Rattle.std.specs.Ordering.{nat_cmp}
 use Rattle.std.specs.FinMap as finite
 use Rattle.std.proofs.lemmas.List.{drop_all}
-use Rattle.quorum_sets.proofs.MapLemmas.{from_entries-inserted}
+use Rattle.quorum_sets.proofs.Offered.{from_entries-inserted}
 use Rattle.confscript_c.proofs.Pairs.{zip-drop}
 use Rattle.confscript_c.proofs.quorums.known.Goals as goal
 

@@ -1,6 +1,6 @@
 use Rattle.std.proofs.Common.{ap, sym, ◌∙◌, length}
 use Rattle.std.specs.FinMap.{entries}
-use Rattle.quorum_sets.proofs.RisingLemmas.{rising-sorted}
+use Rattle.quorum_sets.proofs.Offered.{rising-sorted}
 use Rattle.conf_change.proofs.MemberLemmas.{entries-from_entries}
 use Rattle.conf_change.proofs.tracker.Tracker.member_count.Goals as goal
 

@@ -1,6 +1,6 @@
 use Rattle.std.proofs.Common.{◌∙◌, sym, subst}
 use Rattle.std.proofs.lemmas.Result.{err_from_is_err_and}
-use Rattle.conf_plan.proofs.Taking.{not_past}
+use Rattle.conf_plan.proofs.Offered.{not_past}
 use Rattle.dd_file.specs.RewriterState.{Continues, BreaksOff}
 use Rattle.conf_tool.specs.Reports.{obeyed_text}
 use Rattle.conf_tool.proofs.Faults.{or-false}
