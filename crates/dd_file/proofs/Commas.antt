@@ -1,6 +1,6 @@
 -- Values that are cut at commas one by one.
 use Rattle.std.proofs.Common.{◌≡◌, ℕ, ◌<◌, suc, Bool, true, false, cond, ◌||◌, List, [], ◌∷◌, ◌++◌, length, map, refl, sym, ◌∙◌, ap, arith}
-use Rattle.std.proofs.lemmas.List.{append_assoc, map-append}
+use Rattle.std.proofs.lemmas.List.{append_assoc}
 use Rattle.std.specs.List.{list_any}
 use Rattle.dd_file.specs.Bytes.{trimmed}
 use Rattle.dd_file.specs.Parts.{up_to, behind}
@@ -30,20 +30,19 @@ cut_at_commas-none (x ∷ xs) h = at (is_comma x) h (cut_at_commas-none xs) wher
   at false h ih = ap (placed false x) (ih h)
 
 -- one more value, up to the next comma
-pub value-pushed : {V : Type 0} (f : V → List ℕ) (old new : List V) (v : V) (rest value after : List ℕ) (whole : List (List ℕ)) →
-    new ≡ old ++ v ∷ [] → f v ≡ trimmed value → list_any is_comma rest ≡ true → value ≡ up_to is_comma rest → after ≡ behind is_comma rest →
-    map f old ++ map trimmed (cut_at_commas rest) ≡ whole → map f new ++ map trimmed (cut_at_commas after) ≡ whole
-value-pushed f old new v rest value after whole more copied some before left so_far =
-    ap (λ vs. map f vs ++ map trimmed (cut_at_commas after)) more ∙ ap (λ vs. vs ++ map trimmed (cut_at_commas after)) (map-append f old (v ∷ []))
-    ∙ append_assoc (map f old) (f v ∷ []) (map trimmed (cut_at_commas after))
-    ∙ ap (λ t. map f old ++ t ∷ map trimmed (cut_at_commas after)) (copied ∙ ap trimmed before)
-    ∙ ap (λ t. map f old ++ trimmed (up_to is_comma rest) ∷ map trimmed (cut_at_commas t)) left
-    ∙ ap (λ vs. map f old ++ map trimmed vs) (sym (cut_at_commas-some rest some)) ∙ so_far
+pub value-pushed : (old new : List (List ℕ)) (v rest value after : List ℕ) (whole : List (List ℕ)) →
+    new ≡ old ++ v ∷ [] → v ≡ trimmed value → list_any is_comma rest ≡ true → value ≡ up_to is_comma rest → after ≡ behind is_comma rest →
+    old ++ map trimmed (cut_at_commas rest) ≡ whole → new ++ map trimmed (cut_at_commas after) ≡ whole
+value-pushed old new v rest value after whole more copied some before left so_far =
+    ap (λ vs. vs ++ map trimmed (cut_at_commas after)) more
+    ∙ append_assoc old (v ∷ []) (map trimmed (cut_at_commas after))
+    ∙ ap (λ t. old ++ t ∷ map trimmed (cut_at_commas after)) (copied ∙ ap trimmed before)
+    ∙ ap (λ t. old ++ trimmed (up_to is_comma rest) ∷ map trimmed (cut_at_commas t)) left
+    ∙ ap (λ vs. old ++ map trimmed vs) (sym (cut_at_commas-some rest some)) ∙ so_far
 
 -- the last value, where no comma comes
-pub value-last : {V : Type 0} (f : V → List ℕ) (old new : List V) (v : V) (rest : List ℕ) (whole : List (List ℕ)) →
-    new ≡ old ++ v ∷ [] → f v ≡ trimmed rest → list_any is_comma rest ≡ false →
-    map f old ++ map trimmed (cut_at_commas rest) ≡ whole → map f new ≡ whole
-value-last f old new v rest whole more copied none so_far =
-    ap (map f) more ∙ map-append f old (v ∷ []) ∙ ap (λ t. map f old ++ t ∷ []) copied
-    ∙ ap (λ vs. map f old ++ map trimmed vs) (sym (cut_at_commas-none rest none)) ∙ so_far
+pub value-last : (old new : List (List ℕ)) (v rest : List ℕ) (whole : List (List ℕ)) →
+    new ≡ old ++ v ∷ [] → v ≡ trimmed rest → list_any is_comma rest ≡ false →
+    old ++ map trimmed (cut_at_commas rest) ≡ whole → new ≡ whole
+value-last old new v rest whole more copied none so_far =
+    more ∙ ap (λ t. old ++ t ∷ []) copied ∙ ap (λ vs. old ++ map trimmed vs) (sym (cut_at_commas-none rest none)) ∙ so_far

@@ -9,6 +9,7 @@ use Rattle.dd_file.specs.Words.{CommandText}
 use Rattle.dd_file.specs.Script.{Front, front, first_of, head_of, is_continued, is_separator, before_pair, has_pair, directive, after_pair, in_double, in_single, body, at_head}
 use Rattle.dd_file.specs.Draft.{DraftText, Fits, FitsIn, front_of, front_in, drafted, with_command, begins_directive, behind_separator, is_done, found_of, found_in_front}
 use Rattle.dd_file.specs.declared.item.Item.{Item}
+use Rattle.dd_file.specs.declared.item.Item.TheVariants.{Comment, Blank}
 use Rattle.dd_file.specs.declared.phase.Phase.{Phase}
 use Rattle.dd_file.specs.declared.phase.Phase.TheVariants.{Begin, CommentLine, BlankLines, Head, NoCommand, Input, Separator, Single, Double, Pair, Complete, AfterPair}
 use Rattle.dd_file.specs.declared.fault.FileFault.{FileFault}
@@ -142,6 +143,18 @@ found-bad-at draft line is fits same =
 pub found-unclosed-at : (draft : DraftText) (line : ℕ) → draft.phase ≡ Double → Fits draft → line ≡ draft.line → Err (UnclosedDouble line) ≡ found_of (front_of draft [])
 found-unclosed-at draft line is fits same =
     ap (λ n. Err (UnclosedDouble n)) same ∙ found-unclosed draft (subst (λ p. FitsIn p draft) is fits) ∙ ap (λ p. found_of (front_in p draft [])) (sym is)
+
+-- what a comment and blank lines are, of which all lines are of the head
+found-lines-at : (phase : Phase) (kind : List (List ℕ) → Item) (draft : DraftText) (lines : List (List ℕ)) → draft.phase ≡ phase → draft.input ≡ [] → lines ≡ draft.head ++ draft.input →
+    Ok (Some (kind draft.head)) ≡ found_of (front_in phase draft []) → Ok (Some (kind lines)) ≡ found_of (front_of draft [])
+found-lines-at phase kind draft lines is none all found =
+    ap (λ ls. Ok (Some (kind ls))) (all ∙ ap (λ i. draft.head ++ i) none ∙ append-nil draft.head) ∙ found ∙ ap (λ p. found_of (front_in p draft [])) (sym is)
+
+pub found-comment-at : (draft : DraftText) (lines : List (List ℕ)) → draft.phase ≡ CommentLine → Fits draft → lines ≡ draft.head ++ draft.input → Ok (Some (Comment lines)) ≡ found_of (front_of draft [])
+found-comment-at draft lines is fits all = found-lines-at CommentLine Comment draft lines is (subst (λ p. FitsIn p draft) is fits) all refl
+
+pub found-blank-at : (draft : DraftText) (lines : List (List ℕ)) → draft.phase ≡ BlankLines → Fits draft → lines ≡ draft.head ++ draft.input → Ok (Some (Blank lines)) ≡ found_of (front_of draft [])
+found-blank-at draft lines is fits all = found-lines-at BlankLines Blank draft lines is (subst (λ p. FitsIn p draft) is fits) all refl
 
 -- every other phase is that of a directive
 pub directive-phase : (phase : Phase) → (phase ≡ Begin → ⊥) → (phase ≡ CommentLine → ⊥) → (phase ≡ BlankLines → ⊥) → (phase ≡ Head → ⊥) → (phase ≡ NoCommand → ⊥) → (phase ≡ Double → ⊥) → (phase ≡ AfterPair → ⊥) →

@@ -1,12 +1,13 @@
 -- What an item takes in with one more line, phase by phase.
-use Rattle.std.proofs.Common.{◌≡◌, ℕ, ◌+◌, ◌-◌, Bool, true, false, cond, ◌&&◌, List, [], ◌∷◌, ◌++◌, length, map, ◌<◌, refl, sym, ◌∙◌, ap, arith}
-use Rattle.std.specs.Prelude.{Option, Some, None, IsSome, option_to_list, Ok, Err}
+use Rattle.std.proofs.Common.{◌≡◌, ℕ, zero, suc, ◌+◌, ◌-◌, Bool, true, false, cond, ◌&&◌, List, [], ◌∷◌, ◌++◌, length, take, get_or, ◌<◌, refl, sym, ◌∙◌, ap, arith}
+use Rattle.std.specs.Prelude.{Option, Some, None, Ok, Err, slice_get}
 use Rattle.std.specs.List.{list_all, list_any}
-use Rattle.std.proofs.lemmas.List.{append_assoc, length-append, map-append}
+use Rattle.std.proofs.lemmas.List.{append_assoc, length-append, take_all, take_more}
+use Rattle.std.proofs.lemmas.Option.{slice_get-get_or}
 use Rattle.dd_file.specs.Bytes.{is_blank}
 use Rattle.dd_file.specs.Words.{CommandText, command_of}
 use Rattle.dd_file.specs.Script.{front, first_of, joined, is_continued, is_separator, is_dashes, has_pair, in_double, body, directive, after_pair, at_command}
-use Rattle.dd_file.specs.Draft.{DraftText, AddsIn, FitsIn, drafted, begins_directive, ends_in_dashes}
+use Rattle.dd_file.specs.Draft.{DraftText, AddsIn, FitsIn, drafted, begins_directive, ends_in_dashes, behind_head, with_parsed}
 use Rattle.dd_file.specs.declared.item.Item.TheVariants.{Blank}
 use Rattle.dd_file.specs.declared.fault.FileFault.TheVariants.{AfterDouble, BadDirective}
 use Rattle.dd_file.specs.declared.phase.Phase.TheVariants.{Head, BlankLines, NoCommand, Input, Separator, Single, Double, Pair, Complete, AfterPair}
@@ -83,46 +84,58 @@ head-front : (old : DraftText) (line : List ℕ) (more : List (List ℕ)) → be
     (at_command old.line (command_of (joined (old.head ++ line ∷ []))) (old.head ++ line ∷ []) more))
 head-front old line more starts all last = ap (first_of old.line) (sym (append_assoc old.head (line ∷ []) more)) ∙ first_of-head old.line old.head line more starts all last
 
-pub adds-blank-head : (old new : DraftText) (line : List ℕ) → begins_directive (old.head ++ line ∷ []) ≡ true → list_all is_continued old.head ≡ true → old.count ≡ length old.head → is_continued line ≡ false →
-    is_blank (joined (old.head ++ line ∷ [])) ≡ true → new ≡ record old { head = old.head ++ line ∷ []; count = old.count + 1; phase = BlankLines } → AddsIn Head old new line
-adds-blank-head old new line starts all counted last blank e = rw e (record {
-  fits = tt;
-  front = λ more. ap (λ n. Some (front (Ok (Blank (old.head ++ line ∷ []))) n true)) count ∙ sym (head-front old line more starts all last ∙ rw blank refl);
-  count = refl;
-  first = refl;
-}) where
-  count : old.count + 1 ≡ length (old.head ++ line ∷ [])
+-- the last line of a head
+pub adds-last : (old new : DraftText) (line : List ℕ) → begins_directive (old.head ++ line ∷ []) ≡ true → list_all is_continued old.head ≡ true → (old.input ≡ []) × (old.expected ≡ []) → old.count ≡ length old.head →
+    is_continued line ≡ false → new ≡ behind_head (record old { head = old.head ++ line ∷ [] }) (joined (old.head ++ line ∷ [])) → AddsIn Head old new line
+adds-last old new line starts all empty counted last e = rw e (at (is_blank text) refl (command_of text) refl) where
+  head : List (List ℕ)
+  head = old.head ++ line ∷ []
+
+  text : List ℕ
+  text = joined head
+
+  count : old.count + 1 ≡ length head
   count = let len = length-append old.head (line ∷ []) in omega (arith, counted, len)
 
-pub adds-no-command : (old new : DraftText) (line : List ℕ) → begins_directive (old.head ++ line ∷ []) ≡ true → list_all is_continued old.head ≡ true → old.count ≡ length old.head → is_continued line ≡ false →
-    is_blank (joined (old.head ++ line ∷ [])) ≡ false → None ≡ command_of (joined (old.head ++ line ∷ [])) →
-    new ≡ record old { head = old.head ++ line ∷ []; count = old.count + 1; phase = NoCommand } → AddsIn Head old new line
-adds-no-command old new line starts all counted last blank is e = rw e (record {
-  fits = tt;
-  front = λ more. ap (λ n. Some (front (Err (BadDirective old.line)) n true)) count
-      ∙ sym (head-front old line more starts all last ∙ rw blank (ap (λ c. Some (at_command old.line c (old.head ++ line ∷ []) more)) (sym is)));
-  count = refl;
-  first = refl;
-}) where
-  count : old.count + 1 ≡ length (old.head ++ line ∷ [])
-  count = let len = length-append old.head (line ∷ []) in omega (arith, counted, len)
+  front-is : (more : List (List ℕ)) → first_of old.line (old.head ++ line ∷ more) ≡ Some (cond (is_blank text) (front (Ok (Blank head)) (length head) true) (at_command old.line (command_of text) head more))
+  front-is more = head-front old line more starts all last
 
-pub adds-command : (old new : DraftText) (line : List ℕ) (command : CommandText) → begins_directive (old.head ++ line ∷ []) ≡ true → list_all is_continued old.head ≡ true → (old.input ≡ []) × (old.expected ≡ []) →
-    old.count ≡ length old.head → is_continued line ≡ false → is_blank (joined (old.head ++ line ∷ [])) ≡ false → Some command ≡ command_of (joined (old.head ++ line ∷ [])) →
-    new ≡ record old { head = old.head ++ line ∷ []; command = Some command; count = old.count + 1; phase = Input } → AddsIn Head old new line
-adds-command old new line command starts all empty counted last blank is e = rw e (record {
-  fits = (refl, ap (list_any is_separator) (empty.0), empty.1, count);
-  front = λ more. ap (λ i. Some (body old.line command (old.head ++ line ∷ []) (i ++ more))) (empty.0)
-      ∙ sym (head-front old line more starts all last ∙ rw blank (ap (λ c. Some (at_command old.line c (old.head ++ line ∷ []) more)) (sym is)));
-  count = refl;
-  first = refl;
-}) where
-  count : old.count + 1 ≡ length (old.head ++ line ∷ []) + length old.input
-  count = let len = length-append old.head (line ∷ []) in let none = ap length (empty.0) in omega (arith, counted, len, none)
+  at : (blank : Bool) → is_blank text ≡ blank → (command : Option CommandText) → command_of text ≡ command →
+      AddsIn Head old (cond blank (record old { head = head; count = old.count + 1; phase = BlankLines }) (with_parsed (record old { head = head }) command)) line
+  at true is command says = record {
+    fits = empty.0;
+    front = λ more. ap (λ n. Some (front (Ok (Blank head)) n true)) count ∙ sym (front-is more ∙ rw is refl);
+    count = refl;
+    first = refl;
+  }
+  at false is None says = record {
+    fits = tt;
+    front = λ more. ap (λ n. Some (front (Err (BadDirective old.line)) n true)) count ∙ sym (front-is more ∙ rw (is, says) refl);
+    count = refl;
+    first = refl;
+  }
+  at false is (Some command) says = record {
+    fits = (refl, ap (list_any is_separator) (empty.0), empty.1, let none = ap length (empty.0) in omega (arith, count, none));
+    front = λ more. ap (λ i. Some (body old.line command head (i ++ more))) (empty.0) ∙ sym (front-is more ∙ rw (is, says) refl);
+    count = refl;
+    first = refl;
+  }
 
--- the last line that was taken off
-pub popped : {V : Type 0} (f : V → List ℕ) (old new : List V) (last : Option V) → old ≡ new ++ option_to_list last → ends_in_dashes (map f old) ≡ true → (0 < length old → IsSome last) →
-    (x : List ℕ) × (map f old ≡ map f new ++ x ∷ [])
-popped f [] new last e ends some = cc
-popped f (v ∷ old) new None e ends some = let bad : false ≡ true = some (omega arith) in cc
-popped f (v ∷ old) new (Some x) e ends some = (f x, ap (map f) e ∙ map-append f new (x ∷ []))
+-- the last of some lines
+pub ends-last : (lines : List (List ℕ)) (i : ℕ) (line : List ℕ) → length lines ≡ suc i → slice_get lines i ≡ Some line → ends_in_dashes lines ≡ is_dashes line
+ends-last [] i line e is = absurd (omega (arith, e))
+ends-last (y ∷ []) zero line e is = let same : y ≡ line = cc in ap is_dashes same
+ends-last (y ∷ []) (suc i) line e is = absurd (omega (arith, e))
+ends-last (y ∷ z ∷ lines) zero line e is = absurd (omega (arith, e))
+ends-last (y ∷ z ∷ lines) (suc i) line e is = ends-last (z ∷ lines) i line (omega (arith, e)) is
+
+pub ends-none : (lines : List (List ℕ)) → None ≡ slice_get lines (length lines - 1) → false ≡ ends_in_dashes lines
+ends-none [] is = refl
+ends-none (line ∷ lines) is = let some = slice_get-get_or (line ∷ lines) (length (line ∷ lines) - 1) [] (omega arith) in cc
+
+pub dashes-some : (lines : List (List ℕ)) → ends_in_dashes lines ≡ true → 0 < length lines
+dashes-some [] ends = cc
+dashes-some (line ∷ lines) ends = omega arith
+
+pub last-split : (lines : List (List ℕ)) → 0 < length lines → lines ≡ take (length lines - 1) lines ++ get_or lines (length lines - 1) [] ∷ []
+last-split lines some = sym (take_all (length lines - 1 + 1) lines (omega arith)) ∙ take_more lines (length lines - 1) [] (omega (arith, some))

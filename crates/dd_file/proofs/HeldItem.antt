@@ -155,7 +155,7 @@ held-more remaining has_failed old reader draft next count taken rest can within
 
 -- the item is done
 pub held-done : {R : Type 0} (remaining : R → Option (List ℕ)) (has_failed : R → Bool) (old new : ReaderState) (reader : R) (draft : DraftText) (count taken : ℕ) (result : Result (Option Item) FileFault) → CanTell old → Within old →
-    HeldSoFar remaining old reader draft count taken → is_done draft.phase ≡ true → new ≡ passed old count taken → (result ≡ found_of (front_of draft [])) ⊎ (result ≡ Err NoMemory) → IfErr result (IsDraftFault draft.line) →
+    HeldSoFar remaining old reader draft count taken → is_done draft.phase ≡ true → new ≡ passed old count taken → result ≡ found_of (front_of draft []) → IfErr result (IsDraftFault draft.line) →
     ReadsOn remaining has_failed (λ item. item) (next_item longest_input) IsItemFault old (record new { fault = fault_of result }) reader reader result
 held-done remaining has_failed old new reader draft count taken result can within so_far done is found kind =
     let now = passed old count taken in

@@ -171,33 +171,24 @@ begin-none draft item begin fits e = let bad : Ok (Some item) ≡ found_of (fron
 -- the item is done
 pub done-reads : {R : Type 0} (remaining : R → Option (List ℕ)) (has_failed : R → Bool) (old now : ReaderState) (before after : R) (draft : DraftText) (result : Result (Option Item) FileFault) →
     old.fault ≡ None → old.is_ended ≡ false → ReadingItem remaining old now before after draft → is_done draft.phase ≡ true → length now.held ≤ longest_lookahead → has_failed after ≡ has_failed before →
-    (result ≡ found_of (front_of draft [])) ⊎ (result ≡ Err NoMemory) → IfErr result (IsDraftFault draft.line) →
+    result ≡ found_of (front_of draft []) → IfErr result (IsDraftFault draft.line) →
     ReadsOn remaining has_failed (λ item. item) (next_item longest_input) IsItemFault old (record now { fault = fault_of result }) before after result
-done-reads remaining has_failed old now before after draft result faultless unended reading done ahead sound outcome kind =
+done-reads remaining has_failed old now before after draft result faultless unended reading done ahead sound is kind =
     item-reads remaining has_failed old now before after result faultless unended (record {
-      answers = λ input more agrees. at input more agrees outcome;
+      answers = λ input more agrees. inr (
+          item-done longest_input old.place now.place input (now.held ++ more) reading.lines draft (reads-on longest_input reading.lines old.place input now.place (now.held ++ more) (reading.given.read input more agrees))
+          reading.front reading.fits done reading.count
+          ∙ ap (λ r. as_next r now.place (now.held ++ more)) (sym is) ∙ as-answered now (record now { fault = fault_of result }) more result (now.held ++ more) refl refl);
       moves = reading.given.moves;
       forward = when-some result (let h = reading.room in let k = some in omega (arith, h, k));
       counted = when-ok result reading.bound;
       lookahead = when-ok result ahead;
-      finished = λ e. none e outcome;
+      finished = λ e. found-some (front_of draft []) (done-some draft.phase draft reading.fits done) (sym is ∙ e);
       kind = draft-kind old.place draft.line result reading.first kind;
       read = still-sound _ _ draft.line result sound kind;
     }) where
       some : 0 < draft.count
       some = positive draft.count (λ none. let bad : false ≡ true = ap is_done (sym (reading.start none)) ∙ done in cc)
-
-      none : {P : Type 0} → result ≡ Ok None → (result ≡ found_of (front_of draft [])) ⊎ (result ≡ Err NoMemory) → P
-      none e (inl is) = found-some (front_of draft []) (done-some draft.phase draft reading.fits done) (sym is ∙ e)
-      none e (inr is) = cc
-
-      at : (input more : List ℕ) → Agrees old (remaining before) (remaining after) input more → (result ≡ found_of (front_of draft [])) ⊎ (result ≡ Err NoMemory) →
-          IsCutShort result ⊎ (next_item longest_input old.place input ≡ answered (λ item. item) (record now { fault = fault_of result }) more result)
-      at input more agrees (inl is) = inr (
-          item-done longest_input old.place now.place input (now.held ++ more) reading.lines draft (reads-on longest_input reading.lines old.place input now.place (now.held ++ more) (reading.given.read input more agrees))
-          reading.front reading.fits done reading.count
-          ∙ ap (λ r. as_next r now.place (now.held ++ more)) (sym is) ∙ as-answered now (record now { fault = fault_of result }) more result (now.held ++ more) refl refl)
-      at input more agrees (inr is) = inl (inr is)
 
 -- no memory for a line
 pub memory-reads : {R L : Type 0} (remaining : R → Option (List ℕ)) (has_failed : R → Bool) (view : L → List ℕ) (old now new : ReaderState) (before between after : R) (draft : DraftText) (line : L) →
@@ -277,49 +268,45 @@ agrees-none state None after input more agrees none = absurd agrees
 
 pub end-reads : {R L : Type 0} (remaining : R → Option (List ℕ)) (has_failed : R → Bool) (view : L → List ℕ) (old now new : ReaderState) (before between after : R) (draft : DraftText) (result : Result (Option Item) FileFault) →
     old.fault ≡ None → old.is_ended ≡ false → ReadingItem remaining old now before between draft → ReadsOn remaining has_failed view (next_line longest_input) IsLineFault now new between after (Ok None) →
-    has_failed between ≡ has_failed before → (result ≡ found_of (front_of draft [])) ⊎ (result ≡ Err NoMemory) → IfErr result (IsDraftFault draft.line) →
+    has_failed between ≡ has_failed before → result ≡ found_of (front_of draft []) → IfErr result (IsDraftFault draft.line) →
     ReadsOn remaining has_failed (λ item. item) (next_item longest_input) IsItemFault old (record new { fault = fault_of result }) before after result
-end-reads remaining has_failed view old now new before between after draft result faultless unended reading read sound outcome kind =
+end-reads remaining has_failed view old now new before between after draft result faultless unended reading read sound is kind =
     item-reads remaining has_failed old new before after result faultless unended (record {
-      answers = λ input more agrees. at input more agrees outcome;
+      answers = λ input more agrees. inr (at input more agrees);
       moves = moves-append remaining old now new before between after reading.given.moves read.moves;
-      forward = forward result outcome;
+      forward = forward result is;
       counted = when-ok result read.counted;
       lookahead = when-ok result read.lookahead;
-      finished = λ e. (over.0.held, over.0.ended, over.1 ∙ ap (λ (s : ReaderState). s.place) (reading.still (none e outcome)));
+      finished = λ e. (over.0.held, over.0.ended, over.1 ∙ ap (λ (s : ReaderState). s.place) (reading.still (none e)));
       kind = draft-kind old.place draft.line result reading.first kind;
       read = still-sound _ _ draft.line result (read.read reading.faultless ∙ sym (or-false (has_failed between)) ∙ sound) kind;
     }) where
       over : IsOver new × (new.place ≡ now.place)
       over = read.finished refl
 
-      none : result ≡ Ok None → (result ≡ found_of (front_of draft [])) ⊎ (result ≡ Err NoMemory) → draft.count ≡ 0
-      none e (inl is) = elim (begun draft.phase draft reading.fits) [ inl none-read ↦ none-read | inr some ↦ found-some (front_of draft []) some (sym is ∙ e) ]
-      none e (inr is) = cc
+      none : result ≡ Ok None → draft.count ≡ 0
+      none e = elim (begun draft.phase draft reading.fits) [ inl none-read ↦ none-read | inr some ↦ found-some (front_of draft []) some (sym is ∙ e) ]
 
-      forward : (r : Result (Option Item) FileFault) → (r ≡ found_of (front_of draft [])) ⊎ (r ≡ Err NoMemory) → IfOk r (λ found. IfSome found (λ _. old.place.lines < new.place.lines))
+      forward : (r : Result (Option Item) FileFault) → r ≡ found_of (front_of draft []) → IfOk r (λ found. IfSome found (λ _. old.place.lines < new.place.lines))
       forward (Ok None) h = tt
       forward (Err fault) h = tt
-      forward (Ok (Some item)) (inr h) = cc
-      forward (Ok (Some item)) (inl h) =
+      forward (Ok (Some item)) h =
           let room = reading.room in
           let some = positive draft.count (λ none-read. begin-none draft item (reading.start none-read) reading.fits h) in
           let place = ap (λ (p : Place). p.lines) over.1 in
           omega (arith, room, some, place)
 
-      at : (input more : List ℕ) → Agrees old (remaining before) (remaining after) input more → (result ≡ found_of (front_of draft [])) ⊎ (result ≡ Err NoMemory) →
-          IsCutShort result ⊎ (next_item longest_input old.place input ≡ answered (λ item. item) (record new { fault = fault_of result }) more result)
-      at input more agrees (inr is) = inl (inr is)
-      at input more agrees (inl is) =
+      at : (input more : List ℕ) → Agrees old (remaining before) (remaining after) input more → next_item longest_input old.place input ≡ answered (λ item. item) (record new { fault = fault_of result }) more result
+      at input more agrees =
           let turn = agrees-in-turn old now (remaining before) (remaining between) (remaining after) input more reading.given.moves.taken read.moves.taken reading.given.moves.met agrees in
           let bytes = now.held ++ turn.behind in
           let on = reads-on longest_input reading.lines old.place input now.place bytes (reading.given.read input turn.behind turn.first) in
           let last : next_line longest_input now.place bytes ≡ Over = answer-whole None (read.answers reading.faultless bytes more turn.second) in
           let empty : bytes ≡ [] = line-over-bytes longest_input now.place bytes last in
           let nothing : more ≡ [] = agrees-none now (remaining between) (remaining after) bytes more turn.second empty in
-          inr (item-end longest_input old.place now.place input bytes reading.lines draft on reading.front reading.fits reading.count last
+          item-end longest_input old.place now.place input bytes reading.lines draft on reading.front reading.fits reading.count last
           ∙ ap (λ r. as_next r now.place bytes) (sym is)
-          ∙ as-answered now (record new { fault = fault_of result }) more result bytes (sym over.1) (empty ∙ sym (ap (λ h. h ++ more) over.0.held ∙ nothing)))
+          ∙ as-answered now (record new { fault = fault_of result }) more result bytes (sym over.1) (empty ∙ sym (ap (λ h. h ++ more) over.0.held ∙ nothing))
 
 -- nothing is left
 pub over-reads-item : {R : Type 0} (remaining : R → Option (List ℕ)) (has_failed : R → Bool) (state : ReaderState) (before : R) → state.fault ≡ None → state.is_ended ≡ true → state.held ≡ [] →

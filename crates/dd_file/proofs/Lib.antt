@@ -27,6 +27,7 @@ mod WholeText
 mod LinesWritten
 mod CarriageReturns
 mod WrittenLines
+mod LineEnds
 mod Scanning
 mod SameText
 mod ReadItem

@@ -89,20 +89,3 @@ breaks-first a old new xs ys first start text is =
 pub breaks-second : (a b : ℕ) (old mid new : Option (List ℕ)) (xs ys : List ℕ) → Continues a b old mid xs → BreaksOff b mid new ys → BreaksOff a old new (xs ++ ys)
 breaks-second a b old mid new xs ys first second start text is =
     subst (λ t. HasBegun start new t) (append_assoc text xs ys) (second start (text ++ xs) (first start text is))
-
--- the lines up to a place, and one more
-pub lines-more : {A : Type 0} (f : A → List ℕ) (lines : List A) (i : ℕ) (x : A) → i < length lines → get_or lines i x ≡ x →
-    text_of (map f (take (i + 1) lines)) ≡ text_of (map f (take i lines)) ++ (f x ++ newline)
-lines-more {A = A} f lines i x lt here =
-    ap (λ ls. text_of (map f ls)) (take_more lines i x lt ∙ ap (λ y. take i lines ++ y ∷ []) here) ∙ text_of-push (take i lines) where
-      text_of-push : (ls : List A) → text_of (map f (ls ++ x ∷ [])) ≡ text_of (map f ls) ++ (f x ++ newline)
-      text_of-push [] = append-nil (f x ++ newline)
-      text_of-push (l ∷ ls) = ap (λ t. (f l ++ newline) ++ t) (text_of-push ls) ∙ sym (append_assoc (f l ++ newline) (text_of (map f ls)) (f x ++ newline))
-
--- all lines, those up to a place and those behind it
-pub lines-split : {A : Type 0} (f : A → List ℕ) (lines : List A) (i : ℕ) →
-    text_of (map f (take i lines)) ++ text_of (map f (drop i lines)) ≡ text_of (map f lines)
-lines-split {A = A} f lines i = sym (text_of-append (take i lines) (drop i lines)) ∙ ap (λ ls. text_of (map f ls)) (take-append-drop i lines) where
-  text_of-append : (xs ys : List A) → text_of (map f (xs ++ ys)) ≡ text_of (map f xs) ++ text_of (map f ys)
-  text_of-append [] ys = refl
-  text_of-append (x ∷ xs) ys = ap (λ t. (f x ++ newline) ++ t) (text_of-append xs ys) ∙ sym (append_assoc (f x ++ newline) (text_of (map f xs)) (text_of (map f ys)))

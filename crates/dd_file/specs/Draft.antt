@@ -2,7 +2,7 @@
 use Rattle.std.specs.Prelude.{◌≡◌, ◌<◌, ◌+◌, ◌-◌, ℕ, Bool, true, false, not, ◌&&◌, List, [], ◌∷◌, ◌++◌, length, drop, Option, Some, None, is_some, Result, Ok, Err, ⊤, if◌then◌else◌}
 use Rattle.std.specs.List.{list_all, list_any}
 use Rattle.dd_file.specs.Bytes.{is_blank}
-use Rattle.dd_file.specs.Words.{CommandText}
+use Rattle.dd_file.specs.Words.{CommandText, command_of}
 use Rattle.dd_file.specs.Script.{Front, front, first_of, is_comment, is_continued, is_separator, is_dashes, begins_with_dashes, has_pair, directive, after_pair, in_double, in_single, body}
 use Rattle.dd_file.specs.declared.phase.Phase.{Phase}
 use Rattle.dd_file.specs.declared.phase.Phase.TheVariants.{Begin, CommentLine, BlankLines, Head, NoCommand, Input, Separator, Single, Double, Pair, Complete, AfterPair}
@@ -24,6 +24,15 @@ pub record DraftText : Type 0 where
 -- no line was read yet
 abbrev pub blank_draft : ℕ → DraftText
 blank_draft line = record { line = line; head = []; command = None; input = []; expected = []; count = 0; phase = Begin }
+
+-- a draft behind the last line of its head, of which the text says this command, or none
+abbrev pub with_parsed : DraftText → Option CommandText → DraftText
+with_parsed draft None = record draft { count = draft.count + 1; phase = NoCommand }
+with_parsed draft (Some command) = record draft { command = Some command; count = draft.count + 1; phase = Input }
+
+-- the same by the text; white space alone says no directive
+abbrev pub behind_head : DraftText → List ℕ → DraftText
+behind_head draft text = if is_blank text then record draft { count = draft.count + 1; phase = BlankLines } else with_parsed draft (command_of text)
 
 -- whether no further line belongs to the item
 abbrev pub is_done : Phase → Bool
@@ -85,8 +94,8 @@ ends_in_dashes (line ∷ next ∷ lines) = ends_in_dashes (next ∷ lines)
 -- nothing in the parts so far ends them, and each line is counted
 abbrev pub FitsIn : Phase → DraftText → Type 0
 FitsIn Begin draft = (draft.head ≡ []) × (draft.input ≡ []) × (draft.expected ≡ []) × (draft.count ≡ 0)
-FitsIn CommentLine draft = ⊤
-FitsIn BlankLines draft = ⊤
+FitsIn CommentLine draft = draft.input ≡ []
+FitsIn BlankLines draft = draft.input ≡ []
 FitsIn Head draft = (begins_directive draft.head ≡ true) × (list_all is_continued draft.head ≡ true) × (draft.input ≡ []) × (draft.expected ≡ []) × (draft.count ≡ length draft.head)
 FitsIn NoCommand draft = ⊤
 FitsIn Input draft = (is_some draft.command ≡ true) × (list_any is_separator draft.input ≡ false) × (draft.expected ≡ []) × (draft.count ≡ length draft.head + length draft.input)

@@ -20,3 +20,4 @@ pub mod Laws
 pub mod Wrapped
 pub mod Gathered
 pub mod InTurn
+pub mod LineEnds

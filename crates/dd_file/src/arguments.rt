@@ -1,10 +1,11 @@
 //! The arguments of a directive: a key with values, by a grammar that is own.
-ghost use Rattle.std.specs.Prelude.{◌≡◌, ◌==◌, true, false, IfOk, MatchOption, map, option_map};
+ghost use Rattle.std.specs.Prelude.{◌≡◌, ◌==◌, true, false, IfOk, MatchOption};
 ghost use Rattle.std.specs.List.{list_all, list_any};
 ghost use Rattle.dd_file.specs.Parts.{up_to, behind};
 ghost use Rattle.dd_file.specs.Words.{is_key_byte, is_key, is_plain, listed, values_of, argument_of};
 
 use crate::item::Argument;
+use crate::raw_lines::RawLines;
 use crate::white_space::{is_blank, is_space, trimmed};
 use std::alloc::{AllocError, Global};
 
@@ -54,25 +55,25 @@ fn split_once(bytes: &[u8], mark: u8) -> Option<(&[u8], &[u8])>
 }
 
 /// The values between parentheses: what stands between commas, each trimmed. White space alone has none.
-fn listed(alloc: Global, text: &[u8]) -> Result<Vec<Vec<u8>>, AllocError>
-    ensures { IfOk result (λ values. map (λ value. value.items) values.items ≡ listed text.now) }
+fn listed(alloc: Global, text: &[u8]) -> Result<RawLines, AllocError>
+    ensures { IfOk result (λ values. values ≡ listed text.now) }
 {
-    let mut values = Vec::new(alloc);
+    let mut values = RawLines::new(alloc);
     if is_blank(text) {
         return Ok(values);
     }
     let mut rest = text;
     while let Some((value, behind)) = split_once(rest, b',') {
-        values.push(Vec::from_slice(alloc, trimmed(value))?)?;
+        values.push(trimmed(value))?;
         rest = behind;
     }
-    values.push(Vec::from_slice(alloc, trimmed(rest))?)?;
+    values.push(trimmed(rest))?;
     Ok(values)
 }
 
 /// The values that stand behind `=`: a list in parentheses, or one plain value. Anything else is no argument's value.
-fn values_of(alloc: Global, text: &[u8]) -> Result<Option<Vec<Vec<u8>>>, AllocError>
-    ensures { IfOk result (λ found. option_map (λ values. map (λ value. value.items) values.items) found ≡ values_of text.now) }
+fn values_of(alloc: Global, text: &[u8]) -> Result<Option<RawLines>, AllocError>
+    ensures { IfOk result (λ found. found ≡ values_of text.now) }
 {
     if let Some((b'(', inside)) = text.split_first() {
         return match split_once(inside, b')') {
@@ -83,8 +84,8 @@ fn values_of(alloc: Global, text: &[u8]) -> Result<Option<Vec<Vec<u8>>>, AllocEr
     if !is_plain(text) {
         return Ok(None);
     }
-    let mut values = Vec::new(alloc);
-    values.push(Vec::from_slice(alloc, text)?)?;
+    let mut values = RawLines::new(alloc);
+    values.push(text)?;
     Ok(Some(values))
 }
 
@@ -93,7 +94,7 @@ pub(crate) fn argument_of(alloc: Global, word: &[u8]) -> Result<Option<Argument>
     ensures { IfOk result (λ found. found ≡ argument_of word.now) }
 {
     if is_key(word) {
-        return Ok(Some(Argument::new(Vec::from_slice(alloc, word)?, Vec::new(alloc))));
+        return Ok(Some(Argument::new(Vec::from_slice(alloc, word)?, RawLines::new(alloc))));
     }
     let Some((key, text)) = split_once(word, b'=') else {
         return Ok(None);

@@ -5,6 +5,7 @@ ghost use Rattle.dd_file.specs.Device.{AppendsPart};
 
 use crate::device::Sink;
 use crate::fault::{DeviceFault, WriteFault};
+use crate::room::append;
 use crate::writing::write_front;
 use std::alloc::{AllocError, Global};
 
@@ -21,17 +22,6 @@ pub struct Blocks<W> {
     ghost written_within: { written ≤ vec_len block },
     ghost block_within: { vec_len block ≤ 4096 },
     ghost room: { 4096 ≤ vec_capacity block },
-}
-
-/// Appends to a vector that has room.
-fn append(block: &mut Vec<u8>, bytes: &[u8])
-    requires { vec_len block.old + length bytes.now ≤ vec_capacity block.old }
-    ensures items { block.new.items ≡ block.old.items ++ bytes.now }
-    ensures capacity { vec_capacity block.old ≤ vec_capacity block.new }
-{
-    let Ok(()) = block.extend_from_slice(bytes) else {
-        unreachable!()
-    };
 }
 
 impl<W: Sink> Blocks<W> {

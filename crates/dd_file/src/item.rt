@@ -1,43 +1,14 @@
 //! The items of a script.
-ghost use Rattle.std.specs.Prelude.{◌≡◌, true, length, map, option_map, slice_get};
+ghost use Rattle.std.specs.Prelude.{◌≡◌, ◌≤◌, true, length, drop, option_map, slice_get};
+ghost use Rattle.dd_file.specs.Bytes.{trimmed};
+ghost use Rattle.dd_file.specs.Lines.{text_of};
 ghost use Rattle.dd_file.specs.Words.{has_keys};
 
 use crate::command::{Command, parse_command};
-use crate::directive::make_directive;
+pub use crate::raw_lines::RawLines;
+use crate::white_space::{without_leading_space, without_trailing_space};
 use std::alloc::{AllocError, Global};
 use std::marker::Model;
-
-/// Lines, without what ended them.
-#[derive(Drop)]
-pub struct RawLines {
-    lines: Vec<Vec<u8>>,
-}
-
-impl Model for RawLines {
-    ghost use Rattle.std.specs.Prelude.{List, ℕ, map};
-
-    ghost Value = { List (List ℕ) };
-
-    ghost view = { λ a. map (λ line. line.items) a.lines.items };
-}
-
-impl RawLines {
-    pub(crate) fn new(lines: Vec<Vec<u8>>) -> RawLines
-        ensures { result ≡ map (λ line. line.items) lines.items }
-    {
-        RawLines { lines }
-    }
-
-    /// The line at a place, counted from 0.
-    pub fn get(&self, i: usize) -> Option<&[u8]>
-        ensures { option_map (λ line. line.now) result ≡ slice_get self.now i }
-    {
-        match self.lines.get(i) {
-            None => None,
-            Some(line) => Some(line.as_slice()),
-        }
-    }
-}
 
 /// An argument of a directive: a key and its values.
 #[derive(Drop)]
@@ -55,13 +26,10 @@ impl Model for Argument {
 }
 
 impl Argument {
-    pub(crate) fn new(key: Vec<u8>, values: Vec<Vec<u8>>) -> Argument
-        ensures { result ≡ record { key = key.items; values = map (λ value. value.items) values.items } }
+    pub(crate) fn new(key: Vec<u8>, values: RawLines) -> Argument
+        ensures { result ≡ record { key = key.items; values = values } }
     {
-        Argument {
-            key,
-            values: RawLines { lines: values },
-        }
+        Argument { key, values }
     }
 
     pub fn key(&self) -> &[u8]
@@ -74,7 +42,7 @@ impl Argument {
     pub fn value_count(&self) -> usize
         ensures { result ≡ length self.now.values }
     {
-        self.values.lines.len()
+        self.values.count()
     }
 
     /// The value at a place, counted from 0.
@@ -91,13 +59,17 @@ pub struct Directive {
     line: usize,
     command: Vec<u8>,
     arguments: Vec<Argument>,
-    input: Vec<u8>,
-    expected: Vec<u8>,
+    /// The lines of its head, and then those of its input.
     raw_lines: RawLines,
+    /// Where its input begins in their text, and where it ends.
+    input_start: usize,
+    input_end: usize,
+    expected: Vec<u8>,
 }
 
 impl Model for Directive {
-    ghost use Rattle.std.specs.Prelude.{◌≡◌, true};
+    ghost use Rattle.std.specs.Prelude.{◌≡◌, ◌≤◌, ◌-◌, true, length, take, drop};
+    ghost use Rattle.dd_file.specs.Lines.{text_of};
     ghost use Rattle.dd_file.specs.DirectiveText.{DirectiveText};
     ghost use Rattle.dd_file.specs.Words.{has_keys};
 
@@ -107,39 +79,48 @@ impl Model for Directive {
       line = a.line;
       command = a.command.items;
       arguments = a.arguments.items;
-      input = a.input.items;
+      input = take (a.input_end - a.input_start) (drop a.input_start (text_of a.raw_lines));
       expected = a.expected.items;
       raw_lines = a.raw_lines;
     } };
 
-    ghost invariant = { λ a. has_keys a.arguments.items ≡ true };
+    ghost invariant = { λ a. (has_keys a.arguments.items ≡ true) × (a.input_start ≤ a.input_end) × (a.input_end ≤ length (text_of a.raw_lines)) };
 }
 
 impl Directive {
+    /// The directive that begins at a line, counted from 1. The first `heads` of its raw lines are its head, and the
+    /// others its input.
     pub(crate) fn new(
         line: usize,
         command: Command,
-        input: Vec<u8>,
+        raw_lines: RawLines,
+        heads: usize,
         expected: Vec<u8>,
-        raw_lines: Vec<Vec<u8>>,
     ) -> Directive
+        requires { heads ≤ length raw_lines }
         ensures { result ≡ record {
           line = line;
           command = command.name;
           arguments = command.arguments;
-          input = input.items;
+          input = trimmed (text_of (drop heads raw_lines));
           expected = expected.items;
-          raw_lines = map (λ line. line.items) raw_lines.items;
+          raw_lines = raw_lines;
         } }
     {
         let Command { name, arguments } = command;
+        let input = raw_lines.text_behind(heads);
+        let ended = without_trailing_space(input);
+        let begun = without_leading_space(ended);
+        let input_end = raw_lines.text().len() - (input.len() - ended.len());
+        let input_start = input_end - begun.len();
         Directive {
             line,
             command: name,
             arguments,
-            input,
+            raw_lines,
+            input_start,
+            input_end,
             expected,
-            raw_lines: RawLines { lines: raw_lines },
         }
     }
 
@@ -174,7 +155,7 @@ impl Directive {
     pub fn input(&self) -> &[u8]
         ensures { result.now ≡ self.now.input }
     {
-        self.input.as_slice()
+        &self.raw_lines.text()[self.input_start..self.input_end]
     }
 
     pub fn expected(&self) -> &[u8]
@@ -194,7 +175,7 @@ pub enum Item {
 
 impl Item {
     ghost use Rattle.std.specs.Prelude.{◌≡◌, [], ◌∷◌, IfOk, option_map, slice_get, map};
-    ghost use Rattle.dd_file.specs.Rewritten.{raw_lines_of, is_directive};
+    ghost use Rattle.dd_file.specs.Rewritten.{raw_lines_of, kept_text, is_directive};
     ghost use Rattle.dd_file.specs.Script.{directive};
     ghost use Rattle.dd_file.specs.Words.{command_of};
 
@@ -202,9 +183,9 @@ impl Item {
     pub fn comment(alloc: Global, line: Vec<u8>) -> Result<Item, AllocError>
         ensures { IfOk result (λ item. item ≡ Item.Comment (line.items ∷ [])) }
     {
-        let mut lines = Vec::new(alloc);
-        lines.push(line)?;
-        Ok(Item::Comment(RawLines::new(lines)))
+        let mut lines = RawLines::new(alloc);
+        lines.push(line.as_slice())?;
+        Ok(Item::Comment(lines))
     }
 
     /// The directive that a line says, as the first line of a script, with lines of input and no output expected; none
@@ -217,14 +198,15 @@ impl Item {
         ensures { IfOk result (λ found. found ≡
             option_map (λ command. directive 1 command (line.items ∷ []) (map (λ line. line.items) input.items) []) (command_of line.items)) }
     {
-        match parse_command(alloc, line.as_slice())? {
-            None => Ok(None),
-            Some(command) => {
-                let mut head = Vec::new(alloc);
-                head.push(line)?;
-                Ok(Some(make_directive(alloc, 1, head, command, input, &[])?))
-            }
+        let Some(command) = parse_command(alloc, line.as_slice())? else {
+            return Ok(None);
+        };
+        let mut lines = RawLines::new(alloc);
+        lines.push(line.as_slice())?;
+        for input_line in &input {
+            lines.push(input_line.as_slice())?;
         }
+        Ok(Some(Item::Directive(Directive::new(1, command, lines, 1, Vec::new(alloc)))))
     }
 
     /// The line at a place, counted from 0: a line of the item, of a directive one before its separator.
@@ -238,16 +220,14 @@ impl Item {
         }
     }
 
-    pub(crate) fn raw_lines(&self) -> &[Vec<u8>]
-        ensures { map (λ line. line.items) result.now ≡ raw_lines_of self.now }
+    /// Those lines, each with a newline.
+    pub(crate) fn raw_text(&self) -> &[u8]
+        ensures { result.now ≡ kept_text self.now }
     {
         match self {
-            Item::Comment(lines) => lines.lines.as_slice(),
-            Item::Blank(lines) => lines.lines.as_slice(),
-            Item::Directive(directive) => {
-                let lines = &directive.raw_lines;
-                lines.lines.as_slice()
-            }
+            Item::Comment(lines) => lines.text(),
+            Item::Blank(lines) => lines.text(),
+            Item::Directive(directive) => directive.raw_lines.text(),
         }
     }
 

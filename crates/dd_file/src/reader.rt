@@ -103,7 +103,7 @@ fn read_item<R: Source>(
     let mut draft = Draft::new(alloc, lines.count() + 1);
     'read: loop {
         match lines.next(reader) {
-            Ok(Some(line)) => match draft.add(line) {
+            Ok(Some(line)) => match draft.add(line.as_slice()) {
                 Ok(true) => return draft.finish(),
                 Ok(false) => {}
                 Err(_) => return Err(FileFault::NoMemory),
@@ -140,7 +140,7 @@ fn held_item<R: Source>(
         }
         count += 1;
         taken += len;
-        match draft.add_copy(line_of(piece)) {
+        match draft.add(line_of(piece)) {
             Ok(true) => {
                 lines.pass(count, taken);
                 return Some(draft.finish());

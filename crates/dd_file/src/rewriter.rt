@@ -76,32 +76,6 @@ fn write_text<W: Sink>(writer: &mut W, newlines: u8, text: &[u8]) -> Result<u8, 
     Ok(count_newlines(newlines, text))
 }
 
-/// Writes a line with a newline, behind so many newlines.
-fn write_line<W: Sink>(writer: &mut W, newlines: u8, line: &[u8]) -> Result<u8, WriteFault>
-    ensures ok { IfOk result (λ count. Continues newlines count (W.contents writer.old) (W.contents writer.new) (line.now ++ newline)) }
-    ensures err { OnErr result (BreaksOff newlines (W.contents writer.old) (W.contents writer.new) (line.now ++ newline)) }
-    ensures failed { OnErr result (W.has_failed writer.new ≡ true) }
-    ensures sound { OnOk result (W.has_failed writer.new ≡ W.has_failed writer.old) }
-{
-    let behind = write_text(writer, newlines, line)?;
-    let after = write_text(writer, behind, b"\n")?;
-    Ok(after)
-}
-
-/// Writes lines behind so many newlines, each with a newline.
-fn write_lines<W: Sink>(writer: &mut W, newlines: u8, lines: &[Vec<u8>]) -> Result<u8, WriteFault>
-    ensures ok { IfOk result (λ count. Continues newlines count (W.contents writer.old) (W.contents writer.new) (text_of (map (λ line. line.items) lines.now))) }
-    ensures err { OnErr result (BreaksOff newlines (W.contents writer.old) (W.contents writer.new) (text_of (map (λ line. line.items) lines.now))) }
-    ensures failed { OnErr result (W.has_failed writer.new ≡ true) }
-    ensures sound { OnOk result (W.has_failed writer.new ≡ W.has_failed writer.old) }
-{
-    let mut count = newlines;
-    for line in lines {
-        count = write_line(writer, count, line.as_slice())?;
-    }
-    Ok(count)
-}
-
 /// Whether a line of the text is blank.
 fn needs_double(text: &[u8]) -> bool
     ensures { result ≡ has_blank_line text.now }
@@ -193,7 +167,7 @@ impl Rewriter {
         } else {
             Stage::Ready
         };
-        match write_lines(writer, self.newlines, item.raw_lines()) {
+        match write_text(writer, self.newlines, item.raw_text()) {
             Ok(newlines) => {
                 self.newlines = newlines;
                 self.stage = next;

@@ -1,11 +1,11 @@
-use Rattle.std.proofs.Common.{◌≡◌, ◌++◌, map, length, vec_items}
+use Rattle.std.proofs.Common.{◌≡◌, ◌++◌, map, length}
 use Rattle.dd_file.specs.Bytes.{trimmed}
 use Rattle.dd_file.specs.Words.{cut_at_commas}
 use Rattle.dd_file.proofs.arguments.listed.Given as goal
 
 -- the values so far and those that are left
 abbrev pub invariant-loop-value : goal.invariant-loop-value
-invariant-loop-value l = map (λ value. vec_items value) l.values.items ++ map trimmed (cut_at_commas l.rest) ≡ map trimmed (cut_at_commas l.text)
+invariant-loop-value l = l.values ++ map trimmed (cut_at_commas l.rest) ≡ map trimmed (cut_at_commas l.text)
 
 abbrev pub decreases-loop-value : goal.decreases-loop-value
 decreases-loop-value l = length l.rest

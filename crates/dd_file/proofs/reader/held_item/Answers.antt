@@ -40,11 +40,11 @@ returns-in-Ok-true-clause-told g c =
     let rest = rest-whole c.held.taken c.held-in-held.result.now ∙ ap (drop c.held.taken) c.held-in-held.ensures in
     let piece = same-piece _ _ c.piece_len-len.result refl c.piece_len-len.ensures.count in
     let whole = ap is_whole (sym piece) ∙ sym c.is_whole.ensures ∙ c.if-not-is_whole.false in
-    let adds = subst (λ l. AddsIn c.held.draft.phase c.held.draft c.add_copy.new.self l) (c.line_of.ensures ∙ ap line_of piece) c.in-Ok-true.ensures.added in
-    let so_far = held-more remaining has_failed lines reader c.held.draft c.add_copy.new.self c.held.count c.held.taken _ tells within loop.so_far rest whole adds in
+    let adds = subst (λ l. AddsIn c.held.draft.phase c.held.draft c.add.new.self l) (c.line_of.ensures ∙ ap line_of piece) c.in-Ok-true.ensures.added in
+    let so_far = held-more remaining has_failed lines reader c.held.draft c.add.new.self c.held.count c.held.taken _ tells within loop.so_far rest whole adds in
     let taken = ap (λ n. passed lines (c.held.count + 1) (c.held.taken + n)) c.piece_len-len.ensures.count in
     subst (λ (s : ReaderState). ReadsOn remaining has_failed (λ item. item) (next_item longest_input) IsItemFault s (record c.pass.new.self { fault = fault_of c.finish.result }) reader reader c.finish.result) loop.same
-    (held-done remaining has_failed lines c.pass.new.self reader c.add_copy.new.self _ _ c.finish.result tells within so_far (sym c.in-Ok-true.ensures.done ∙ c.in-Ok-true.field-0-test) (c.pass.ensures ∙ taken) c.finish.ensures.found c.finish.ensures.kind)
+    (held-done remaining has_failed lines c.pass.new.self reader c.add.new.self _ _ c.finish.result tells within so_far (sym c.in-Ok-true.ensures.done ∙ c.in-Ok-true.field-0-test) (c.pass.ensures ∙ taken) c.finish.ensures.found c.finish.ensures.kind)
 
 pub held-preserved : goal.held-preserved
 held-preserved g c =
@@ -56,10 +56,10 @@ held-preserved g c =
     let rest = rest-whole c.held.taken c.held-in-held.result.now ∙ ap (drop c.held.taken) c.held-in-held.ensures in
     let piece = same-piece _ _ c.piece_len-len.result refl c.piece_len-len.ensures.count in
     let whole = ap is_whole (sym piece) ∙ sym c.is_whole.ensures ∙ c.if-not-is_whole.false in
-    let adds = subst (λ l. AddsIn c.held.draft.phase c.held.draft c.add_copy.new.self l) (c.line_of.ensures ∙ ap line_of piece) c.in-Ok-false.ensures.added in
-    let so_far = held-more remaining g.R.Source.has_failed lines c.args.reader.now c.held.draft c.add_copy.new.self c.held.count c.held.taken _ tells within loop.so_far rest whole adds in
+    let adds = subst (λ l. AddsIn c.held.draft.phase c.held.draft c.add.new.self l) (c.line_of.ensures ∙ ap line_of piece) c.in-Ok-false.ensures.added in
+    let so_far = held-more remaining g.R.Source.has_failed lines c.args.reader.now c.held.draft c.add.new.self c.held.count c.held.taken _ tells within loop.so_far rest whole adds in
     record {
-      so_far = subst (λ (n : ℕ). HeldSoFar remaining lines c.args.reader.now c.add_copy.new.self (c.held.count + 1) (c.held.taken + n)) (sym c.piece_len-len.ensures.count) so_far;
+      so_far = subst (λ (n : ℕ). HeldSoFar remaining lines c.args.reader.now c.add.new.self (c.held.count + 1) (c.held.taken + n)) (sym c.piece_len-len.ensures.count) so_far;
       open_end = sym c.in-Ok-false.ensures.done ∙ c.in-Ok-false.field-0-test;
       same = loop.same;
     }

@@ -1,5 +1,5 @@
-use Rattle.std.proofs.Common.{◌+◌, vec_items, refl, sym, ap, ◌∙◌, arith}
-use Rattle.dd_file.specs.Draft.{DraftText, blank_draft, is_done}
+use Rattle.std.proofs.Common.{◌+◌, vec_items, refl, sym, ap, subst, ◌∙◌, arith}
+use Rattle.dd_file.specs.Draft.{DraftText, AddsIn, blank_draft, is_done}
 use Rattle.dd_file.proofs.ItemLoop.{reading-none, reading-more, done-reads, memory-reads, fault-item, end-reads, or-false}
 use Rattle.dd_file.proofs.reader.read_item.Goals as goal
 
@@ -18,7 +18,7 @@ read-preserved g c =
     let loop = c.read.invariant in
     record {
       reading = reading-more g.R.Source.remaining g.R.Source.has_failed vec_items c.args.lines.now c.read.lines c.next.new.self c.args.reader.now c.read.reader c.next.new.reader c.read.draft c.add.new.self c.in-Ok-Some.line
-          loop.reading read c.in-Ok-false.ensures.added;
+          loop.reading read (subst (λ l. AddsIn c.read.draft.phase c.read.draft c.add.new.self l) c.as_slice.ensures.value c.in-Ok-false.ensures.added);
       open_end = sym c.in-Ok-false.ensures.done ∙ c.in-Ok-false.field-0-test;
       sound = read.read loop.reading.faultless ∙ sym (or-false (g.R.Source.has_failed c.read.reader)) ∙ loop.sound;
     }
@@ -33,7 +33,7 @@ returns-in-Ok-true-clause-reads g c =
     let read = rw c.in-Ok-Some.field-0-is at c.in-Ok-Some.ensures in
     let loop = c.read.invariant in
     let reading = reading-more g.R.Source.remaining g.R.Source.has_failed vec_items c.args.lines.now c.read.lines c.next.new.self c.args.reader.now c.read.reader c.next.new.reader c.read.draft c.add.new.self c.in-Ok-Some.line
-    loop.reading read c.in-Ok-true.ensures.added in
+    loop.reading read (subst (λ l. AddsIn c.read.draft.phase c.read.draft c.add.new.self l) c.as_slice.ensures.value c.in-Ok-true.ensures.added) in
     done-reads g.R.Source.remaining g.R.Source.has_failed c.args.lines.now c.next.new.self c.args.reader.now c.next.new.reader c.add.new.self c.finish.result c.requires.faultless c.requires.unended reading
     (sym c.in-Ok-true.ensures.done ∙ c.in-Ok-true.field-0-test) read.lookahead (read.read loop.reading.faultless ∙ sym (or-false (g.R.Source.has_failed c.read.reader)) ∙ loop.sound) c.finish.ensures.found c.finish.ensures.kind
 

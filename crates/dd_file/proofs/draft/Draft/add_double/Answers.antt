@@ -1,27 +1,34 @@
-use Rattle.std.proofs.Common.{◌≡◌, ◌&&◌, ◌+◌, true, false, map, vec_items, sym, ap, ◌∙◌, arith, rules}
+use Rattle.std.proofs.Common.{arith, ◌≡◌, ◌&&◌, ◌+◌, ◌-◌, ◌∷◌, [], ◌++◌, List, ℕ, true, false, length, take, sym, ap, ◌∙◌, rules}
 use Rattle.std.proofs.lemmas.Grind.{common_steps}
 use Rattle.dd_file.specs.Script.{is_dashes}
 use Rattle.dd_file.specs.Draft.{DraftText, ends_in_dashes}
-use Rattle.dd_file.specs.declared.phase.Phase.TheVariants.{Pair}
-use Rattle.dd_file.proofs.DraftSteps.{adds-pair, adds-expected, popped}
+use Rattle.dd_file.specs.declared.phase.Phase.TheVariants.{Pair, Double}
+use Rattle.dd_file.proofs.DraftSteps.{adds-pair, adds-expected, dashes-some, last-split}
 use Rattle.dd_file.proofs.draft.Draft.add_double.Goals as goal
 use Rattle.dd_file.proofs.draft.Draft.add_double.Goals.{else-is_dashes-via-then-is_dashes+else-ends_in_dashes, else-is_dashes-via-else-is_dashes}
 
 pub returns-then-ends_in_dashes : goal.returns-then-ends_in_dashes
 returns-then-ends_in_dashes c =
-    let ends : ends_in_dashes c.args.self.now.expected ≡ true = search rules in
-    let is : is_dashes c.args.line.items ≡ true = search rules in
-    let view : map vec_items c.self.inside.expected.items ≡ c.args.self.now.expected = ap (λ (d : DraftText). d.expected) c.self.view_is in
-    let last = popped vec_items c.self.inside.expected.items c.pop.new.self.items c.pop.result c.pop.ensures.items (ap ends_in_dashes view ∙ ends) (λ some. c.pop.ensures.variant.1 (omega (arith, some, c.self.inside.expected.ok.0))) in
-    let P : DraftText → DraftText = λ d. record d { expected = map vec_items c.pop.new.self.items; count = d.count + 1; phase = Pair } in
-    let rest = ap P c.self.view_is in
-    adds-pair c.args.self.now c.enter.new.self (map vec_items c.pop.new.self.items) last.0 c.args.line.items c.requires.fits (sym view ∙ last.1) ends is (c.enter.ensures ∙ rest)
+    let old = c.args.self.now in
+    let view : c.self.inside.expected ≡ old.expected = ap (λ (d : DraftText). d.expected) c.self.view_is in
+    let ends : ends_in_dashes old.expected ≡ true = ap ends_in_dashes (sym view) ∙ sym c.ends_in_dashes.ensures ∙ c.if-ends_in_dashes.true in
+    let is : is_dashes c.args.line.now ≡ true = search rules in
+    let front : c.truncate.new.self ≡ take (length old.expected - 1) old.expected =
+    c.truncate.ensures ∙ ap (λ n. take (n - 1) c.self.inside.expected) c.count.ensures ∙ ap (λ (ls : List (List ℕ)). take (length ls - 1) ls) view in
+    let P : DraftText → List (List ℕ) → DraftText = λ d ls. record d { expected = ls; count = d.count + 1; phase = Pair } in
+    adds-pair old c.enter.new.self _ _ c.args.line.now c.requires.fits (last-split old.expected (dashes-some old.expected ends)) ends is
+    (c.enter.ensures ∙ ap (λ d. P d c.truncate.new.self) c.self.view_is ∙ ap (P old) front)
 
 pub returns-in_ok-push : goal.returns-in_ok-push
 returns-in_ok-push c =
-    let other : (ends_in_dashes c.args.self.now.expected && is_dashes c.args.line.items) ≡ false =
+    let old = c.args.self.now in
+    let line = c.args.line.now in
+    let other : (ends_in_dashes old.expected && is_dashes line) ≡ false =
     elim c.else-is_dashes.branch [
       | else-is_dashes-via-then-is_dashes+else-ends_in_dashes w ↦ (search (rules, common_steps))
       | else-is_dashes-via-else-is_dashes w ↦ grind (arith, common_steps)
     ] in
-    adds-expected c.args.self.now c.enter-else-is_dashes.new.self c.args.line.items c.requires.fits other (grind (arith, common_steps))
+    let P : DraftText → List (List ℕ) → DraftText = λ d ls. record d { expected = ls; count = d.count + 1; phase = Double } in
+    let more = c.in_ok-push.ensures.ok ∙ ap (λ (d : DraftText). d.expected ++ line ∷ []) c.self-else-is_dashes.view_is in
+    adds-expected old c.enter-else-is_dashes.new.self line c.requires.fits other
+    (c.enter-else-is_dashes.ensures ∙ ap (λ d. P d c.push.new.self) c.self-else-is_dashes.view_is ∙ ap (P old) more)

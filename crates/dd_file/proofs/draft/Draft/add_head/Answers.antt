@@ -1,47 +1,21 @@
-use Rattle.std.proofs.Common.{◌≡◌, ◌++◌, ◌∷◌, ◌+◌, List, ℕ, [], true, false, Some, None, map, vec_items, sym, ap, ◌∙◌, rules}
-use Rattle.std.proofs.lemmas.List.{map-append}
-use Rattle.dd_file.specs.Bytes.{is_blank}
-use Rattle.dd_file.specs.Script.{joined}
-use Rattle.dd_file.specs.Words.{command_of}
-use Rattle.dd_file.specs.Draft.{DraftText}
-use Rattle.dd_file.specs.declared.phase.Phase.TheVariants.{BlankLines, Input, NoCommand}
-use Rattle.dd_file.proofs.DraftSteps.{adds-blank-head, adds-command, adds-no-command}
+use Rattle.std.proofs.Common.{◌≡◌, ◌++◌, ◌∷◌, [], sym, ap, ◌∙◌, false, rules}
+use Rattle.std.proofs.lemmas.List.{take-append-drop, append-nil}
+use Rattle.std.proofs.lemmas.Result.{IfOk-weaker}
+use Rattle.dd_file.specs.Script.{joined, is_continued}
+use Rattle.dd_file.specs.Draft.{DraftText, behind_head}
+use Rattle.dd_file.proofs.DraftSteps.{adds-last}
 use Rattle.dd_file.proofs.draft.Draft.add_head.Goals as goal
-
-pub returns-then-is_blank : goal.returns-then-is_blank
-returns-then-is_blank c =
-    let line = c.args.line in
-    let items = c.push.new.self.items in
-    let head : map vec_items items ≡ c.args.self.now.head ++ line.items ∷ [] =
-    ap (map vec_items) c.in_ok-push.ensures.items ∙ map-append vec_items c.self.inside.head.items (line ∷ []) ∙ ap (λ (d : DraftText). d.head ++ line.items ∷ []) c.self.view_is in
-    let text : c.in_ok-text.text.items ≡ joined (c.args.self.now.head ++ line.items ∷ []) = c.in_ok-text.ensures ∙ ap (λ ls. joined (map vec_items ls)) c.as_slice-2.ensures.value ∙ ap joined head in
-    let blank : is_blank c.in_ok-text.text.items ≡ true = search rules in
-    let P : DraftText → List (List ℕ) → DraftText = λ d h. record d { head = h; count = d.count + 1; phase = BlankLines } in
-    adds-blank-head c.args.self.now c.enter-then-is_blank.new.self line.items c.requires.begins c.requires.continued c.requires.counted (search rules) (ap is_blank (sym text) ∙ blank)
-    (c.enter-then-is_blank.ensures ∙ ap (λ d. P d (map vec_items items)) c.self.view_is ∙ ap (P c.args.self.now) head)
-
-pub returns-in-Some : goal.returns-in-Some
-returns-in-Some c =
-    let line = c.args.line in
-    let items = c.push.new.self.items in
-    let head : map vec_items items ≡ c.args.self.now.head ++ line.items ∷ [] =
-    ap (map vec_items) c.in_ok-push.ensures.items ∙ map-append vec_items c.self.inside.head.items (line ∷ []) ∙ ap (λ (d : DraftText). d.head ++ line.items ∷ []) c.self.view_is in
-    let text : c.in_ok-text.text.items ≡ joined (c.args.self.now.head ++ line.items ∷ []) = c.in_ok-text.ensures ∙ ap (λ ls. joined (map vec_items ls)) c.as_slice-2.ensures.value ∙ ap joined head in
-    let blank : is_blank c.in_ok-text.text.items ≡ false = search rules in
-    let P : DraftText → List (List ℕ) → DraftText = λ d h. record d { head = h; command = Some c.in-Some.command; count = d.count + 1; phase = Input } in
-    let command : Some c.in-Some.command ≡ command_of c.in_ok-text.text.items = search rules in
-    adds-command c.args.self.now c.enter-in-Some.new.self line.items c.in-Some.command c.requires.begins c.requires.continued c.requires.empty c.requires.counted (search rules) (ap is_blank (sym text) ∙ blank)
-    (command ∙ ap command_of text) (c.enter-in-Some.ensures ∙ ap (λ d. P d (map vec_items items)) c.self.view_is ∙ ap (P c.args.self.now) head)
 
 pub returns : goal.returns
 returns c =
-    let line = c.args.line in
-    let items = c.push.new.self.items in
-    let head : map vec_items items ≡ c.args.self.now.head ++ line.items ∷ [] =
-    ap (map vec_items) c.in_ok-push.ensures.items ∙ map-append vec_items c.self.inside.head.items (line ∷ []) ∙ ap (λ (d : DraftText). d.head ++ line.items ∷ []) c.self.view_is in
-    let text : c.in_ok-text.text.items ≡ joined (c.args.self.now.head ++ line.items ∷ []) = c.in_ok-text.ensures ∙ ap (λ ls. joined (map vec_items ls)) c.as_slice-2.ensures.value ∙ ap joined head in
-    let blank : is_blank c.in_ok-text.text.items ≡ false = search rules in
-    let P : DraftText → List (List ℕ) → DraftText = λ d h. record d { head = h; count = d.count + 1; phase = NoCommand } in
-    let command : None ≡ command_of c.in_ok-text.text.items = search rules in
-    adds-no-command c.args.self.now c.enter-in-None.new.self line.items c.requires.begins c.requires.continued c.requires.counted (search rules) (ap is_blank (sym text) ∙ blank)
-    (command ∙ ap command_of text) (c.enter-in-None.ensures ∙ ap (λ d. P d (map vec_items items)) c.self.view_is ∙ ap (P c.args.self.now) head)
+    let old = c.args.self.now in
+    let line = c.args.line.now in
+    let head = old.head ++ line ∷ [] in
+    let kept : c.keep_head.new.self ≡ record old { head = head } = c.in_ok-keep_head.ensures in
+    let raw : c.self.inside.raw_lines ≡ head =
+    sym (take-append-drop c.self.inside.heads c.self.inside.raw_lines) ∙ ap (λ (d : DraftText). d.head ++ d.input) (c.self.view_is ∙ kept) ∙ ap (λ i. head ++ i) (c.requires.empty.0) ∙ append-nil head in
+    let text : c.as_slice.result.now ≡ joined head = c.as_slice.ensures.value ∙ c.in_ok-text.ensures ∙ ap joined raw in
+    let last : is_continued line ≡ false = search rules in
+    IfOk-weaker c.end_head-2.result _ _
+    (λ _ is. adds-last old c.end_head-2.new.self line c.requires.begins c.requires.continued c.requires.empty c.requires.counted last
+    (is ∙ ap (λ d. behind_head d c.as_slice.result.now) kept ∙ ap (behind_head (record old { head = head })) text)) c.end_head-2.ensures

@@ -1,0 +1,10 @@
+use Rattle.std.proofs.Common.{◌≡◌, ◌+◌, ◌-◌, length, take, ap, ◌∙◌, arith}
+use Rattle.dd_file.specs.Lines.{text_of}
+use Rattle.dd_file.proofs.LineEnds.{next-start}
+use Rattle.dd_file.proofs.raw_lines.RawLines.start.Goals as goal
+
+pub returns-clause-place : goal.returns-clause-place
+returns-clause-place c =
+    let i = c.args.i - 1 in
+    let next : i + 1 ≡ c.args.i = omega arith in
+    ap (λ n. n + 1) c.end.ensures.place ∙ next-start c.args.self.now i (omega arith) ∙ ap (λ n. length (text_of (take n c.args.self.now))) next

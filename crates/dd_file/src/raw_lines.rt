@@ -1,0 +1,131 @@
+//! Lines that lie in one text.
+ghost use Rattle.std.specs.Prelude.{◌≡◌, ◌≤◌, ◌<◌, ◌+◌, ◌-◌, ◌^◌, [], ◌∷◌, ◌++◌, length, take, drop, option_map, slice_get, slice_index_or, OnOk, OnErr};
+ghost use Rattle.dd_file.specs.Lines.{text_of};
+
+use crate::room::{append, make_room};
+use smallvec::SmallVec;
+use std::alloc::{AllocError, Global};
+use std::marker::Model;
+
+/// Lines, without what ended them.
+#[derive(Drop)]
+pub struct RawLines {
+    /// The lines, each with a newline.
+    text: Vec<u8>,
+    /// The places of those newlines.
+    ends: SmallVec<usize, 4>,
+}
+
+impl Model for RawLines {
+    ghost use Rattle.std.specs.Prelude.{List, ℕ};
+    ghost use Rattle.dd_file.specs.LineEnds.{lines_at, FillText};
+
+    ghost Value = { List (List ℕ) };
+
+    ghost view = { λ a. lines_at a.text.items 0 a.ends.items };
+
+    ghost invariant = { λ a. FillText a.text.items a.ends.items };
+}
+
+impl RawLines {
+    pub(crate) fn new(alloc: Global) -> RawLines
+        ensures { result ≡ [] }
+    {
+        RawLines {
+            text: Vec::new(alloc),
+            ends: SmallVec::new(alloc),
+        }
+    }
+
+    /// Adds a copy of a line behind the others.
+    pub(crate) fn push(&mut self, line: &[u8]) -> Result<(), AllocError>
+        ensures ok { OnOk result (self.new ≡ self.old ++ line.now ∷ []) }
+        ensures err { OnErr result (self.new ≡ self.old) }
+    {
+        make_room(&mut self.text, line.len() + 1)?;
+        let end = self.text.len() + line.len();
+        self.ends.push(end)?;
+        append(&mut self.text, line);
+        append(&mut self.text, b"\n");
+        Ok(())
+    }
+
+    /// How many lines there are.
+    pub(crate) fn count(&self) -> usize
+        ensures { result ≡ length self.now }
+    {
+        self.ends.len()
+    }
+
+    /// The line at a place, counted from 0.
+    pub fn get(&self, i: usize) -> Option<&[u8]>
+        ensures { option_map (λ line. line.now) result ≡ slice_get self.now i }
+    {
+        if i >= self.count() {
+            return None;
+        }
+        let len = self.end(i) - self.start(i);
+        Some(self.text_behind(i).split_at(len).0)
+    }
+
+    pub(crate) fn last(&self) -> Option<&[u8]>
+        ensures { option_map (λ line. line.now) result ≡ slice_get self.now (length self.now - 1) }
+    {
+        self.get(self.count().saturating_sub(1))
+    }
+
+    /// The lines, each with a newline.
+    pub(crate) fn text(&self) -> &[u8]
+        ensures { result.now ≡ text_of self.now }
+    {
+        self.text.as_slice()
+    }
+
+    /// The lines behind the first few, each with a newline.
+    pub(crate) fn text_behind(&self, count: usize) -> &[u8]
+        requires { count ≤ length self.now }
+        ensures { result.now ≡ text_of (drop count self.now) }
+    {
+        self.text().split_at(self.start(count)).1
+    }
+
+    /// Keeps the first few lines.
+    pub(crate) fn truncate(&mut self, count: usize)
+        requires { count ≤ length self.old }
+        ensures { self.new ≡ take count self.old }
+    {
+        let start = self.start(count);
+        self.text.truncate(start);
+        self.ends.truncate(count);
+    }
+
+    pub(crate) fn into_text(self) -> Vec<u8>
+        ensures { result.items ≡ text_of self }
+    {
+        let RawLines { text, ends: _ } = self;
+        text
+    }
+
+    /// Where the line at a place begins in the text, or would begin behind the last.
+    fn start(&self, i: usize) -> usize
+        requires { i ≤ length self.now }
+        ensures place { result ≡ length (text_of (take i self.now)) }
+        ensures within { result ≤ length (text_of self.now) }
+    {
+        if i == 0 {
+            return 0;
+        }
+        self.end(i - 1) + 1
+    }
+
+    /// Where the line at a place ends in the text.
+    fn end(&self, i: usize) -> usize
+        requires { i < length self.now }
+        ensures place { result ≡ length (text_of (take i self.now)) + length (slice_index_or self.now i []) }
+        ensures within { result < length (text_of self.now) }
+        ensures small { result < 2 ^ 63 }
+    {
+        let ends = self.ends.as_slice();
+        ends[i]
+    }
+}

@@ -1,0 +1,29 @@
+//! Vectors of bytes that have room.
+ghost use Rattle.std.specs.Prelude.{◌≡◌, ◌≤◌, ◌+◌, ◌++◌, length, OnOk, vec_len, vec_capacity};
+
+use std::alloc::AllocError;
+
+/// The least room that is made.
+const LEAST_ROOM: usize = 64;
+
+/// Makes room for so many bytes more.
+pub(crate) fn make_room(bytes: &mut Vec<u8>, more: usize) -> Result<(), AllocError>
+    ensures items { bytes.new.items ≡ bytes.old.items }
+    ensures room { OnOk result (vec_len bytes.old + more ≤ vec_capacity bytes.new) }
+{
+    if bytes.capacity() == 0 {
+        return bytes.reserve(more.max(LEAST_ROOM));
+    }
+    bytes.reserve(more)
+}
+
+/// Appends to a vector that has room.
+pub(crate) fn append(bytes: &mut Vec<u8>, more: &[u8])
+    requires { vec_len bytes.old + length more.now ≤ vec_capacity bytes.old }
+    ensures items { bytes.new.items ≡ bytes.old.items ++ more.now }
+    ensures capacity { vec_capacity bytes.old ≤ vec_capacity bytes.new }
+{
+    let Ok(()) = bytes.extend_from_slice(more) else {
+        unreachable!()
+    };
+}
