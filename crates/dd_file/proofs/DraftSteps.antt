@@ -10,7 +10,7 @@ use Rattle.dd_file.specs.Script.{front, first_of, joined, is_continued, is_separ
 use Rattle.dd_file.specs.Draft.{DraftText, AddsIn, FitsIn, drafted, begins_directive, ends_in_dashes, behind_head, with_parsed}
 use Rattle.dd_file.specs.declared.item.Item.TheVariants.{Blank}
 use Rattle.dd_file.specs.declared.fault.FileFault.TheVariants.{AfterDouble, BadDirective}
-use Rattle.dd_file.specs.declared.phase.Phase.TheVariants.{Head, BlankLines, NoCommand, Input, Separator, Single, Double, Pair, Complete, AfterPair}
+use Rattle.dd_file.specs.declared.phase.Phase.TheVariants.{Head, BlankLines, Input, Separator, Single, Double, Pair, Complete, AfterPair}
 use Rattle.dd_file.proofs.Drafting.{with_command-same, with_command-some, body-separator, single-blank, double-pair, has_pair-push, ends_in_dashes-push, first_of-head}
 
 pub adds-separator : (old new : DraftText) (line : List ℕ) → FitsIn Input old → is_separator line ≡ true → new ≡ record old { count = old.count + 1; phase = Separator } → AddsIn Input old new line

@@ -1,6 +1,6 @@
 -- What the bytes that are held say of the next line and of the next item.
 use Rattle.std.proofs.Common.{◌≡◌, ℕ, ◌+◌, ◌≤◌, ◌<◌, Bool, true, false, List, [], ◌∷◌, length, take, drop, map, refl, sym, ◌∙◌, ap, subst, arith, inl}
-use Rattle.std.specs.Prelude.{◌⊎◌, filter, Option, Some, None, Result, Ok, Err, IfErr}
+use Rattle.std.specs.Prelude.{filter, Option, Some, None, Result, Ok, IfErr}
 use Rattle.std.specs.List.{list_any}
 use Rattle.std.proofs.lemmas.List.{append-nil, take-append-drop, drop-drop, length-drop}
 use Rattle.std.specs.Io.KnownBytes.{Consumes}
@@ -15,7 +15,6 @@ use Rattle.dd_file.specs.InHand.{CanTell, passed, whole_lines, is_line_in_hand, 
 use Rattle.dd_file.specs.Draft.{DraftText, AddsIn, front_of, front_in, is_done, found_of, IsDraftFault, blank_draft}
 use Rattle.dd_file.specs.declared.item.Item.{Item}
 use Rattle.dd_file.specs.declared.fault.FileFault.{FileFault}
-use Rattle.dd_file.specs.declared.fault.FileFault.TheVariants.{NoMemory}
 use Rattle.dd_file.proofs.Pieces.{pieces-first, first_len-bound, first_len-some}
 use Rattle.dd_file.proofs.PieceParts.{first_len-take, length-first, unfinished-rest}
 use Rattle.dd_file.proofs.InOrder.{given-none}

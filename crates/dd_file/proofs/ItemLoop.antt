@@ -1,6 +1,6 @@
 -- What reading the lines of an item says of the next item.
 use Rattle.std.proofs.Common.{◌≡◌, ℕ, zero, suc, ◌+◌, ◌≤◌, ◌<◌, Bool, true, false, List, [], ◌∷◌, ◌++◌, length, refl, sym, ◌∙◌, ap, arith, inl, inr}
-use Rattle.std.specs.Prelude.{◌⊎◌, ◌||◌, Option, Some, None, is_some, Result, Ok, Err, IfErr, IfOk, IfSome, OnOk}
+use Rattle.std.specs.Prelude.{◌||◌, Option, Some, None, is_some, Result, Ok, Err, IfErr, IfOk, IfSome, OnOk}
 use Rattle.std.proofs.lemmas.List.{append_assoc, length-append}
 use Rattle.dd_file.specs.Place.{Place, longest_input, longest_lookahead}
 use Rattle.dd_file.specs.Script.{Front, first_of}

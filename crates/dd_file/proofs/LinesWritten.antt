@@ -1,10 +1,10 @@
 -- A script that is written part by part.
-use Rattle.std.proofs.Common.{◌≡◌, ℕ, ◌+◌, ◌<◌, false, List, [], ◌∷◌, ◌++◌, length, take, drop, map, get_or, refl, sym, ◌∙◌, ap, subst}
+use Rattle.std.proofs.Common.{◌≡◌, ℕ, false, List, [], ◌∷◌, ◌++◌, length, sym, ◌∙◌, ap, subst}
 use Rattle.std.specs.Prelude.{◌==◌, Option, if◌then◌else◌}
 use Rattle.std.specs.Io.KnownBytes.{Appends}
-use Rattle.std.proofs.lemmas.List.{append_assoc, append-nil, take_more, take-append-drop}
+use Rattle.std.proofs.lemmas.List.{append_assoc, append-nil}
 use Rattle.dd_file.specs.Bytes.{newline}
-use Rattle.dd_file.specs.Lines.{text_of, without_last}
+use Rattle.dd_file.specs.Lines.{without_last}
 use Rattle.dd_file.specs.Device.{AppendsPart}
 use Rattle.dd_file.specs.Rewritten.{newlines_at_end, without_double_end}
 use Rattle.dd_file.specs.RewriterState.{HasBegun, HasWritten, Continues, BreaksOff, Finishes, FinishesPart}

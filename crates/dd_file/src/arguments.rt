@@ -94,7 +94,7 @@ pub(crate) fn argument_of(alloc: Global, word: &[u8]) -> Result<Option<Argument>
     ensures { IfOk result (λ found. found ≡ argument_of word.now) }
 {
     if is_key(word) {
-        return Ok(Some(Argument::new(Vec::from_slice(alloc, word)?, RawLines::new(alloc))));
+        return Ok(Some(Argument::new(word, RawLines::new(alloc))?));
     }
     let Some((key, text)) = split_once(word, b'=') else {
         return Ok(None);
@@ -103,7 +103,7 @@ pub(crate) fn argument_of(alloc: Global, word: &[u8]) -> Result<Option<Argument>
         return Ok(None);
     }
     match values_of(alloc, text)? {
-        Some(values) => Ok(Some(Argument::new(Vec::from_slice(alloc, key)?, values))),
+        Some(values) => Ok(Some(Argument::new(key, values)?)),
         None => Ok(None),
     }
 }

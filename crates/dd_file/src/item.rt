@@ -1,5 +1,5 @@
 //! The items of a script.
-ghost use Rattle.std.specs.Prelude.{◌≡◌, ◌≤◌, true, length, drop, option_map, slice_get};
+ghost use Rattle.std.specs.Prelude.{◌≡◌, ◌≤◌, true, length, drop, IfOk, option_map, slice_get};
 ghost use Rattle.dd_file.specs.Bytes.{trimmed};
 ghost use Rattle.dd_file.specs.Lines.{text_of};
 ghost use Rattle.dd_file.specs.Words.{has_keys};
@@ -13,43 +13,56 @@ use std::marker::Model;
 /// An argument of a directive: a key and its values.
 #[derive(Drop)]
 pub struct Argument {
-    key: Vec<u8>,
-    values: RawLines,
+    /// Its values, and then its key.
+    parts: RawLines,
 }
 
 impl Model for Argument {
+    ghost use Rattle.std.specs.Prelude.{◌-◌, [], length, take, slice_index_or};
     ghost use Rattle.dd_file.specs.Words.{ArgumentText};
 
     ghost Value = { ArgumentText };
 
-    ghost view = { λ a. record { key = a.key.items; values = a.values } };
+    ghost view = { λ a. record {
+      key = slice_index_or a.parts (length a.parts - 1) [];
+      values = take (length a.parts - 1) a.parts;
+    } };
 }
 
 impl Argument {
-    pub(crate) fn new(key: Vec<u8>, values: RawLines) -> Argument
-        ensures { result ≡ record { key = key.items; values = values } }
+    pub(crate) fn new(key: &[u8], values: RawLines) -> Result<Argument, AllocError>
+        ensures { IfOk result (λ argument. argument ≡ record { key = key.now; values = values }) }
     {
-        Argument { key, values }
+        let mut parts = values;
+        parts.push(key)?;
+        Ok(Argument { parts })
     }
 
     pub fn key(&self) -> &[u8]
         ensures { result.now ≡ self.now.key }
     {
-        self.key.as_slice()
+        match self.parts.last() {
+            Some(key) => key,
+            None => &[],
+        }
     }
 
     /// How many values it has.
     pub fn value_count(&self) -> usize
         ensures { result ≡ length self.now.values }
     {
-        self.values.count()
+        self.parts.count().saturating_sub(1)
     }
 
     /// The value at a place, counted from 0.
     pub fn value(&self, i: usize) -> Option<&[u8]>
         ensures { option_map (λ value. value.now) result ≡ slice_get self.now.values i }
     {
-        self.values.get(i)
+        if i < self.value_count() {
+            self.parts.get(i)
+        } else {
+            None
+        }
     }
 }
 

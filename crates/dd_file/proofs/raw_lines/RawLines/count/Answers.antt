@@ -1,4 +1,4 @@
-use Rattle.std.proofs.Common.{length, ap, sym, ◌∙◌}
+use Rattle.std.proofs.Common.{length, ap, ◌∙◌}
 use Rattle.dd_file.proofs.LineEnds.{length-ends_of}
 use Rattle.dd_file.proofs.raw_lines.RawLines.count.Goals as goal
 

@@ -1,4 +1,4 @@
-use Rattle.std.proofs.Common.{length, sym, ap, ◌∙◌, arith}
+use Rattle.std.proofs.Common.{length, ap, arith}
 use Rattle.dd_file.proofs.LineEnds.{lie-fields, place-within, end-place, end-within}
 use Rattle.dd_file.proofs.raw_lines.RawLines.end.Goals as goal
 
