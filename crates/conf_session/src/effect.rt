@@ -1,6 +1,5 @@
 //! What a command makes of a session.
-use crate::session_ids::SessionIds;
-use conf_change::Changer;
+use crate::boxed_changer::BoxedChanger;
 
 /// What becomes of a session: a changer that takes the place of its own, and what that means for the configurations that
 /// it keeps.
@@ -9,11 +8,11 @@ pub(crate) enum Effect {
     /// It stays as it is.
     Nothing,
     /// A member acknowledged an index: what is kept stays.
-    Acknowledged(Changer<SessionIds>),
+    Acknowledged(BoxedChanger),
     /// A change was accepted: the configuration of before is kept.
-    Stepped(Changer<SessionIds>),
+    Stepped(BoxedChanger),
     /// It began again: no earlier configuration is kept.
-    Restored(Changer<SessionIds>),
+    Restored(BoxedChanger),
     /// So many changes were undone: the configurations of before them are kept no more.
-    Undone(Changer<SessionIds>, usize),
+    Undone(BoxedChanger, usize),
 }

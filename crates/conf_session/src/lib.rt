@@ -2,6 +2,7 @@
 #![tactic(auto)]
 
 mod arguments;
+mod boxed_changer;
 mod commands;
 mod effect;
 mod history;

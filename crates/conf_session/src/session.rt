@@ -8,6 +8,7 @@ ghost use Rattle.conf_session.specs.Undo.{LeadsBack, undo_plan_of};
 ghost use Rattle.conf_session.specs.Told.{CanStand};
 ghost use Rattle.conf_session.specs.declared.undo_fault.UndoFault.{UndoFault as WhyNot};
 
+use crate::boxed_changer::BoxedChanger;
 use crate::commands::obey;
 use crate::effect::Effect;
 use crate::history::History;
@@ -26,7 +27,7 @@ use std::mem::replace;
 /// A changer that directives act on, and the configurations of before its accepted changes.
 #[derive(Drop)]
 pub struct Session {
-    changer: Changer<SessionIds>,
+    changer: BoxedChanger,
     history: History,
     alloc: Global,
 }
@@ -57,7 +58,7 @@ impl Session {
         ensures { IfOk result (λ session. session ≡ new_session history floor) }
     {
         Ok(Session {
-            changer: Changer::new_with_floor(alloc, 0, floor),
+            changer: BoxedChanger::new(alloc, Changer::new_with_floor(alloc, 0, floor))?,
             history: History::new(alloc, history)?,
             alloc,
         })
@@ -69,7 +70,7 @@ impl Session {
         ensures sound { IsSound self.now.changer.tracker }
         ensures session { IsSession self.now }
     {
-        &self.changer
+        self.changer.changer()
     }
 
     /// How many earlier configurations are kept. It takes no memory.
@@ -149,7 +150,7 @@ impl Session {
                 self.history.forget(count);
             }
         }
-        let last_index = self.changer.last_index();
+        let last_index = self.changer().last_index();
         self.changer.set_last_index(last_index.saturating_add(1));
     }
 }

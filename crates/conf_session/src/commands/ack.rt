@@ -4,6 +4,7 @@ ghost use Rattle.conf_session.specs.Commands.{on_ack};
 
 use super::Command;
 use super::telling::{tell, tell_arguments, tell_no_input};
+use crate::boxed_changer::BoxedChanger;
 use crate::effect::Effect;
 use crate::parameter::Parameter;
 use crate::quorum_arguments::number_given;
@@ -35,7 +36,7 @@ pub(super) fn obey(
     match after.ack(id, number_given(Parameter::Index, arguments)) {
         Ok(progress) => Ok(Reply::new(
             member_line(alloc, id, progress)?,
-            Effect::Acknowledged(after),
+            Effect::Acknowledged(BoxedChanger::new(alloc, after)?),
         )),
         Err(AckFault::NotMember) => tell(alloc, b"not a member", b""),
         Err(AckFault::IndexTooLarge) => tell(alloc, b"index too large", b""),

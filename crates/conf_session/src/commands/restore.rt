@@ -5,6 +5,7 @@ ghost use Rattle.conf_session.specs.Commands as says;
 
 use super::Command;
 use super::telling::{tell, tell_arguments};
+use crate::boxed_changer::BoxedChanger;
 use crate::effect::Effect;
 use crate::reply::Reply;
 use crate::session_ids::SessionIds;
@@ -54,5 +55,6 @@ fn tell_restored(alloc: Global, after: Changer<SessionIds>) -> Result<Reply, NoM
     ensures { IfOk result (λ reply. reply ≡ begun_again after) }
 {
     let found = tracker_lines(alloc, after.tracker())?;
-    Ok(Reply::new(found, Effect::Restored(after)))
+    let boxed = BoxedChanger::new(alloc, after)?;
+    Ok(Reply::new(found, Effect::Restored(boxed)))
 }

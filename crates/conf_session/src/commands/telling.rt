@@ -9,6 +9,7 @@ ghost use Rattle.conf_session.specs.Commands.{no_input_text};
 
 use super::{Command, parameters_of};
 use crate::arguments::{bad_argument, missing_argument};
+use crate::boxed_changer::BoxedChanger;
 use crate::effect::Effect;
 use crate::reply::Reply;
 use crate::session_ids::SessionIds;
@@ -76,5 +77,6 @@ fn tell_stepped(alloc: Global, after: Changer<SessionIds>) -> Result<Reply, NoMe
     ensures { IfOk result (λ reply. reply ≡ stepped after) }
 {
     let found = tracker_lines(alloc, after.tracker())?;
-    Ok(Reply::new(found, Effect::Stepped(after)))
+    let boxed = BoxedChanger::new(alloc, after)?;
+    Ok(Reply::new(found, Effect::Stepped(boxed)))
 }

@@ -6,6 +6,7 @@ ghost use Rattle.conf_session.specs.Undo.{undo_plan_of, undone, undone_by};
 use super::Command;
 use super::telling::{tell_arguments, tell_no_input};
 use crate::arguments::argument_of;
+use crate::boxed_changer::BoxedChanger;
 use crate::effect::Effect;
 use crate::parameter::{Parameter, number_from};
 use crate::reply::Reply;
@@ -91,5 +92,6 @@ fn tell_undone(
     let mut found = Vec::new(alloc);
     print_plan(&mut found, plan)?;
     append_tracker(&mut found, after.tracker())?;
-    Ok(Reply::new(found, Effect::Undone(after, count)))
+    let boxed = BoxedChanger::new(alloc, after)?;
+    Ok(Reply::new(found, Effect::Undone(boxed, count)))
 }

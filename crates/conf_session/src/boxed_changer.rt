@@ -1,0 +1,62 @@
+//! A changer on the heap.
+ghost use Rattle.std.specs.Prelude.{◌≡◌, IfOk};
+ghost use Rattle.conf_change.specs.Changer.{IsSound, with_last_index};
+
+use crate::session_ids::SessionIds;
+use conf_change::{Changer, Config};
+use quorum_sets::NoMemory;
+use std::alloc::Global;
+use std::marker::Model;
+
+/// A changer on the heap, so that a session and a reply are cheap to move.
+#[derive(Drop)]
+pub(crate) struct BoxedChanger {
+    changer: Box<Changer<SessionIds>>,
+}
+
+impl Model for BoxedChanger {
+    ghost use Rattle.conf_change.specs.ChangerState.{ChangerState, changer_code};
+    ghost use Rattle.conf_change.specs.Changer.{IsSound};
+
+    ghost Value = { ChangerState };
+
+    ghost coded = { changer_code };
+
+    ghost view = { λ b. b.changer.value };
+
+    ghost invariant = { λ b. IsSound b.changer.value.tracker };
+}
+
+impl BoxedChanger {
+    /// Puts a changer there.
+    pub(crate) fn new(alloc: Global, changer: Changer<SessionIds>) -> Result<BoxedChanger, NoMemory>
+        requires { IsSound changer.tracker }
+        ensures { IfOk result (λ boxed. boxed ≡ changer) }
+    {
+        Ok(BoxedChanger {
+            changer: Box::new(alloc, changer)?,
+        })
+    }
+
+    /// The changer.
+    pub(crate) fn changer(&self) -> &Changer<SessionIds>
+        ensures changer { result.now ≡ self.now }
+        ensures sound { IsSound self.now.tracker }
+    {
+        &self.changer
+    }
+
+    /// Sets the last index of the log.
+    pub(crate) fn set_last_index(&mut self, last_index: u64)
+        ensures { self.new ≡ with_last_index self.old last_index }
+    {
+        self.changer.set_last_index(last_index);
+    }
+
+    /// The configuration of a changer that is done with.
+    pub(crate) fn into_config(self) -> Config<SessionIds>
+        ensures { result ≡ self.tracker.config }
+    {
+        Box::into_inner(self.changer).into_config()
+    }
+}
