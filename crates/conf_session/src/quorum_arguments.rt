@@ -83,7 +83,7 @@ fn numbers_given(
 fn numbers_in(alloc: Global, argument: &Argument) -> Result<Vec<u64>, NoMemory>
     ensures { IfOk result (λ numbers. numbers.items ≡ filter_map number_in argument.now.values) }
 {
-    let mut numbers = Vec::new(alloc);
+    let mut numbers = Vec::with_capacity(alloc, argument.value_count())?;
     for place in 0..argument.value_count() {
         if let Some(value) = argument.value(place) {
             push_known(&mut numbers, read_number(value))?;
@@ -107,7 +107,7 @@ fn each_once(alloc: Global, ids: &[u64]) -> Result<Vec<u64>, NoMemory>
     ensures { IfOk result (λ distinct. distinct.items ≡ says.each_once ids.now) }
 {
     let mut seen = BTreeSet::new(alloc);
-    let mut distinct = Vec::new(alloc);
+    let mut distinct = Vec::with_capacity(alloc, ids.len())?;
     for id in ids {
         if seen.insert(*id)? {
             distinct.push(*id)?;

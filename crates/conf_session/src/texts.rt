@@ -17,7 +17,7 @@ use conf_change::{
     write_progress, write_refused, write_token_fault,
 };
 use itoa::Buffer;
-use quorum_sets::{NoMemory, joint_chart, joint_committed};
+use quorum_sets::{MemberSet, NoMemory, joint_chart, joint_committed};
 use std::alloc::Global;
 use std::collections::BTreeMap;
 
@@ -97,10 +97,16 @@ pub(crate) fn committed_lines(
 ) -> Result<Vec<u8>, NoMemory>
     ensures { IfOk result (λ text. text.items ≡ line (committed_text (pair incoming.now outgoing.now) (finite.from_entries acks.now.entries))) }
 {
-    let mut text = Vec::new(alloc);
+    let mut text = Vec::with_capacity(alloc, usual_chart_room(incoming, outgoing))?;
     joint_chart(&mut text, incoming, outgoing, acks)?;
     append_index(&mut text, joint_committed(alloc, incoming, outgoing, acks)?)?;
     end_line(text)
+}
+
+// The room that a chart of few ids needs, so that it seldom grows while it is written.
+fn usual_chart_room(incoming: &SessionIds, outgoing: &SessionIds) -> usize {
+    let ids = incoming.len().saturating_add(outgoing.len());
+    ids.min(16).saturating_mul(48).saturating_add(64)
 }
 
 // Appends a committed index. After want of memory a part of it may be appended.
