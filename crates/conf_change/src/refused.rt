@@ -8,12 +8,19 @@ use thiserror::Error;
 #[derive(Clone, Copy, Debug, PartialEq, Eq, Error)]
 #[error("{}", self.text())]
 pub enum Refused {
+    /// A joint configuration is entered from a joint one.
     AlreadyJoint,
+    /// A joint configuration is entered from one without a voter.
     ZeroVoterJoint,
+    /// A joint configuration is left, and there is none.
     NotJoint,
+    /// A simple change is made in a joint configuration.
     SimpleInJoint,
+    /// No voter, or in a joint configuration no incoming one, would be left.
     RemovedAllVoters,
+    /// A simple change would make more than one id a voter, or no voter.
     MoreThanOneVoter,
+    /// Memory for the change was not found.
     NoMemory,
 }
 

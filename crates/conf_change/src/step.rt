@@ -8,8 +8,11 @@ use crate::change::{Change, Changes};
 /// auto-leave), or out of it (Ongaro's dissertation, sections 4.1 and 4.3).
 #[derive(Debug, PartialEq, Drop)]
 pub enum Step {
+    /// One voter at most changes, and any number of learners.
     Simple(Changes),
+    /// A joint configuration is entered, with auto-leave or not, by these changes.
     EnterJoint(bool, Changes),
+    /// The joint configuration is left.
     LeaveJoint,
 }
 
