@@ -11,6 +11,7 @@ pub mod Progress
 pub mod LastWords
 pub mod Seat
 pub mod TrackerEdits
+pub mod Settled
 pub mod Changer
 pub mod Acknowledgement
 pub mod ConfState
