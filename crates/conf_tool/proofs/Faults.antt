@@ -10,7 +10,7 @@ use Rattle.conf_tool.specs.Outputs.{Output}
 use Rattle.conf_tool.specs.Run.{Means, IsAnswerFault, as_tool_fault, is_read_fault, is_write_fault}
 use Rattle.conf_tool.specs.declared.status.Status.{Status}
 use Rattle.conf_tool.specs.declared.tool_fault.ToolFault.{ToolFault}
-use Rattle.conf_tool.specs.declared.tool_fault.ToolFault.TheVariants.{Script, Read as CannotRead, Write as CannotWrite, NoMemory as OutOfMemory}
+use Rattle.conf_tool.specs.declared.tool_fault.ToolFault.TheVariants.{Script, Configurations, Read as CannotRead, Write as CannotWrite, NoMemory as OutOfMemory}
 
 -- a fault of the reader as one of the run: of the input ..
 pub record IsOfInput (fault told : FileFault) : Type 0 where
@@ -66,6 +66,7 @@ reader-unwritten fault told CutByMemory = refl
 -- a fault of what answers an input
 pub answer-means : (told : ToolFault) → IsAnswerFault told → (output : Output) (before after : Option (List ℕ)) → AppendsPart before after output.text → Means output (Err told) before after
 answer-means (Script f) is output before after part = absurd is
+answer-means (Configurations f) is output before after part = absurd is
 answer-means CannotRead is output before after part = absurd is
 answer-means CannotWrite is output before after part = part
 answer-means OutOfMemory is output before after part = part

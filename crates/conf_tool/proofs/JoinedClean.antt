@@ -31,6 +31,7 @@ use Rattle.conf_tool.specs.Outputs.{checked, checked_entries, status_of, session
 use Rattle.conf_session.specs.Told.{is_line_byte}
 use Rattle.conf_tool.specs.Laws.{JoinedClean}
 use Rattle.conf_tool.specs.declared.status.Status.{Status}
+use Rattle.conf_tool.specs.declared.tool_fault.ToolFault.{ToolFault}
 use Rattle.conf_tool.specs.declared.status.Status.TheVariants.{Clean}
 use Rattle.conf_session.specs.declared.undo_fault.UndoFault.{UndoFault}
 use Rattle.conf_session.proofs.Offered.{first, second, both, told-bytes, undo_fault-told, spaced-words, changes-words}
@@ -81,7 +82,7 @@ record IsCleanScript (entries : List Entry) (fault : Option FileFault) : Type 0 
   same : list_any differs entries ≡ false
   whole : fault ≡ None
 
-abbrev ended : Status → Result Status FileFault
+abbrev ended : Status → Result Status ToolFault
 ended status = Ok status
 
 status-clean : (b : Bool) → ended (status_of b) ≡ ended Clean → b ≡ false

@@ -10,3 +10,6 @@ pub mod Undoing
 pub mod Marked
 pub mod RewrittenClean
 pub mod JoinedClean
+pub mod Planning
+pub mod TwoConfigurations
+pub mod PlannedBest

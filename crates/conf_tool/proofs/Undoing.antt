@@ -22,6 +22,7 @@ use Rattle.conf_tool.specs.Outputs.{Output, session_after_all, undo_status, undo
 use Rattle.conf_tool.specs.Answered.{script, behind, undo_left, HasObeyed}
 use Rattle.conf_tool.specs.Run.{Wrote}
 use Rattle.conf_tool.specs.declared.status.Status.{Status}
+use Rattle.conf_tool.specs.declared.tool_fault.ToolFault.TheVariants.{Script as ScriptFault}
 use Rattle.conf_tool.proofs.Rewriting.{breaks-nothing}
 use Rattle.conf_tool.proofs.WrittenOn.{keeps-still, kept-part, kept-appends, kept-written}
 use Rattle.conf_tool.proofs.WrittenFront.{appends-nothing, part-nothing, behind-part, behind-nothing}
@@ -149,7 +150,7 @@ steps-over s now a b old new plan place n is some past so_far =
 
 -- ---- the end of the input, or a fault of it
 pub obeyed-fault : (s : SessionState) (rewriter : RewriterState) (count : ℕ) (total : Script Item → Output) (parts : List Item) (before held : Option (List ℕ)) (fault : FileFault) →
-    HasObeyed s rewriter count total parts before held → Wrote (total (script parts (Some fault))) (Err fault) before held
+    HasObeyed s rewriter count total parts before held → Wrote (total (script parts (Some fault))) (Err (ScriptFault fault)) before held
 obeyed-fault s rewriter count total parts before held fault obeyed =
     let is = ap total (behind-nothing parts (Some fault)) ∙ obeyed.is (script [] (Some fault)) in
     (ap (λ (o : Output). o.outcome) is, subst (λ t. Appends before held t) (sym (ap (λ (o : Output). o.text) is)) (kept-appends before before held [] (appends-nothing before) obeyed.unwritten))

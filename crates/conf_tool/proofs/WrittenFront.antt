@@ -12,7 +12,8 @@ use Rattle.conf_tool.specs.Answered.{script, behind, with_front, WroteFront}
 use Rattle.conf_change.specs.Configuration.{Configuration}
 use Rattle.conf_tool.specs.LineReply.{line_reply}
 use Rattle.conf_tool.specs.Outputs.{Output, clean_unless, lined_from}
-use Rattle.conf_tool.specs.Run.{Wrote, Means, clean_or_fault}
+use Rattle.conf_tool.specs.Run.{Wrote, Means}
+use Rattle.conf_tool.specs.declared.tool_fault.ToolFault.{ToolFault}
 use Rattle.conf_tool.specs.declared.status.Status.{Status}
 
 pub appends-nothing : (before : Option (List ℕ)) → Appends before before []
@@ -65,20 +66,20 @@ wrote-broken total left next parts part text bytes before mid new front gives sa
     (part-part before new (front.text ++ text) (next (script more fault)).text (append-part before mid new front.text text front.wrote (subst (λ t. AppendsPart mid new t) same cut)))
 
 -- the output of these parts
-whole : {A : Type 0} (total left : Script A → Output) (parts : List A) (fault : Option FileFault) (last : List ℕ) (outcome : Result Status FileFault) (before mid : Option (List ℕ)) →
+whole : {A : Type 0} (total left : Script A → Output) (parts : List A) (fault : Option FileFault) (last : List ℕ) (outcome : Result Status ToolFault) (before mid : Option (List ℕ)) →
     (front : WroteFront total left parts before mid) → left (script [] fault) ≡ record { text = last; outcome = outcome } → total (script parts fault) ≡ record { text = front.text ++ last; outcome = outcome }
 whole total left parts fault last outcome before mid front ends =
     ap total (behind-nothing parts fault) ∙ front.is (script [] fault) ∙ ap (with_front front.text) ends
 
 -- what is written at the end is the rest of the output
-pub wrote-end : {A : Type 0} (total left : Script A → Output) (parts : List A) (fault : Option FileFault) (last bytes : List ℕ) (outcome : Result Status FileFault) (before mid new : Option (List ℕ)) →
+pub wrote-end : {A : Type 0} (total left : Script A → Output) (parts : List A) (fault : Option FileFault) (last bytes : List ℕ) (outcome : Result Status ToolFault) (before mid new : Option (List ℕ)) →
     WroteFront total left parts before mid → left (script [] fault) ≡ record { text = last; outcome = outcome } → bytes ≡ last → Appends mid new bytes → Wrote (total (script parts fault)) outcome before new
 wrote-end total left parts fault last bytes outcome before mid new front ends same appends =
     let is = whole total left parts fault last outcome before mid front ends in
     (ap (λ o. o.outcome) is, subst (λ t. Appends before new t) (sym (ap (λ o. o.text) is)) (appends-append before mid new front.text last front.wrote (subst (λ t. Appends mid new t) same appends)))
 
 -- .. or a part of it
-pub wrote-end-part : {A : Type 0} (total left : Script A → Output) (parts : List A) (fault : Option FileFault) (last bytes : List ℕ) (outcome : Result Status FileFault) (before mid new : Option (List ℕ)) →
+pub wrote-end-part : {A : Type 0} (total left : Script A → Output) (parts : List A) (fault : Option FileFault) (last bytes : List ℕ) (outcome : Result Status ToolFault) (before mid new : Option (List ℕ)) →
     WroteFront total left parts before mid → left (script [] fault) ≡ record { text = last; outcome = outcome } → bytes ≡ last → AppendsPart mid new bytes →
     AppendsPart before new (total (script parts fault)).text
 wrote-end-part total left parts fault last bytes outcome before mid new front ends same cut =
@@ -86,7 +87,7 @@ wrote-end-part total left parts fault last bytes outcome before mid new front en
     (append-part before mid new front.text last front.wrote (subst (λ t. AppendsPart mid new t) same cut))
 
 -- nothing is written at the end, and only a fault counts
-pub clean-means : (output : Output) (fault : Option FileFault) (before after : Option (List ℕ)) → Wrote output (clean_unless fault) before after → Means output (clean_or_fault fault) before after
+pub clean-means : (output : Output) (fault : Option FileFault) (before after : Option (List ℕ)) → Wrote output (clean_unless fault) before after → Means output (clean_unless fault) before after
 clean-means output None before after wrote = wrote
 clean-means output (Some fault) before after wrote = wrote
 

@@ -1,5 +1,5 @@
 -- What was answered stays answered where what waits is written on: known bytes stay as they were.
-use Rattle.std.proofs.Common.{ℕ, List, refl, ◌∙◌}
+use Rattle.std.proofs.Common.{ℕ, List, ◌++◌, refl, ◌∙◌, ap}
 use Rattle.std.specs.Prelude.{Option, Some, None}
 use Rattle.std.specs.Io.KnownBytes.{Appends, Keeps}
 use Rattle.dd_file.specs.Device.{AppendsPart}
@@ -8,7 +8,7 @@ use Rattle.dd_file.specs.RewriterState.{RewriterState, HasWritten}
 use Rattle.dd_file.specs.declared.item.Item.{Item}
 use Rattle.conf_session.specs.SessionState.{SessionState}
 use Rattle.conf_tool.specs.Outputs.{Output}
-use Rattle.conf_tool.specs.Answered.{WroteFront, HasChecked, HasRewritten, HasObeyed}
+use Rattle.conf_tool.specs.Answered.{WroteFront, HasChecked, HasRewritten, HasObeyed, HasRead}
 
 pub keeps-still : (held : Option (List ℕ)) → Keeps held held
 keeps-still None = tt
@@ -31,6 +31,19 @@ kept-part None mid new bytes a k = tt
 kept-part (Some o) None new bytes a k = absurd a
 kept-part (Some o) (Some m) None bytes a k = absurd k
 kept-part (Some o) (Some m) (Some n) bytes a k = (a.0, a.1, a.2, k ∙ a.3)
+
+-- what is appended to bytes that stayed as they were
+pub keeps-appends : (old mid new : Option (List ℕ)) (bytes : List ℕ) → Keeps old mid → Appends mid new bytes → Appends old new bytes
+keeps-appends None mid new bytes k a = tt
+keeps-appends (Some o) None new bytes k a = absurd k
+keeps-appends (Some o) (Some m) None bytes k a = absurd a
+keeps-appends (Some o) (Some m) (Some n) bytes k a = a ∙ ap (λ t. t ++ bytes) k
+
+pub keeps-part : (old mid new : Option (List ℕ)) (bytes : List ℕ) → Keeps old mid → AppendsPart mid new bytes → AppendsPart old new bytes
+keeps-part None mid new bytes k a = tt
+keeps-part (Some o) None new bytes k a = absurd k
+keeps-part (Some o) (Some m) None bytes k a = absurd a
+keeps-part (Some o) (Some m) (Some n) bytes k a = (a.0, a.1, a.2, a.3 ∙ ap (λ t. t ++ a.0) k)
 
 pub kept-written : (newlines : ℕ) (start mid new : Option (List ℕ)) (text : List ℕ) → HasWritten newlines start mid text → Keeps mid new → HasWritten newlines start new text
 kept-written newlines start mid new text written k = record {
@@ -64,3 +77,7 @@ kept-obeyed session rewriter count total parts before mid new obeyed k = record 
   nothing = obeyed.nothing;
   is = obeyed.is;
 }
+
+pub kept-read : (texts : List (List ℕ)) (total : Script (List ℕ) → Output) (parts : List (List ℕ)) (before mid new : Option (List ℕ)) →
+    HasRead texts total parts before mid → Keeps mid new → HasRead texts total parts before new
+kept-read texts total parts before mid new read k = record { unwritten = keeps-keeps before mid new read.unwritten k; texts_are = read.texts_are; is = read.is }

@@ -1,5 +1,5 @@
 -- What was written so far of an output, where an input is answered part by part, and what is left of it.
-use Rattle.std.specs.Prelude.{◌≡◌, ◌≤◌, ℕ, ◌+◌, ◌||◌, List, [], ◌++◌, flat_map, count_by, nat_lt, length, Option, Some, None, Ok, Err}
+use Rattle.std.specs.Prelude.{◌≡◌, ◌≤◌, ℕ, ◌+◌, ◌||◌, List, [], ◌++◌, flat_map, count_by, nat_lt, length, take, Option, Some, None, Ok, Err}
 use Rattle.std.specs.List.{list_any}
 use Rattle.std.specs.Io.KnownBytes.{Appends, Keeps}
 use Rattle.dd_file.specs.Reading.{Script}
@@ -10,7 +10,8 @@ use Rattle.dd_file.specs.declared.fault.FileFault.{FileFault}
 use Rattle.dd_file.specs.declared.stage.Stage.TheVariants.{Ready}
 use Rattle.conf_session.specs.SessionState.{SessionState}
 use Rattle.conf_tool.specs.Reports.{entries_of, obeyed_text, differs, report, counts_line}
-use Rattle.conf_tool.specs.Outputs.{Output, clean_unless, status_of, session_after_all, undone_unless}
+use Rattle.conf_tool.specs.Outputs.{Output, clean_unless, status_of, session_after_all, undone_unless, planned_script}
+use Rattle.conf_tool.specs.declared.tool_fault.ToolFault.TheVariants.{Script as ScriptFault}
 
 -- what is read: these parts, and a fault where one ends them
 abbrev pub script : {A : Type 0} → List A → Option FileFault → Script A
@@ -36,7 +37,7 @@ rest_checked directives mismatches entries None = record {
   text = flat_map report entries ++ counts_line (directives + count_by (λ entry. is_directive entry.item) entries) (mismatches + count_by differs entries);
   outcome = Ok (status_of (nat_lt 0 mismatches || list_any differs entries));
 }
-rest_checked directives mismatches entries (Some fault) = record { text = flat_map report entries; outcome = Err fault }
+rest_checked directives mismatches entries (Some fault) = record { text = flat_map report entries; outcome = Err (ScriptFault fault) }
 
 abbrev pub check_left : SessionState → ℕ → ℕ → Script Item → Output
 check_left session directives mismatches rest = rest_checked directives mismatches (entries_of session rest.items) rest.fault
@@ -67,3 +68,9 @@ pub record HasObeyed (session : SessionState) (rewriter : RewriterState) (count 
   pub ready : rewriter.stage ≡ Ready
   pub nothing : (held : Option (List ℕ)) → HasWritten rewriter.newlines held held []
   pub is : (rest : Script Item) → total (behind parts rest) ≡ undo_left session count rest
+
+-- The same of `plan`, which keeps its first three lines and writes at its end.
+pub record HasRead (texts : List (List ℕ)) (total : Script (List ℕ) → Output) (parts : List (List ℕ)) (before after : Option (List ℕ)) : Type 0 where
+  pub unwritten : Keeps before after
+  pub texts_are : texts ≡ take 3 parts
+  pub is : (read : Script (List ℕ)) → total read ≡ planned_script read

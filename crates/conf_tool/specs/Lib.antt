@@ -3,6 +3,8 @@ pub mod Ranges
 pub mod LineReply
 pub mod Reports
 pub mod UndoScript
+pub mod TwoConfigurations
+pub mod PlanAnswer
 pub mod Outputs
 pub mod Answered
 pub mod Run

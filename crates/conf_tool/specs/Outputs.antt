@@ -14,21 +14,26 @@ use Rattle.conf_tool.specs.Reports.{session_after, entries_of, differs, report, 
 use Rattle.conf_session.specs.Undo.{undo_plan_of}
 use Rattle.conf_tool.specs.UndoScript.{undo_items}
 use Rattle.conf_tool.specs.declared.mode.Mode.{Mode}
-use Rattle.conf_tool.specs.declared.mode.Mode.TheVariants.{Lines, Check, Rewrite, Undo}
+use Rattle.conf_tool.specs.declared.mode.Mode.TheVariants.{Lines, Check, Rewrite, Undo, Plan}
 use Rattle.conf_tool.specs.declared.options.Options.{Options}
 use Rattle.conf_tool.specs.declared.status.Status.{Status}
 use Rattle.conf_tool.specs.declared.status.Status.TheVariants.{Clean, Different}
 use Rattle.conf_session.specs.declared.undo_fault.UndoFault.{UndoFault}
+use Rattle.conf_tool.specs.TwoConfigurations.{configurations_in}
+use Rattle.conf_tool.specs.PlanAnswer.{plan_text_between, plan_status}
+use Rattle.conf_tool.specs.declared.configurations_fault.ConfigurationsFault.{ConfigurationsFault}
+use Rattle.conf_tool.specs.declared.tool_fault.ToolFault.{ToolFault}
+use Rattle.conf_tool.specs.declared.tool_fault.ToolFault.TheVariants.{Script as ScriptFault, Configurations}
 
 -- what is written, and how it ends: with a status, or with a fault of the input
 pub record Output : Type 0 where
   pub text : List ℕ
-  pub outcome : Result Status FileFault
+  pub outcome : Result Status ToolFault
 
 -- clean unless there is a fault
-abbrev pub clean_unless : Option FileFault → Result Status FileFault
+abbrev pub clean_unless : Option FileFault → Result Status ToolFault
 clean_unless None = Ok Clean
-clean_unless (Some fault) = Err fault
+clean_unless (Some fault) = Err (ScriptFault fault)
 
 -- the answers to the lines up to a fault, from a configuration on
 abbrev pub lined_from : Configuration → Script (List ℕ) → Output
@@ -45,7 +50,7 @@ status_of true = Different
 -- the reports, and the counts unless there is a fault
 abbrev pub checked_entries : List Entry → Option FileFault → Output
 checked_entries entries None = record { text = flat_map report entries ++ counts_text entries; outcome = Ok (status_of (list_any differs entries)) }
-checked_entries entries (Some fault) = record { text = flat_map report entries; outcome = Err fault }
+checked_entries entries (Some fault) = record { text = flat_map report entries; outcome = Err (ScriptFault fault) }
 
 abbrev pub checked_script : ℕ → Floor → Script Item → Output
 checked_script history floor script = checked_entries (entries_of (new_session history floor) script.items) script.fault
@@ -81,7 +86,7 @@ undone_by session plan = record { text = rewritten_text (entries_of session (und
 -- nothing is undone of a script with a fault
 abbrev pub undone_unless : SessionState → ℕ → Option FileFault → Output
 undone_unless session count None = undone_by session (undo_plan_of session count)
-undone_unless session count (Some fault) = record { text = []; outcome = Err fault }
+undone_unless session count (Some fault) = record { text = []; outcome = Err (ScriptFault fault) }
 
 abbrev pub undone_script : ℕ → Floor → ℕ → Script Item → Output
 undone_script history floor count script = undone_unless (session_after_all (new_session history floor) script.items) count script.fault
@@ -90,9 +95,27 @@ undone_script history floor count script = undone_unless (session_after_all (new
 abbrev pub undone : List ℕ → ℕ → Floor → ℕ → Output
 undone input history floor count = undone_script history floor count (script_of input)
 
+-- the plan between two configurations, or why there is none
+abbrev pub planned_between : Result (Configuration × Configuration) ConfigurationsFault → Output
+planned_between (Ok ends) = record { text = plan_text_between ends.0 ends.1; outcome = Ok (plan_status ends.0 ends.1) }
+planned_between (Err fault) = record { text = []; outcome = Err (Configurations fault) }
+
+-- nothing is planned of an input with a fault
+abbrev pub planned_unless : List (List ℕ) → Option FileFault → Output
+planned_unless lines None = planned_between (configurations_in lines)
+planned_unless lines (Some fault) = record { text = []; outcome = Err (ScriptFault fault) }
+
+abbrev pub planned_script : Script (List ℕ) → Output
+planned_script listing = planned_unless listing.items listing.fault
+
+-- of `plan`: the plan from the configuration of the first line to that of the second
+abbrev pub planned_output : List ℕ → Output
+planned_output input = planned_script (listing_of input)
+
 -- of a mode with its options
 abbrev pub output_of : Mode → Options → List ℕ → Output
 output_of Lines options input = lined input
 output_of Check options input = checked input options.history options.floor
 output_of Rewrite options input = rewritten input options.history options.floor
 output_of Undo options input = undone input options.history options.floor options.steps
+output_of Plan options input = planned_output input

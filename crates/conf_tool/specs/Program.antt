@@ -7,7 +7,7 @@ use Rattle.clap.specs.declared.builder.value_parser.ValueParser.TheVariants.{Uns
 use Rattle.conf_change.specs.declared.floor.Floor.{Floor}
 use Rattle.conf_change.specs.declared.floor.Floor.TheVariants.{Zero, One}
 use Rattle.conf_tool.specs.declared.mode.Mode.{Mode}
-use Rattle.conf_tool.specs.declared.mode.Mode.TheVariants.{Lines, Check, Rewrite, Undo}
+use Rattle.conf_tool.specs.declared.mode.Mode.TheVariants.{Lines, Check, Rewrite, Undo, Plan}
 
 -- a mode, with the file to read
 abbrev pub mode_command : Text → App
@@ -43,8 +43,8 @@ with_mode mode app = with_subcommand app mode.top
 
 abbrev pub program : Bor (List (Bor Text)) → App
 program floors =
-    with_mode (undo_command (codes "undo") floors) (with_mode (script_command (codes "rewrite") floors) (with_mode (script_command (codes "check") floors)
-    (with_mode (mode_command (codes "lines")) (wants_mode (tells_version (new_app (codes "confscript")))))))
+    with_mode (mode_command (codes "plan")) (with_mode (undo_command (codes "undo") floors) (with_mode (script_command (codes "rewrite") floors)
+    (with_mode (script_command (codes "check") floors) (with_mode (mode_command (codes "lines")) (wants_mode (tells_version (new_app (codes "confscript"))))))))
 
 -- so it is of the program whose words for the floor are `0` and `1`
 abbrev pub OfProgram : (App → Type 0) → Type 0
@@ -56,7 +56,8 @@ mode_named name =
     if bytes_eq name (codes "check") then Check
     else (if bytes_eq name (codes "rewrite") then Rewrite
     else (if bytes_eq name (codes "undo") then Undo
-    else Lines))
+    else (if bytes_eq name (codes "plan") then Plan
+    else Lines)))
 
 -- what the subcommand that was read asks for
 abbrev pub asked_mode : Option (Text × List Row) → Mode

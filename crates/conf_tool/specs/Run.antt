@@ -1,5 +1,5 @@
 -- What the answer of a run says of its input and of what was written.
-use Rattle.std.specs.Prelude.{◌≡◌, ℕ, Bool, true, false, List, Option, Some, None, Result, Ok, Err, ⊤}
+use Rattle.std.specs.Prelude.{◌≡◌, ℕ, Bool, true, false, List, Option, Result, Ok, Err, ⊤}
 use Rattle.std.specs.Io.KnownBytes.{Appends}
 use Rattle.dd_file.specs.Device.{AppendsPart}
 use Rattle.dd_file.specs.ReaderState.{fresh}
@@ -8,28 +8,24 @@ use Rattle.dd_file.specs.declared.fault.FileFault.{FileFault}
 use Rattle.dd_file.specs.declared.fault.FileFault.TheVariants.{InputTooLong, BadDirective, AfterDouble, UnclosedDouble, Read as ReadOfScript, NoMemory as NoMemoryForScript}
 use Rattle.conf_tool.specs.Outputs.{Output}
 use Rattle.conf_tool.specs.declared.mode.Mode.{Mode}
-use Rattle.conf_tool.specs.declared.mode.Mode.TheVariants.{Lines, Check, Rewrite, Undo}
+use Rattle.conf_tool.specs.declared.mode.Mode.TheVariants.{Lines, Check, Rewrite, Undo, Plan}
 use Rattle.conf_tool.specs.declared.status.Status.{Status}
 use Rattle.conf_tool.specs.declared.status.Status.TheVariants.{Clean, Different}
 use Rattle.conf_tool.specs.declared.tool_fault.ToolFault.{ToolFault}
-use Rattle.conf_tool.specs.declared.tool_fault.ToolFault.TheVariants.{Script, Read, Write, NoMemory}
+use Rattle.conf_tool.specs.declared.tool_fault.ToolFault.TheVariants.{Script, Configurations, Read, Write, NoMemory}
 
 -- the whole output was written, and it ends so
-abbrev pub Wrote : Output → Result Status FileFault → Option (List ℕ) → Option (List ℕ) → Type 0
+abbrev pub Wrote : Output → Result Status ToolFault → Option (List ℕ) → Option (List ℕ) → Type 0
 Wrote output outcome before after = (output.outcome ≡ outcome) × Appends before after output.text
 
 -- what an answer says of an output, and of the bytes that the writer held before and holds after
 abbrev pub Means : Output → Result Status ToolFault → Option (List ℕ) → Option (List ℕ) → Type 0
 Means output (Ok status) before after = Wrote output (Ok status) before after
-Means output (Err (Script fault)) before after = Wrote output (Err fault) before after
+Means output (Err (Script fault)) before after = Wrote output (Err (Script fault)) before after
+Means output (Err (Configurations fault)) before after = Wrote output (Err (Configurations fault)) before after
 Means output (Err Read) before after = AppendsPart before after output.text
 Means output (Err Write) before after = AppendsPart before after output.text
 Means output (Err NoMemory) before after = AppendsPart before after output.text
-
--- clean where an input has no fault, and else that fault
-abbrev pub clean_or_fault : Option FileFault → Result Status ToolFault
-clean_or_fault None = Ok Clean
-clean_or_fault (Some fault) = Err (Script fault)
 
 -- So it is for each input that agrees with what the reader gave. Where the reader or the writer does not tell its
 -- bytes, nothing is said.
@@ -49,6 +45,7 @@ as_tool_fault NoMemoryForScript = NoMemory
 -- a fault of what answers an input, not of the input or its reader
 abbrev pub IsAnswerFault : ToolFault → Type 0
 IsAnswerFault (Script fault) = ⊥
+IsAnswerFault (Configurations fault) = ⊥
 IsAnswerFault Read = ⊥
 IsAnswerFault Write = ⊤
 IsAnswerFault NoMemory = ⊤
@@ -76,19 +73,30 @@ CanBeFaulty Lines fault = IsTooLong fault
 CanBeFaulty Check fault = IsScriptFault fault
 CanBeFaulty Rewrite fault = IsScriptFault fault
 CanBeFaulty Undo fault = IsScriptFault fault
+CanBeFaulty Plan fault = IsTooLong fault
 
--- the statuses of a mode: it is only `check` that tells a difference, and `undo` that tells that there is no plan
+-- it is only `plan` that is given configurations
+abbrev pub WantsConfigurations : Mode → Type 0
+WantsConfigurations Lines = ⊥
+WantsConfigurations Check = ⊥
+WantsConfigurations Rewrite = ⊥
+WantsConfigurations Undo = ⊥
+WantsConfigurations Plan = ⊤
+
+-- the statuses of a mode: it is only `check` that tells a difference, and `undo` and `plan` that tell that there is no plan
 abbrev pub CanBe : Mode → Status → Type 0
 CanBe mode Clean = ⊤
 CanBe Lines Different = ⊥
 CanBe Check Different = ⊤
 CanBe Rewrite Different = ⊥
 CanBe Undo Different = ⊤
+CanBe Plan Different = ⊤
 
 -- the answers that a mode has, whatever the reader and the writer are
 abbrev pub CanAnswer : Mode → Result Status ToolFault → Type 0
 CanAnswer mode (Ok status) = CanBe mode status
 CanAnswer mode (Err (Script fault)) = CanBeFaulty mode fault
+CanAnswer mode (Err (Configurations fault)) = WantsConfigurations mode
 CanAnswer mode (Err Read) = ⊤
 CanAnswer mode (Err Write) = ⊤
 CanAnswer mode (Err NoMemory) = ⊤
@@ -97,6 +105,7 @@ CanAnswer mode (Err NoMemory) = ⊤
 abbrev pub is_read_fault : {X : Type 0} → Result X ToolFault → Bool
 is_read_fault (Ok x) = false
 is_read_fault (Err (Script fault)) = false
+is_read_fault (Err (Configurations fault)) = false
 is_read_fault (Err Read) = true
 is_read_fault (Err Write) = false
 is_read_fault (Err NoMemory) = false
@@ -104,6 +113,7 @@ is_read_fault (Err NoMemory) = false
 abbrev pub is_write_fault : {X : Type 0} → Result X ToolFault → Bool
 is_write_fault (Ok x) = false
 is_write_fault (Err (Script fault)) = false
+is_write_fault (Err (Configurations fault)) = false
 is_write_fault (Err Read) = false
 is_write_fault (Err Write) = true
 is_write_fault (Err NoMemory) = false
@@ -112,6 +122,7 @@ is_write_fault (Err NoMemory) = false
 abbrev pub stands_for_whole : Result Status ToolFault → Bool
 stands_for_whole (Ok status) = true
 stands_for_whole (Err (Script fault)) = true
+stands_for_whole (Err (Configurations fault)) = true
 stands_for_whole (Err Read) = false
 stands_for_whole (Err Write) = false
 stands_for_whole (Err NoMemory) = false
@@ -121,6 +132,7 @@ stands_for_whole (Err NoMemory) = false
 abbrev pub TellsWrite : Bool → Bool → Result Status ToolFault → Type 0
 TellsWrite before after (Ok status) = after ≡ before
 TellsWrite before after (Err (Script fault)) = after ≡ before
+TellsWrite before after (Err (Configurations fault)) = after ≡ before
 TellsWrite before after (Err Read) = ⊤
 TellsWrite before after (Err Write) = after ≡ true
 TellsWrite before after (Err NoMemory) = ⊤

@@ -4,7 +4,7 @@ ghost use Rattle.clap.specs.Words.{FailsBy, app_of, fault_of, first_of, found_of
 ghost use Rattle.conf_tool.specs.Program.{program as the_program, OfProgram, with_mode, mode_command, script_command, undo_command, number_rule, words_rule, asked_mode, mode_named, asked_text, asked_floor, floor_named, IsAsked};
 ghost use Rattle.conf_tool.specs.Ranges.{IsInRange};
 
-use crate::help::{CHECK, LINES, PROGRAM, REWRITE, UNDO};
+use crate::help::{CHECK, LINES, PLAN, PROGRAM, REWRITE, UNDO};
 use crate::invocation::Invocation;
 use crate::mode::Mode;
 use crate::options::Options;
@@ -127,6 +127,7 @@ fn mode_of(name: &str) -> Mode
         "check" => Mode::Check,
         "rewrite" => Mode::Rewrite,
         "undo" => Mode::Undo,
+        "plan" => Mode::Plan,
         _ => Mode::Lines,
     }
 }
@@ -158,7 +159,14 @@ fn program<'a>(alloc: Global, floors: &'a [&'a str]) -> Result<Command<'a>, Erro
         REWRITE,
         floors,
     )?;
-    add_undo_mode(alloc, program, floors)
+    let program = add_undo_mode(alloc, program, floors)?;
+    add_mode(
+        alloc,
+        program,
+        "plan",
+        "Plans the changes from one configuration to another",
+        PLAN,
+    )
 }
 
 // Adds a mode as a subcommand, with the file to read.

@@ -5,10 +5,11 @@ pub(crate) const PROGRAM: &str = "Examples:
   printf 'v1\\nv2\\nl3\\n' | confscript lines
   confscript check script.txt
   confscript undo --steps 2 script.txt
+  confscript plan two_lines.txt
 
 Exit statuses:
   0  done
-  1  check found a difference, or undo has no plan
+  1  check found a difference, or undo or plan has no plan
   2  the words or the input are at fault
   3  a file, a device or memory failed
 
@@ -123,3 +124,20 @@ it prints
   ----
   voters=(1)
   1: StateProbe match=0 next=1";
+
+/// Of `plan`.
+pub(crate) const PLAN: &str =
+    "Reads two lines, the present configuration and the wanted one, each as the
+command conf-state prints it. Prints the steps that lead from the one to the
+other, at most four; no other steps do it better.
+
+Where there is nothing to do it says so. Where a configuration has no voter it
+prints that there is no plan, in a comment, and the status is 1.
+
+For the lines
+  Voters:[1 2 3] VotersOutgoing:[] Learners:[] LearnersNext:[] AutoLeave:false
+  Voters:[2 3 5] VotersOutgoing:[] Learners:[] LearnersNext:[] AutoLeave:false
+
+it prints
+  enter-joint autoleave=false r1 v5
+  leave-joint";

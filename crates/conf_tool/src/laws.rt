@@ -1,6 +1,7 @@
 //! Laws of this crate's definitions, each the contract of a function that does nothing.
-ghost use Rattle.conf_tool.specs.Laws.{RewrittenClean, JoinedClean};
+ghost use Rattle.conf_tool.specs.Laws.{RewrittenClean, JoinedClean, PrintedPlanIsBest};
 
+use conf_plan::laws::planned_is_best;
 use conf_session::laws::found_text_stands;
 use dd_file::laws::{
     directive_is_given, items_are_given, items_have_keys, joined_items, written_script,
@@ -27,4 +28,12 @@ pub fn joined_clean()
     written_script();
     directive_is_given();
     joined_items();
+}
+
+/// Between two configurations with voters, what the mode `plan` prints is the text of steps that lead from the one to the
+/// other, and no other steps do it better.
+pub fn printed_plan_is_best()
+    ensures { PrintedPlanIsBest }
+{
+    planned_is_best();
 }

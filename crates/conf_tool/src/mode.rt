@@ -11,4 +11,6 @@ pub enum Mode {
     Rewrite,
     /// A script is run, and then the script is written that undoes its last changes.
     Undo,
+    /// The plan is written from the configuration of one line to that of another.
+    Plan,
 }

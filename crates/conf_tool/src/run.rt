@@ -10,12 +10,14 @@ mod check;
 mod clean_unless;
 mod lines;
 mod part_by_part;
+mod plan;
 mod rewrite;
 mod undo;
 
 use self::check::Checking;
 use self::lines::LineByLine;
 use self::part_by_part::run_by_part;
+use self::plan::Planning;
 use self::rewrite::Rewriting;
 use self::undo::Undoing;
 use crate::mode::Mode;
@@ -67,6 +69,7 @@ pub fn run<R: Source, W: Sink>(
                 writer,
             )
         }
+        Mode::Plan => run_by_part(Planning::new(alloc)?, reader, writer),
     }
 }
 
@@ -109,5 +112,8 @@ pub fn run_and_flush<R: Source, W: Sink>(
 fn is_whole(outcome: &Result<Status, ToolFault>) -> bool
     ensures { result ≡ stands_for_whole outcome.now }
 {
-    matches!(outcome, Ok(_) | Err(ToolFault::Script(_)))
+    matches!(
+        outcome,
+        Ok(_) | Err(ToolFault::Script(_) | ToolFault::Configurations(_))
+    )
 }

@@ -3,6 +3,7 @@ ghost use Rattle.std.specs.Prelude.{◌≡◌};
 ghost use Rattle.conf_tool.specs.Run.{as_tool_fault};
 ghost use Rattle.conf_tool.specs.declared.tool_fault.ToolFault.TheVariants.{Write, NoMemory};
 
+use crate::configurations_fault::ConfigurationsFault;
 use dd_file::fault::{FileFault, WriteFault};
 use quorum_sets::NoMemory;
 use std::alloc::AllocError;
@@ -13,6 +14,8 @@ use thiserror::Error;
 pub enum ToolFault {
     #[error("{0}")]
     Script(FileFault),
+    #[error("{0}")]
+    Configurations(ConfigurationsFault),
     #[error("cannot read")]
     Read,
     #[error("cannot write")]

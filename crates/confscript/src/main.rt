@@ -108,7 +108,7 @@ fn run_over<R: Source>(rt: &HostRuntime, invocation: Invocation<'_>, reader: &mu
 fn fail(rt: &HostRuntime, fault: ToolFault) -> ExitCode {
     let _ = eprintln!(rt; "confscript: {fault}");
     match fault {
-        ToolFault::Script(_) => ExitCode::from(BAD_INPUT),
+        ToolFault::Script(_) | ToolFault::Configurations(_) => ExitCode::from(BAD_INPUT),
         _ => ExitCode::from(NO_DEVICE),
     }
 }

@@ -24,10 +24,23 @@ const ENTERED: &[u8] =
 const BACK: &[u8] =
     b"leave-joint\n----\nvoters=(3) learners=(1 2)\n1: StateProbe match=0 next=1 learner\n2: StateProbe match=0 next=1 learner\n3: StateProbe match=0 next=1\n\nenter-joint autoleave=false\nv1 r2 r3\n----\nvoters=(1)&&(3)\n1: StateProbe match=0 next=1\n3: StateProbe match=0 next=1\n\nleave-joint\n----\nvoters=(1)\n1: StateProbe match=0 next=1\n";
 
+// The present configuration and the wanted one, and the plan from the one to the other.
+const TWO: &[u8] =
+    b"Voters:[1] VotersOutgoing:[2] Learners:[] LearnersNext:[] AutoLeave:true\nVoters:[5] VotersOutgoing:[3 4] Learners:[] LearnersNext:[] AutoLeave:false";
+
+const PLAN: &[u8] =
+    b"leave-joint\nenter-joint autoleave=false r1 v3 v4\nleave-joint\nenter-joint autoleave=false r3 r4 v5\n";
+
+// The wanted configuration has no voter.
+const TO_NOBODY: &[u8] =
+    b"Voters:[1] VotersOutgoing:[] Learners:[] LearnersNext:[] AutoLeave:false\nVoters:[] VotersOutgoing:[] Learners:[] LearnersNext:[] AutoLeave:false\n";
+
+const NONE_WANTED: &[u8] = b"# no plan: the wanted configuration has no voter\n";
+
 // A mode, its input and its output, and how it ends.
 type Case = (Mode, &'static [u8], &'static [u8], Status);
 
-static CASES: [Case; 7] = [
+static CASES: [Case; 9] = [
     (Mode::Lines, CHANGES, ANSWERS, Status::Clean),
     (Mode::Check, BARE, BARE_REPORT, Status::Different),
     (
@@ -45,6 +58,8 @@ static CASES: [Case; 7] = [
         b"# no plan: the earlier configuration has no voter\n",
         Status::Different,
     ),
+    (Mode::Plan, TWO, PLAN, Status::Clean),
+    (Mode::Plan, TO_NOBODY, NONE_WANTED, Status::Different),
 ];
 
 // How a run ends, and what its writer took.

@@ -5,7 +5,7 @@ use conf_tool::{Mode, Options};
 use std::alloc::Global;
 
 // Words that are accepted, and the mode, the file and the history that they ask for.
-static ACCEPTED: [(&[&str], Mode, Option<&str>, usize); 10] = [
+static ACCEPTED: [(&[&str], Mode, Option<&str>, usize); 12] = [
     (&["confscript", "lines"], Mode::Lines, None, 100),
     (
         &["confscript", "lines", "changes.txt"],
@@ -51,6 +51,13 @@ static ACCEPTED: [(&[&str], Mode, Option<&str>, usize); 10] = [
         Some("script.txt"),
         1,
     ),
+    (&["confscript", "plan"], Mode::Plan, None, 100),
+    (
+        &["confscript", "plan", "two_lines.txt"],
+        Mode::Plan,
+        Some("two_lines.txt"),
+        100,
+    ),
 ];
 
 // Words for the mode that undoes changes, and the file, the history and the steps that they ask for.
@@ -87,7 +94,7 @@ static FLOORS: [(&[&str], Floor); 6] = [
 ];
 
 // Words that are refused as usage faults, and words that ask for help.
-static REFUSED: [(&[&str], i32); 23] = [
+static REFUSED: [(&[&str], i32); 25] = [
     (&["confscript"], 2),
     (&["confscript", "check", "a", "b"], 2),
     (&["confscript", "rewrite", "--history", "1001"], 2),
@@ -107,6 +114,8 @@ static REFUSED: [(&[&str], i32); 23] = [
     (&["confscript", "changes.txt"], 2),
     (&["confscript", "lines", "a", "b"], 2),
     (&["confscript", "lines", "--history", "5"], 2),
+    (&["confscript", "plan", "a", "b"], 2),
+    (&["confscript", "plan", "--steps", "1"], 2),
     (&["confscript", "--version"], 0),
     (&["confscript", "--help"], 0),
     (&["confscript", "lines", "--help"], 0),

@@ -2,7 +2,7 @@
 use conf_change::{AckFault, ConfStateFault, Invariant, Refused, RestoreFault, TokenFault};
 use conf_plan::{PlanFault, PlanTextFault, StepRefused};
 use conf_session::UndoFault;
-use conf_tool::ToolFault;
+use conf_tool::{ConfigurationsFault, ToolFault};
 use dd_file::fault::{DeviceFault, FileFault, WriteFault};
 use quorum_sets::NoMemory;
 use std::alloc::{AllocError, Global};
@@ -190,5 +190,37 @@ fn files_and_runs(rt: HostRuntime) -> Result<(), Fail> {
         (UndoFault::NoMemory, NO_MEMORY),
     ];
     assert!(rt; told(rt.alloc(), &undone)?);
+    Ok(())
+}
+
+#[test]
+fn two_configurations(rt: HostRuntime) -> Result<(), Fail> {
+    let faults = [
+        (
+            ConfigurationsFault::BadConfState(1),
+            "line 1: bad conf state",
+        ),
+        (
+            ConfigurationsFault::BadConfState(2),
+            "line 2: bad conf state",
+        ),
+        (
+            ConfigurationsFault::NotAConfiguration(1),
+            "line 1: not a configuration",
+        ),
+        (ConfigurationsFault::NotTwoLines, "two lines are wanted"),
+    ];
+    assert!(rt; told(rt.alloc(), &faults)?);
+    let runs = [
+        (
+            ToolFault::Configurations(ConfigurationsFault::NotAConfiguration(2)),
+            "line 2: not a configuration",
+        ),
+        (
+            ToolFault::Configurations(ConfigurationsFault::NotTwoLines),
+            "two lines are wanted",
+        ),
+    ];
+    assert!(rt; told(rt.alloc(), &runs)?);
     Ok(())
 }

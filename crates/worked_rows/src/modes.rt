@@ -37,10 +37,23 @@ const BACK: &[u8] =
 
 const NO_PLAN: &[u8] = b"# no plan: the earlier configuration has no voter\n";
 
+// The present configuration and the wanted one, and the plan from the one to the other.
+const TWO: &[u8] =
+    b"Voters:[1] VotersOutgoing:[2] Learners:[] LearnersNext:[] AutoLeave:true\nVoters:[5] VotersOutgoing:[3 4] Learners:[] LearnersNext:[] AutoLeave:false";
+
+const PLAN: &[u8] =
+    b"leave-joint\nenter-joint autoleave=false r1 v3 v4\nleave-joint\nenter-joint autoleave=false r3 r4 v5\n";
+
+// The wanted configuration has no voter.
+const TO_NOBODY: &[u8] =
+    b"Voters:[1] VotersOutgoing:[] Learners:[] LearnersNext:[] AutoLeave:false\nVoters:[] VotersOutgoing:[] Learners:[] LearnersNext:[] AutoLeave:false\n";
+
+const NONE_WANTED: &[u8] = b"# no plan: the wanted configuration has no voter\n";
+
 // A mode, its input and its output, and how it ends.
 type Case = (Mode, &'static [u8], &'static [u8], Status);
 
-static CASES: [Case; 11] = [
+static CASES: [Case; 13] = [
     (Mode::Lines, CHANGES, ANSWERS, Status::Clean),
     (Mode::Check, CUT, NONE_DIFFERS, Status::Clean),
     (Mode::Check, BARE, BARE_REPORT, Status::Different),
@@ -57,6 +70,8 @@ static CASES: [Case; 11] = [
     (Mode::Undo, ENTERED, BACK, Status::Clean),
     (Mode::Undo, CUT, NO_PLAN, Status::Different),
     (Mode::Undo, BARE, NO_PLAN, Status::Different),
+    (Mode::Plan, TWO, PLAN, Status::Clean),
+    (Mode::Plan, TO_NOBODY, NONE_WANTED, Status::Different),
 ];
 
 fn run_mode<R: Source, W: Sink>(

@@ -1,6 +1,6 @@
 //! How a run ends where only a fault of its input counts.
 ghost use Rattle.std.specs.Prelude.{◌≡◌};
-ghost use Rattle.conf_tool.specs.Run.{clean_or_fault};
+ghost use Rattle.conf_tool.specs.Outputs.{clean_unless};
 
 use crate::status::Status;
 use crate::tool_fault::ToolFault;
@@ -8,7 +8,7 @@ use dd_file::fault::FileFault;
 
 /// Clean where the input has no fault, and else that fault.
 pub(super) fn clean_unless(fault: Option<FileFault>) -> Result<Status, ToolFault>
-    ensures { result ≡ clean_or_fault fault }
+    ensures { result ≡ clean_unless fault }
 {
     match fault {
         None => Ok(Status::Clean),

@@ -11,4 +11,5 @@ returns-clause-app c =
     c.in_ok-program.ensures.app ∙ ap (with_mode (mode_command (codes "lines"))) begun in
     let check_is = c.in_ok-program-2.ensures.app ∙ ap (with_mode (script_command (codes "check") c.args.floors)) lines_is in
     let rewrite_is = c.in_ok-program-3.ensures.app ∙ ap (with_mode (script_command (codes "rewrite") c.args.floors)) check_is in
-    IfOk-weaker c.add_undo_mode.result _ _ (λ program is. is ∙ ap (with_mode (undo_command (codes "undo") c.args.floors)) rewrite_is) c.add_undo_mode.ensures.app
+    let undo_is = c.in_ok-program-4.ensures.app ∙ ap (with_mode (undo_command (codes "undo") c.args.floors)) rewrite_is in
+    IfOk-weaker c.add_mode-2.result _ _ (λ program is. is ∙ ap (with_mode (mode_command (codes "plan"))) undo_is) c.add_mode-2.ensures.app

@@ -23,3 +23,9 @@ run_by_part-requires-in-Undo-clause-unwritten g c = (_, c.in_ok-new-in-Undo.ensu
 
 pub returns-in_ok-new-in-Undo-clause-output : goal.returns-in_ok-new-in-Undo-clause-output
 returns-in_ok-new-in-Undo-clause-output g c = rw c.in-Undo.is (c.run_by_part-in-Undo.ensures.output _ c.in_ok-new-in-Undo.ensures.unwritten)
+
+pub run_by_part-requires-in-Plan-clause-unwritten : goal.run_by_part-requires-in-Plan-clause-unwritten
+run_by_part-requires-in-Plan-clause-unwritten g c = (_, c.in_ok-new-in-Plan.ensures.unwritten)
+
+pub returns-in_ok-new-in-Plan-clause-output : goal.returns-in_ok-new-in-Plan-clause-output
+returns-in_ok-new-in-Plan-clause-output g c = rw c.in-Plan.is (c.run_by_part-in-Plan.ensures.output _ c.in_ok-new-in-Plan.ensures.unwritten)

@@ -1,0 +1,51 @@
+//! What the mode `plan` answers: the plan between two configurations, or why there is none.
+ghost use Rattle.std.specs.Prelude.{◌≡◌, true, IfOk, IsOkUnless};
+ghost use Rattle.conf_change.specs.Configuration.{is_valid};
+ghost use Rattle.conf_tool.specs.PlanAnswer.{plan_text_between, plan_status};
+ghost use Rattle.conf_tool.specs.declared.tool_fault.ToolFault.TheVariants.{NoMemory as OutOfMemory};
+
+use crate::status::Status;
+use crate::tool_fault::ToolFault;
+use conf_change::Config;
+use conf_plan::{PlanFault, plan, print_plan};
+use conf_session::SessionIds;
+use std::alloc::Global;
+
+/// The text of the plan between two configurations, or that there is none, and how a run ends that writes it.
+pub(crate) fn plan_answer(
+    alloc: Global,
+    now: &Config<SessionIds>,
+    target: &Config<SessionIds>,
+) -> Result<(Vec<u8>, Status), ToolFault>
+    requires valid_now { is_valid now.now ≡ true }
+    requires valid_target { is_valid target.now ≡ true }
+    ensures text { IfOk result (λ answer. answer.0.items ≡ plan_text_between now.now target.now) }
+    ensures status { IfOk result (λ answer. answer.1 ≡ plan_status now.now target.now) }
+    ensures memory { IsOkUnless result OutOfMemory }
+{
+    match plan(alloc, now, target) {
+        Ok(steps) => {
+            let mut text = Vec::new(alloc);
+            print_plan(&mut text, &steps)?;
+            Ok((text, Status::Clean))
+        }
+        Err(PlanFault::NoVoterNow) => no_plan(
+            alloc,
+            b"# no plan: the present configuration has no voter\n",
+        ),
+        Err(PlanFault::NoVoterTarget) => no_plan(
+            alloc,
+            b"# no plan: the wanted configuration has no voter\n",
+        ),
+        Err(PlanFault::NoMemory) => Err(ToolFault::NoMemory),
+    }
+}
+
+// Why there is no plan.
+fn no_plan(alloc: Global, why: &[u8]) -> Result<(Vec<u8>, Status), ToolFault>
+    ensures text { IfOk result (λ answer. answer.0.items ≡ why.now) }
+    ensures status { IfOk result (λ answer. answer.1 ≡ Status.Different) }
+    ensures memory { IsOkUnless result OutOfMemory }
+{
+    Ok((why.to_vec(alloc)?, Status::Different))
+}
