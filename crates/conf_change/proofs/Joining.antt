@@ -7,10 +7,11 @@ use Rattle.std.proofs.lemmas.List.{take_more, take_all, length-append, map-appen
 use Rattle.std.proofs.lemmas.List.Folds.{list_any-append}
 use Rattle.quorum_sets.specs.Rising.{IsRising}
 use Rattle.quorum_sets.proofs.Offered.{rising-push}
-use Rattle.conf_change.specs.LastWords.{own_word, later_of, and_later, last_said, removal_said, has_entry, IsAdded, Joins, ListsLastWords}
+use Rattle.conf_change.specs.LastWords.{silent, own_word, later_of, and_later, last_said, removal_said, has_entry, IsAdded, Joins, ListsLastWords}
 use Rattle.conf_change.specs.declared.change.Change.{Change}
+use Rattle.conf_change.specs.declared.progress.Progress.{Progress}
 use Rattle.conf_change.specs.declared.last_words.LastWord.{LastWord}
-use Rattle.conf_change.proofs.LastWordLemmas.{last_said-append, later-later, later-none, last_said-changes, removal-changes, entry-changes}
+use Rattle.conf_change.proofs.LastWordLemmas.{last_said-append, later-later, later-none, last_said-each, removal-each, entry-each}
 
 abbrev pub ids : List LastWord → List ℕ
 ids words = map (λ w. w.id) words
@@ -120,7 +121,7 @@ above_all front last word rising up apart k within =
     ]
 
 -- the id at a place
-ids_at : (each : List LastWord) (j : ℕ) (d : LastWord) → j < length each → get_or (ids each) j 0 ≡ (get_or each j d).id
+pub ids_at : (each : List LastWord) (j : ℕ) (d : LastWord) → j < length each → get_or (ids each) j 0 ≡ (get_or each j d).id
 ids_at [] j d within = absurd (omega arith)
 ids_at (w ∷ ws) zero d within = refl
 ids_at (w ∷ ws) (suc j) d within = ids_at ws j d (omega arith)
@@ -228,12 +229,13 @@ own_removal (w ∷ ws) up (suc k) d within =
     let other : (w.id == (get_or ws k d).id) ≡ false = ne_eqb w.id _ (λ e. absurd (omega arith)) in
     ap (λ b. (b && w.removes) || removal_said ws (get_or ws k d).id) other ∙ own_removal ws (rest_rises w ws up) k d inside
 
-pub lists_last_words : (changes : List Change) (each words : List LastWord) → each ≡ map own_word changes → Joins each words → ListsLastWords changes words
-lists_last_words changes each words is joins = record {
+pub lists_last_words : (members : List (ℕ × Progress)) (changes : List Change) (each words : List LastWord) → each ≡ map (λ m. silent m.0) members ++ map own_word changes
+    → Joins each words → ListsLastWords (map (λ m. m.0) members) changes words
+lists_last_words members changes each words is joins = record {
   rising = joins.rising;
   says = λ k d within. record {
-    last = sym (own_last words joins.rising k d within) ∙ joins.last _ ∙ ap (λ ws. last_said ws (get_or words k d).id) is ∙ last_said-changes changes _;
-    removal = sym (own_removal words joins.rising k d within) ∙ joins.removal _ ∙ ap (λ ws. removal_said ws (get_or words k d).id) is ∙ removal-changes changes _;
+    last = sym (own_last words joins.rising k d within) ∙ joins.last _ ∙ ap (λ ws. last_said ws (get_or words k d).id) is ∙ last_said-each members changes _;
+    removal = sym (own_removal words joins.rising k d within) ∙ joins.removal _ ∙ ap (λ ws. removal_said ws (get_or words k d).id) is ∙ removal-each members changes _;
   };
-  entries = λ q. joins.entries q ∙ ap (λ ws. has_entry ws q) is ∙ entry-changes changes q;
+  entries = λ q. joins.entries q ∙ ap (λ ws. has_entry ws q) is ∙ entry-each members changes q;
 }

@@ -7,12 +7,14 @@ use Rattle.std.specs.Ordering.{nat_cmp, is_lt}
 use Rattle.std.proofs.lemmas.Bool.{ne_eqb, false≢true}
 use Rattle.std.proofs.lemmas.Bool.Decides.{nat_tests}
 use Rattle.std.proofs.lemmas.List.{reverse-append}
+use Rattle.std.proofs.lemmas.List.Folds.{list_any-append}
 use Rattle.std.proofs.lemmas.List.Sorted.{list_any-IsPermutation}
 use Rattle.conf_change.specs.Change.{names, is_update, is_removal, last_word, removes}
-use Rattle.conf_change.specs.LastWords.{own_word, later_of, last_said, removal_said, has_entry, Joins}
+use Rattle.conf_change.specs.LastWords.{silent, own_word, later_of, last_said, removal_said, has_entry, Joins}
 use Rattle.conf_change.specs.declared.change.Change.{Change}
 use Rattle.conf_change.specs.declared.change.Kind.{Kind}
 use Rattle.conf_change.specs.declared.last_words.LastWord.{LastWord}
+use Rattle.conf_change.specs.declared.progress.Progress.{Progress}
 
 -- ---- the later one
 pub later-none : (o : Option Kind) → later_of None o ≡ o
@@ -62,18 +64,54 @@ own_say x id false other =
     let back : (x.id == id) ≡ false = ne_eqb x.id id (λ e. false≢true (sym other ∙ eq-eqb id x.id (sym e))) in
     ap (λ b. cond (b && not (id == 0) && not (is_update x.kind)) (Some x.kind) None) (sym back)
 
-pub last_said-changes : (xs : List Change) (id : ℕ) → last_said (map own_word xs) id ≡ last_word xs id
+last_said-changes : (xs : List Change) (id : ℕ) → last_said (map own_word xs) id ≡ last_word xs id
 last_said-changes [] id = refl
 last_said-changes (x ∷ xs) id =
     (λ i. later_of (own_say x id (id == x.id) refl i) (last_said-changes xs id i)) ∙ sym (last_word-cons x xs id)
 
-pub removal-changes : (xs : List Change) (id : ℕ) → removal_said (map own_word xs) id ≡ removes xs id
+no_word : (b : Bool) → (let none : Option Kind = None in cond b none none ≡ none)
+no_word true = refl
+no_word false = refl
+
+last_said-silent : (members : List (ℕ × Progress)) (id : ℕ) → last_said (map (λ m. silent m.0) members) id ≡ None
+last_said-silent [] id = refl
+last_said-silent (m ∷ ms) id = (λ i. later_of (no_word (id == m.0) i) (last_said-silent ms id i))
+
+pub last_said-each : (members : List (ℕ × Progress)) (xs : List Change) (id : ℕ) → last_said (map (λ m. silent m.0) members ++ map own_word xs) id ≡ last_word xs id
+last_said-each members xs id =
+    last_said-append (map (λ m. silent m.0) members) (map own_word xs) id
+    ∙ (λ i. later_of (last_said-silent members id i) (last_said-changes xs id i)) ∙ later-none (last_word xs id)
+
+removal-changes : (xs : List Change) (id : ℕ) → removal_said (map own_word xs) id ≡ removes xs id
 removal-changes [] id = refl
 removal-changes (x ∷ xs) id = ap (λ b. ((x.id == id) && is_removal x.kind) || b) (removal-changes xs id)
 
-pub entry-changes : (xs : List Change) (id : ℕ) → has_entry (map own_word xs) id ≡ list_any (λ change. id == change.id) xs
+removal-silent : (members : List (ℕ × Progress)) (id : ℕ) → removal_said (map (λ m. silent m.0) members) id ≡ false
+removal-silent [] id = refl
+removal-silent (m ∷ ms) id = (λ i. nothing (m.0 == id) i || removal-silent ms id i)
+  where
+    nothing : (b : Bool) → (b && false) ≡ false
+    nothing true = refl
+    nothing false = refl
+
+pub removal-each : (members : List (ℕ × Progress)) (xs : List Change) (id : ℕ) → removal_said (map (λ m. silent m.0) members ++ map own_word xs) id ≡ removes xs id
+removal-each members xs id =
+    list_any-append (λ word. (word.id == id) && word.removes) (map (λ m. silent m.0) members) (map own_word xs)
+    ∙ (λ i. removal-silent members id i || removal-changes xs id i)
+
+entry-changes : (xs : List Change) (id : ℕ) → has_entry (map own_word xs) id ≡ list_any (λ change. id == change.id) xs
 entry-changes [] id = refl
 entry-changes (x ∷ xs) id = ap (λ b. (id == x.id) || b) (entry-changes xs id)
+
+entry-silent : (members : List (ℕ × Progress)) (id : ℕ) → has_entry (map (λ m. silent m.0) members) id ≡ list_any (λ m. id == m) (map (λ m. m.0) members)
+entry-silent [] id = refl
+entry-silent (m ∷ ms) id = ap (λ b. (id == m.0) || b) (entry-silent ms id)
+
+pub entry-each : (members : List (ℕ × Progress)) (xs : List Change) (id : ℕ)
+    → has_entry (map (λ m. silent m.0) members ++ map own_word xs) id ≡ (list_any (λ m. id == m) (map (λ m. m.0) members) || list_any (λ change. id == change.id) xs)
+entry-each members xs id =
+    list_any-append (λ word. id == word.id) (map (λ m. silent m.0) members) (map own_word xs)
+    ∙ (λ i. entry-silent members id i || entry-changes xs id i)
 
 -- ---- a stable sort by id
 -- what is said of an id is said by its entries alone
@@ -95,7 +133,7 @@ ties_same a b = grind (arith, nat_tests)
 
 pub last_said-stable : (xs ys : List LastWord) → IsStableByKey (λ w. w.id) nat_cmp xs ys → (id : ℕ) → last_said ys id ≡ last_said xs id
 last_said-stable xs ys stable id =
-    let x : LastWord = record { id = id; last = None; removes = false } in
+    let x : LastWord = silent id in
     let same = same_filter (ties (λ v w. is_lt (nat_cmp v.id w.id)) x) (λ w. id == w.id) (λ w. ties_same id w.id) in
     sym (last_said-filter ys id) ∙ ap (λ ws. last_said ws id) (sym (same ys) ∙ stable x ∙ same xs) ∙ last_said-filter xs id
 

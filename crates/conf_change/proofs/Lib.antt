@@ -12,8 +12,6 @@ mod Rows
 mod LastWordLemmas
 mod Joining
 mod Picking
-mod Merging
-mod Settling
 mod Stepping
 mod Making
 mod StepLaws

@@ -1,11 +1,15 @@
 -- What a list of changes says of each id, as one entry an id.
-use Rattle.std.specs.Prelude.{◌≡◌, ◌≢◌, ℕ, Bool, not, ◌&&◌, ◌||◌, ◌==◌, List, [], ◌∷◌, ◌++◌, map, Option, Some, None, ◌⊎◌, if◌then◌else◌}
+use Rattle.std.specs.Prelude.{◌≡◌, ◌≢◌, ℕ, Bool, false, not, ◌&&◌, ◌||◌, ◌==◌, List, [], ◌∷◌, ◌++◌, map, Option, Some, None, ◌⊎◌, if◌then◌else◌}
 use Rattle.std.specs.List.{list_any, All}
 use Rattle.quorum_sets.specs.Rising.{IsRising}
 use Rattle.conf_change.specs.Change.{is_update, is_removal, last_word, removes}
 use Rattle.conf_change.specs.declared.change.Change.{Change}
 use Rattle.conf_change.specs.declared.change.Kind.{Kind}
 use Rattle.conf_change.specs.declared.last_words.LastWord.{LastWord}
+
+-- nothing is said of the id
+abbrev pub silent : ℕ → LastWord
+silent id = record { id = id; last = None; removes = false }
 
 -- what one change says of its id
 abbrev pub own_word : Change → LastWord
@@ -53,8 +57,8 @@ pub record SaysOf (changes : List Change) (word : LastWord) : Type 0 where
   pub last : word.last ≡ last_word changes word.id
   pub removal : word.removes ≡ removes changes word.id
 
--- one entry for each id that the changes name, in rising order, says what the changes say
-pub record ListsLastWords (changes : List Change) (words : List LastWord) : Type 0 where
+-- one entry for each of the ids and each id that the changes name, in rising order, says what the changes say
+pub record ListsLastWords (ids : List ℕ) (changes : List Change) (words : List LastWord) : Type 0 where
   pub rising : IsRising (map (λ w. w.id) words)
   pub says : All (SaysOf changes) words
-  pub entries : (q : ℕ) → has_entry words q ≡ list_any (λ change. q == change.id) changes
+  pub entries : (q : ℕ) → has_entry words q ≡ (list_any (λ id. q == id) ids || list_any (λ change. q == change.id) changes)

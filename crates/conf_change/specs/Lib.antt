@@ -11,7 +11,6 @@ pub mod Progress
 pub mod LastWords
 pub mod Seat
 pub mod TrackerEdits
-pub mod Settled
 pub mod Changer
 pub mod Acknowledgement
 pub mod ConfState

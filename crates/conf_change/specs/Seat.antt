@@ -4,8 +4,6 @@ use Rattle.quorum_sets.specs.Ids.{has}
 use Rattle.conf_change.specs.Configuration.{Configuration}
 use Rattle.conf_change.specs.Change.{is_incoming_after, is_learner_after, is_next_after}
 use Rattle.conf_change.specs.declared.change.Kind.{Kind}
-use Rattle.conf_change.specs.declared.seat.Role.{Role}
-use Rattle.conf_change.specs.declared.seat.Role.TheVariants.{Incoming, Learner, Next}
 use Rattle.conf_change.specs.declared.seat.Seat.{Seat}
 
 -- what an id is in a configuration
@@ -24,9 +22,3 @@ seat_after seat word = record {
 -- a voter of either kind, or a learner
 abbrev pub is_member_seat : Seat → Bool
 is_member_seat seat = seat.incoming || seat.outgoing || seat.learner
-
--- whether an id with this seat is in the set that changes make of the incoming voters, the learners or the next learners
-abbrev pub has_role : Role → Seat → Bool
-has_role Incoming seat = seat.incoming
-has_role Learner seat = seat.learner
-has_role Next seat = seat.next

@@ -1,9 +1,10 @@
 //! What a list of changes says of each id: one entry an id, in rising order.
-ghost use Rattle.std.specs.Prelude.{◌≡◌, [], ◌∷◌, ◌++◌, map, option_to_list, IfOk, IsNone};
+ghost use Rattle.std.specs.Prelude.{◌≡◌, [], ◌∷◌, ◌++◌, map, option_to_list, IfOk, OnOk, IsNone};
 ghost use Rattle.std.specs.List.Sorted.{IsNonDecreasingBy};
-ghost use Rattle.conf_change.specs.LastWords.{own_word, and_later, IsAdded, Joins, ListsLastWords};
+ghost use Rattle.conf_change.specs.LastWords.{silent, own_word, and_later, IsAdded, Joins, ListsLastWords};
 
 use crate::change::{Change, Kind};
+use crate::progress::Progress;
 use quorum_sets::NoMemory;
 use smallvec::SmallVec;
 use std::alloc::Global;
@@ -17,6 +18,17 @@ pub(crate) struct LastWord {
 }
 
 impl LastWord {
+    // Nothing is said of the id.
+    fn silent(id: u64) -> LastWord
+        ensures { result ≡ silent id }
+    {
+        LastWord {
+            id,
+            last: None,
+            removes: false,
+        }
+    }
+
     // What one change says of its id.
     fn of(change: Change) -> LastWord
         ensures { result ≡ own_word change }
@@ -44,30 +56,40 @@ impl LastWord {
     }
 }
 
-/// What the changes say of each id that they name.
+/// What the changes say of each member and of each id that they name.
 pub(crate) fn last_words(
     alloc: Global,
+    members: &[(u64, Progress)],
     changes: &[Change],
-) -> Result<SmallVec<LastWord, 4>, NoMemory>
-    ensures { IfOk result (λ words. ListsLastWords changes.now words.items) }
+) -> Result<SmallVec<LastWord, 16>, NoMemory>
+    ensures { IfOk result (λ words. ListsLastWords (map (λ m. m.0) members.now) changes.now words.items) }
 {
-    let mut each = own_words(alloc, changes)?;
+    let mut each = SmallVec::new(alloc);
+    add_in_turn(&mut each, members, changes)?;
     joined_by_id(alloc, each.as_mut_slice())
 }
 
-// What each change says of its id.
-fn own_words(alloc: Global, changes: &[Change]) -> Result<SmallVec<LastWord, 4>, NoMemory>
-    ensures { IfOk result (λ words. words.items ≡ map own_word changes.now) }
+// Adds the members, of whom nothing is said, and what each change says of its id.
+fn add_in_turn(
+    words: &mut SmallVec<LastWord, 16>,
+    members: &[(u64, Progress)],
+    changes: &[Change],
+) -> Result<(), NoMemory>
+    requires { words.old.items ≡ [] }
+    ensures { OnOk result (words.new.items ≡ map (λ m. silent m.0) members.now ++ map own_word changes.now) }
 {
-    let mut words = SmallVec::with_capacity(alloc, changes.len())?;
+    words.reserve(members.len().saturating_add(changes.len()))?;
+    for member in members {
+        words.push(LastWord::silent(member.0))?;
+    }
     for change in changes {
         words.push(LastWord::of(*change))?;
     }
-    Ok(words)
+    Ok(())
 }
 
 // What is said of each id, as one entry. The sort keeps the order of what is said of one id.
-fn joined_by_id(alloc: Global, each: &mut [LastWord]) -> Result<SmallVec<LastWord, 4>, NoMemory>
+fn joined_by_id(alloc: Global, each: &mut [LastWord]) -> Result<SmallVec<LastWord, 16>, NoMemory>
     ensures { IfOk result (λ words. Joins each.old words.items) }
 {
     each.sort_by_key(alloc, |word| word.id)?;
@@ -75,11 +97,12 @@ fn joined_by_id(alloc: Global, each: &mut [LastWord]) -> Result<SmallVec<LastWor
 }
 
 // The same where the entries of one id lie together.
-fn joined(alloc: Global, each: &[LastWord]) -> Result<SmallVec<LastWord, 4>, NoMemory>
+fn joined(alloc: Global, each: &[LastWord]) -> Result<SmallVec<LastWord, 16>, NoMemory>
     requires { IsNonDecreasingBy (λ w. w.id) each.now }
     ensures { IfOk result (λ words. Joins each.now words.items) }
 {
-    let mut words = SmallVec::with_capacity(alloc, each.len())?;
+    let mut words = SmallVec::new(alloc);
+    words.reserve(each.len())?;
     let mut last = None;
     for word in each {
         last = Some(add(&mut words, last, *word)?);
@@ -93,7 +116,7 @@ fn joined(alloc: Global, each: &[LastWord]) -> Result<SmallVec<LastWord, 4>, NoM
 // Adds what is said of an id that is the last one or behind it. The last entry stands apart, and goes behind the others
 // once another comes.
 fn add(
-    words: &mut SmallVec<LastWord, 4>,
+    words: &mut SmallVec<LastWord, 16>,
     last: Option<LastWord>,
     word: LastWord,
 ) -> Result<LastWord, NoMemory>

@@ -19,7 +19,6 @@ pub mod restore;
 pub mod saved;
 pub mod saved_line;
 mod seat;
-mod settled;
 pub mod step;
 pub mod text;
 pub mod tracker;

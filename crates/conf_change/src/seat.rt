@@ -1,24 +1,16 @@
 //! What an id is in a configuration.
 ghost use Rattle.std.specs.Prelude.{◌≡◌};
-ghost use Rattle.conf_change.specs.Seat.{seat_after, has_role, is_member_seat};
+ghost use Rattle.conf_change.specs.Seat.{seat_after, is_member_seat};
 
 use crate::change::Kind;
 
 /// In which of the four sets of a configuration an id is.
-#[derive(Clone, Copy, Debug, Default)]
+#[derive(Clone, Copy, Debug)]
 pub(crate) struct Seat {
     pub(crate) incoming: bool,
     pub(crate) outgoing: bool,
     pub(crate) learner: bool,
     pub(crate) next: bool,
-}
-
-/// One of the sets that changes make anew.
-#[derive(Clone, Copy, Debug)]
-pub(crate) enum Role {
-    Incoming,
-    Learner,
-    Next,
 }
 
 impl Seat {
@@ -36,17 +28,6 @@ impl Seat {
             outgoing: self.outgoing,
             learner: learns && !self.outgoing,
             next: learns && self.outgoing,
-        }
-    }
-
-    // Whether the id is in the set.
-    pub(crate) fn has(self, role: Role) -> bool
-        ensures { result ≡ has_role role self }
-    {
-        match role {
-            Role::Incoming => self.incoming,
-            Role::Learner => self.learner,
-            Role::Next => self.next,
         }
     }
 

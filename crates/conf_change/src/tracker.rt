@@ -1,14 +1,13 @@
 //! The tracker: a configuration, and the progress of its members.
-ghost use Rattle.std.specs.Prelude.{◌≡◌, ℕ, ◌-◌, ◌^◌, min, true, false, map, length, slice_get, IfOk, if◌then◌else◌, ◌==◌, Some, is_some};
+ghost use Rattle.std.specs.Prelude.{◌≡◌, ℕ, ◌-◌, ◌^◌, min, true, ◌++◌, map, length, slice_get, IfOk, OnOk, if◌then◌else◌, ◌==◌, Some, is_some};
 ghost use Rattle.std.specs.Ordering.{nat_cmp};
 ghost use Rattle.std.specs.FinMap as finite;
-ghost use Rattle.quorum_sets.specs.Ids.{has, difference_count};
+ghost use Rattle.quorum_sets.specs.Ids.{has, with_id, difference_count};
 ghost use Rattle.quorum_sets.specs.Rising.{IsRising};
 ghost use Rattle.conf_change.specs.Configuration.{is_member, is_joint, has_voter};
 ghost use Rattle.conf_change.specs.Outcome.{with_outgoing, after_leave};
 ghost use Rattle.conf_change.specs.Seat.{seat_in, is_member_seat};
-ghost use Rattle.conf_change.specs.Settled.{Settles, settled_by};
-ghost use Rattle.conf_change.specs.TrackerEdits.{Applies, Keeps, beginning, entry_of, left_by_word, kept_by};
+ghost use Rattle.conf_change.specs.TrackerEdits.{Applies, Keeps, beginning, entry_of, left_by_word, entries_of, kept_by};
 ghost use Rattle.conf_change.specs.Changer.{IsSound, nobody, tracker_of};
 ghost use Rattle.conf_change.specs.Acknowledgement.{with_progress};
 
@@ -19,8 +18,7 @@ use crate::floor::Floor;
 use crate::last_words::{LastWord, last_words};
 use crate::places::Places;
 use crate::progress::Progress;
-use crate::seat::{Role, Seat};
-use crate::settled::{Settled, members_after, push_entry, set_after};
+use crate::seat::Seat;
 use quorum_sets::{MemberSet, NoMemory, has_next, symdiff};
 use smallvec::SmallVec;
 use std::alloc::Global;
@@ -194,15 +192,14 @@ impl<S: MemberSet> Tracker<S> {
         changes: &[Change],
         next_index: u64,
     ) -> Result<Tracker<S>, NoMemory>
-        requires sound { IsSound self.now }
-        requires single { is_joint self.now.config ≡ false }
+        requires { IsSound self.now }
         ensures { IfOk result (Applies next_index changes.now (tracker_of self.now.floor (with_outgoing self.now.config auto_leave) self.now.progress)) }
     {
         let outgoing = self.config.incoming.try_clone()?;
         self.after_last_words(outgoing, auto_leave, changes, next_index)
     }
 
-    // The tracker with these outgoing voters and this flag, after a list of changes.
+    // The tracker with these outgoing voters and this flag, after a list of changes: one walk over the last words.
     fn after_last_words(
         &self,
         outgoing: S,
@@ -211,69 +208,55 @@ impl<S: MemberSet> Tracker<S> {
         next_index: u64,
     ) -> Result<Tracker<S>, NoMemory>
         requires sound { IsSound self.now }
-        requires members { (q : ℕ) → is_member (beginning self.now (S.ids outgoing) auto_leave).config q ≡ is_member self.now.config q }
+        requires inside { (q : ℕ) → has (S.ids outgoing) q ≡ true → is_member self.now.config q ≡ true }
         ensures { IfOk result (Applies next_index changes.now (beginning self.now (S.ids outgoing) auto_leave)) }
     {
-        let settled = self.settled(&outgoing, changes, next_index)?;
-        let named = settled.as_slice();
-        Ok(Tracker {
-            config: Config {
-                incoming: set_after(&self.config.incoming, named, Role::Incoming)?,
-                outgoing,
-                learners: set_after(&self.config.learners, named, Role::Learner)?,
-                learners_next: set_after(&self.config.learners_next, named, Role::Next)?,
-                auto_leave,
-            },
-            members: members_after(self.alloc, self.members.as_slice(), named)?,
-            floor: self.floor,
-            alloc: self.alloc,
-        })
-    }
-
-    // What becomes of the ids that the changes name, by the last words on them.
-    fn settled(
-        &self,
-        outgoing: &S,
-        changes: &[Change],
-        next_index: u64,
-    ) -> Result<SmallVec<Settled, 4>, NoMemory>
-        ensures { IfOk result (λ settled. Settles next_index self.now (S.ids outgoing.now) changes.now settled.items) }
-    {
-        let words = last_words(self.alloc, changes)?;
-        let mut settled = SmallVec::with_capacity(self.alloc, words.len())?;
+        let alloc = self.alloc;
+        let words = last_words(alloc, self.members.as_slice(), changes)?;
+        let mut incoming = S::empty(alloc);
+        let mut learners = S::empty(alloc);
+        let mut learners_next = S::empty(alloc);
+        let mut members = SmallVec::with_capacity(alloc, words.len())?;
+        let mut places = Places::default();
         for word in words.as_slice() {
-            settled.push(self.settled_by(outgoing, *word, next_index))?;
+            let seat = self.seat(&outgoing, word.id, &mut places).after(word.last);
+            put_where(&mut incoming, word.id, seat.incoming)?;
+            put_where(&mut learners, word.id, seat.learner)?;
+            put_where(&mut learners_next, word.id, seat.next)?;
+            let entry = self.entry_after(*word, seat, next_index, &mut places.members);
+            push_entry(&mut members, word.id, entry)?;
         }
-        Ok(settled)
-    }
-
-    // What becomes of an id by the last word on it.
-    fn settled_by(&self, outgoing: &S, word: LastWord, next_index: u64) -> Settled
-        ensures { result ≡ settled_by next_index self.now (S.ids outgoing.now) word.id word.last word.removes }
-    {
-        let seat = self.seat(outgoing, word.id).after(word.last);
-        Settled {
-            id: word.id,
-            seat,
-            entry: self.entry_after(word, seat, next_index),
-        }
+        let config = Config {
+            incoming,
+            outgoing,
+            learners,
+            learners_next,
+            auto_leave,
+        };
+        Ok(Tracker::begin(alloc, self.floor, config, members))
     }
 
     // What an id is here, apart from the outgoing voters that are given.
-    fn seat(&self, outgoing: &S, id: u64) -> Seat
-        ensures { result ≡ seat_in (record self.now.config { outgoing = S.ids outgoing.now }) id }
+    fn seat(&self, outgoing: &S, id: u64, places: &mut Places) -> Seat
+        ensures { result ≡ seat_in (beginning self.now (S.ids outgoing.now) self.now.config.auto_leave).config id }
     {
         Seat {
-            incoming: self.config.incoming.contains(id),
-            outgoing: outgoing.contains(id),
-            learner: self.config.learners.contains(id),
-            next: self.config.learners_next.contains(id),
+            incoming: has_next(&self.config.incoming, &mut places.incoming, id),
+            outgoing: has_next(outgoing, &mut places.outgoing, id),
+            learner: has_next(&self.config.learners, &mut places.learners, id),
+            next: has_next(&self.config.learners_next, &mut places.next, id),
         }
     }
 
     // The progress of an id after what was said of it: a member keeps what it has, unless it is removed and does not go
     // out, or begins afresh, and anybody else has none.
-    fn entry_after(&self, word: LastWord, seat: Seat, next_index: u64) -> Option<Progress>
+    fn entry_after(
+        &self,
+        word: LastWord,
+        seat: Seat,
+        next_index: u64,
+        place: &mut usize,
+    ) -> Option<Progress>
         ensures { result ≡ entry_of next_index (is_member_seat seat) seat.learner (left_by_word word.removes seat.outgoing (finite.get self.now.progress word.id)) }
     {
         if !seat.is_member() {
@@ -283,10 +266,23 @@ impl<S: MemberSet> Tracker<S> {
         let known = if word.removes && !seat.outgoing {
             fresh
         } else {
-            self.progress(word.id).unwrap_or(fresh)
+            self.next_progress(place, word.id).unwrap_or(fresh)
         };
         let learner = seat.learner;
         Some(Progress { learner, ..known })
+    }
+
+    // The progress of the id, which is looked for first at the place; None where it is no member.
+    fn next_progress(&self, place: &mut usize, id: u64) -> Option<Progress>
+        ensures { result ≡ finite.get self.now.progress id }
+    {
+        match self.members.as_slice().get(*place).copied() {
+            Some((found, progress)) if found == id => {
+                *place = place.saturating_add(1);
+                Some(progress)
+            }
+            _ => self.progress(id),
+        }
     }
 
     // The tracker that has left the joint configuration.
@@ -354,4 +350,28 @@ fn kept<S: MemberSet>(
     } else {
         None
     }
+}
+
+// Puts an id that is there into a set.
+fn put_where<S: MemberSet>(set: &mut S, id: u64, there: bool) -> Result<(), NoMemory>
+    ensures { OnOk result (S.ids set.new ≡ (if there then with_id (S.ids set.old) id else S.ids set.old)) }
+{
+    if there {
+        set.insert(id)?;
+    }
+    Ok(())
+}
+
+// Puts an id with its progress behind the others, where it has any.
+fn push_entry(
+    members: &mut SmallVec<(u64, Progress), 1>,
+    id: u64,
+    entry: Option<Progress>,
+) -> Result<(), NoMemory>
+    ensures { OnOk result (members.new.items ≡ members.old.items ++ entries_of id entry) }
+{
+    if let Some(progress) = entry {
+        members.push((id, progress))?;
+    }
+    Ok(())
 }

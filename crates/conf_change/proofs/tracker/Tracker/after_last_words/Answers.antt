@@ -1,27 +1,44 @@
-use Rattle.std.proofs.Common.{ℕ, List, map, ap, sym, subst, ◌∙◌}
+use Rattle.std.proofs.Common.{ap, sym, subst, ◌∙◌, map}
 use Rattle.std.specs.Ordering.{nat_cmp}
 use Rattle.std.specs.FinMap as finite
-use Rattle.quorum_sets.specs.Rising.{IsRising}
-use Rattle.conf_change.specs.Settled.{Settles}
-use Rattle.conf_change.specs.declared.progress.Progress.{Progress}
-use Rattle.conf_change.proofs.Settling.{is_in_then}
-use Rattle.conf_change.proofs.Stepping.{applies}
+use Rattle.std.specs.List.{All}
+use Rattle.conf_change.specs.LastWords.{SaysOf, ListsLastWords}
+use Rattle.conf_change.specs.TrackerEdits.{beginning, Applies}
+use Rattle.conf_change.specs.TrackerState.{TrackerState}
+use Rattle.conf_change.proofs.Stepping.{walked_none, walked_more, walked_rises, walked_applies}
 use Rattle.conf_change.proofs.tracker.Tracker.after_last_words.Goals as goal
 
-pub members_after-requires-clause-members : goal.members_after-requires-clause-members
-members_after-requires-clause-members g c =
-    let Rises : List (ℕ × Progress) → Type 0 = λ ms. IsRising (map (λ m. m.0) ms) in
-    subst Rises (sym (c.as_slice.ensures ∙ ap (λ t. t.members.items) c.self-inside.view_is)) c.self.invariant
+pub loop-word-init : goal.loop-word-init
+loop-word-init g c =
+    walked_none c.args.next_index _ c.args.changes.now _ _ _ _ c.empty-incoming.ensures c.empty-learners.ensures c.empty-learners_next.ensures c.in_ok-members.ensures.items
+
+pub loop-word-preserved : goal.loop-word-preserved
+loop-word-preserved g c =
+    let own = g.S.MemberSet.ids in
+    let says : All (SaysOf c.args.changes.now) c.as_slice-word-items.result.now =
+    subst (λ ws. All (SaysOf c.args.changes.now) ws) (sym c.as_slice-word-items.ensures) c.in_ok-words.ensures.says in
+    walked_more c.args.next_index (beginning c.args.self.now (own c.args.outgoing) c.args.auto_leave) c.args.changes.now c.as_slice-word-items.result.now c.loop-word.word-index _
+    (own c.loop-word.incoming) (own c.loop-word.learners) (own c.loop-word.learners_next)
+    (own c.put_where.new.set) (own c.put_where-in-loop-word.new.set) (own c.put_where-in-loop-word-2.new.set)
+    c.loop-word.members.items c.push_entry.new.members.items c.seat.result c.after-seat.result c.entry_after-entry.result
+    c.loop-word-test.true (says c.loop-word.word-index _ c.loop-word-test.true) c.loop-word.invariant
+    c.seat.ensures c.after-seat.ensures
+    c.in_ok-put_where.ensures c.in_ok-put_where-2.ensures c.in_ok-put_where-3.ensures c.entry_after-entry.ensures c.in_ok-push_entry.ensures
+
+pub begin-requires : goal.begin-requires
+begin-requires g c =
+    let lists = subst (ListsLastWords (map (λ m. m.0) c.as_slice.result.now) c.args.changes.now) (sym c.as_slice-word-items.ensures) c.in_ok-words.ensures in
+    walked_rises c.args.next_index _ c.args.changes.now c.as_slice-word-items.result.now c.loop-word.word-index _ _ _ c.loop-word.members.items
+    lists.rising c.loop-word-test.false c.loop-word.invariant
 
 pub returns : goal.returns
 returns g c =
     let own = g.S.MemberSet.ids in
-    let named = c.as_slice-named.result.now in
-    applies c.args.next_index c.args.self.now _ (own c.args.outgoing) c.args.auto_leave c.as_slice.result.now c.args.changes.now named _ _ _ _
-    c.requires.sound (ap (λ t. t.floor) c.self-inside.view_is ∙ ap (λ t. t.floor) c.self.view_is) c.requires.members
-    (ap (λ es. finite.from_entries {R = nat_cmp} es) (c.as_slice.ensures ∙ ap (λ t. t.members.items) c.self-inside.view_is) ∙ ap (λ t. t.progress) c.self.view_is)
-    (subst (Settles c.args.next_index c.args.self.now (own c.args.outgoing) c.args.changes.now) (sym c.as_slice-named.ensures) c.in_ok-settled.ensures)
-    (λ q. c.in_ok-set_after.ensures q ∙ ap (λ s. is_in_then (λ n. n.seat.incoming) named s q) (ap (λ t. t.config.incoming) c.self-inside.view_is ∙ ap (λ t. t.config.incoming) c.self.view_is))
-    (λ q. c.in_ok-set_after-2.ensures q ∙ ap (λ s. is_in_then (λ n. n.seat.learner) named s q) (ap (λ t. t.config.learners) c.self-inside.view_is ∙ ap (λ t. t.config.learners) c.self.view_is))
-    (λ q. c.in_ok-set_after-3.ensures q ∙ ap (λ s. is_in_then (λ n. n.seat.next) named s q) (ap (λ t. t.config.learners_next) c.self-inside.view_is ∙ ap (λ t. t.config.learners_next) c.self.view_is))
-    c.in_ok-members_after.ensures.entries
+    let lists = subst (ListsLastWords (map (λ m. m.0) c.as_slice.result.now) c.args.changes.now) (sym c.as_slice-word-items.ensures) c.in_ok-words.ensures in
+    let P : TrackerState → Type 0 = Applies c.args.next_index c.args.changes.now (beginning c.args.self.now (own c.args.outgoing) c.args.auto_leave) in
+    subst P (sym c.begin.ensures)
+    (walked_applies c.args.next_index c.args.self.now c.self.inside.floor (own c.args.outgoing) c.args.auto_leave c.as_slice.result.now c.args.changes.now c.as_slice-word-items.result.now c.loop-word.word-index
+    (own c.loop-word.incoming) (own c.loop-word.learners) (own c.loop-word.learners_next) c.loop-word.members.items
+    c.requires.sound (ap (λ t. t.floor) c.self.view_is) c.requires.inside
+    (ap (λ es. finite.from_entries {R = nat_cmp} es) c.as_slice.ensures ∙ ap (λ t. t.progress) c.self.view_is)
+    lists c.loop-word-test.false c.loop-word.invariant)
