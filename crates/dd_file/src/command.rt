@@ -5,13 +5,17 @@ ghost use Rattle.dd_file.specs.Words.{is_command_name, words_of, arguments_of, c
 use crate::arguments::{argument_of, is_key};
 use crate::item::Argument;
 use crate::words::next_word;
+use smallvec::SmallVec;
 use std::alloc::{AllocError, Global};
 use std::marker::Model;
+
+/// The name of a command: a short one takes no memory.
+pub(crate) type Name = SmallVec<u8, 16>;
 
 /// A command and its arguments.
 #[derive(Drop)]
 pub(crate) struct Command {
-    pub(crate) name: Vec<u8>,
+    pub(crate) name: Name,
     pub(crate) arguments: Vec<Argument>,
 }
 
@@ -61,7 +65,7 @@ pub(crate) fn parse_command(alloc: Global, text: &[u8]) -> Result<Option<Command
     }
     match parse_arguments(alloc, behind)? {
         Some(arguments) => Ok(Some(Command {
-            name: Vec::from_slice(alloc, name)?,
+            name: Name::from_slice(alloc, name)?,
             arguments,
         })),
         None => Ok(None),

@@ -4,7 +4,7 @@ ghost use Rattle.dd_file.specs.Bytes.{trimmed};
 ghost use Rattle.dd_file.specs.Lines.{text_of};
 ghost use Rattle.dd_file.specs.Words.{has_keys};
 
-use crate::command::{Command, parse_command};
+use crate::command::{Command, Name, parse_command};
 pub use crate::raw_lines::RawLines;
 use crate::white_space::{without_leading_space, without_trailing_space};
 use std::alloc::{AllocError, Global};
@@ -70,7 +70,7 @@ impl Argument {
 #[derive(Drop)]
 pub struct Directive {
     line: usize,
-    command: Vec<u8>,
+    command: Name,
     arguments: Vec<Argument>,
     /// The lines of its head, and then those of its input.
     raw_lines: RawLines,
