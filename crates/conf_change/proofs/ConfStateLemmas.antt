@@ -1,10 +1,11 @@
 -- Lists of ids, and the configurations that they describe.
-use Rattle.std.proofs.Common.{◌≡◌, ℕ, ◌+◌, Bool, true, false, cond, ◌&&◌, ◌||◌, ◌==◌, List, length, take, slice_get, refl, sym, ap, subst, ◌∙◌, eq-eqb, eqb-true}
+use Rattle.std.proofs.Common.{◌≡◌, ℕ, ◌+◌, Bool, true, false, cond, ◌&&◌, ◌||◌, ◌==◌, List, ◌++◌, length, take, slice_get, refl, sym, ap, subst, ◌∙◌, eq-eqb, eqb-true}
 use Rattle.std.specs.Prelude.{Option, Some, None}
 use Rattle.std.specs.List.{list_any}
 use Rattle.std.proofs.lemmas.Bool.{and_parts, and_from}
 use Rattle.std.proofs.lemmas.Option.{slice_get_within, get_or_from_slice_get}
 use Rattle.std.proofs.lemmas.List.Folds.{list_any_more}
+use Rattle.std.proofs.lemmas.List.{nil_from_length, append-nil}
 use Rattle.quorum_sets.specs.Ids.{Ids, has, ascending, size, ids_of}
 use Rattle.quorum_sets.proofs.Offered.{same_ids, has-ids_of, has-ascending}
 use Rattle.conf_change.specs.Configuration.{Configuration, is_restorable}
@@ -28,6 +29,13 @@ any_more xs k x q here =
 -- ---- lists that name a set
 pub ids_of-ascending : (s : Ids) → ids_of (ascending s) ≡ s
 ids_of-ascending s = same_ids _ _ (λ q. has-ids_of (ascending s) q ∙ sym (has-ascending s q))
+
+-- the ids of two sets are those of the one where the other has none
+pub union-nobody : (a b : Ids) → size b ≡ 0 → ids_of (ascending a ++ ascending b) ≡ a
+union-nobody a b nobody = ap (λ l. ids_of (ascending a ++ l)) (nil_from_length (ascending b) nobody) ∙ ap ids_of (append-nil (ascending a)) ∙ ids_of-ascending a
+
+pub nobody-union : (a b : Ids) → size a ≡ 0 → ids_of (ascending a ++ ascending b) ≡ b
+nobody-union a b nobody = ap (λ l. ids_of (l ++ ascending b)) (nil_from_length (ascending a) nobody) ∙ ids_of-ascending b
 
 pub Lists-ascending : (s : Ids) → Lists (ascending s) s
 Lists-ascending s = record { same = ids_of-ascending s; once = refl }

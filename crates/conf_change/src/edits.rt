@@ -28,6 +28,12 @@ pub(crate) fn without_outgoing<S: MemberSet>(
 pub fn union<S: MemberSet>(a: &S, b: &S) -> Result<S, NoMemory>
     ensures { IfOk result (λ both. S.ids both ≡ ids_of (ascending (S.ids a.now) ++ ascending (S.ids b.now))) }
 {
+    if b.len() == 0 {
+        return a.try_clone();
+    }
+    if a.len() == 0 {
+        return b.try_clone();
+    }
     let alloc = a.allocator();
     let mut ids = SmallVec::new(alloc);
     append_ids(&mut ids, a)?;

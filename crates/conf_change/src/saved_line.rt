@@ -138,11 +138,11 @@ fn read_numbers(alloc: Global, text: &[u8]) -> Result<Vec<u64>, ConfStateFault>
     ensures ok { IfOk result (λ numbers. numbers_in text.now ≡ Some numbers.items) }
     ensures bad { result ≡ Err ConfStateFault.BadConfState → numbers_in text.now ≡ None }
 {
+    if text.is_empty() {
+        return Ok(Vec::new(alloc));
+    }
     // Room for a usual list at once: a number and the space behind it have two bytes at least.
     let mut numbers = Vec::with_capacity(alloc, text.len().div_ceil(2).min(64))?;
-    if text.is_empty() {
-        return Ok(numbers);
-    }
     let mut rest = text;
     loop {
         let (piece, behind) = first_piece(rest);
