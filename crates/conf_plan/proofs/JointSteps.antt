@@ -13,7 +13,7 @@ use Rattle.conf_change.proofs.Offered.{enter_accepted, any-members, same_configu
 use Rattle.conf_plan.specs.Run.{IsValidWithVoter, Gives, IsRun}
 use Rattle.conf_plan.specs.Planned.{single_with, moves, union_of, shared_members, inserted_steps, configuration_after, entering_step, joint_steps}
 use Rattle.conf_plan.proofs.Runs.{run-is_settled, IsChain-append, IsRun-one, configuration_after-run}
-use Rattle.conf_plan.proofs.Moves.{has-union_of}
+use Rattle.conf_plan.proofs.MoveLemmas.{has-union_of}
 use Rattle.conf_plan.proofs.Moved.{IsSingle, AreWanted, moves-has_wanted}
 use Rattle.conf_plan.proofs.SingleSteps.{single_steps-is_run, single_steps-at_most_two}
 

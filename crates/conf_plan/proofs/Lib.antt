@@ -1,6 +1,6 @@
 pub mod Offered
 mod Runs
-mod Moves
+mod MoveLemmas
 mod Parts
 mod Moved
 mod SingleSteps

@@ -9,7 +9,7 @@ use Rattle.conf_change.specs.Change.{is_incoming_after, is_learner_after, is_nex
 use Rattle.conf_change.proofs.Offered.{has-incoming_after, has-learners_after, has-next_after, members_from_valid, none_from_is_empty}
 use Rattle.conf_plan.specs.Run.{IsValidWithVoter}
 use Rattle.conf_plan.specs.Planned.{kind_by, kind_of_move, moves}
-use Rattle.conf_plan.proofs.Moves.{last_word-moves}
+use Rattle.conf_plan.proofs.MoveLemmas.{last_word-moves}
 
 -- ---- a configuration that is valid with a voter, and not joint
 pub record IsSingle (c : Configuration) : Type 0 where

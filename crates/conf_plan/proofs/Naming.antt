@@ -24,7 +24,7 @@ use Rattle.conf_plan.specs.Planned.{kind_by, kind_of_move, union_of, single_with
 use Rattle.conf_plan.specs.Run.{IsValidWithVoter, IsRun}
 use Rattle.conf_plan.proofs.JointSteps.{has-shared_members, at_outgoing-is_single}
 use Rattle.conf_plan.proofs.Moved.{IsSingle, no_next}
-use Rattle.conf_plan.proofs.Moves.{change_of, has-union_of}
+use Rattle.conf_plan.proofs.MoveLemmas.{change_of, has-union_of}
 use Rattle.conf_plan.proofs.Parts.{run-same_part}
 use Rattle.conf_plan.proofs.PlannedRun.{single_with-own, after_leave-is_single}
 use Rattle.conf_plan.proofs.Rising.{above, holds}

@@ -13,7 +13,7 @@ use Rattle.conf_change.specs.declared.change.Change.{Change}
 use Rattle.conf_change.specs.declared.change.Kind.{Kind}
 use Rattle.conf_plan.specs.Planned.{kind_by, move_of, union_of, moves}
 use Rattle.conf_plan.specs.Walking.{IsNoLater, IsEarlier, IsPassed}
-use Rattle.conf_plan.proofs.Moves.{has-union_of}
+use Rattle.conf_plan.proofs.MoveLemmas.{has-union_of}
 use Rattle.conf_plan.proofs.Rising.{ids_from, ids_from-start, ids_from-later, ids_from-here, none_left, nothing_left, first_left}
 
 -- ---- one set

@@ -18,7 +18,7 @@ use Rattle.conf_change.specs.declared.step.Step.TheVariants.{Simple, EnterJoint,
 use Rattle.conf_change.proofs.Offered.{simple_taken, enter_taken, leave_taken, has-incoming_after, has-learners_after, has-next_after, has-after_leave}
 use Rattle.conf_plan.specs.Run.{IsRun}
 use Rattle.conf_plan.specs.Best.{times_named, is_any_learner, HasSamePart}
-use Rattle.conf_plan.proofs.Moves.{last_word-cons}
+use Rattle.conf_plan.proofs.MoveLemmas.{last_word-cons}
 
 -- ---- a step decides by its last word alone, whether the id goes out or not
 record PartAfter (before after : Configuration) (word : Option Kind) (id : ℕ) : Type 0 where

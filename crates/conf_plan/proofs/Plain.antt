@@ -19,7 +19,7 @@ use Rattle.conf_plan.specs.Planned.{kind_of_move, union_of, single_with, moves, 
 use Rattle.conf_plan.specs.Run.{IsValidWithVoter}
 use Rattle.conf_plan.proofs.JointSteps.{outgoing-are_wanted, incoming-are_wanted, at_outgoing-is_single}
 use Rattle.conf_plan.proofs.Moved.{IsSingle, AreWanted, zero_stays}
-use Rattle.conf_plan.proofs.Moves.{change_of, no_update}
+use Rattle.conf_plan.proofs.MoveLemmas.{change_of, no_update}
 use Rattle.conf_plan.proofs.PlannedRun.{own-are_wanted, after_leave-is_single}
 use Rattle.conf_plan.proofs.Shapes.{planned_from_single-of_shapes, planned-of_shapes}
 

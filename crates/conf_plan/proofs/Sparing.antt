@@ -20,7 +20,7 @@ use Rattle.conf_plan.specs.Planned.{kind_by, kind_of_move, union_of, single_with
 use Rattle.conf_plan.specs.Run.{IsValidWithVoter, Gives}
 use Rattle.conf_plan.proofs.JointSteps.{has-shared_members, outgoing-are_wanted, at_outgoing-is_single, entering-reaches}
 use Rattle.conf_plan.proofs.Moved.{IsSingle, AreWanted, moves-has_wanted}
-use Rattle.conf_plan.proofs.Moves.{change_of, has-union_of}
+use Rattle.conf_plan.proofs.MoveLemmas.{change_of, has-union_of}
 use Rattle.conf_plan.proofs.PlannedRun.{single_with-own, own-are_wanted, after_leave-is_single}
 use Rattle.conf_plan.proofs.RunEnds.{leaves_first}
 use Rattle.conf_plan.proofs.Runs.{IsChain-append, run_of_with}

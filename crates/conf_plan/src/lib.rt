@@ -3,11 +3,11 @@
 
 pub mod apply;
 pub mod laws;
+mod moves;
 pub mod plan_steps;
 pub mod planner;
 mod shared;
 pub mod text;
-mod walk;
 
 pub use apply::{StepRefused, apply_plan};
 pub use plan_steps::Plan;

@@ -6,9 +6,9 @@ ghost use Rattle.conf_plan.specs.Best.{IsBest};
 ghost use Rattle.conf_plan.specs.Run.{IsValidWithVoter};
 ghost use Rattle.conf_plan.specs.Walking.{IsAdded};
 
+use crate::moves::moves_to;
 use crate::plan_steps::Plan;
 use crate::shared::shared_members;
-use crate::walk::moves_to;
 use conf_change::{Changes, Config, Step, union};
 use quorum_sets::{MemberSet, NoMemory, symdiff};
 use std::alloc::Global;

@@ -6,7 +6,7 @@ pub mod configurations_fault;
 mod help;
 pub mod invocation;
 pub mod laws;
-mod line_answer;
+mod line_reply;
 pub mod mode;
 pub mod options;
 mod plan_answer;

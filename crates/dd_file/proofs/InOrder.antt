@@ -7,7 +7,7 @@ use Rattle.dd_file.specs.Place.{Place}
 use Rattle.dd_file.specs.Device.{LosesFront}
 use Rattle.dd_file.specs.Reading.{Next, Over, Found, Faulty, Script, followed, with_first, first_items, script_from}
 use Rattle.dd_file.specs.ReaderState.{ReaderState}
-use Rattle.dd_file.specs.Answer.{AgreesWith, Agrees, Answers, IsCutShort, MovesOn}
+use Rattle.dd_file.specs.Answer.{AgreesWith, Agrees, TellsNext, IsCutShort, MovesOn}
 use Rattle.dd_file.specs.InOrder.{ReadsTo, TakesBytes, GivenSoFar}
 use Rattle.dd_file.specs.InTurn.{AgreesInTurn}
 use Rattle.dd_file.proofs.PieceParts.{consumes-append}
@@ -146,7 +146,7 @@ answer-whole found (inr is) = is
 
 -- after one more call that gave something
 pub given-more : {R X A : Type 0} (remaining : R → Option (List ℕ)) (view : X → A) (next : Place → List ℕ → Next A) (old mid new : ReaderState) (before between after : R) (items : List A) (item : X) →
-    GivenSoFar remaining next old mid before between items → MovesOn remaining mid new between after → Answers view next mid new (remaining between) (remaining after) (Ok (Some item)) →
+    GivenSoFar remaining next old mid before between items → MovesOn remaining mid new between after → TellsNext view next mid new (remaining between) (remaining after) (Ok (Some item)) →
     GivenSoFar remaining next old new before after (items ++ view item ∷ [])
 given-more remaining view next old mid new before between after items item so_far moves answers = record {
   moves = moves-append remaining old mid new before between after so_far.moves moves;

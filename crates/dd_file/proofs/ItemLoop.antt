@@ -6,7 +6,7 @@ use Rattle.dd_file.specs.Place.{Place, longest_input, longest_lookahead}
 use Rattle.dd_file.specs.Script.{Front, first_of}
 use Rattle.dd_file.specs.Reading.{Over, Found, Faulty, next_line, next_item}
 use Rattle.dd_file.specs.ReaderState.{ReaderState, IsOver}
-use Rattle.dd_file.specs.Answer.{Agrees, Answers, MovesOn, ReadsOn, IsLineFault, IsItemFault, IsCutShort, answered, is_read_fault, fault_of}
+use Rattle.dd_file.specs.Answer.{Agrees, TellsNext, MovesOn, ReadsOn, IsLineFault, IsItemFault, IsCutShort, answered, is_read_fault, fault_of}
 use Rattle.dd_file.specs.InOrder.{GivenSoFar}
 use Rattle.dd_file.specs.Draft.{DraftText, blank_draft, Fits, AddsIn, front_of, front_in, is_done, found_of, found_in_front, IsDraftFault, at_line}
 use Rattle.dd_file.specs.declared.phase.Phase.TheVariants.{Begin}
@@ -74,7 +74,7 @@ as-answered now new more (Err fault) rest place is = refl
 
 -- What an answer has to say, whatever it is.
 record ItemAnswer {R : Type 0} (remaining : R → Option (List ℕ)) (has_failed : R → Bool) (old now : ReaderState) (before after : R) (result : Result (Option Item) FileFault) : Type 0 where
-  pub answers : Answers (λ item. item) (next_item longest_input) old (record now { fault = fault_of result }) (remaining before) (remaining after) result
+  pub answers : TellsNext (λ item. item) (next_item longest_input) old (record now { fault = fault_of result }) (remaining before) (remaining after) result
   pub moves : MovesOn remaining old now before after
   pub forward : IfOk result (λ found. IfSome found (λ _. old.place.lines < now.place.lines))
   pub counted : OnOk result (now.place.lines ≤ longest_input)
@@ -210,7 +210,7 @@ memory-reads remaining has_failed view old now new before between after draft li
 -- the lines have a fault
 fault-answers : {R L : Type 0} (remaining : R → Option (List ℕ)) (has_failed : R → Bool) (view : L → List ℕ) (old now new : ReaderState) (before between after : R) (draft : DraftText) (fault : FileFault) →
     ReadingItem remaining old now before between draft → is_done draft.phase ≡ false → ReadsOn remaining has_failed view (next_line longest_input) IsLineFault now new between after (Err fault) → IsLineFault now.place fault →
-    Answers (λ item. item) (next_item longest_input) old (record new { fault = Some (at_line draft.line fault) }) (remaining before) (remaining after) (Err (at_line draft.line fault))
+    TellsNext (λ item. item) (next_item longest_input) old (record new { fault = Some (at_line draft.line fault) }) (remaining before) (remaining after) (Err (at_line draft.line fault))
 fault-answers remaining has_failed view old now new before between after draft Read reading open_end read kind input more agrees = inl (inl refl)
 fault-answers remaining has_failed view old now new before between after draft NoMemory reading open_end read kind input more agrees = inl (inr refl)
 fault-answers remaining has_failed view old now new before between after draft (BadDirective line) reading open_end read kind input more agrees = absurd kind

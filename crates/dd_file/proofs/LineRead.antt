@@ -8,7 +8,7 @@ use Rattle.dd_file.specs.Place.{Place, longest_input}
 use Rattle.dd_file.specs.Reading.{Over, Found, Faulty, next_line}
 use Rattle.dd_file.specs.ReaderState.{ReaderState, IsOver}
 use Rattle.dd_file.specs.PieceRead.{PartRead, PieceRead, LongRead, PieceFault}
-use Rattle.dd_file.specs.Answer.{AgreesWith, Agrees, Answers, MovesOn, ReadsOn, IsLineFault, is_read_fault}
+use Rattle.dd_file.specs.Answer.{AgreesWith, Agrees, TellsNext, MovesOn, ReadsOn, IsLineFault, is_read_fault}
 use Rattle.dd_file.specs.declared.fault.FileFault.{FileFault}
 use Rattle.dd_file.specs.declared.fault.FileFault.TheVariants.{Read, NoMemory, BadDirective, AfterDouble, UnclosedDouble, InputTooLong}
 use Rattle.dd_file.proofs.NextLine.{next_line-found, next_line-over, next_line-long}
@@ -121,7 +121,7 @@ piece-reads remaining has_failed view old mid new before after piece (Some line)
 
 -- why no piece was read
 faulty-line : {V : Type 0} (view : V → List ℕ) (old mid new : ReaderState) (before after : Option (List ℕ)) (fault : FileFault) → old.place.bytes ≤ longest_input → PieceFault old mid before after fault →
-    Answers view (next_line longest_input) old new before after (Err fault)
+    TellsNext view (next_line longest_input) old new before after (Err fault)
 faulty-line view old mid new before after Read fits why input more agrees = inl (inl refl)
 faulty-line view old mid new before after NoMemory fits why input more agrees = inl (inr refl)
 faulty-line view old mid new before after (InputTooLong line) fits why input more agrees = inr (long-line old mid before after line input more fits why agrees)

@@ -34,8 +34,8 @@ IsCutShort result = (result ≡ Err Read) ⊎ (result ≡ Err NoMemory)
 
 -- The answer is what next says of each input that agrees with what was read, or the reading was cut short.
 -- Nothing is said where the reader does not tell its bytes.
-abbrev pub Answers : {X A : Type 0} → (X → A) → (Place → List ℕ → Next A) → ReaderState → ReaderState → Option (List ℕ) → Option (List ℕ) → Result (Option X) FileFault → Type 0
-Answers view next old new before after result =
+abbrev pub TellsNext : {X A : Type 0} → (X → A) → (Place → List ℕ → Next A) → ReaderState → ReaderState → Option (List ℕ) → Option (List ℕ) → Result (Option X) FileFault → Type 0
+TellsNext view next old new before after result =
     (input more : List ℕ) → Agrees old before after input more → IsCutShort result ⊎ (next old.place input ≡ answered view new more result)
 
 abbrev pub is_read_fault : {X : Type 0} → Result X FileFault → Bool
@@ -82,7 +82,7 @@ pub record MovesOn {R : Type 0} (remaining : R → Option (List ℕ)) (old new :
 pub record ReadsOn {R X A : Type 0} (remaining : R → Option (List ℕ)) (has_failed : R → Bool) (view : X → A) (next : Place → List ℕ → Next A) (IsFault : Place → FileFault → Type 0)
     (old new : ReaderState) (before after : R) (result : Result (Option X) FileFault) : Type 0 where
   -- what comes is the next of each input that agrees with what was read
-  pub answers : old.fault ≡ None → Answers view next old new (remaining before) (remaining after) result
+  pub answers : old.fault ≡ None → TellsNext view next old new (remaining before) (remaining after) result
   pub moves : MovesOn remaining old new before after
   -- each item has a line, and the lines are fewer than the bytes that an input may have
   pub forward : IfOk result (λ found. IfSome found (λ _. old.place.lines < new.place.lines))

@@ -38,6 +38,7 @@ impl Argument {
         Ok(Argument { parts })
     }
 
+    /// What stands before the `=`, or the whole of an argument without values. It is never empty (datadriven's `CmdArg.Key`).
     pub fn key(&self) -> &[u8]
         ensures { result.now ≡ self.now.key }
     {
@@ -144,6 +145,7 @@ impl Directive {
         self.line
     }
 
+    /// The first word of its head, never empty (datadriven's `TestData.Cmd`).
     pub fn command(&self) -> &[u8]
         ensures { result.now ≡ self.now.command }
     {
@@ -165,12 +167,14 @@ impl Directive {
         self.arguments.as_slice()
     }
 
+    /// What stands between its head and its separator, without white space at the two ends (datadriven's `TestData.Input`).
     pub fn input(&self) -> &[u8]
         ensures { result.now ≡ self.now.input }
     {
         &self.raw_lines.text()[self.input_start..self.input_end]
     }
 
+    /// What stands behind its separator: whole lines, or nothing (datadriven's `TestData.Expected`).
     pub fn expected(&self) -> &[u8]
         ensures { result.now ≡ self.now.expected }
     {
@@ -181,8 +185,11 @@ impl Directive {
 /// An item of a script.
 #[derive(Drop)]
 pub enum Item {
+    /// A line whose first byte that is not white space is `#`.
     Comment(RawLines),
+    /// Lines of white space alone.
     Blank(RawLines),
+    /// A command, and what it is expected to answer.
     Directive(Directive),
 }
 

@@ -134,6 +134,7 @@ impl Model for Rewriter {
 }
 
 impl Rewriter {
+    /// A rewriter that has written nothing yet.
     pub fn new() -> Rewriter
         ensures stage { result.stage ≡ Stage.Ready }
         ensures nothing { (start : Option (List ℕ)) → HasWritten result.newlines start start [] }

@@ -1,6 +1,6 @@
 -- What a test of ids computes.
 use Rattle.std.specs.Prelude.{◌≡◌, ℕ, Bool}
 
--- each answer that the test can give for an id is this one
-abbrev pub Answers : (ℕ → Bool → Type 0) → (ℕ → Bool) → Type 0
-Answers gives passes = (id : ℕ) (answer : Bool) → gives id answer → answer ≡ passes id
+-- the test decides each id as the function does: each answer that it can give is this one
+abbrev pub Decides : (ℕ → Bool → Type 0) → (ℕ → Bool) → Type 0
+Decides gives passes = (id : ℕ) (answer : Bool) → gives id answer → answer ≡ passes id

@@ -1,15 +1,15 @@
 //! The one loop that counts the ids of a set. Quorums, votes and differences are such counts.
 ghost use Rattle.std.specs.Prelude.{◌≡◌, ℕ, Bool};
 ghost use Rattle.quorum_sets.specs.Ids.{count_of, on_most};
-ghost use Rattle.quorum_sets.specs.Counting.{Answers};
+ghost use Rattle.quorum_sets.specs.Counting.{Decides};
 
 use crate::majority::quorum;
 use crate::member_set::MemberSet;
 
-// How many ids pass the test, which is asked of each once, in ascending order.
+/// How many ids pass the test, which is asked of each once, in ascending order.
 pub fn count_where<S: MemberSet, F: Fn(u64) -> bool>(set: &S, test: F) -> usize
     requires { F.IsAlwaysCallable test }
-    ensures { (passes : ℕ → Bool) → Answers (F.post test) passes → result ≡ count_of passes (S.ids set.now) }
+    ensures { (passes : ℕ → Bool) → Decides (F.post test) passes → result ≡ count_of passes (S.ids set.now) }
 {
     let mut count = 0;
     for place in 0..set.len() {
@@ -22,10 +22,10 @@ pub fn count_where<S: MemberSet, F: Fn(u64) -> bool>(set: &S, test: F) -> usize
     count
 }
 
-// Whether more than half of the ids pass the test.
+/// Whether more than half of the ids pass the test.
 pub fn most_pass<S: MemberSet, F: Fn(u64) -> bool>(set: &S, test: F) -> bool
     requires { F.IsAlwaysCallable test }
-    ensures { (passes : ℕ → Bool) → Answers (F.post test) passes → result ≡ on_most passes (S.ids set.now) }
+    ensures { (passes : ℕ → Bool) → Decides (F.post test) passes → result ≡ on_most passes (S.ids set.now) }
 {
     count_where(set, test) >= quorum(set.len())
 }

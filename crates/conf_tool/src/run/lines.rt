@@ -8,7 +8,7 @@ ghost use Rattle.conf_tool.specs.declared.tool_fault.ToolFault.TheVariants.{NoMe
 
 use super::clean_unless::clean_unless;
 use super::part_by_part::PartByPart;
-use crate::line_answer::answer_line;
+use crate::line_reply::answer_line;
 use crate::status::Status;
 use crate::tool_fault::ToolFault;
 use conf_change::Changer;

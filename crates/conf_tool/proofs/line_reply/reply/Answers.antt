@@ -1,6 +1,6 @@
 use Rattle.std.proofs.Common.{sym, ◌∙◌}
 use Rattle.conf_tool.proofs.Replies.{reply-told, reply-kept}
-use Rattle.conf_tool.proofs.line_answer.reply.Goals as goal
+use Rattle.conf_tool.proofs.line_reply.reply.Goals as goal
 
 pub returns-in-Err-clause-text : goal.returns-in-Err-clause-text
 returns-in-Err-clause-text c =

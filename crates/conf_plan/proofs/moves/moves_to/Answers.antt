@@ -1,7 +1,7 @@
 use Rattle.std.proofs.Common.{sym, subst, ap, ◌∙◌, arith}
 use Rattle.conf_plan.specs.Planned.{single_with}
 use Rattle.conf_plan.proofs.OneWalk.{IsWalked, with_move, first_of_four, none_of_four, walk_begun, walk_more, walk_ended, walk_shorter}
-use Rattle.conf_plan.proofs.walk.moves_to.Goals as goal
+use Rattle.conf_plan.proofs.moves.moves_to.Goals as goal
 
 pub loop-id-init : goal.loop-id-init
 loop-id-init g c =
