@@ -106,12 +106,6 @@ comparisons_rise es id up =
     ranks_rise : (a b x : ℕ) → a ≤ b → ordering_index (nat_cmp a x) ≤ ordering_index (nat_cmp b x)
     ranks_rise a b x le = grind (arith, nat_tests)
 
-pub found_member : (es : Members) (id i : ℕ) (d : ℕ × Progress) → IsRising (map (λ m. m.0) es) → IsSearchInRange (Ok i) (length es) → IsBinarySearchResult (λ m. nat_cmp m.0 id) es (Ok i)
-    → Some (get_or es i d).1 ≡ finite.get (finite.from_entries {R = nat_cmp} es) id
-found_member es id i d up within found =
-    ap (λ m. Some m.1) (get_or_default es i d no_member within)
-    ∙ sym (finite.get-from_entries nat_cmp_total es id ∙ find_at es id i up within (ranked _ id _ (sym (found no_member))))
-
 pub member_seen : (es : Members) (id i : ℕ) (p : Progress) → IsRising (map (λ m. m.0) es) → slice_get es i ≡ Some (id, p) → Some p ≡ finite.get (finite.from_entries {R = nat_cmp} es) id
 member_seen es id i p up here =
     let at = get_or_from_slice_get es i (id, p) no_member here in
@@ -120,19 +114,6 @@ member_seen es id i p up here =
 none_some : (o : Option Progress) → is_some o ≡ false → None ≡ o
 none_some None e = refl
 none_some (Some p) e = absurd (false≢true (sym e))
-
-pub missing_member : (es : Members) (id i : ℕ) → IsRising (map (λ m. m.0) es) → IsBinarySearchResult (λ m. nat_cmp m.0 id) es (Err i)
-    → None ≡ finite.get (finite.from_entries {R = nat_cmp} es) id
-missing_member es id i up parted =
-    let point = parted (comparisons_rise es id up) in
-    let long : length (map (λ (m : ℕ × Progress). m.0) es) ≡ length es = length-map es (λ (m : ℕ × Progress). m.0) in
-    let apart : (k : ℕ) → k < length es → id ≡ (get_or es k no_member).0 → ⊥ =
-    λ k within same. elim (cases_lt k i) [
-      | inl before ↦ (let below = ranked _ id _ (sym (point.0 k no_member (omega arith) before)) in omega arith)
-      | inr behind ↦ (let above = ranked _ id _ (sym (point.1 k no_member behind within)) in omega arith)
-    ] in
-    none_some _ (keys-get es id ∙ list_any_none (λ x. id == x) (map (λ m. m.0) es) (λ k d within.
-    ap (λ x. id == x) (get_or_default (map (λ (m : ℕ × Progress). m.0) es) k d 0 within ∙ keys_at es k) ∙ ne_eqb id _ (apart k (omega arith))))
 
 -- ---- the progress of an id that is set
 both_not : (a b : Bool) (p v : Progress) (o : Option Progress) → (a ≡ true → b ≡ true → ⊥) → cond a (Some v) (cond b (Some p) o) ≡ cond b (Some p) (cond a (Some v) o)
@@ -163,18 +144,6 @@ find-set (e ∷ es) (suc i) x p q up within same =
 
 key_found : (es : Members) (id i : ℕ) → IsBinarySearchResult (λ m. nat_cmp m.0 id) es (Ok i) → (get_or es i no_member).0 ≡ id
 key_found es id i found = ranked _ id _ (sym (found no_member))
-
-pub get-set : (es : Members) (id i : ℕ) (p : Progress) → IsRising (map (λ m. m.0) es) → IsSearchInRange (Ok i) (length es) → IsBinarySearchResult (λ m. nat_cmp m.0 id) es (Ok i)
-    → (q : ℕ) → finite.get (finite.from_entries {R = nat_cmp} (set es i (id, p))) q ≡ cond (q == id) (Some p) (finite.get (finite.from_entries {R = nat_cmp} es) q)
-get-set es id i p up within found q =
-    finite.get-from_entries nat_cmp_total (set es i (id, p)) q ∙ find-set es i id p q up within (key_found es id i found)
-    ∙ ap (λ o. cond (q == id) (Some p) o) (sym (finite.get-from_entries nat_cmp_total es q))
-
-pub keys-set : (es : Members) (id i : ℕ) (p : Progress) → IsBinarySearchResult (λ m. nat_cmp m.0 id) es (Ok i) → map (λ m. m.0) (set es i (id, p)) ≡ map (λ m. m.0) es
-keys-set es id i p found =
-    map-set (λ (m : ℕ × Progress). m.0) es i (id, p)
-    ∙ ap (set (map (λ (m : ℕ × Progress). m.0) es) i) (sym (keys_at es i ∙ key_found es id i found))
-    ∙ set-get_or (map (λ (m : ℕ × Progress). m.0) es) i 0
 
 -- ---- a member that a search finds, or the place where one goes
 abbrev keys : Members → List ℕ
@@ -216,27 +185,41 @@ apart_from es id i goes k within same =
       | inr behind ↦ (let more = goes.above k behind within in omega arith)
     ]
 
--- ---- a member that is marked
-pub keys-marked : (es : Members) (id i : ℕ) (p : Progress) → StandsAt (keys es) id i → keys (set es i (id, p)) ≡ keys es
-keys-marked es id i p at =
+pub get-standing : (es : Members) (id i : ℕ) (d : ℕ × Progress) → IsRising (keys es) → StandsAt (keys es) id i
+    → Some (get_or es i d).1 ≡ finite.get (finite.from_entries {R = nat_cmp} es) id
+get-standing es id i d up at =
+    let long = length-keys es in
+    let within = at.within in
+    ap (λ m. Some m.1) (get_or_default es i d no_member (omega arith)) ∙ sym (finite.get-from_entries nat_cmp_total es id ∙ standing es id i up at)
+
+pub get-missing : (es : Members) (id i : ℕ) → GoesTo (keys es) id i → None ≡ finite.get (finite.from_entries {R = nat_cmp} es) id
+get-missing es id i goes = absent es id (apart_from es id i goes) ∙ sym (finite.get-from_entries nat_cmp_total es id)
+
+-- ---- a member whose progress is set
+pub keys-set : (es : Members) (id i : ℕ) (p : Progress) → StandsAt (keys es) id i → keys (set es i (id, p)) ≡ keys es
+keys-set es id i p at =
     map-set (λ (m : ℕ × Progress). m.0) es i (id, p) ∙ ap (set (keys es) i) (sym at.there) ∙ set-get_or (keys es) i 0
+
+pub get-set : (es : Members) (id i : ℕ) (p : Progress) → IsRising (keys es) → StandsAt (keys es) id i
+    → (q : ℕ) → finite.get (finite.from_entries {R = nat_cmp} (set es i (id, p))) q ≡ cond (q == id) (Some p) (finite.get (finite.from_entries {R = nat_cmp} es) q)
+get-set es id i p up at q =
+    let long = length-keys es in
+    let within = at.within in
+    finite.get-from_entries nat_cmp_total (set es i (id, p)) q
+    ∙ find-set es i id p q up (omega arith) (sym (keys_at es i) ∙ at.there)
+    ∙ ap (λ o. cond (q == id) (Some p) o) (sym (finite.get-from_entries nat_cmp_total es q))
 
 pub get-marked : (es : Members) (id i : ℕ) (learner : Bool) (d : ℕ × Progress) → IsRising (keys es) → StandsAt (keys es) id i
     → (q : ℕ) → finite.get (finite.from_entries {R = nat_cmp} (set es i (id, with_mark learner (get_or es i d).1))) q
     ≡ cond (q == id) (option_map (with_mark learner) (finite.get (finite.from_entries {R = nat_cmp} es) id)) (finite.get (finite.from_entries {R = nat_cmp} es) q)
 get-marked es id i learner d up at q =
-    let long = length-keys es in
-    let within = at.within in
-    let known : option_map (with_mark learner) (finite.get (finite.from_entries {R = nat_cmp} es) id) ≡ Some (with_mark learner (get_or es i d).1) =
-    ap (option_map (with_mark learner)) (finite.get-from_entries nat_cmp_total es id ∙ standing es id i up at ∙ ap (λ m. Some m.1) (get_or_default es i no_member d (omega arith))) in
-    finite.get-from_entries nat_cmp_total (set es i (id, with_mark learner (get_or es i d).1)) q
-    ∙ find-set es i id (with_mark learner (get_or es i d).1) q up (omega arith) (sym (keys_at es i) ∙ at.there)
-    ∙ (λ j. cond (q == id) (sym known j) (sym (finite.get-from_entries nat_cmp_total es q) j))
+    get-set es id i (with_mark learner (get_or es i d).1) up at q
+    ∙ ap (λ o. cond (q == id) (option_map (with_mark learner) o) (finite.get (finite.from_entries {R = nat_cmp} es) q)) (get-standing es id i d up at)
 
 -- what a member keeps that stands in the list
 pub kept_standing : (es : Members) (id i : ℕ) (learner : Bool) (fresh : Progress) → IsRising (keys es) → StandsAt (keys es) id i
     → option_map (with_mark learner) (finite.get (finite.from_entries {R = nat_cmp} es) id) ≡ Some (with_mark learner (unwrap_or (finite.get (finite.from_entries {R = nat_cmp} es) id) fresh))
-kept_standing es id i learner fresh up at = rw (finite.get-from_entries nat_cmp_total es id ∙ standing es id i up at) refl
+kept_standing es id i learner fresh up at = rw (sym (get-standing es id i no_member up at)) refl
 
 -- ---- a member that is put in
 keys-insert : (es : Members) (i : ℕ) (m : ℕ × Progress) → keys (insert es i m) ≡ insert (keys es) i m.0
@@ -264,7 +247,7 @@ pub get-put : (es : Members) (id i : ℕ) (fresh : Progress) (learner : Bool) �
 get-put es id i fresh learner goes q =
     let long = length-keys es in
     let within = goes.within in
-    let none : None ≡ finite.get (finite.from_entries {R = nat_cmp} es) id = absent es id (apart_from es id i goes) ∙ sym (finite.get-from_entries nat_cmp_total es id) in
+    let none = get-missing es id i goes in
     finite.get-from_entries nat_cmp_total (insert es i (id, with_mark learner fresh)) q
     ∙ find-insert es i id (with_mark learner fresh) q (omega arith) goes.below
     ∙ (λ j. cond (q == id) (Some (with_mark learner (unwrap_or (none j) fresh))) (sym (finite.get-from_entries nat_cmp_total es q) j))
@@ -319,5 +302,4 @@ other_absent f id q false same none = refl
 pub get-absent : (es : Members) (id i : ℕ) → GoesTo (keys es) id i
     → (q : ℕ) → finite.get (finite.from_entries {R = nat_cmp} es) q ≡ cond (q == id) None (finite.get (finite.from_entries {R = nat_cmp} es) q)
 get-absent es id i goes q =
-    other_absent (finite.get (finite.from_entries {R = nat_cmp} es)) id q (q == id) refl
-    (absent es id (apart_from es id i goes) ∙ sym (finite.get-from_entries nat_cmp_total es id))
+    other_absent (finite.get (finite.from_entries {R = nat_cmp} es)) id q (q == id) refl (get-missing es id i goes)

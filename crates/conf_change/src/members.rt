@@ -1,5 +1,5 @@
-//! The members in ascending order of the ids, each with its progress: what a change makes of one.
-ghost use Rattle.std.specs.Prelude.{◌≡◌, ℕ, ◌==◌, Some, None, map, option_map, unwrap_or, OnOk, MatchResult, if◌then◌else◌};
+//! The members in ascending order of the ids, each with its progress.
+ghost use Rattle.std.specs.Prelude.{◌≡◌, ℕ, true, ◌==◌, Some, None, is_some, map, option_map, unwrap_or, OnOk, MatchResult, if◌then◌else◌};
 ghost use Rattle.std.specs.Ordering.{nat_cmp};
 ghost use Rattle.std.specs.FinMap as finite;
 ghost use Rattle.quorum_sets.specs.Ids.{has};
@@ -12,6 +12,28 @@ use crate::config::Config;
 use crate::progress::Progress;
 use quorum_sets::{MemberSet, NoMemory};
 use smallvec::SmallVec;
+
+// The progress of the id.
+pub(crate) fn progress_of(members: &[(u64, Progress)], id: u64) -> Option<Progress>
+    requires { IsRising (map (λ m. m.0) members.now) }
+    ensures { result ≡ finite.get (finite.from_entries {R = nat_cmp} members.now) id }
+{
+    match place_of(members, id) {
+        Ok(place) => Some(members[place].1),
+        Err(_) => None,
+    }
+}
+
+// Sets the progress of an id that is there; any other id it leaves alone.
+pub(crate) fn set_progress_of(members: &mut [(u64, Progress)], id: u64, progress: Progress)
+    requires { IsRising (map (λ m. m.0) members.old) }
+    ensures keys { map (λ m. m.0) members.new ≡ map (λ m. m.0) members.old }
+    ensures gets { is_some (finite.get (finite.from_entries {R = nat_cmp} members.old) id) ≡ true → (q : ℕ) → finite.get (finite.from_entries {R = nat_cmp} members.new) q ≡ (if q == id then Some progress else finite.get (finite.from_entries {R = nat_cmp} members.old) q) }
+{
+    if let Ok(place) = place_of(members, id) {
+        members[place] = (id, progress);
+    }
+}
 
 // Gives an id the progress that it is to have in a configuration: a member keeps what it has or begins afresh, with its
 // mark, and anybody else has none.

@@ -16,7 +16,7 @@ use crate::config::Config;
 use crate::edits;
 use crate::floor::Floor;
 use crate::last_words::{LastWord, last_words};
-use crate::members::follow;
+use crate::members::{follow, progress_of, set_progress_of};
 use crate::places::Places;
 use crate::progress::Progress;
 use crate::seat::Seat;
@@ -363,28 +363,6 @@ impl<S: MemberSet> Tracker<S> {
             push_entry(&mut members, member.0, entry)?;
         }
         Ok(members)
-    }
-}
-
-// The progress that a list in ascending order of the ids has for the id.
-fn progress_of(members: &[(u64, Progress)], id: u64) -> Option<Progress>
-    requires { IsRising (map (λ m. m.0) members.now) }
-    ensures { result ≡ finite.get (finite.from_entries {R = nat_cmp} members.now) id }
-{
-    match members.binary_search_by_key(&id, |member| member.0) {
-        Ok(place) => Some(members[place].1),
-        Err(_) => None,
-    }
-}
-
-// Sets the progress of an id that a list in ascending order of the ids has; any other id it leaves alone.
-fn set_progress_of(members: &mut [(u64, Progress)], id: u64, progress: Progress)
-    requires { IsRising (map (λ m. m.0) members.old) }
-    ensures keys { map (λ m. m.0) members.new ≡ map (λ m. m.0) members.old }
-    ensures gets { is_some (finite.get (finite.from_entries {R = nat_cmp} members.old) id) ≡ true → (q : ℕ) → finite.get (finite.from_entries {R = nat_cmp} members.new) q ≡ (if q == id then Some progress else finite.get (finite.from_entries {R = nat_cmp} members.old) q) }
-{
-    if let Ok(place) = members.binary_search_by_key(&id, |member| member.0) {
-        members[place] = (id, progress);
     }
 }
 
