@@ -13,6 +13,7 @@ mod LastWordLemmas
 mod Joining
 mod Picking
 mod Stepping
+mod ListSteps
 mod Making
 mod StepLaws
 mod Acknowledging

@@ -1,12 +1,85 @@
-//! Configurations that are left, and the ids of two sets.
-ghost use Rattle.std.specs.Prelude.{◌≡◌, ◌++◌, IfOk, OnOk};
+//! Edits of a configuration: one change, what is left of a joint one, and the ids of two sets. Members' progress is no matter here.
+ghost use Rattle.std.specs.Prelude.{◌≡◌, ◌≢◌, [], ◌∷◌, ◌++◌, IfOk, OnOk};
 ghost use Rattle.quorum_sets.specs.Ids.{ids_of, ascending};
+ghost use Rattle.conf_change.specs.Change.{result_of};
 ghost use Rattle.conf_change.specs.Outcome.{after_leave};
+ghost use Rattle.conf_change.specs.declared.change.Change.{Change};
 
+use crate::change::{Change, Kind};
 use crate::config::Config;
 use quorum_sets::{MemberSet, NoMemory, set_of};
 use smallvec::SmallVec;
 use std::alloc::Global;
+
+// Makes one change. After want of memory the configuration may be half changed.
+pub(crate) fn apply<S: MemberSet>(config: &mut Config<S>, change: Change) -> Result<(), NoMemory>
+    ensures { OnOk result (config.new ≡ result_of config.old (change ∷ [])) }
+{
+    if change.id == 0 {
+        return Ok(());
+    }
+    match change.kind {
+        Kind::Voter => make_voter(config, change.id)?,
+        Kind::Learner => make_learner(config, change.id)?,
+        Kind::Remove => take_out(config, change.id),
+        Kind::Update => {}
+    }
+    Ok(())
+}
+
+// Makes the id an incoming voter.
+fn make_voter<S: MemberSet>(config: &mut Config<S>, id: u64) -> Result<(), NoMemory>
+    requires { id ≢ 0 }
+    ensures { OnOk result (let change : Change = record { kind = Kind.Voter; id = id } in config.new ≡ result_of config.old (change ∷ [])) }
+{
+    config.incoming.insert(id)?;
+    config.learners.remove(id);
+    config.learners_next.remove(id);
+    Ok(())
+}
+
+// Makes the id a learner. One that is still an outgoing voter waits among the next learners.
+fn make_learner<S: MemberSet>(config: &mut Config<S>, id: u64) -> Result<(), NoMemory>
+    requires { id ≢ 0 }
+    ensures { OnOk result (let change : Change = record { kind = Kind.Learner; id = id } in config.new ≡ result_of config.old (change ∷ [])) }
+{
+    config.incoming.remove(id);
+    if config.outgoing.contains(id) {
+        config.learners.remove(id);
+        config.learners_next.insert(id)?;
+    } else {
+        config.learners_next.remove(id);
+        config.learners.insert(id)?;
+    }
+    Ok(())
+}
+
+// Takes the id out; an outgoing voter stays one until the joint configuration is left.
+fn take_out<S: MemberSet>(config: &mut Config<S>, id: u64)
+    requires { id ≢ 0 }
+    ensures { let change : Change = record { kind = Kind.Remove; id = id } in config.new ≡ result_of config.old (change ∷ []) }
+{
+    config.incoming.remove(id);
+    config.learners.remove(id);
+    config.learners_next.remove(id);
+}
+
+// A copy with these outgoing voters and this flag.
+pub(crate) fn with_outgoing<S: MemberSet>(
+    config: &Config<S>,
+    outgoing: S,
+    auto_leave: bool,
+) -> Result<Config<S>, NoMemory>
+    ensures { IfOk result (λ after. after ≡ record config.now { outgoing = S.ids outgoing; auto_leave = auto_leave }) }
+{
+    Ok(Config {
+        incoming: config.incoming.try_clone()?,
+        outgoing,
+        learners: config.learners.try_clone()?,
+        learners_next: config.learners_next.try_clone()?,
+        auto_leave,
+    })
+}
 
 // A copy that is not joint any more: the outgoing voters are gone, and the next learners are learners.
 pub(crate) fn without_outgoing<S: MemberSet>(

@@ -1,5 +1,5 @@
 //! The tracker: a configuration, and the progress of its members.
-ghost use Rattle.std.specs.Prelude.{◌≡◌, ℕ, ◌-◌, ◌^◌, min, true, ◌++◌, map, length, slice_get, IfOk, OnOk, if◌then◌else◌, ◌==◌, Some, is_some};
+ghost use Rattle.std.specs.Prelude.{◌≡◌, ℕ, ◌-◌, ◌^◌, min, true, false, ◌++◌, map, length, slice_get, IfOk, OnOk, if◌then◌else◌, ◌==◌, Some, is_some};
 ghost use Rattle.std.specs.Ordering.{nat_cmp};
 ghost use Rattle.std.specs.FinMap as finite;
 ghost use Rattle.quorum_sets.specs.Ids.{has, with_id, difference_count};
@@ -16,6 +16,7 @@ use crate::config::Config;
 use crate::edits;
 use crate::floor::Floor;
 use crate::last_words::{LastWord, last_words};
+use crate::members::{follow, progress_of, set_progress_of};
 use crate::places::Places;
 use crate::progress::Progress;
 use crate::seat::Seat;
@@ -23,6 +24,9 @@ use quorum_sets::{MemberSet, NoMemory, has_next, symdiff};
 use smallvec::SmallVec;
 use std::alloc::Global;
 use std::marker::Model;
+
+// Up to how many changes are made one after another.
+const SHORT_LIST: usize = 16;
 
 /// A configuration, the progress of its members, and the floor of fresh next (etcd's `tracker.ProgressTracker`). Members are the voters of either
 /// kind and the learners; nobody else has progress.
@@ -182,7 +186,7 @@ impl<S: MemberSet> Tracker<S> {
         ensures { IfOk result (Applies next_index changes.now self.now) }
     {
         let outgoing = self.config.outgoing.try_clone()?;
-        self.after_last_words(outgoing, self.config.auto_leave, changes, next_index)
+        self.after_list(outgoing, self.config.auto_leave, changes, next_index)
     }
 
     // The tracker that is joint, with the incoming voters for the outgoing ones, after a list of changes.
@@ -192,14 +196,67 @@ impl<S: MemberSet> Tracker<S> {
         changes: &[Change],
         next_index: u64,
     ) -> Result<Tracker<S>, NoMemory>
-        requires { IsSound self.now }
+        requires sound { IsSound self.now }
+        requires single { is_joint self.now.config ≡ false }
         ensures { IfOk result (Applies next_index changes.now (tracker_of self.now.floor (with_outgoing self.now.config auto_leave) self.now.progress)) }
     {
         let outgoing = self.config.incoming.try_clone()?;
-        self.after_last_words(outgoing, auto_leave, changes, next_index)
+        self.after_list(outgoing, auto_leave, changes, next_index)
     }
 
-    // The tracker with these outgoing voters and this flag, after a list of changes: one walk over the last words.
+    // The tracker with these outgoing voters and this flag, after a list of changes. A short one is made in turn; each
+    // change of a longer one would move too much.
+    fn after_list(
+        &self,
+        outgoing: S,
+        auto_leave: bool,
+        changes: &[Change],
+        next_index: u64,
+    ) -> Result<Tracker<S>, NoMemory>
+        requires sound { IsSound self.now }
+        requires members { (q : ℕ) → is_member (beginning self.now (S.ids outgoing) auto_leave).config q ≡ is_member self.now.config q }
+        ensures { IfOk result (Applies next_index changes.now (beginning self.now (S.ids outgoing) auto_leave)) }
+    {
+        if changes.len() <= SHORT_LIST {
+            self.after_each(outgoing, auto_leave, changes, next_index)
+        } else {
+            self.after_last_words(outgoing, auto_leave, changes, next_index)
+        }
+    }
+
+    // The same by one change after another, made of a copy.
+    fn after_each(
+        &self,
+        outgoing: S,
+        auto_leave: bool,
+        changes: &[Change],
+        next_index: u64,
+    ) -> Result<Tracker<S>, NoMemory>
+        requires sound { IsSound self.now }
+        requires members { (q : ℕ) → is_member (beginning self.now (S.ids outgoing) auto_leave).config q ≡ is_member self.now.config q }
+        ensures { IfOk result (Applies next_index changes.now (beginning self.now (S.ids outgoing) auto_leave)) }
+    {
+        let mut config = edits::with_outgoing(&self.config, outgoing, auto_leave)?;
+        let mut members = self.members_and_room(changes.len())?;
+        for change in changes {
+            edits::apply(&mut config, *change)?;
+            follow(&mut members, &config, change.id, next_index)?;
+        }
+        Ok(Tracker::begin(self.alloc, self.floor, config, members))
+    }
+
+    // A copy of the members, with room for more of them.
+    fn members_and_room(&self, more: usize) -> Result<SmallVec<(u64, Progress), 1>, NoMemory>
+        ensures rising { IfOk result (λ members. IsRising (map (λ m. m.0) members.items)) }
+        ensures same { IfOk result (λ members. finite.from_entries {R = nat_cmp} members.items ≡ self.now.progress) }
+    {
+        let room = self.members.len().saturating_add(more);
+        let mut members = SmallVec::with_capacity(self.alloc, room)?;
+        members.extend_from_slice(self.members.as_slice())?;
+        Ok(members)
+    }
+
+    // The same by one walk over the last words.
     fn after_last_words(
         &self,
         outgoing: S,
@@ -306,28 +363,6 @@ impl<S: MemberSet> Tracker<S> {
             push_entry(&mut members, member.0, entry)?;
         }
         Ok(members)
-    }
-}
-
-// The progress that a list in ascending order of the ids has for the id.
-fn progress_of(members: &[(u64, Progress)], id: u64) -> Option<Progress>
-    requires { IsRising (map (λ m. m.0) members.now) }
-    ensures { result ≡ finite.get (finite.from_entries {R = nat_cmp} members.now) id }
-{
-    match members.binary_search_by_key(&id, |member| member.0) {
-        Ok(place) => Some(members[place].1),
-        Err(_) => None,
-    }
-}
-
-// Sets the progress of an id that a list in ascending order of the ids has; any other id it leaves alone.
-fn set_progress_of(members: &mut [(u64, Progress)], id: u64, progress: Progress)
-    requires { IsRising (map (λ m. m.0) members.old) }
-    ensures keys { map (λ m. m.0) members.new ≡ map (λ m. m.0) members.old }
-    ensures gets { is_some (finite.get (finite.from_entries {R = nat_cmp} members.old) id) ≡ true → (q : ℕ) → finite.get (finite.from_entries {R = nat_cmp} members.new) q ≡ (if q == id then Some progress else finite.get (finite.from_entries {R = nat_cmp} members.old) q) }
-{
-    if let Ok(place) = members.binary_search_by_key(&id, |member| member.0) {
-        members[place] = (id, progress);
     }
 }
 

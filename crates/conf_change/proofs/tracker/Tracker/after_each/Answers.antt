@@ -1,0 +1,17 @@
+use Rattle.std.proofs.Common.{ap, ◌∙◌}
+use Rattle.conf_change.specs.Configuration.{Configuration}
+use Rattle.conf_change.proofs.ListSteps.{made_none, made_more}
+use Rattle.conf_change.proofs.tracker.Tracker.after_each.Goals as goal
+
+pub loop-change-init : goal.loop-change-init
+loop-change-init g c =
+    let out = g.S.MemberSet.ids c.args.outgoing in
+    let begun : Configuration → Configuration = λ d. record d { outgoing = out; auto_leave = c.args.auto_leave } in
+    made_none c.args.next_index c.args.self.now out c.args.auto_leave c.in_ok-config.config c.in_ok-members.members.items
+    c.requires.sound c.requires.members c.in_ok-members.ensures.rising (c.in_ok-config.ensures ∙ ap (λ t. begun t.config) c.self.view_is) c.in_ok-members.ensures.same
+
+pub loop-change-preserved : goal.loop-change-preserved
+loop-change-preserved g c =
+    made_more c.args.next_index c.args.self.now (g.S.MemberSet.ids c.args.outgoing) c.args.auto_leave c.args.changes.now c.loop-change.change-index _
+    c.loop-change.config c.apply.new.config c.loop-change.members.items c.follow.new.members.items
+    c.requires.sound c.loop-change-test.true c.loop-change.invariant c.in_ok-apply.ensures c.follow.ensures.rising c.in_ok-follow.ensures.entries

@@ -1,0 +1,108 @@
+//! The members in ascending order of the ids, each with its progress.
+ghost use Rattle.std.specs.Prelude.{◌≡◌, ℕ, true, ◌==◌, Some, None, is_some, map, option_map, unwrap_or, OnOk, MatchResult, if◌then◌else◌};
+ghost use Rattle.std.specs.Ordering.{nat_cmp};
+ghost use Rattle.std.specs.FinMap as finite;
+ghost use Rattle.quorum_sets.specs.Ids.{has};
+ghost use Rattle.quorum_sets.specs.Rising.{IsRising, StandsAt, GoesTo};
+ghost use Rattle.conf_change.specs.Configuration.{is_member};
+ghost use Rattle.conf_change.specs.Progress.{fresh_progress, with_mark};
+ghost use Rattle.conf_change.specs.TrackerEdits.{entry_of};
+
+use crate::config::Config;
+use crate::progress::Progress;
+use quorum_sets::{MemberSet, NoMemory};
+use smallvec::SmallVec;
+
+// The progress of the id.
+pub(crate) fn progress_of(members: &[(u64, Progress)], id: u64) -> Option<Progress>
+    requires { IsRising (map (λ m. m.0) members.now) }
+    ensures { result ≡ finite.get (finite.from_entries {R = nat_cmp} members.now) id }
+{
+    match place_of(members, id) {
+        Ok(place) => Some(members[place].1),
+        Err(_) => None,
+    }
+}
+
+// Sets the progress of an id that is there; any other id it leaves alone.
+pub(crate) fn set_progress_of(members: &mut [(u64, Progress)], id: u64, progress: Progress)
+    requires { IsRising (map (λ m. m.0) members.old) }
+    ensures keys { map (λ m. m.0) members.new ≡ map (λ m. m.0) members.old }
+    ensures gets { is_some (finite.get (finite.from_entries {R = nat_cmp} members.old) id) ≡ true → (q : ℕ) → finite.get (finite.from_entries {R = nat_cmp} members.new) q ≡ (if q == id then Some progress else finite.get (finite.from_entries {R = nat_cmp} members.old) q) }
+{
+    if let Ok(place) = place_of(members, id) {
+        members[place] = (id, progress);
+    }
+}
+
+// Gives an id the progress that it is to have in a configuration: a member keeps what it has or begins afresh, with its
+// mark, and anybody else has none.
+pub(crate) fn follow<S: MemberSet>(
+    members: &mut SmallVec<(u64, Progress), 1>,
+    config: &Config<S>,
+    id: u64,
+    next_index: u64,
+) -> Result<(), NoMemory>
+    requires { IsRising (map (λ m. m.0) members.old.items) }
+    ensures rising { IsRising (map (λ m. m.0) members.new.items) }
+    ensures entries { OnOk result ((q : ℕ) → finite.get (finite.from_entries {R = nat_cmp} members.new.items) q ≡ (if q == id then entry_of next_index (is_member config.now id) (has config.now.learners id) (finite.get (finite.from_entries {R = nat_cmp} members.old.items) id) else finite.get (finite.from_entries {R = nat_cmp} members.old.items) q)) }
+{
+    let learner = config.learners.contains(id);
+    if learner || config.incoming.contains(id) || config.outgoing.contains(id) {
+        keep_or_begin(members, id, learner, next_index)?;
+    } else {
+        take_out(members, id);
+    }
+    Ok(())
+}
+
+// Marks a member, which begins afresh where it has no progress yet.
+fn keep_or_begin(
+    members: &mut SmallVec<(u64, Progress), 1>,
+    id: u64,
+    learner: bool,
+    next_index: u64,
+) -> Result<(), NoMemory>
+    requires { IsRising (map (λ m. m.0) members.old.items) }
+    ensures rising { IsRising (map (λ m. m.0) members.new.items) }
+    ensures entries { OnOk result ((q : ℕ) → finite.get (finite.from_entries {R = nat_cmp} members.new.items) q ≡ (if q == id then Some (with_mark learner (unwrap_or (finite.get (finite.from_entries {R = nat_cmp} members.old.items) id) (fresh_progress next_index learner))) else finite.get (finite.from_entries {R = nat_cmp} members.old.items) q)) }
+{
+    match place_of(members.as_slice(), id) {
+        Ok(place) => mark(members.as_mut_slice(), id, place, learner),
+        Err(place) => {
+            let fresh = Progress::fresh(next_index);
+            members.insert(place, (id, Progress { learner, ..fresh }))?;
+        }
+    }
+    Ok(())
+}
+
+// Takes an id out.
+fn take_out(members: &mut SmallVec<(u64, Progress), 1>, id: u64)
+    requires { IsRising (map (λ m. m.0) members.old.items) }
+    ensures rising { IsRising (map (λ m. m.0) members.new.items) }
+    ensures entries { (q : ℕ) → finite.get (finite.from_entries {R = nat_cmp} members.new.items) q ≡ (if q == id then None else finite.get (finite.from_entries {R = nat_cmp} members.old.items) q) }
+{
+    if let Ok(place) = place_of(members.as_slice(), id) {
+        members.remove(place);
+    }
+}
+
+// Where the id stands, or else where it goes.
+fn place_of(members: &[(u64, Progress)], id: u64) -> Result<usize, usize>
+    requires { IsRising (map (λ m. m.0) members.now) }
+    ensures { MatchResult result (λ place. StandsAt (map (λ m. m.0) members.now) id place) (λ place. GoesTo (map (λ m. m.0) members.now) id place) }
+{
+    members.binary_search_by_key(&id, |member| member.0)
+}
+
+// Marks the member at a place, which keeps its progress.
+fn mark(members: &mut [(u64, Progress)], id: u64, place: usize, learner: bool)
+    requires rising { IsRising (map (λ m. m.0) members.old) }
+    requires stands { StandsAt (map (λ m. m.0) members.old) id place }
+    ensures keys { map (λ m. m.0) members.new ≡ map (λ m. m.0) members.old }
+    ensures entries { (q : ℕ) → finite.get (finite.from_entries {R = nat_cmp} members.new) q ≡ (if q == id then option_map (with_mark learner) (finite.get (finite.from_entries {R = nat_cmp} members.old) id) else finite.get (finite.from_entries {R = nat_cmp} members.old) q) }
+{
+    let known = members[place].1;
+    members[place] = (id, Progress { learner, ..known });
+}
