@@ -1,5 +1,5 @@
 //! Parts of a text, appended one after another, and taken back together where the last of them found no memory.
-ghost use Rattle.std.specs.Prelude.{◌≡◌, ◌<◌, ◌+◌, ◌++◌, take, decimal, OnOk, OnErr};
+ghost use Rattle.std.specs.Prelude.{◌≡◌, ◌++◌, take, decimal, OnOk, OnErr};
 ghost use Rattle.conf_change.specs.ConfStateLine.{SpellsNumbers};
 ghost use Rattle.conf_change.specs.Text.{Extends, where_there, spaced_number, spaced_numbers};
 
@@ -23,24 +23,16 @@ pub(crate) fn append_where(text: &mut Vec<u8>, there: bool, part: &[u8]) -> Resu
     if there { append(text, part) } else { Ok(()) }
 }
 
-// Appends a number in decimal. Most ids have one digit or two, which need no buffer.
+// Appends a number in decimal. Most ids have one digit, which needs no buffer.
 pub(crate) fn append_number(text: &mut Vec<u8>, number: u64) -> Result<(), NoMemory>
     ensures ok { OnOk result (text.new.items ≡ text.old.items ++ decimal number) }
     ensures extends { Extends text.old.items text.new.items }
 {
-    match number {
-        0..10 => append(text, &[digit(number)]),
-        10..100 => append(text, &[digit(number / 10), digit(number % 10)]),
-        _ => append_digits(text, number),
+    if number >= 10 {
+        return append_digits(text, number);
     }
-}
-
-// The digit that a number below ten is.
-fn digit(number: u64) -> u8
-    requires { number < 10 }
-    ensures { result ≡ 48 + number }
-{
-    b'0' + number as u8
+    text.push(b'0' + number as u8)?;
+    Ok(())
 }
 
 // Appends a number of any size. It stays a call, so that its buffer costs nothing where one digit is appended.

@@ -1,7 +1,7 @@
 //! Restoring a saved configuration.
 ghost use Rattle.std.specs.Prelude.{◌≡◌, ℕ, Some, None, Err, true, false, map, IfOk, MatchResult};
 ghost use Rattle.std.specs.FinMap as finite;
-ghost use Rattle.quorum_sets.specs.Ids.{has, ascending, ids_of};
+ghost use Rattle.quorum_sets.specs.Ids.{has, ascending};
 ghost use Rattle.quorum_sets.specs.Rising.{IsRising};
 ghost use Rattle.conf_change.specs.Configuration.{Configuration, has_voter_or_nobody, is_restorable};
 ghost use Rattle.conf_change.specs.ConfState.{Describes, Lists, names_once, restored};
@@ -17,7 +17,7 @@ use crate::floor::Floor;
 use crate::progress::Progress;
 use crate::saved::ConfState;
 use crate::tracker::Tracker;
-use quorum_sets::{MemberSet, NoMemory, has_next, set_of};
+use quorum_sets::{MemberSet, NoMemory, has_next, set_of_list};
 use smallvec::SmallVec;
 use std::alloc::Global;
 use thiserror::Error;
@@ -107,20 +107,12 @@ fn set_from<S: MemberSet>(alloc: Global, list: &[u64]) -> Result<S, RestoreFault
     ensures once { IfOk result (λ set. Lists list.now (S.ids set)) }
     ensures twice { result ≡ Err RestoreFault.NotAConfiguration → names_once list.now ≡ false }
 {
-    let set: S = named(alloc, list)?;
+    let set: S = set_of_list(alloc, list)?;
     if set.len() == list.len() {
         Ok(set)
     } else {
         Err(RestoreFault::NotAConfiguration)
     }
-}
-
-// The set of the ids of a list.
-fn named<S: MemberSet>(alloc: Global, list: &[u64]) -> Result<S, NoMemory>
-    ensures { IfOk result (λ set. S.ids set ≡ ids_of list.now) }
-{
-    let mut ids: SmallVec<u64, 16> = SmallVec::from_slice(alloc, list)?;
-    set_of(alloc, ids.as_mut_slice())
 }
 
 // Whether the configuration is valid, and has an incoming voter or nobody at all.

@@ -28,7 +28,7 @@ pub use commit::{committed, joint_committed};
 pub use common::common_member;
 pub use difference::symdiff;
 pub use inline_ids::InlineIds;
-pub use listed::set_of;
+pub use listed::{set_of, set_of_list};
 pub use looking::has_next;
 pub use majority::{is_quorum, quorum};
 pub use member_set::MemberSet;

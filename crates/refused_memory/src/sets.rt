@@ -3,7 +3,7 @@ use crate::texts::appends;
 use crate::twice::twice;
 use quorum_sets::{
     InlineIds, MemberSet, NoMemory, TreeIds, VoteResult, chart, committed, common_member,
-    is_quorum, joint_chart, joint_committed, joint_vote, set_of, symdiff, vote,
+    is_quorum, joint_chart, joint_committed, joint_vote, set_of, set_of_list, symdiff, vote,
 };
 use std::alloc::Global;
 use std::collections::BTreeMap;
@@ -96,6 +96,11 @@ fn is_listed<S: MemberSet>(alloc: Global) -> bool {
     twice(NoMemory, || listed::<S>(alloc)).is_ok_and(|set| has_ids(&set, NINE))
 }
 
+// Whether the set of a list that stays is made.
+fn is_listed_apart<S: MemberSet>(alloc: Global, list: &[u64]) -> bool {
+    twice(NoMemory, || set_of_list::<S>(alloc, list)).is_ok_and(|set| has_ids(&set, NINE))
+}
+
 #[test]
 fn sets_of_ids(rt: HostRuntime) {
     for (before, id, after) in &INSERTED {
@@ -104,6 +109,10 @@ fn sets_of_ids(rt: HostRuntime) {
     }
     assert!(rt; is_listed::<TreeIds>(rt.alloc()));
     assert!(rt; is_listed::<InlineIds>(rt.alloc()));
+    assert!(rt; is_listed_apart::<TreeIds>(rt.alloc(), &LIST));
+    assert!(rt; is_listed_apart::<InlineIds>(rt.alloc(), &LIST));
+    assert!(rt; is_listed_apart::<TreeIds>(rt.alloc(), NINE));
+    assert!(rt; is_listed_apart::<InlineIds>(rt.alloc(), NINE));
 }
 
 // The ids of both sets of a pair, who has acknowledged what, the committed indexes of the first set and of both, and the

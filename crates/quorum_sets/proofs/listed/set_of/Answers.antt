@@ -1,12 +1,10 @@
-use Rattle.std.proofs.Common.{◌∙◌, ap, take_all}
+use Rattle.std.proofs.Common.{◌≡◌, ◌∙◌}
+use Rattle.std.proofs.lemmas.Result.{IfOk-weaker}
 use Rattle.quorum_sets.specs.Ids.{ids_of}
-use Rattle.quorum_sets.proofs.IdLemmas.{ids_of_more, ids_of-permuted}
+use Rattle.quorum_sets.proofs.IdLemmas.{ids_of-permuted}
 use Rattle.quorum_sets.proofs.listed.set_of.Goals as goal
-
-pub loop-id-preserved : goal.loop-id-preserved
-loop-id-preserved g c = c.in_ok-insert.ensures.ok ∙ ids_of_more c.sort_unstable.new.self c.loop-id.id-index _ c.loop-id-test.true c.loop-id.invariant
 
 pub returns : goal.returns
 returns g c =
-    c.loop-id.invariant ∙ ap ids_of (take_all _ _ c.loop-id-test.false)
-    ∙ ids_of-permuted c.args.ids.now c.sort_unstable.new.self c.sort_unstable.ensures.permutation
+    IfOk-weaker c.in_turn.result (λ s. g.S.MemberSet.ids s ≡ ids_of c.sort_unstable.new.self) (λ s. g.S.MemberSet.ids s ≡ ids_of c.args.ids.now)
+    (λ s e. e ∙ ids_of-permuted c.args.ids.now c.sort_unstable.new.self c.sort_unstable.ensures.permutation) c.in_turn.ensures
