@@ -1,8 +1,7 @@
 -- What a step on a copy, or a saved form, gives as the reply of a command.
-use Rattle.std.proofs.Common.{◌≡◌, ◌≢◌, ℕ, zero, suc, ◌+◌, true, false, List, [], ◌∷◌, ◌++◌, length, take, refl, sym, ap, ◌∙◌, subst, cond, arith, add-one}
-use Rattle.std.specs.Prelude.{◌==◌, nat_eq, codes, Option, Some, None, unwrap_or, Result, Ok, Err, IfOk, MatchResult, OnOk, flat_map, slice_get}
+use Rattle.std.proofs.Common.{◌≡◌, ◌≢◌, ℕ, zero, suc, ◌+◌, true, List, [], ◌∷◌, ◌++◌, length, take, sym, ap, ◌∙◌, subst, add-one}
+use Rattle.std.specs.Prelude.{◌==◌, Option, Some, None, unwrap_or, Result, Ok, Err, IfOk, MatchResult, OnOk, flat_map, slice_get}
 use Rattle.std.proofs.lemmas.Bool.{eqb-true}
-use Rattle.std.proofs.lemmas.Bool.Decides.{nat_tests}
 use Rattle.std.proofs.lemmas.List.{nil_from_length, append_assoc, append-nil}
 use Rattle.conf_change.specs.Configuration.{Configuration}
 use Rattle.conf_change.specs.ConfState.{ConfStateLists, restored}
@@ -10,7 +9,6 @@ use Rattle.conf_change.specs.declared.change.Change.{Change}
 use Rattle.conf_change.specs.Text.{refused_text, config_text, progress_text}
 use Rattle.conf_change.specs.TrackerState.{TrackerState}
 use Rattle.dd_file.specs.Bytes.{newline}
-use Rattle.dd_file.specs.Words.{ArgumentText}
 use Rattle.conf_change.specs.Changer.{ChangerState, GivesNext, moved_by}
 use Rattle.conf_change.specs.declared.progress.Progress.{Progress}
 use Rattle.conf_change.specs.declared.refused.Refused.{Refused}
@@ -20,10 +18,7 @@ use Rattle.conf_change.specs.declared.step.Step.TheVariants.{LeaveJoint}
 use Rattle.conf_session.specs.Texts.{line, member_line, member_lines, tracker_text}
 use Rattle.conf_session.specs.Told.{CanStand}
 use Rattle.conf_session.specs.Reply.{Reply, told, stepped}
-use Rattle.conf_session.specs.QuorumArguments.{values_given, ids_given}
-use Rattle.conf_session.specs.declared.parameter.Parameter.{Parameter}
-use Rattle.conf_session.specs.declared.commands.Command.{Command}
-use Rattle.conf_session.specs.Commands.{no_input_text, with_no_input, argument_fault, with_arguments, with_one_each, after_step, on_step, leave_with}
+use Rattle.conf_session.specs.Commands.{after_step, on_step, leave_with}
 
 -- the reply after a step
 pub step_reply : (before : ChangerState) (step : Step) (made : Result ChangerState Refused) (reply : Reply) → GivesNext before step made →
@@ -35,27 +30,9 @@ step_reply before step (Err refused) reply gives h = h.1 ∙ sym (ap (λ o. afte
 pub leave-none : (before : ChangerState) (changes : List Change) → (length changes == 0) ≡ true → leave_with before changes ≡ on_step before LeaveJoint
 leave-none before changes e = ap (leave_with before) (nil_from_length changes (eqb-true (length changes) 0 e))
 
-pub no_input-told : (reply : Reply) (input : List ℕ) → (length input == 0) ≡ false → with_no_input reply input ≡ told no_input_text
-no_input-told reply [] e = cc
-no_input-told reply (b ∷ input) e = refl
-
--- there is no input, and the arguments have no fault
-pub arguments-taken : (command : Command) (arguments : List ArgumentText) (reply : Reply) (input : List ℕ) → (length input == 0) ≡ true → argument_fault command arguments ≡ None →
-    with_no_input (with_arguments command arguments reply) input ≡ reply
-arguments-taken command arguments reply input e none =
-    ap (with_no_input (with_arguments command arguments reply)) (nil_from_length input (eqb-true (length input) 0 e)) ∙ ap (λ fault. unwrap_or fault reply) none
-
--- each id has a value
-pub one_each-taken : (parameter : Parameter) (arguments : List ArgumentText) (reply : Reply) → length (values_given parameter arguments) ≡ length (ids_given arguments) → with_one_each parameter arguments reply ≡ reply
-one_each-taken parameter arguments reply e = ap (λ enough. cond enough reply (told (codes "wrong number of values"))) (same (length (values_given parameter arguments)) (length (ids_given arguments)) e) where
-  same : (a b : ℕ) → a ≡ b → nat_eq a b ≡ true
-  same a b e = grind (arith, nat_tests)
-
--- there are more or fewer values
-pub one_each-wrong : (parameter : Parameter) (arguments : List ArgumentText) (reply : Reply) → length (values_given parameter arguments) ≢ length (ids_given arguments) → with_one_each parameter arguments reply ≡ told (codes "wrong number of values")
-one_each-wrong parameter arguments reply ne = ap (λ enough. cond enough reply (told (codes "wrong number of values"))) (other (length (values_given parameter arguments)) (length (ids_given arguments)) ne) where
-  other : (a b : ℕ) → a ≢ b → nat_eq a b ≡ false
-  other a b ne = grind (arith, nat_tests)
+-- there is neither input nor a fault of the arguments
+pub no-fault : (fault : Option Reply) (reply whole : Reply) → whole ≡ unwrap_or fault reply → fault ≡ None → whole ≡ reply
+no-fault fault reply whole e none = e ∙ ap (λ f. unwrap_or f reply) none
 
 -- a saved form that is restored to nothing
 pub not_restored : (saved : ConfStateLists) (c : Option Configuration) → restored saved ≡ c → ((d : Configuration) → restored saved ≡ Some d → ⊥) → restored saved ≡ None

@@ -1,18 +1,15 @@
 -- What the values of quorum arguments give, place by place.
-use Rattle.std.proofs.Common.{◌≡◌, ℕ, ◌+◌, ◌≤◌, ◌==◌, Bool, true, false, cond, not, List, [], ◌∷◌, ◌++◌, length, filter, filter_map, take, drop, refl, sym, ap, ◌∙◌, inl, inr, arith}
-use Rattle.std.specs.Prelude.{◌||◌, Option, Some, None, option_to_list, slice_get}
-use Rattle.std.specs.List.{list_any, list_all}
+use Rattle.std.proofs.Common.{◌≡◌, ℕ, zero, suc, ◌+◌, ◌≤◌, ◌==◌, Bool, true, false, cond, not, List, [], ◌∷◌, ◌++◌, length, filter, filter_map, take, drop, refl, sym, ap, ◌∙◌, inl, inr, arith}
+use Rattle.std.specs.Prelude.{◌||◌, Option, Some, None, option_map, option_to_list, slice_get}
+use Rattle.std.specs.List.{find, list_any, list_all, zip}
 use Rattle.std.specs.Ordering.{nat_cmp}
 use Rattle.std.specs.Cmp.{nat_cmp_total, unsigned_tied, eq_by_cmp_equiv, nat_eq_equiv}
 use Rattle.std.specs.Ordering.{eq_by_cmp}
 use Rattle.std.specs.BTreeSet.{BTreeSet, Updates, contains}
-use Rattle.std.specs.BTreeMap as tree
-use Rattle.std.specs.BTreeMap.{BTreeMap}
-use Rattle.std.specs.FinMap.{nat_cmp-IsAntisymmetric}
-use Rattle.quorum_sets.proofs.Offered.{lookup-from_entries}
 use Rattle.std.specs.FinMap as finite
-use Rattle.std.proofs.lemmas.List.{append-nil, take_more, drop_more, drop_all}
+use Rattle.std.proofs.lemmas.List.{append-nil, take_all, take_more, drop_more, drop_all}
 use Rattle.std.proofs.lemmas.Option.{slice_get_within, slice_get_cases, get_or_from_slice_get}
+use Rattle.std.proofs.lemmas.Bool.{eqb-true}
 use Rattle.std.proofs.lemmas.List.Elements.{filter-append, filter_map-append}
 use Rattle.std.proofs.lemmas.List.Folds.{list_all_at}
 use Rattle.conf_session.proofs.ToldLines.{both, all-append}
@@ -121,17 +118,77 @@ pub old-there : (ids : List ℕ) (i id : ℕ) → slice_get ids i ≡ Some id �
 old-there ids i id e some =
     sym (ap each_once (take_here ids i id e) ∙ once-more (take i ids) id ∙ ap (λ b. each_once (take i ids) ++ cond b [] (id ∷ [])) some ∙ append-nil (each_once (take i ids)))
 
--- ---- a map with one more entry
-pub map-insert : {V : Type 0} (m n : BTreeMap ℕ V) (id : ℕ) (value : V) → tree.Updates nat_cmp m n id (Some value) →
-    finite.from_entries {R = nat_cmp} n.entries ≡ finite.insert (finite.from_entries {R = nat_cmp} m.entries) id value
-map-insert m n id value u =
-    finite.same_map nat_cmp_total nat_cmp-IsAntisymmetric _ _ (λ q.
-    sym (lookup-from_entries q n.entries) ∙ u.0 q
-    ∙ (λ i. cond ((unsigned_tied id q ∙ nat_eq_equiv.symm id q) i) (Some value) (lookup-from_entries q m.entries i))
-    ∙ sym (finite.get-insert nat_cmp_total (finite.from_entries {R = nat_cmp} m.entries) id value q ∙ ap (λ b. cond b (Some value) (finite.get (finite.from_entries {R = nat_cmp} m.entries) q)) (unsigned_tied q id)))
+-- ---- what was seen is what is there once
+or-again : (a b r : Bool) → a ≡ b → (a || (b || r)) ≡ (a || r)
+or-again true b r e = refl
+or-again false b r e = rw (sym e) refl
 
-pub empty-map : {V : Type 0} (m : BTreeMap ℕ V) → m.entries ≡ [] → finite.from_entries {R = nat_cmp} m.entries ≡ finite.empty
-empty-map m e = ap finite.from_entries e
+or-more : (a b r s : Bool) → (a || r) ≡ (a || s) → (a || (b || r)) ≡ (a || (b || s))
+or-more true b r s e = refl
+or-more false b r s e = ap (λ x. b || x) e
+
+any-kept : (q x : ℕ) (ys : List ℕ) → ((x == q) || list_any (λ y. y == q) (filter (λ other. not (other == x)) ys)) ≡ ((x == q) || list_any (λ y. y == q) ys)
+any-kept q x [] = refl
+any-kept q x (y ∷ ys) = at (y == x) refl (any-kept q x ys) where
+  at : (same : Bool) → (y == x) ≡ same → ((x == q) || list_any (λ y. y == q) (filter (λ other. not (other == x)) ys)) ≡ ((x == q) || list_any (λ y. y == q) ys) →
+      ((x == q) || list_any (λ y. y == q) (filter (λ other. not (other == x)) (y ∷ ys))) ≡ ((x == q) || list_any (λ y. y == q) (y ∷ ys))
+  at true e rest = rw e (rest ∙ sym (or-again (x == q) (y == q) (list_any (λ y. y == q) ys) (ap (λ z. z == q) (sym (eqb-true y x e)))))
+  at false e rest = rw e (or-more (x == q) (y == q) _ _ rest)
+
+pub any-once : (q : ℕ) (xs : List ℕ) → list_any (λ y. y == q) (each_once xs) ≡ list_any (λ other. q == other) xs
+any-once q [] = refl
+any-once q (x ∷ xs) = any-kept q x (each_once xs) ∙ (λ i. nat_eq_equiv.symm x q i || any-once q xs i)
+
+-- ---- what is given, entry by entry
+-- an id with what a value says, if it says something
+abbrev pub entry_given : {V : Type 0} → (List ℕ → Option V) → ℕ × List ℕ → Option (ℕ × V)
+entry_given says named = option_map (λ value. (named.0, value)) (says named.1)
+
+pub entries-map_given : {V : Type 0} (says : List ℕ → Option V) (ids : List ℕ) (values : List (List ℕ)) →
+    finite.from_entries {R = nat_cmp} (filter_map (entry_given says) (zip ids values)) ≡ map_given says ids values
+entries-map_given says [] values = refl
+entries-map_given says (id ∷ ids) [] = refl
+entries-map_given {V = V} says (id ∷ ids) (value ∷ values) = at (says value) refl (entries-map_given says ids values) where
+  at : (said : Option V) → says value ≡ said → finite.from_entries {R = nat_cmp} (filter_map (entry_given says) (zip ids values)) ≡ map_given says ids values →
+      finite.from_entries {R = nat_cmp} (filter_map (entry_given says) (zip (id ∷ ids) (value ∷ values))) ≡ with_given (map_given says ids values) id (says value)
+  at None e rest = rw e rest
+  at (Some v) e rest = rw e (ap (λ map. finite.insert map id v) rest)
+
+pub zip-here : (ids : List ℕ) (values : List (List ℕ)) (i id : ℕ) (value : List ℕ) → slice_get ids i ≡ Some id → slice_get values i ≡ Some value → slice_get (zip ids values) i ≡ Some (id, value)
+zip-here [] values i id value e f = cc
+zip-here (x ∷ ids) [] i id value e f = cc
+zip-here (x ∷ ids) (y ∷ values) zero id value e f = cc
+zip-here (x ∷ ids) (y ∷ values) (suc i) id value e f = zip-here ids values i id value e f
+
+zip-few : (ids : List ℕ) (values : List (List ℕ)) → length (zip ids values) ≤ length ids
+zip-few [] values = omega arith
+zip-few (id ∷ ids) [] = omega arith
+zip-few (id ∷ ids) (value ∷ values) = let few = zip-few ids values in omega arith
+
+zip-short : (ids : List ℕ) (values : List (List ℕ)) → length (zip ids values) ≤ length values
+zip-short [] values = omega arith
+zip-short (id ∷ ids) [] = omega arith
+zip-short (id ∷ ids) (value ∷ values) = let short = zip-short ids values in omega arith
+
+pub zip-whole : (ids : List ℕ) (values : List (List ℕ)) (i : ℕ) → length ids ≤ i → take i (zip ids values) ≡ zip ids values
+zip-whole ids values i past = let few = zip-few ids values in take_all i (zip ids values) (omega arith)
+
+pub zip-past : (ids : List ℕ) (values : List (List ℕ)) (i : ℕ) → slice_get values i ≡ None → take i (zip ids values) ≡ take (i + 1) (zip ids values)
+zip-past ids values i none =
+    let short = zip-short ids values in
+    let past = not_within values i none in
+    take_all i (zip ids values) (omega arith) ∙ sym (take_all (i + 1) (zip ids values) (omega arith))
+
+-- what a list of entries has at an id
+pub get-entry : {V : Type 0} (id : ℕ) (entries : List (ℕ × V)) → finite.get (finite.from_entries {R = nat_cmp} entries) id ≡ option_map (λ e. e.1) (find (λ e. e.0 == id) entries)
+get-entry {V = V} id entries = finite.get-from_entries nat_cmp_total entries id ∙ alike entries where
+  at : (a b : Bool) (v : V) (e : ℕ × V) (x : Option V) (f : Option (ℕ × V)) → a ≡ b → e.1 ≡ v → x ≡ option_map (λ e. e.1) f → cond a (Some v) x ≡ option_map (λ e. e.1) (cond b (Some e) f)
+  at true b v e x f same is rest = rw (sym same) (ap Some (sym is))
+  at false b v e x f same is rest = rw (sym same) rest
+
+  alike : (entries : List (ℕ × V)) → finite.find nat_cmp id entries ≡ option_map (λ e. e.1) (find (λ e. e.0 == id) entries)
+  alike [] = refl
+  alike (e ∷ entries) = at _ _ e.1 e _ _ (unsigned_tied id e.0 ∙ nat_eq_equiv.symm id e.0) refl (alike entries)
 
 pub not-one : (b : Bool) → not b ≡ true → b ≡ false
 not-one true e = cc

@@ -4,6 +4,7 @@ pub mod SessionState
 pub mod Parameter
 pub mod Arguments
 pub mod QuorumArguments
+pub mod Given
 pub mod Reply
 pub mod Undo
 pub mod Commands

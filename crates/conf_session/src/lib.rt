@@ -5,6 +5,7 @@ mod arguments;
 mod boxed_changer;
 mod commands;
 mod effect;
+mod given;
 mod history;
 pub mod laws;
 mod parameter;

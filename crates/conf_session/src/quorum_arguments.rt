@@ -1,59 +1,21 @@
 //! The quorum that the arguments of a command name, and the values that its ids are given.
-ghost use Rattle.std.specs.Prelude.{◌≡◌, ◌≤◌, ◌++◌, length, filter_map, option_to_list, IfOk, OnOk};
+ghost use Rattle.std.specs.Prelude.{◌≡◌, ◌++◌, length, filter_map, is_some, option_map, option_to_list, IfOk, IfSome, OnOk};
 ghost use Rattle.std.specs.Ordering.{nat_cmp};
 ghost use Rattle.std.specs.FinMap as finite;
-ghost use Rattle.quorum_sets.specs.Ids.{ids_of};
 ghost use Rattle.conf_change.specs.Number.{number_in};
+ghost use Rattle.conf_session.specs.Given.{given_in};
 ghost use Rattle.conf_session.specs.QuorumArguments as says;
 
 use crate::arguments::argument_of;
+use crate::given::{FEW, Given, GivenValue};
 use crate::parameter::{Parameter, number_from};
 use crate::session_ids::SessionIds;
 use conf_change::read_number;
 use dd_file::item::Argument;
-use quorum_sets::NoMemory;
+use quorum_sets::{NoMemory, set_of};
+use smallvec::SmallVec;
 use std::alloc::Global;
 use std::collections::{BTreeMap, BTreeSet};
-
-/// What a value of an argument says of an id.
-pub(crate) trait GivenValue: Copy + Drop {
-    ghost use Rattle.std.specs.Prelude.{ℕ, List, Option};
-
-    /// What a value says; nothing where it is not known.
-    ghost says: { List ℕ → Option Self };
-
-    /// What the value says.
-    fn read(value: &[u8]) -> Option<Self>
-        ensures { result ≡ says value.now };
-}
-
-/// An index that is acknowledged.
-impl GivenValue for u64 {
-    ghost use Rattle.conf_change.specs.Number.{number_in};
-
-    ghost says = { number_in };
-
-    fn read(value: &[u8]) -> Option<u64> {
-        read_number(value)
-    }
-}
-
-/// A vote.
-impl GivenValue for bool {
-    ghost use Rattle.conf_session.specs.QuorumArguments.{vote_in};
-
-    ghost says = { vote_in };
-
-    fn read(value: &[u8]) -> Option<bool> {
-        if value == b"y".as_slice() {
-            Some(true)
-        } else if value == b"n".as_slice() {
-            Some(false)
-        } else {
-            None
-        }
-    }
-}
 
 /// The number of an argument; 0 where it has none.
 pub(crate) fn number_given(parameter: Parameter, arguments: &[Argument]) -> u64
@@ -65,35 +27,34 @@ pub(crate) fn number_given(parameter: Parameter, arguments: &[Argument]) -> u64
     }
 }
 
-// The numbers of an argument; none where it is left out.
-fn numbers_given(
-    alloc: Global,
+// Puts the numbers of an argument behind the others; none where it is left out.
+fn push_numbers(
+    numbers: &mut SmallVec<u64, FEW>,
     parameter: Parameter,
     arguments: &[Argument],
-) -> Result<Vec<u64>, NoMemory>
-    ensures { IfOk result (λ numbers. numbers.items ≡ says.numbers_given parameter arguments.now) }
+) -> Result<(), NoMemory>
+    ensures { OnOk result (numbers.new.items ≡ numbers.old.items ++ says.numbers_given parameter arguments.now) }
 {
     match argument_of(parameter, arguments) {
-        Some(argument) => numbers_in(alloc, argument),
-        None => Ok(Vec::new(alloc)),
+        Some(argument) => push_numbers_in(numbers, argument),
+        None => Ok(()),
     }
 }
 
-// The values of an argument that are numbers.
-fn numbers_in(alloc: Global, argument: &Argument) -> Result<Vec<u64>, NoMemory>
-    ensures { IfOk result (λ numbers. numbers.items ≡ filter_map number_in argument.now.values) }
+// Puts the values of an argument that are numbers behind the others.
+fn push_numbers_in(numbers: &mut SmallVec<u64, FEW>, argument: &Argument) -> Result<(), NoMemory>
+    ensures { OnOk result (numbers.new.items ≡ numbers.old.items ++ filter_map number_in argument.now.values) }
 {
-    let mut numbers = Vec::with_capacity(alloc, argument.value_count())?;
     for place in 0..argument.value_count() {
         if let Some(value) = argument.value(place) {
-            push_known(&mut numbers, read_number(value))?;
+            push_known(numbers, read_number(value))?;
         }
     }
-    Ok(numbers)
+    Ok(())
 }
 
 // Puts the number behind the others, if there is one.
-fn push_known(numbers: &mut Vec<u64>, number: Option<u64>) -> Result<(), NoMemory>
+fn push_known(numbers: &mut SmallVec<u64, FEW>, number: Option<u64>) -> Result<(), NoMemory>
     ensures { OnOk result (numbers.new.items ≡ numbers.old.items ++ option_to_list number) }
 {
     if let Some(number) = number {
@@ -103,11 +64,35 @@ fn push_known(numbers: &mut Vec<u64>, number: Option<u64>) -> Result<(), NoMemor
 }
 
 // The ids, each once, in the order in which they come first.
-fn each_once(alloc: Global, ids: &[u64]) -> Result<Vec<u64>, NoMemory>
+fn each_once(alloc: Global, ids: &[u64]) -> Result<SmallVec<u64, FEW>, NoMemory>
+    ensures { IfOk result (λ distinct. distinct.items ≡ says.each_once ids.now) }
+{
+    if ids.len() > FEW {
+        each_once_of_many(alloc, ids)
+    } else {
+        each_once_of_few(alloc, ids)
+    }
+}
+
+// The same, where each id is looked for among those that came before.
+fn each_once_of_few(alloc: Global, ids: &[u64]) -> Result<SmallVec<u64, FEW>, NoMemory>
+    ensures { IfOk result (λ distinct. distinct.items ≡ says.each_once ids.now) }
+{
+    let mut distinct = SmallVec::new(alloc);
+    for id in ids {
+        if !distinct.as_slice().contains(id) {
+            distinct.push(*id)?;
+        }
+    }
+    Ok(distinct)
+}
+
+// The same, where each id is looked for in a tree.
+fn each_once_of_many(alloc: Global, ids: &[u64]) -> Result<SmallVec<u64, FEW>, NoMemory>
     ensures { IfOk result (λ distinct. distinct.items ≡ says.each_once ids.now) }
 {
     let mut seen = BTreeSet::new(alloc);
-    let mut distinct = Vec::with_capacity(alloc, ids.len())?;
+    let mut distinct = SmallVec::new(alloc);
     for id in ids {
         if seen.insert(*id)? {
             distinct.push(*id)?;
@@ -116,43 +101,44 @@ fn each_once(alloc: Global, ids: &[u64]) -> Result<Vec<u64>, NoMemory>
     Ok(distinct)
 }
 
-/// Both sets of a quorum, and all its ids in the order in which values are given to them.
+/// Both sets of a quorum, and what its ids are given.
 #[derive(Drop)]
-pub(crate) struct Quorum {
+pub(crate) struct Quorum<V: GivenValue> {
     pub(crate) incoming: SessionIds,
     pub(crate) outgoing: SessionIds,
-    pub(crate) ids: Vec<u64>,
+    pub(crate) given: Given<V>,
 }
 
-/// The quorum that `cfg` and `cfgj` name.
-pub(crate) fn quorum_given(alloc: Global, arguments: &[Argument]) -> Result<Quorum, NoMemory>
-    ensures incoming { IfOk result (λ quorum. quorum.incoming ≡ (says.voters_given arguments.now).incoming) }
-    ensures outgoing { IfOk result (λ quorum. quorum.outgoing ≡ (says.voters_given arguments.now).outgoing) }
-    ensures ids { IfOk result (λ quorum. quorum.ids.items ≡ says.ids_given arguments.now) }
+/// The quorum that `cfg` and `cfgj` name, where the other argument has a value for each of its ids; else none.
+pub(crate) fn quorum_given<V: GivenValue>(
+    alloc: Global,
+    parameter: Parameter,
+    arguments: &[Argument],
+) -> Result<Option<Quorum<V>>, NoMemory>
+    ensures one_each { IfOk result (λ quorum. is_some quorum ≡ says.is_one_each parameter arguments.now) }
+    ensures incoming { IfOk result (λ quorum. IfSome quorum (λ quorum. quorum.incoming ≡ (says.voters_given arguments.now).incoming)) }
+    ensures outgoing { IfOk result (λ quorum. IfSome quorum (λ quorum. quorum.outgoing ≡ (says.voters_given arguments.now).outgoing)) }
+    ensures given { IfOk result (λ quorum. IfSome quorum (λ quorum. given_in quorum.given ≡ says.map_given V.says (says.ids_given arguments.now) (says.values_given parameter arguments.now))) }
 {
-    let mut named = numbers_given(alloc, Parameter::Incoming, arguments)?;
-    let second = numbers_given(alloc, Parameter::Outgoing, arguments)?;
-    let incoming = set_of(alloc, named.as_slice())?;
-    let outgoing = set_of(alloc, second.as_slice())?;
-    named.extend_from_slice(second.as_slice())?;
+    let mut named = SmallVec::new(alloc);
+    push_numbers(&mut named, Parameter::Incoming, arguments)?;
+    let split = named.len();
+    push_numbers(&mut named, Parameter::Outgoing, arguments)?;
     let ids = each_once(alloc, named.as_slice())?;
-    Ok(Quorum {
-        incoming,
-        outgoing,
-        ids,
-    })
+    if value_count(parameter, arguments) != ids.len() {
+        return Ok(None);
+    }
+    let given = given_to(alloc, ids.as_slice(), parameter, arguments)?;
+    let (first, second) = named.as_mut_slice().split_at_mut(split);
+    Ok(Some(Quorum {
+        incoming: set_of(alloc, first)?,
+        outgoing: set_of(alloc, second)?,
+        given,
+    }))
 }
 
-// The set of some ids.
-fn set_of(alloc: Global, ids: &[u64]) -> Result<SessionIds, NoMemory>
-    ensures { IfOk result (λ set. set ≡ ids_of ids.now) }
-{
-    let mut sorted = ids.to_vec(alloc)?;
-    quorum_sets::set_of(alloc, sorted.as_mut_slice())
-}
-
-/// How many values an argument has; none where it is left out.
-pub(crate) fn value_count(parameter: Parameter, arguments: &[Argument]) -> usize
+// How many values an argument has; none where it is left out.
+fn value_count(parameter: Parameter, arguments: &[Argument]) -> usize
     ensures { result ≡ length (says.values_given parameter arguments.now) }
 {
     match argument_of(parameter, arguments) {
@@ -161,23 +147,55 @@ pub(crate) fn value_count(parameter: Parameter, arguments: &[Argument]) -> usize
     }
 }
 
-/// What the ids are given by an argument that has a value for each.
-pub(crate) fn given<V: GivenValue>(
+// What the ids are given by an argument, each by the value at its place; nothing where it is left out.
+fn given_to<V: GivenValue>(
     alloc: Global,
-    parameter: Parameter,
     ids: &[u64],
+    parameter: Parameter,
     arguments: &[Argument],
-) -> Result<BTreeMap<u64, V>, NoMemory>
-    ensures { IfOk result (λ map. finite.from_entries {R = nat_cmp} map.entries ≡ says.map_given V.says ids.now (says.values_given parameter arguments.now)) }
+) -> Result<Given<V>, NoMemory>
+    ensures { IfOk result (λ given. given_in given ≡ says.map_given V.says ids.now (says.values_given parameter arguments.now)) }
 {
     match argument_of(parameter, arguments) {
-        Some(argument) => given_by(alloc, ids, argument),
-        None => Ok(BTreeMap::new(alloc)),
+        Some(argument) if ids.len() > FEW => Ok(Given::Many(given_to_many(alloc, ids, argument)?)),
+        Some(argument) => Ok(Given::Few(given_to_few(alloc, ids, argument)?)),
+        None => Ok(Given::Few(SmallVec::new(alloc))),
     }
 }
 
-// What the ids are given by the values of an argument, each by the one at its place.
-fn given_by<V: GivenValue>(
+// The same, as a list.
+fn given_to_few<V: GivenValue>(
+    alloc: Global,
+    ids: &[u64],
+    argument: &Argument,
+) -> Result<SmallVec<(u64, V), FEW>, NoMemory>
+    ensures { IfOk result (λ list. finite.from_entries {R = nat_cmp} list.items ≡ says.map_given V.says ids.now argument.now.values) }
+{
+    let mut list = SmallVec::new(alloc);
+    for place in 0..ids.len() {
+        if let Some(value) = argument.value(place) {
+            push_given(&mut list, ids[place], V::read(value))?;
+        }
+    }
+    Ok(list)
+}
+
+// Puts what the id is given behind the others, if that is known.
+fn push_given<V: GivenValue>(
+    list: &mut SmallVec<(u64, V), FEW>,
+    id: u64,
+    given: Option<V>,
+) -> Result<(), NoMemory>
+    ensures { OnOk result (list.new.items ≡ list.old.items ++ option_to_list (option_map (λ value. (id, value)) given)) }
+{
+    if let Some(value) = given {
+        list.push((id, value))?;
+    }
+    Ok(())
+}
+
+// The same, as a tree.
+fn given_to_many<V: GivenValue>(
     alloc: Global,
     ids: &[u64],
     argument: &Argument,

@@ -1,15 +1,16 @@
 //! The texts that a session answers, each in lines.
 ghost use Rattle.std.specs.Prelude.{◌≡◌, ◌≢◌, ◌++◌, IfOk, OnOk, IsSomeAnd};
-ghost use Rattle.std.specs.FinMap as finite;
 ghost use Rattle.quorum_sets.specs.Voters.{pair};
 ghost use Rattle.conf_change.specs.ChangeList.{bad_token};
 ghost use Rattle.conf_change.specs.ConfState.{lists_of};
 ghost use Rattle.conf_change.specs.Text.{refused_text, progress_text, bad_token_text};
 ghost use Rattle.conf_change.specs.ConfStateLine.{conf_state_text};
+ghost use Rattle.conf_session.specs.Given.{given_in};
 ghost use Rattle.conf_session.specs.QuorumArguments.{index_text, committed_text};
 ghost use Rattle.conf_session.specs.Texts.{line, member_lines, tracker_text};
 ghost use Rattle.conf_session.specs.Undo as says;
 
+use crate::given::Given;
 use crate::session_ids::SessionIds;
 use crate::undo_fault::{UndoFault, undo_fault_text};
 use conf_change::{
@@ -19,7 +20,6 @@ use conf_change::{
 use itoa::Buffer;
 use quorum_sets::{MemberSet, NoMemory, joint_chart, joint_committed};
 use std::alloc::Global;
-use std::collections::BTreeMap;
 
 // Ends a text, so that it is whole lines.
 fn end_line(text: Vec<u8>) -> Result<Vec<u8>, NoMemory>
@@ -93,9 +93,9 @@ pub(crate) fn committed_lines(
     alloc: Global,
     incoming: &SessionIds,
     outgoing: &SessionIds,
-    acks: &BTreeMap<u64, u64>,
+    acks: &Given<u64>,
 ) -> Result<Vec<u8>, NoMemory>
-    ensures { IfOk result (λ text. text.items ≡ line (committed_text (pair incoming.now outgoing.now) (finite.from_entries acks.now.entries))) }
+    ensures { IfOk result (λ text. text.items ≡ line (committed_text (pair incoming.now outgoing.now) (given_in acks.now))) }
 {
     let mut text = Vec::with_capacity(alloc, usual_chart_room(incoming, outgoing))?;
     joint_chart(&mut text, incoming, outgoing, acks)?;

@@ -7,15 +7,23 @@ use quorum_sets::NoMemory;
 use std::alloc::Global;
 use thiserror::Error;
 
+const NO_PLAN: &str = "no plan: ";
+
+const ARE_KEPT: &str = " earlier configurations are kept";
+
+const NO_VOTER: &str = "the earlier configuration has no voter";
+
+const OUT_OF_MEMORY: &str = "out of memory";
+
 /// Why there is no plan that undoes changes.
 #[derive(Clone, Copy, Debug, PartialEq, Eq, Error)]
 pub enum UndoFault {
     /// So many earlier configurations are kept, which are too few.
-    #[error("no plan: {0} earlier configurations are kept")]
+    #[error("{front}{0}{back}", front = NO_PLAN, back = ARE_KEPT)]
     NotKept(usize),
-    #[error("no plan: the earlier configuration has no voter")]
+    #[error("{front}{why}", front = NO_PLAN, why = NO_VOTER)]
     NoVoterTarget,
-    #[error("out of memory")]
+    #[error("{}", OUT_OF_MEMORY)]
     NoMemory,
 }
 
@@ -27,14 +35,15 @@ pub fn undo_fault_text(alloc: Global, fault: UndoFault) -> Result<Vec<u8>, NoMem
     match fault {
         UndoFault::NotKept(kept) => {
             let mut digits = Buffer::new();
-            text.extend_from_slice(b"no plan: ")?;
+            text.extend_from_slice(NO_PLAN.as_bytes())?;
             text.extend_from_slice(digits.format(kept).as_bytes())?;
-            text.extend_from_slice(b" earlier configurations are kept")?;
+            text.extend_from_slice(ARE_KEPT.as_bytes())?;
         }
         UndoFault::NoVoterTarget => {
-            text.extend_from_slice(b"no plan: the earlier configuration has no voter")?;
+            text.extend_from_slice(NO_PLAN.as_bytes())?;
+            text.extend_from_slice(NO_VOTER.as_bytes())?;
         }
-        UndoFault::NoMemory => text.extend_from_slice(b"out of memory")?,
+        UndoFault::NoMemory => text.extend_from_slice(OUT_OF_MEMORY.as_bytes())?,
     }
     Ok(text)
 }

@@ -35,7 +35,8 @@ pub fn joint_chart<S: MemberSet, A: AckSource>(
     ensures ok { OnOk result (text.new.items ≡ text.old.items ++ chart_text (ascending (union (S.ids incoming.now) (S.ids outgoing.now))) (A.acks acks.now)) }
     ensures err { OnErr result (text.new.items ≡ text.old.items) }
 {
-    let mut ids = Vec::with_capacity(*text.allocator(), incoming.len())?;
+    let most = incoming.len().saturating_add(outgoing.len());
+    let mut ids = Vec::with_capacity(*text.allocator(), most)?;
     add_ids(&mut ids, incoming)?;
     add_ids(&mut ids, outgoing)?;
     ids.sort_unstable();

@@ -20,6 +20,7 @@ mod member_set;
 mod no_memory;
 mod ranking;
 mod tree_ids;
+mod vote_source;
 mod voting;
 
 pub use acknowledgement::AckSource;
@@ -34,4 +35,5 @@ pub use majority::{is_quorum, quorum};
 pub use member_set::MemberSet;
 pub use no_memory::NoMemory;
 pub use tree_ids::TreeIds;
+pub use vote_source::VoteSource;
 pub use voting::{VoteResult, joint_vote, vote};

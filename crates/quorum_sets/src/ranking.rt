@@ -6,12 +6,13 @@ ghost use Rattle.quorum_sets.specs.Chart.{IsRanking, bar_width};
 
 use crate::acknowledgement::AckSource;
 use crate::no_memory::NoMemory;
+use smallvec::SmallVec;
 use std::alloc::Global;
 
 // Ids with the indexes that they acknowledged, sorted by index and then by id.
 #[derive(Drop)]
 pub(crate) struct Ranking {
-    rows: Vec<(u64, u64)>,
+    rows: SmallVec<(u64, u64), 16>,
 }
 
 impl Ranking {
@@ -23,11 +24,11 @@ impl Ranking {
     ) -> Result<Ranking, NoMemory>
         ensures { IfOk result (λ ranking. IsRanking ids.now (A.acks acks.now) ranking.rows.items) }
     {
-        let mut rows = Vec::with_capacity(alloc, ids.len())?;
+        let mut rows = SmallVec::with_capacity(alloc, ids.len())?;
         for id in ids {
             rows.push((acks.acked(*id).unwrap_or(0), *id))?;
         }
-        rows.sort_unstable();
+        rows.as_mut_slice().sort_unstable();
         Ok(Ranking { rows })
     }
 
@@ -37,8 +38,9 @@ impl Ranking {
             → index ≡ acked_index acks id → result ≡ bar_width ids acks id }
         ensures within { result ≤ length self.now.rows.items }
     {
-        let place = self.rows.partition_point(|row| row.0 < index);
-        match self.rows.get(place) {
+        let rows = self.rows.as_slice();
+        let place = rows.partition_point(|row| row.0 < index);
+        match rows.get(place) {
             Some((_, first)) if *first == id => place,
             _ => 0,
         }

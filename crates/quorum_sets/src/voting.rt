@@ -1,12 +1,11 @@
 //! The result of a vote, as etcd's package `quorum` counts it.
 ghost use Rattle.std.specs.Prelude.{◌≡◌};
-ghost use Rattle.std.specs.FinMap as finite;
 ghost use Rattle.quorum_sets.specs.Voters.{pair};
-ghost use Rattle.quorum_sets.specs.Votes.{vote_result, joint_vote_result, both, votes_in};
+ghost use Rattle.quorum_sets.specs.Votes.{vote_result, joint_vote_result, both};
 
 use crate::counting::most_pass;
 use crate::member_set::MemberSet;
-use std::collections::BTreeMap;
+use crate::vote_source::VoteSource;
 
 /// How a vote stands.
 #[derive(Clone, Copy, Debug, PartialEq, Eq)]
@@ -19,33 +18,22 @@ pub enum VoteResult {
     VoteWon,
 }
 
-/// The result of the vote of one set. An id without an entry in `votes` has not voted.
-pub fn vote<S: MemberSet>(set: &S, votes: &BTreeMap<u64, bool>) -> VoteResult
-    ensures { result ≡ vote_result (S.ids set.now) (votes_in votes.now) }
+/// The result of the vote of one set.
+pub fn vote<S: MemberSet, V: VoteSource>(set: &S, votes: &V) -> VoteResult
+    ensures { result ≡ vote_result (S.ids set.now) (V.votes votes.now) }
 {
-    if set.len() == 0 || most_pass(set, |id| said(votes, id).unwrap_or(false)) {
+    if set.len() == 0 || most_pass(set, |id| votes.voted(id).unwrap_or(false)) {
         VoteResult::VoteWon
-    } else if most_pass(set, |id| said(votes, id).unwrap_or(true)) {
+    } else if most_pass(set, |id| votes.voted(id).unwrap_or(true)) {
         VoteResult::VotePending
     } else {
         VoteResult::VoteLost
     }
 }
 
-// What the id said, if it voted.
-fn said(votes: &BTreeMap<u64, bool>, id: u64) -> Option<bool>
-    ensures { result ≡ finite.get (votes_in votes.now) id }
-{
-    votes.get(&id).copied()
-}
-
 /// The result of the vote of a pair of sets: won where both are, lost where one is, else pending.
-pub fn joint_vote<S: MemberSet>(
-    incoming: &S,
-    outgoing: &S,
-    votes: &BTreeMap<u64, bool>,
-) -> VoteResult
-    ensures { result ≡ joint_vote_result (pair (S.ids incoming.now) (S.ids outgoing.now)) (votes_in votes.now) }
+pub fn joint_vote<S: MemberSet, V: VoteSource>(incoming: &S, outgoing: &S, votes: &V) -> VoteResult
+    ensures { result ≡ joint_vote_result (pair (S.ids incoming.now) (S.ids outgoing.now)) (V.votes votes.now) }
 {
     both(vote(incoming, votes), vote(outgoing, votes))
 }

@@ -3,7 +3,7 @@ ghost use Rattle.std.specs.Prelude.{◌≡◌, IfOk};
 ghost use Rattle.conf_session.specs.Commands.{on_ack};
 
 use super::Command;
-use super::telling::{tell, tell_arguments, tell_no_input};
+use super::telling::{tell, tell_fault};
 use crate::boxed_changer::BoxedChanger;
 use crate::effect::Effect;
 use crate::parameter::Parameter;
@@ -25,10 +25,7 @@ pub(super) fn obey(
 ) -> Result<Reply, NoMemory>
     ensures { IfOk result (λ reply. reply ≡ on_ack changer.now input.now arguments.now) }
 {
-    if !input.is_empty() {
-        return tell_no_input(alloc);
-    }
-    if let Some(fault) = tell_arguments(alloc, Command::Ack, arguments)? {
+    if let Some(fault) = tell_fault(alloc, Command::Ack, input, arguments)? {
         return Ok(fault);
     }
     let id = number_given(Parameter::Id, arguments);

@@ -3,7 +3,7 @@ ghost use Rattle.std.specs.Prelude.{◌≡◌, IfOk};
 ghost use Rattle.conf_session.specs.Commands.{on_conf_state};
 
 use super::Command;
-use super::telling::{tell_arguments, tell_no_input};
+use super::telling::tell_fault;
 use crate::reply::Reply;
 use crate::session_ids::SessionIds;
 use crate::texts::conf_state_line;
@@ -21,10 +21,7 @@ pub(super) fn obey(
 ) -> Result<Reply, NoMemory>
     ensures { IfOk result (λ reply. reply ≡ on_conf_state changer.now input.now arguments.now) }
 {
-    if !input.is_empty() {
-        return tell_no_input(alloc);
-    }
-    if let Some(fault) = tell_arguments(alloc, Command::ConfState, arguments)? {
+    if let Some(fault) = tell_fault(alloc, Command::ConfState, input, arguments)? {
         return Ok(fault);
     }
     Ok(Reply::told(conf_state_line(alloc, changer.tracker().config())?))

@@ -1,11 +1,11 @@
 //! The replies that several commands give.
-ghost use Rattle.std.specs.Prelude.{◌≡◌, ◌≢◌, ◌++◌, IfOk, MatchResult, IsSomeAnd};
+ghost use Rattle.std.specs.Prelude.{◌≡◌, ◌≢◌, ◌++◌, unwrap_or, IfOk, MatchResult, IsSomeAnd};
 ghost use Rattle.conf_change.specs.ChangeList.{bad_token};
 ghost use Rattle.conf_change.specs.Text.{refused_text};
 ghost use Rattle.conf_change.specs.Text.{bad_token_text};
-ghost use Rattle.conf_session.specs.Reply.{told, stepped};
+ghost use Rattle.conf_session.specs.Reply.{Reply as Told, told, stepped};
 ghost use Rattle.conf_session.specs.Commands as says;
-ghost use Rattle.conf_session.specs.Commands.{no_input_text};
+ghost use Rattle.conf_session.specs.Commands.{no_input_text, with_no_input, with_arguments};
 
 use super::{Command, parameters_of};
 use crate::arguments::{bad_argument, missing_argument};
@@ -38,6 +38,21 @@ pub(super) fn tell_token(alloc: Global, fault: TokenFault<'_>) -> Result<Reply, 
     ensures { IfOk result (λ reply. IsSomeAnd (bad_token fault.entry) (λ bad. reply ≡ told (bad_token_text bad))) }
 {
     Ok(Reply::told(bad_token_line(alloc, fault)?))
+}
+
+/// Tells that there is input, or else which argument is bad or missing, for a command that takes no input.
+pub(super) fn tell_fault(
+    alloc: Global,
+    command: Command,
+    input: &[u8],
+    arguments: &[Argument],
+) -> Result<Option<Reply>, NoMemory>
+    ensures { IfOk result (λ fault. (reply : Told) → with_no_input (with_arguments command arguments.now reply) input.now ≡ unwrap_or fault reply) }
+{
+    if !input.is_empty() {
+        return Ok(Some(tell_no_input(alloc)?));
+    }
+    tell_arguments(alloc, command, arguments)
 }
 
 /// Tells the first argument that is bad, or else the first that is missing, if there is one.

@@ -4,7 +4,7 @@ ghost use Rattle.conf_session.specs.Commands as says;
 ghost use Rattle.conf_session.specs.Undo.{undo_plan_of, undone, undone_by};
 
 use super::Command;
-use super::telling::{tell_arguments, tell_no_input};
+use super::telling::tell_fault;
 use crate::arguments::argument_of;
 use crate::boxed_changer::BoxedChanger;
 use crate::effect::Effect;
@@ -29,10 +29,7 @@ pub(super) fn obey(
 ) -> Result<Reply, NoMemory>
     ensures { IfOk result (λ reply. reply ≡ says.on_undo session.now input.now arguments.now) }
 {
-    if !input.is_empty() {
-        return tell_no_input(alloc);
-    }
-    if let Some(fault) = tell_arguments(alloc, Command::Undo, arguments)? {
+    if let Some(fault) = tell_fault(alloc, Command::Undo, input, arguments)? {
         return Ok(fault);
     }
     undo(alloc, session, steps_of(arguments))

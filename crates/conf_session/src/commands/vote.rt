@@ -4,9 +4,9 @@ ghost use Rattle.conf_session.specs.Commands.{on_vote};
 ghost use Rattle.conf_session.specs.QuorumArguments.{vote_text};
 
 use super::Command;
-use super::telling::{tell, tell_arguments, tell_no_input};
+use super::telling::{tell, tell_fault};
 use crate::parameter::Parameter;
-use crate::quorum_arguments::{given, quorum_given, value_count};
+use crate::quorum_arguments::quorum_given;
 use crate::reply::Reply;
 use dd_file::item::Argument;
 use quorum_sets::{NoMemory, VoteResult, joint_vote};
@@ -16,18 +16,13 @@ use std::alloc::Global;
 pub(super) fn obey(alloc: Global, input: &[u8], arguments: &[Argument]) -> Result<Reply, NoMemory>
     ensures { IfOk result (λ reply. reply ≡ on_vote input.now arguments.now) }
 {
-    if !input.is_empty() {
-        return tell_no_input(alloc);
-    }
-    if let Some(fault) = tell_arguments(alloc, Command::Vote, arguments)? {
+    if let Some(fault) = tell_fault(alloc, Command::Vote, input, arguments)? {
         return Ok(fault);
     }
-    let quorum = quorum_given(alloc, arguments)?;
-    if value_count(Parameter::Votes, arguments) != quorum.ids.len() {
+    let Some(quorum) = quorum_given(alloc, Parameter::Votes, arguments)? else {
         return tell(alloc, b"wrong number of values", b"");
-    }
-    let votes = given(alloc, Parameter::Votes, quorum.ids.as_slice(), arguments)?;
-    let result = joint_vote(&quorum.incoming, &quorum.outgoing, &votes);
+    };
+    let result = joint_vote(&quorum.incoming, &quorum.outgoing, &quorum.given);
     tell(alloc, name_of(result), b"")
 }
 

@@ -1,5 +1,5 @@
 use Rattle.std.proofs.Common.{sym, ◌∙◌}
-use Rattle.quorum_sets.specs.Votes.{both, votes_in}
+use Rattle.quorum_sets.specs.Votes.{both}
 use Rattle.quorum_sets.proofs.VoteLemmas.{joint_vote_result-both}
 use Rattle.quorum_sets.proofs.voting.joint_vote.Goals as goal
 
@@ -7,4 +7,4 @@ pub returns : goal.returns
 returns g c =
     c.both.ensures
     ∙ (λ i. both (c.vote.ensures i) (c.vote-2.ensures i))
-    ∙ sym (joint_vote_result-both (g.S.MemberSet.ids c.args.incoming.now) (g.S.MemberSet.ids c.args.outgoing.now) (votes_in c.args.votes.now))
+    ∙ sym (joint_vote_result-both (g.S.MemberSet.ids c.args.incoming.now) (g.S.MemberSet.ids c.args.outgoing.now) (g.V.VoteSource.votes c.args.votes.now))

@@ -3,12 +3,11 @@ use Rattle.quorum_sets.specs.Committed.{joint_committed_index}
 use Rattle.conf_change.specs.Acknowledgement.{matches}
 use Rattle.conf_change.specs.Configuration.{voters_of}
 use Rattle.conf_change.specs.TrackerState.{TrackerState}
-use Rattle.conf_session.specs.Reply.{Reply}
+use Rattle.conf_session.specs.Reply.{Reply, told}
 use Rattle.conf_session.specs.QuorumArguments.{index_text}
 use Rattle.conf_session.specs.Texts.{line}
-use Rattle.conf_session.specs.declared.commands.Command.TheVariants.{CommitIndex}
 use Rattle.conf_session.specs.declared.effect.Effect.TheVariants.{Nothing}
-use Rattle.conf_session.proofs.CommandReplies.{arguments-taken}
+use Rattle.conf_session.proofs.CommandReplies.{no-fault}
 use Rattle.conf_session.proofs.commands.commit_index.obey.Goals as goal
 
 pub returns : goal.returns
@@ -18,5 +17,5 @@ returns c =
     let config = c.config.view_is ∙ c.config-config.ensures in
     let index = c.in_ok-index.ensures.index ∙ ap (λ d. joint_committed_index (voters_of d) (matches c.tracker-tracker.result.now)) config
     ∙ ap (λ (t : TrackerState). joint_committed_index (voters_of t.config) (matches t)) tracker in
-    c.told.ensures ∙ ap reply (c.in_ok-index_line.ensures ∙ ap (λ k. line (index_text k)) index)
-    ∙ sym (arguments-taken CommitIndex c.args.arguments.now _ c.args.input.now (sym c.is_empty.ensures ∙ c.if-not-is_empty.false) (sym c.in_ok-fault.ensures ∙ c.in_default.is))
+    let whole = told (index_text (joint_committed_index (voters_of c.args.changer.now.tracker.config) (matches c.args.changer.now.tracker))) in
+    c.told.ensures ∙ ap reply (c.in_ok-index_line.ensures ∙ ap (λ k. line (index_text k)) index) ∙ sym (no-fault _ whole _ (c.in_ok-fault.ensures whole) c.in_default.is)

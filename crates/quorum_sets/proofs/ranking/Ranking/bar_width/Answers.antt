@@ -7,21 +7,21 @@ use Rattle.quorum_sets.proofs.ranking.Ranking.bar_width.Goals as goal
 
 pub returns-in-Some-clause-width : goal.returns-in-Some-clause-width
 returns-in-Some-clause-width c ids acks ranking among is =
-    let parted = IsPartitionPoint-from_clause (λ r. nat_lt r.0 c.args.index) _ _ c.partition_point-place.ensures.partitioned (rw c.deref.ensures.value (ranking-partitioned ids acks _ c.args.index ranking)) (λ a r q k. search rules) in
+    let parted = IsPartitionPoint-from_clause (λ r. nat_lt r.0 c.args.index) _ _ c.partition_point-place.ensures.partitioned (rw c.as_slice-rows.ensures (ranking-partitioned ids acks _ c.args.index ranking)) (λ a r q k. search rules) in
     let place = c.partition_point-place.result in
     let within = c.partition_point-place.ensures.bound in
     let here = c.in-Some.ensures.lookup.4 (omega arith) (ranked acks c.args.id) in
-    width-first ids acks _ c.args.id place ranking among (omega (arith, ap length c.deref.ensures.value)) (rw (c.deref.ensures.value, is) at parted) ((rw c.deref-2.ensures.value at (ap (λ r. r.1) (sym here))) ∙ c.if-first-id.true)
+    width-first ids acks _ c.args.id place ranking among (omega (arith, ap length c.as_slice-rows.ensures)) (rw (c.as_slice-rows.ensures, is) at parted) ((rw c.as_slice-rows.ensures at (ap (λ r. r.1) (sym here))) ∙ c.if-first-id.true)
 
 pub returns-in_default-clause-width : goal.returns-in_default-clause-width
 returns-in_default-clause-width c ids acks ranking among is =
-    let parted = IsPartitionPoint-from_clause (λ r. nat_lt r.0 c.args.index) _ _ c.partition_point-place.ensures.partitioned (rw c.deref.ensures.value (ranking-partitioned ids acks _ c.args.index ranking)) (λ a r q k. search rules) in
+    let parted = IsPartitionPoint-from_clause (λ r. nat_lt r.0 c.args.index) _ _ c.partition_point-place.ensures.partitioned (rw c.as_slice-rows.ensures (ranking-partitioned ids acks _ c.args.index ranking)) (λ a r q k. search rules) in
     let here = c.in-Some.ensures.lookup.4 (omega arith) (ranked acks c.args.id) in
-    width-later ids acks _ c.args.id _ ranking among (rw (c.deref.ensures.value, is) at parted) (λ same. c.if-first-id.false (ap (λ r. r.1) here ∙ (rw c.deref-2.ensures.value same)))
+    width-later ids acks _ c.args.id _ ranking among (rw (c.as_slice-rows.ensures, is) at parted) (λ same. c.if-first-id.false (ap (λ r. r.1) here ∙ (rw c.as_slice-rows.ensures same)))
 
 pub returns-in_default-2-clause-width : goal.returns-in_default-2-clause-width
 returns-in_default-2-clause-width c ids acks ranking among is =
-    let parted = IsPartitionPoint-from_clause (λ r. nat_lt r.0 c.args.index) _ _ c.partition_point-place.ensures.partitioned (rw c.deref.ensures.value (ranking-partitioned ids acks _ c.args.index ranking)) (λ a r q k. search rules) in
-    let first = first_row ids acks _ c.args.id _ ranking among (rw (c.deref.ensures.value, is) at parted) in
+    let parted = IsPartitionPoint-from_clause (λ r. nat_lt r.0 c.args.index) _ _ c.partition_point-place.ensures.partitioned (rw c.as_slice-rows.ensures (ranking-partitioned ids acks _ c.args.index ranking)) (λ a r q k. search rules) in
+    let first = first_row ids acks _ c.args.id _ ranking among (rw (c.as_slice-rows.ensures, is) at parted) in
     let past = MatchOption-at_none _ _ c.in_default.is c.get.ensures.lookup.3 in
-    absurd (omega (arith, ap length c.deref-2.ensures.value, first.within))
+    absurd (omega (arith, ap length c.as_slice-rows.ensures, first.within))
