@@ -5,7 +5,7 @@ use Rattle.std.specs.List.{list_any}
 use Rattle.std.proofs.lemmas.Bool.{and_parts, and_from}
 use Rattle.std.proofs.lemmas.Option.{slice_get_within, get_or_from_slice_get}
 use Rattle.std.proofs.lemmas.List.Folds.{list_any_more}
-use Rattle.quorum_sets.specs.Ids.{Ids, has, ascending, size, ids_of}
+use Rattle.quorum_sets.specs.Ids.{Ids, ascending, size, ids_of}
 use Rattle.quorum_sets.proofs.Offered.{same_ids, has-ids_of, has-ascending}
 use Rattle.conf_change.specs.Configuration.{Configuration, is_restorable}
 use Rattle.conf_change.specs.ConfState.{ConfStateLists, Lists, Describes, lists_of, names_once, named_by, restored}

@@ -3,13 +3,13 @@ ghost use Rattle.std.specs.Prelude.{◌≡◌, ◌≤◌, ◌++◌, length, filt
 ghost use Rattle.std.specs.Ordering.{nat_cmp};
 ghost use Rattle.std.specs.FinMap as finite;
 ghost use Rattle.quorum_sets.specs.Ids.{ids_of};
-ghost use Rattle.conf_change.specs.Number.{number_in};
+ghost use Rattle.ascii_text.specs.Number.{number_in};
 ghost use Rattle.conf_session.specs.QuorumArguments as says;
 
 use crate::arguments::argument_of;
 use crate::parameter::{Parameter, number_from};
 use crate::session_ids::SessionIds;
-use conf_change::read_number;
+use ascii_text::number::read_number;
 use dd_file::item::Argument;
 use quorum_sets::NoMemory;
 use std::alloc::Global;
@@ -29,7 +29,7 @@ pub(crate) trait GivenValue: Copy + Drop {
 
 /// An index that is acknowledged.
 impl GivenValue for u64 {
-    ghost use Rattle.conf_change.specs.Number.{number_in};
+    ghost use Rattle.ascii_text.specs.Number.{number_in};
 
     ghost says = { number_in };
 
