@@ -2,12 +2,12 @@
 use Rattle.std.proofs.Common.{◌≡◌, ◌≢◌, ℕ, suc, ◌<◌, List, [], ◌∷◌, ◌++◌, length, Option, Some, None, Result, Ok, Err, refl, ap, ◌∙◌, arith}
 use Rattle.std.specs.List.{AllZip}
 use Rattle.std.proofs.lemmas.Bool.Decides.{nat_tests}
-use Rattle.conf_change.specs.Number.{SpellsNumber, number_in}
+use Rattle.ascii_text.specs.Number.{SpellsNumber, number_in}
 use Rattle.conf_change.specs.ChangeList.{letter_of, Spells, BadToken, unknown_token, unknown_input, bad_number, token_of, HasReason, IsFirstBad, kind_in, change_in, changes_in_words}
 use Rattle.conf_change.specs.declared.change.Change.{Change}
 use Rattle.conf_change.specs.declared.change.Kind.{Kind}
 use Rattle.conf_change.specs.declared.change.Kind.TheVariants.{Voter, Learner, Remove, Update}
-use Rattle.conf_change.proofs.NumberLemmas.{number_in_ok, SpellsNumber-from_some, number_in_none}
+use Rattle.ascii_text.proofs.Offered.{number_in_ok, SpellsNumber-from_some, number_in_none}
 
 -- changes that were read, before what the rest stands for
 abbrev pub onto : List Change → Result (List Change) BadToken → Result (List Change) BadToken

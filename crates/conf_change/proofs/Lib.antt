@@ -19,9 +19,7 @@ mod StepLaws
 mod Acknowledging
 mod SameForms
 mod Passing
-mod WordLemmas
 mod TextLemmas
-mod NumberLemmas
 mod ChangeLemmas
 mod LineLemmas
 mod MemberLemmas

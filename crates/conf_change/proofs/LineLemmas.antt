@@ -1,10 +1,10 @@
 -- The function that reads the line of a saved configuration, against the relation.
-use Rattle.std.proofs.Common.{◌≡◌, ◌≢◌, ℕ, ◌+◌, ◌-◌, ◌<◌, ◌≤◌, ◌^◌, Bool, true, false, eqb, List, [], ◌∷◌, ◌++◌, length, take, drop, get_or, map, Option, Some, None, refl, sym, ap, ◌∙◌, subst, arith}
+use Rattle.std.proofs.Common.{◌≡◌, ◌≢◌, ℕ, ◌+◌, ◌<◌, ◌≤◌, ◌^◌, Bool, true, false, eqb, List, [], ◌∷◌, ◌++◌, length, take, drop, get_or, map, Option, Some, None, refl, sym, ap, ◌∙◌, subst, arith}
 use Rattle.std.specs.Prelude.{codes, decimal, option_map, option_and_then, bytes_eq}
-use Rattle.std.specs.List.{All, AllZip, join_with_byte, slice_split, position_or_len, suffix_len}
+use Rattle.std.specs.List.{All, AllZip, join_with_byte, slice_split, position_or_len}
 use Rattle.std.specs.Str.Parse.{AllDigits}
 use Rattle.std.proofs.lemmas.Bool.{ne_eqb, lt-ltb}
-use Rattle.std.proofs.lemmas.List.{append_assoc, take_at, drop_at, get_or_at, get_or_append_left, take-append-drop, length-append, take_all, length-drop, drop-drop, reverse-append}
+use Rattle.std.proofs.lemmas.List.{append_assoc, take_at, drop_at, get_or_at, get_or_append_left, take-append-drop, length-append, take_all, length-drop, drop-drop}
 use Rattle.std.proofs.lemmas.List.Elements.{All-nil, All-append, All-cons, All-head, All-tail, All-from_get_or}
 use Rattle.std.proofs.lemmas.List.Splits.{slice_split_none, slice_split_at, slice_split_first, join_with_byte-slice_split}
 use Rattle.std.proofs.lemmas.List.Sums.{position_or_len_is, fails_before_first}
@@ -12,12 +12,12 @@ use Rattle.std.proofs.lemmas.Option.{cond_some}
 use Rattle.std.proofs.lemmas.Fmt.{decimal_is_IsNumeral}
 use Rattle.std.proofs.lemmas.Str.Parse.{digit_at}
 use Rattle.std.proofs.lemmas.Slice.Eq.{bytes_eq-Decides}
-use Rattle.conf_change.specs.Words.{is_white, trimmed, without_white_before, without_white_after}
-use Rattle.conf_change.specs.Number.{SpellsNumber, number_in}
+use Rattle.ascii_text.specs.WhiteSpace.{trimmed, without_leading_space}
+use Rattle.ascii_text.specs.Number.{SpellsNumber, number_in}
 use Rattle.conf_change.specs.Text.{spaced_numbers}
 use Rattle.conf_change.specs.ConfState.{ConfStateLists}
 use Rattle.conf_change.specs.ConfStateLine.{truth_text, line_text, conf_state_text, SpellsNumbers, StandsForConfState, after_prefix, numbers_in_pieces, is_space, numbers_in, is_close, field_in, flag_in, conf_state_in}
-use Rattle.conf_change.proofs.NumberLemmas.{number_in_ok, SpellsNumber-from_some}
+use Rattle.ascii_text.proofs.Offered.{without_trailing_space-other, number_in_ok, SpellsNumber-from_some}
 
 -- a byte that is no digit stands in no number
 no_byte : (digits : List ℕ) (byte : ℕ) → AllDigits 10 digits → ((b : ℕ) → 48 ≤ b → b ≤ 57 → b ≢ byte) → All (λ b. eqb b byte ≡ false) digits
@@ -217,9 +217,7 @@ StandsForConfState-from_some text saved e =
 -- ---- the printed line
 trimmed-from_first : (text more front : List ℕ) → text ≡ 86 ∷ more → text ≡ front ++ 101 ∷ [] → trimmed text ≡ text
 trimmed-from_first text more front first last =
-    let before : without_white_before text ≡ text = rw first refl in
-    let after : suffix_len is_white text ≡ 0 = rw last (rw (reverse-append front (101 ∷ [])) refl) in
-    ap without_white_after before ∙ rw after (take_all (length text - 0) text (omega arith))
+    ap without_leading_space (sym (without_trailing_space-other 101 front text last refl) ∙ first) ∙ sym first
 
 -- the line but for the truth value
 abbrev line_start : List ℕ → List ℕ → List ℕ → List ℕ → List ℕ

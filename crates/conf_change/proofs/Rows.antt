@@ -14,7 +14,7 @@ use Rattle.conf_change.specs.Progress.{keeps_progress}
 use Rattle.conf_change.specs.declared.config.Invariant.TheVariants.{ZeroId, NextNotOutgoing, NextAndIncoming}
 use Rattle.conf_change.specs.declared.refused.Refused.TheVariants.{NotJoint, ZeroVoterJoint, SimpleInJoint, RemovedAllVoters}
 use Rattle.conf_change.specs.declared.step.Step.TheVariants.{Simple, EnterJoint}
-use Rattle.conf_change.specs.Words.{words}
+use Rattle.ascii_text.specs.Words.{words}
 use Rattle.conf_change.specs.ChangeList.{changes_in, unknown_token, unknown_input, bad_number}
 use Rattle.conf_change.specs.ConfStateLine.{conf_state_in}
 use Rattle.conf_change.specs.ConfState.{ConfStateLists, restored}

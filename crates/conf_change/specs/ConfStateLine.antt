@@ -1,8 +1,9 @@
 -- The line of a saved configuration: as it is printed, and which texts stand for one.
 use Rattle.std.specs.Prelude.{◌≡◌, ℕ, Bool, true, false, ◌==◌, List, [], ◌∷◌, ◌++◌, length, take, drop, codes, Option, Some, None, option_map, option_and_then, bytes_eq, if◌then◌else◌}
 use Rattle.std.specs.List.{AllZip, join_with_byte, slice_split, position_or_len, before_first}
-use Rattle.conf_change.specs.Words.{has_bytes, trimmed}
-use Rattle.conf_change.specs.Number.{SpellsNumber, number_in}
+use Rattle.ascii_text.specs.Words.{has_bytes}
+use Rattle.ascii_text.specs.WhiteSpace.{trimmed}
+use Rattle.ascii_text.specs.Number.{SpellsNumber, number_in}
 use Rattle.conf_change.specs.Text.{spaced_numbers}
 use Rattle.conf_change.specs.ConfState.{ConfStateLists}
 

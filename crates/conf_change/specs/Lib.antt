@@ -16,8 +16,6 @@ pub mod Acknowledgement
 pub mod ConfState
 pub mod Described
 pub mod Text
-pub mod Words
-pub mod Number
 pub mod ChangeList
 pub mod SameChanges
 pub mod ConfStateLine

@@ -1,11 +1,11 @@
 //! Reading lists of changes, as the test scripts of etcd's raft packages write them: `v1 l2 r3`.
 ghost use Rattle.std.specs.Prelude.{◌≡◌, Ok, Err, length, IfOk, IfErr, IfSome, MatchResult};
-ghost use Rattle.conf_change.specs.Words.{words};
+ghost use Rattle.ascii_text.specs.Words.{words};
 ghost use Rattle.conf_change.specs.ChangeList.{StandsFor, IsFirstBad, bad_token, change_in, changes_in, kind_in};
 
 use crate::change::{Change, Kind};
-use crate::number::read_number;
-use crate::words::next_token;
+use ascii_text::number::read_number;
+use ascii_text::words::next_token;
 use std::alloc::{AllocError, AllocFailed, Global};
 use thiserror::Error;
 

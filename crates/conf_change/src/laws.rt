@@ -6,7 +6,7 @@ ghost use Rattle.conf_change.specs.Acknowledgement.{ack_answer, changer_with_pro
 ghost use Rattle.conf_change.specs.declared.change.Change.{Change};
 ghost use Rattle.conf_change.specs.Change.{last_word, is_incoming_after, is_learner_after, is_next_after, result_of};
 ghost use Rattle.conf_change.specs.Configuration.{ValidByMember, is_valid, voters_of};
-ghost use Rattle.conf_change.specs.Words.{words};
+ghost use Rattle.ascii_text.specs.Words.{words};
 ghost use Rattle.conf_change.specs.ChangeList.{StandsFor, BadToken, IsFirstBad, changes_in};
 ghost use Rattle.conf_change.specs.declared.floor.Floor.{Floor};
 ghost use Rattle.conf_change.specs.declared.progress.Progress.{Progress};

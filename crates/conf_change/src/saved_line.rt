@@ -7,9 +7,9 @@ ghost use Rattle.conf_change.specs.ConfStateLine as line;
 ghost use Rattle.conf_change.specs.ConfStateLine.{SpellsNumbers, StandsForConfState, conf_state_text, conf_state_in, numbers_in, field_in, line_in, flag_in, is_close, is_space};
 
 use crate::append::{append, append_numbers, keep_whole};
-use crate::number::read_number;
 use crate::saved::{ConfState, ConfStateFault};
-use crate::words::trimmed;
+use ascii_text::number::read_number;
+use ascii_text::white_space::trimmed;
 use quorum_sets::NoMemory;
 use std::alloc::{AllocError, AllocFailed, Global};
 

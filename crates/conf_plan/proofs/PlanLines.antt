@@ -6,7 +6,7 @@ use Rattle.std.proofs.lemmas.Bool.{ne_eqb, true≢false, and_parts}
 use Rattle.std.proofs.lemmas.Bool.Decides.{nat_tests}
 use Rattle.std.proofs.lemmas.List.{length-append}
 use Rattle.std.proofs.lemmas.Slice.Eq.{bytes_eq-Decides}
-use Rattle.conf_change.specs.Words.{words}
+use Rattle.ascii_text.specs.Words.{words}
 use Rattle.conf_change.specs.declared.step.Step.{Step}
 use Rattle.conf_plan.specs.PlanText.{lines_of, IsLineOf, SaysNothing, StandsForPlan, HasFault}
 use Rattle.conf_plan.specs.PlanCode.{step_in, and_steps, steps_in, is_nothing, plan_in_lines, plan_in}

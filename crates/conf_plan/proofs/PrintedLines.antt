@@ -11,7 +11,8 @@ use Rattle.std.proofs.lemmas.List.Elements.{All-nil, All-cons, All-append, All-h
 use Rattle.std.proofs.lemmas.List.Sums.{AllPass-from_list_all}
 use Rattle.std.proofs.lemmas.List.Splits.{slice_split_none, slice_split_at}
 use Rattle.std.proofs.lemmas.Str.Parse.{digit_at}
-use Rattle.conf_change.specs.Words.{is_white, words}
+use Rattle.ascii_text.specs.WhiteSpace.{is_space}
+use Rattle.ascii_text.specs.Words.{words}
 use Rattle.conf_change.specs.ChangeList.{letter_of, Spells}
 use Rattle.conf_change.specs.declared.change.Change.{Change}
 use Rattle.conf_change.specs.declared.change.Kind.{Kind}
@@ -28,7 +29,7 @@ use Rattle.conf_plan.proofs.PlanLines.{plan_in_ok}
 -- ---- words
 -- it is no white space
 abbrev IsBlack : ℕ → Type 0
-IsBlack byte = is_white byte ≡ false
+IsBlack byte = is_space byte ≡ false
 
 -- a word has a byte and no white space
 record IsWord (word : List ℕ) : Type 0 where
@@ -39,10 +40,10 @@ record IsWord (word : List ℕ) : Type 0 where
 words-join : (word : List ℕ) (more : List (List ℕ)) → All IsWord (word ∷ more) → words (join_with_byte 32 (word ∷ more)) ≡ word ∷ more
 words-join word [] h =
     let is = All-head IsWord word [] h in
-    rw (slice_split_none is_white word is.black, lt-ltb 0 (length word) is.some) refl
+    rw (slice_split_none is_space word is.black, lt-ltb 0 (length word) is.some) refl
 words-join word (next ∷ more) h =
     let is = All-head IsWord word (next ∷ more) h in
-    rw (slice_split_at is_white word 32 (join_with_byte 32 (next ∷ more)) is.black refl, lt-ltb 0 (length word) is.some)
+    rw (slice_split_at is_space word 32 (join_with_byte 32 (next ∷ more)) is.black refl, lt-ltb 0 (length word) is.some)
     (ap (λ others. word ∷ others) (words-join next more (All-tail IsWord word (next ∷ more) h)))
 
 -- there is no newline among them
@@ -84,10 +85,10 @@ black_from_not true e = sym e
 black_from_not false e = refl
 
 -- a word that is written out
-IsWord-written : (word : List ℕ) → 0 < length word → list_all (λ byte. not (is_white byte)) word ≡ true → IsWord word
+IsWord-written : (word : List ℕ) → 0 < length word → list_all (λ byte. not (is_space byte)) word ≡ true → IsWord word
 IsWord-written word some black = record {
   some = some;
-  black = All-weaker (λ byte. not (is_white byte) ≡ true) IsBlack (λ byte e. black_from_not (is_white byte) e) word (AllPass-from_list_all (λ byte. not (is_white byte)) word black);
+  black = All-weaker (λ byte. not (is_space byte) ≡ true) IsBlack (λ byte e. black_from_not (is_space byte) e) word (AllPass-from_list_all (λ byte. not (is_space byte)) word black);
 }
 
 commands_are_words : (step : Step) → All IsWord (command_words step)

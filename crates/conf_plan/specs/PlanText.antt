@@ -1,7 +1,7 @@
 -- The text of a plan: its lines as they are printed, and which texts stand for which plans.
 use Rattle.std.specs.Prelude.{◌≡◌, ℕ, ◌+◌, ◌≤◌, Bool, ◌==◌, ◌⊎◌, List, [], ◌∷◌, ◌++◌, length, map, flat_map, filter, codes, decimal, if◌then◌else◌}
 use Rattle.std.specs.List.{AllZip, join_with_byte, slice_split}
-use Rattle.conf_change.specs.Words.{has_bytes, words}
+use Rattle.ascii_text.specs.Words.{has_bytes, words}
 use Rattle.conf_change.specs.ChangeList.{letter_of, Spells}
 use Rattle.conf_change.specs.ConfStateLine.{truth_text}
 use Rattle.conf_change.specs.declared.change.Change.{Change}

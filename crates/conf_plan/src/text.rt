@@ -1,7 +1,7 @@
 //! The text of a plan: a line for each step, or `nothing to do`. The form of the lines is own.
 ghost use Rattle.std.specs.Prelude.{◌≡◌, ◌⊎◌, ◌<◌, ◌≤◌, [], ◌∷◌, ◌++◌, List, Ok, Err, length, map, flat_map, IfOk, IfErr, OnOk, OnErr};
 ghost use Rattle.std.specs.List.{join_with_byte, position_or_len};
-ghost use Rattle.conf_change.specs.Words.{words};
+ghost use Rattle.ascii_text.specs.Words.{words};
 ghost use Rattle.conf_change.specs.ChangeList.{letter_of};
 ghost use Rattle.conf_change.specs.Text.{Extends};
 ghost use Rattle.conf_change.specs.declared.step.Step.{Step};
@@ -11,7 +11,8 @@ ghost use Rattle.conf_plan.specs.PlanCode.{plan_in, step_in, enter_in, list_in};
 ghost use Rattle.conf_plan.specs.declared.text.PlanTextFault.{PlanTextFault};
 
 use crate::plan_steps::Plan;
-use conf_change::{Change, Changes, Kind, Step, TokenFault, next_token, read_changes};
+use ascii_text::words::next_token;
+use conf_change::{Change, Changes, Kind, Step, TokenFault, read_changes};
 use itoa::Buffer;
 use quorum_sets::NoMemory;
 use std::alloc::{AllocFailed, Global};

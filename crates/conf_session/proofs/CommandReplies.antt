@@ -8,7 +8,7 @@ use Rattle.conf_change.specs.ConfState.{ConfStateLists, restored}
 use Rattle.conf_change.specs.declared.change.Change.{Change}
 use Rattle.conf_change.specs.Text.{refused_text, config_text, progress_text}
 use Rattle.conf_change.specs.TrackerState.{TrackerState}
-use Rattle.dd_file.specs.Bytes.{newline}
+use Rattle.ascii_text.specs.Lines.{newline}
 use Rattle.conf_change.specs.Changer.{ChangerState, GivesNext, moved_by}
 use Rattle.conf_change.specs.declared.progress.Progress.{Progress}
 use Rattle.conf_change.specs.declared.refused.Refused.{Refused}

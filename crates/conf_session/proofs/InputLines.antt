@@ -1,18 +1,16 @@
 -- What the lines of an input tell when white space at their ends is let go: its words, and its text without white space
 -- at both ends where one line at most is not blank.
-use Rattle.std.proofs.Common.{◌≡◌, ℕ, Bool, true, false, cond, ◌&&◌, List, [], ◌∷◌, ◌++◌, inl, inr, map, refl, sym, ap, ◌∙◌, subst, rules}
+use Rattle.std.proofs.Common.{◌≡◌, ℕ, Bool, true, false, cond, ◌&&◌, List, [], ◌∷◌, ◌++◌, map, refl, sym, ap, ◌∙◌, subst, rules}
 use Rattle.std.specs.Prelude.{◌==◌, flat_map, if◌then◌else◌}
 use Rattle.std.specs.List.{list_all}
 use Rattle.std.proofs.Math.Bool.{and-true, and-false}
 use Rattle.std.proofs.lemmas.List.{append_assoc, append-nil}
 use Rattle.std.proofs.lemmas.List.Folds.{list_all-append}
-use Rattle.dd_file.specs.Bytes.{newline, is_space, is_blank, without_leading_space, without_trailing_space}
-use Rattle.dd_file.specs.Bytes as bytes
-use Rattle.dd_file.specs.Lines.{pieces, before_first_piece, line_of, lines_of, without_last}
-use Rattle.dd_file.proofs.Offered.{without_trailing_space-without_return, split_last, without_last-push}
-use Rattle.conf_change.specs.Words.{words, trimmed}
+use Rattle.ascii_text.specs.Lines.{newline, pieces, before_first_piece, line_of, lines_of, without_last}
+use Rattle.ascii_text.specs.WhiteSpace.{is_space, is_blank, without_leading_space, without_trailing_space, trimmed}
+use Rattle.ascii_text.proofs.Offered.{without_trailing_space-without_last, blank-behind, ends-before_blank, ends-before_other, is_blank-without_trailing_space, leads-blank, leads-behind_blank, leads-behind_other, leads-ends, words-at_space, words-ends}
+use Rattle.ascii_text.specs.Words.{words}
 use Rattle.conf_session.specs.Told.{is_line_byte}
-use Rattle.conf_session.proofs.WhiteEnds.{blank-behind, ends-before_blank, ends-before_other, is_blank-ends, leads-blank, leads-behind_blank, leads-behind_other, leads-ends, trimmed-is, words-at_white, words-ends}
 
 -- ---- the pieces of a text: lines with their newlines, and a last one that may have none
 data IsCut : List ℕ → List (List ℕ) → Type 0 where
@@ -36,15 +34,15 @@ words-cut : (text : List ℕ) (ps : List (List ℕ)) → IsCut text ps → words
 words-cut text ps NoLine = refl
 words-cut text ps (LastLine line) = words-ends line ∙ sym (append-nil (words (without_trailing_space line)))
 words-cut text ps (Line line rest more is) =
-    ap words (append_assoc line newline rest) ∙ words-at_white line 10 rest refl
+    ap words (append_assoc line newline rest) ∙ words-at_space line 10 rest refl
     ∙ ap (λ ws. ws ++ words rest) (words-ends line ∙ ap words (sym (ends-before_blank line newline refl)))
     ∙ ap (λ ws. words (without_trailing_space (line ++ newline)) ++ ws) (words-cut rest more is)
 
 blank-cut : (text : List ℕ) (ps : List (List ℕ)) → IsCut text ps → is_blank text ≡ list_all is_blank (map without_trailing_space ps)
 blank-cut text ps NoLine = refl
-blank-cut text ps (LastLine line) = sym (and-true (is_blank (without_trailing_space line)) ∙ is_blank-ends line)
+blank-cut text ps (LastLine line) = sym (and-true (is_blank (without_trailing_space line)) ∙ is_blank-without_trailing_space line)
 blank-cut text ps (Line line rest more is) =
-    list_all-append is_space (line ++ newline) rest ∙ ap (λ c. c && is_blank rest) (sym (is_blank-ends (line ++ newline)))
+    list_all-append is_space (line ++ newline) rest ∙ ap (λ c. c && is_blank rest) (sym (is_blank-without_trailing_space (line ++ newline)))
     ∙ ap (λ c. is_blank (without_trailing_space (line ++ newline)) && c) (blank-cut rest more is)
 
 -- whether one line at most is not blank, and the first such line
@@ -65,46 +63,35 @@ newline-within : (front back : List ℕ) → list_all is_line_byte (front ++ 10 
 newline-within front back = list_all-append is_line_byte front (10 ∷ back) ∙ and-false (list_all is_line_byte front)
 
 -- a blank line before some text
-trimmed-behind : (front rest : List ℕ) → is_blank front ≡ true → bytes.trimmed (front ++ rest) ≡ bytes.trimmed rest
+trimmed-behind : (front rest : List ℕ) → is_blank front ≡ true → trimmed (front ++ rest) ≡ trimmed rest
 trimmed-behind front rest h = leads-ends (front ++ rest) ∙ ap without_trailing_space (leads-behind_blank front rest h) ∙ sym (leads-ends rest)
 
 -- a line that is not blank before some more
-two-lines : (line rest : List ℕ) → is_blank line ≡ false → is_blank rest ≡ false → list_all is_line_byte (bytes.trimmed ((line ++ newline) ++ rest)) ≡ false
+two-lines : (line rest : List ℕ) → is_blank line ≡ false → is_blank rest ≡ false → list_all is_line_byte (trimmed ((line ++ newline) ++ rest)) ≡ false
 two-lines line rest h k =
     ap (λ t. list_all is_line_byte (without_leading_space t)) (ends-before_other (line ++ newline) rest k ∙ append_assoc line newline (without_trailing_space rest))
     ∙ ap (list_all is_line_byte) (leads-behind_other line (10 ∷ without_trailing_space rest) h) ∙ newline-within (without_leading_space line) (without_trailing_space rest)
 
 trimmed-cut : (text : List ℕ) (ps : List (List ℕ)) → IsCut text ps →
-    IsOneLine (has_one (map without_trailing_space ps)) (first_line (map without_trailing_space ps)) (bytes.trimmed text)
+    IsOneLine (has_one (map without_trailing_space ps)) (first_line (map without_trailing_space ps)) (trimmed text)
 trimmed-cut text ps NoLine = refl
 trimmed-cut text ps (LastLine line) = at (is_blank (without_trailing_space line)) refl where
-  at : (c : Bool) → is_blank (without_trailing_space line) ≡ c → IsOneLine (cond c true true) (cond c [] (without_leading_space (without_trailing_space line))) (bytes.trimmed line)
+  at : (c : Bool) → is_blank (without_trailing_space line) ≡ c → IsOneLine (cond c true true) (cond c [] (without_leading_space (without_trailing_space line))) (trimmed line)
   at true e = leads-blank (without_trailing_space line) e
   at false e = refl
 trimmed-cut text ps (Line line rest more is) =
-    at (is_blank (without_trailing_space (line ++ newline))) (list_all is_blank (map without_trailing_space more)) (sym (is_blank-ends (line ++ newline))) (blank-cut rest more is) (trimmed-cut rest more is) where
-      at : (c d : Bool) → is_blank (line ++ newline) ≡ c → is_blank rest ≡ d → IsOneLine (has_one (map without_trailing_space more)) (first_line (map without_trailing_space more)) (bytes.trimmed rest) →
-          IsOneLine (cond c (has_one (map without_trailing_space more)) d) (cond c (first_line (map without_trailing_space more)) (without_leading_space (without_trailing_space (line ++ newline)))) (bytes.trimmed ((line ++ newline) ++ rest))
+    at (is_blank (without_trailing_space (line ++ newline))) (list_all is_blank (map without_trailing_space more)) (sym (is_blank-without_trailing_space (line ++ newline))) (blank-cut rest more is) (trimmed-cut rest more is) where
+      at : (c d : Bool) → is_blank (line ++ newline) ≡ c → is_blank rest ≡ d → IsOneLine (has_one (map without_trailing_space more)) (first_line (map without_trailing_space more)) (trimmed rest) →
+          IsOneLine (cond c (has_one (map without_trailing_space more)) d) (cond c (first_line (map without_trailing_space more)) (without_leading_space (without_trailing_space (line ++ newline)))) (trimmed ((line ++ newline) ++ rest))
       at true d e f ih = subst (IsOneLine (has_one (map without_trailing_space more)) (first_line (map without_trailing_space more))) (sym (trimmed-behind (line ++ newline) rest e)) ih
       at false true e f ih = ap without_leading_space (ends-before_blank (line ++ newline) rest f)
       at false false e f ih = two-lines line rest (sym (blank-behind line newline refl) ∙ e) f
 
 -- ---- the same told by the lines of a text: a line is its piece but for white space at the end
-ends-without_newline : (line : List ℕ) → without_trailing_space (without_last 10 line) ≡ without_trailing_space line
-ends-without_newline line = elim (split_last line) [
-  | inl none ↦ rw none refl
-  | inr p ↦
-      ap (λ t. without_trailing_space (without_last 10 t)) p.2 ∙ ap without_trailing_space (without_last-push 10 p.1 p.0)
-      ∙ at p.0 p.1 (p.1 == 10) refl ∙ sym (ap without_trailing_space p.2)
-] where
-  at : (front : List ℕ) (x : ℕ) (c : Bool) → (x == 10) ≡ c → without_trailing_space (cond c front (front ++ x ∷ [])) ≡ without_trailing_space (front ++ x ∷ [])
-  at front x true e = let newline_is : x ≡ 10 = search rules in sym (ends-before_blank front (x ∷ []) (ap (λ y. is_blank (y ∷ [])) newline_is))
-  at front x false e = refl
-
 ends-line_of : (ps : List (List ℕ)) → map without_trailing_space (map line_of ps) ≡ map without_trailing_space ps
 ends-line_of [] = refl
 ends-line_of (p ∷ ps) =
-    ap (λ t. t ∷ map without_trailing_space (map line_of ps)) (without_trailing_space-without_return (without_last 10 p) ∙ ends-without_newline p)
+    ap (λ t. t ∷ map without_trailing_space (map line_of ps)) (without_trailing_space-without_last 13 (without_last 10 p) refl ∙ without_trailing_space-without_last 10 p refl)
     ∙ ap (λ ts. without_trailing_space p ∷ ts) (ends-line_of ps)
 
 abbrev pub ends_of : List ℕ → List (List ℕ)
@@ -116,5 +103,4 @@ words-told text = words-cut text (pieces text) (pieces-cut text) ∙ ap (flat_ma
 pub trimmed-told : (text : List ℕ) → IsOneLine (has_one (ends_of text)) (first_line (ends_of text)) (trimmed text)
 trimmed-told text =
     subst (λ ls. IsOneLine (has_one ls) (first_line ls) (trimmed text)) (sym (ends-line_of (pieces text)))
-    (subst (IsOneLine (has_one (map without_trailing_space (pieces text))) (first_line (map without_trailing_space (pieces text)))) (sym (trimmed-is text))
-    (trimmed-cut text (pieces text) (pieces-cut text)))
+    (trimmed-cut text (pieces text) (pieces-cut text))

@@ -13,7 +13,7 @@ use Rattle.conf_change.specs.ChangeList.{BadToken, changes_in}
 use Rattle.conf_change.specs.ConfState.{ConfStateLists, Describes, restored}
 use Rattle.conf_change.specs.ConfStateLine.{conf_state_in}
 use Rattle.conf_change.specs.Configuration.{Configuration, has_voter, is_valid, has_voter_or_nobody, is_restorable}
-use Rattle.conf_change.specs.Number.{number_in}
+use Rattle.ascii_text.specs.Number.{number_in}
 use Rattle.conf_change.specs.Outcome.{outcome}
 use Rattle.conf_change.specs.Transition.{step_taken}
 use Rattle.conf_change.specs.declared.floor.Floor.{Floor}

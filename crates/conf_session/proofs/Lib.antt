@@ -4,7 +4,6 @@ mod ToldLines
 mod ToldCharts
 mod ToldTexts
 mod ToldReplies
-mod WhiteEnds
 mod InputLines
 mod SameAnswer
 mod Kept

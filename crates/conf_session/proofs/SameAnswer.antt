@@ -3,12 +3,12 @@ use Rattle.std.proofs.Common.{◌≡◌, ℕ, Bool, true, false, List, [], ◌�
 use Rattle.std.specs.Prelude.{Option, Some, None, codes, flat_map}
 use Rattle.std.specs.List.{list_all}
 use Rattle.dd_file.specs.DirectiveText.{DirectiveText}
-use Rattle.dd_file.specs.Bytes.{without_trailing_space}
-use Rattle.dd_file.specs.Lines.{line_of}
+use Rattle.ascii_text.specs.WhiteSpace.{without_trailing_space, trimmed}
+use Rattle.ascii_text.specs.Lines.{line_of}
 use Rattle.dd_file.specs.Words.{ArgumentText}
 use Rattle.dd_file.specs.Laws.{IsSameDirective}
-use Rattle.dd_file.proofs.Offered.{pieces-first}
-use Rattle.conf_change.specs.Words.{words, trimmed}
+use Rattle.ascii_text.proofs.Offered.{pieces-first}
+use Rattle.ascii_text.specs.Words.{words}
 use Rattle.conf_change.specs.ChangeList.{changes_in, changes_in_words}
 use Rattle.conf_change.specs.ConfState.{ConfStateLists}
 use Rattle.conf_change.specs.ConfStateLine.{line_in, conf_state_in}

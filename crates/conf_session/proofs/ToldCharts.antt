@@ -8,8 +8,7 @@ use Rattle.quorum_sets.specs.Chart.{bar_text, bar_width, in_five_places, row_tex
 use Rattle.quorum_sets.specs.Committed.{Acks, greatest_index}
 use Rattle.quorum_sets.specs.declared.voting.VoteResult.{VoteResult}
 use Rattle.quorum_sets.specs.declared.voting.VoteResult.TheVariants.{VotePending, VoteLost, VoteWon}
-use Rattle.dd_file.specs.Bytes.{newline}
-use Rattle.dd_file.specs.Lines.{text_of}
+use Rattle.ascii_text.specs.Lines.{newline, text_of}
 use Rattle.conf_session.specs.QuorumArguments.{index_text, vote_text}
 use Rattle.conf_session.specs.Texts.{line}
 use Rattle.conf_session.specs.Told.{is_line_byte, is_told_line, IsTold}

@@ -10,13 +10,12 @@ use Rattle.std.proofs.lemmas.Bool.Decides.{nat_tests}
 use Rattle.std.proofs.lemmas.Slice.Eq.{bytes_eq-Decides}
 use Rattle.std.proofs.lemmas.Str.Parse.{digit_at}
 use Rattle.quorum_sets.specs.Ids.{Ids, ascending, is_empty}
-use Rattle.dd_file.specs.Bytes.{is_space, is_blank}
-use Rattle.dd_file.specs.Lines.{text_of}
+use Rattle.ascii_text.specs.WhiteSpace.{is_space, is_blank, trimmed}
+use Rattle.ascii_text.specs.Lines.{text_of}
 use Rattle.dd_file.specs.Script.{is_dashes}
 use Rattle.conf_change.specs.Configuration.{Configuration, is_joint}
 use Rattle.conf_change.specs.ConfState.{ConfStateLists}
-use Rattle.conf_change.specs.Number.{SpellsNumber}
-use Rattle.conf_change.specs.Words.{trimmed}
+use Rattle.ascii_text.specs.Number.{SpellsNumber}
 use Rattle.conf_change.specs.TrackerState.{TrackerState}
 use Rattle.conf_change.specs.Text.{where_there, spaced_numbers, set_text, config_text, progress_text, refused_text}
 use Rattle.conf_change.specs.ConfStateLine.{truth_text, line_text, conf_state_text, SpellsNumbers, StandsForConfState}

@@ -13,7 +13,8 @@ use Rattle.dd_file.specs.Words.{ArgumentText, is_key, is_key_byte}
 use Rattle.conf_change.specs.ChangerState.{ChangerState}
 use Rattle.conf_change.specs.Acknowledgement.{ack_answer, matches}
 use Rattle.conf_change.specs.Configuration.{Configuration, voters_of}
-use Rattle.conf_change.specs.Words.{is_white, has_bytes, words}
+use Rattle.ascii_text.specs.WhiteSpace.{is_space}
+use Rattle.ascii_text.specs.Words.{has_bytes, words}
 use Rattle.conf_change.specs.ChangeList.{BadToken, unknown_token, unknown_input, bad_number, token_of, IsFirstBad, changes_in}
 use Rattle.conf_change.specs.ConfState.{ConfStateLists, lists_of, restored}
 use Rattle.conf_change.specs.ConfStateLine.{conf_state_in, conf_state_text}
@@ -56,19 +57,19 @@ unequal true h = absurd (h refl)
 unequal false h = refl
 
 abbrev has_no_white : List ℕ → Bool
-has_no_white word = list_all (λ b. not (is_white b)) word
+has_no_white word = list_all (λ b. not (is_space b)) word
 
-onto-whole : (b : ℕ) (pieces : List (List ℕ)) → is_white b ≡ false → list_all has_no_white pieces ≡ true → list_all has_no_white (onto_first b pieces) ≡ true
+onto-whole : (b : ℕ) (pieces : List (List ℕ)) → is_space b ≡ false → list_all has_no_white pieces ≡ true → list_all has_no_white (onto_first b pieces) ≡ true
 onto-whole b [] e h = both _ _ (both _ _ (ap not e) refl) refl
 onto-whole b (piece ∷ pieces) e h = both _ _ (both _ _ (ap not e) (first _ _ h)) (second _ _ h)
 
-split-step : (b : ℕ) (pieces : List (List ℕ)) (white : Bool) → is_white b ≡ white → list_all has_no_white pieces ≡ true → list_all has_no_white (cond white ([] ∷ pieces) (onto_first b pieces)) ≡ true
+split-step : (b : ℕ) (pieces : List (List ℕ)) (white : Bool) → is_space b ≡ white → list_all has_no_white pieces ≡ true → list_all has_no_white (cond white ([] ∷ pieces) (onto_first b pieces)) ≡ true
 split-step b pieces true e h = h
 split-step b pieces false e h = onto-whole b pieces e h
 
-split-whole : (text : List ℕ) → list_all has_no_white (slice_split is_white text) ≡ true
+split-whole : (text : List ℕ) → list_all has_no_white (slice_split is_space text) ≡ true
 split-whole [] = refl
-split-whole (b ∷ text) = split-step b (slice_split is_white text) (is_white b) refl (split-whole text)
+split-whole (b ∷ text) = split-step b (slice_split is_space text) (is_space b) refl (split-whole text)
 
 filter-step : (test : List ℕ → Bool) (piece : List ℕ) (pieces : List (List ℕ)) (kept : Bool) → has_no_white piece ≡ true → list_all has_no_white pieces ≡ true → list_all has_no_white (cond kept (piece ∷ pieces) pieces) ≡ true
 filter-step test piece pieces true h k = both _ _ h k
@@ -79,13 +80,13 @@ filter-whole test [] h = refl
 filter-whole test (piece ∷ pieces) h = filter-step test piece (filter test pieces) (test piece) (first _ _ h) (filter-whole test pieces (second _ _ h))
 
 words-whole : (text : List ℕ) → list_all has_no_white (words text) ≡ true
-words-whole text = filter-whole has_bytes (slice_split is_white text) (split-whole text)
+words-whole text = filter-whole has_bytes (slice_split is_space text) (split-whole text)
 
 among : (before : List (List ℕ)) (word : List ℕ) (after : List (List ℕ)) → list_all has_no_white (before ++ word ∷ after) ≡ true → has_no_white word ≡ true
 among [] word after h = first _ _ h
 among (w ∷ before) word after h = among before word after (second _ _ h)
 
-byte-black : (b : ℕ) → not (is_white b) ≡ true → is_line_byte b ≡ true
+byte-black : (b : ℕ) → not (is_space b) ≡ true → is_line_byte b ≡ true
 byte-black b h = grind (arith, nat_tests)
 
 bytes-black : (word : List ℕ) → has_no_white word ≡ true → list_all is_line_byte word ≡ true

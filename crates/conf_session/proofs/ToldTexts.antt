@@ -5,8 +5,8 @@ use Rattle.std.specs.List.{list_all, list_any, ends_with}
 use Rattle.std.specs.Cmp.Lexicographic.{pointwise}
 use Rattle.std.proofs.lemmas.List.{append-nil}
 use Rattle.std.proofs.lemmas.Bool.Decides.{nat_tests}
-use Rattle.dd_file.specs.Bytes.{newline, is_blank}
-use Rattle.dd_file.specs.Lines.{pieces, line_of, text_of, without_last, before_first_piece}
+use Rattle.ascii_text.specs.Lines.{newline, pieces, line_of, text_of, without_last, before_first_piece}
+use Rattle.ascii_text.specs.WhiteSpace.{is_blank}
 use Rattle.dd_file.specs.Script.{is_dashes}
 use Rattle.dd_file.specs.Rewritten.{is_output_line}
 use Rattle.conf_session.specs.Texts.{line}

@@ -10,7 +10,7 @@ use Rattle.quorum_sets.specs.Votes as quorum_votes
 use Rattle.quorum_sets.specs.declared.voting.VoteResult.{VoteResult}
 use Rattle.quorum_sets.specs.declared.voting.VoteResult.TheVariants.{VotePending, VoteLost, VoteWon}
 use Rattle.dd_file.specs.Words.{ArgumentText}
-use Rattle.conf_change.specs.Number.{number_in}
+use Rattle.ascii_text.specs.Number.{number_in}
 use Rattle.conf_session.specs.Arguments.{argument_of}
 use Rattle.conf_session.specs.Parameter.{number_from}
 use Rattle.conf_session.specs.declared.parameter.Parameter.{Parameter}

@@ -1,7 +1,7 @@
 -- The texts that are answered, each a line or more.
 use Rattle.std.specs.Prelude.{ℕ, List, ◌++◌, flat_map}
 use Rattle.std.specs.FinMap as finite
-use Rattle.dd_file.specs.Bytes.{newline}
+use Rattle.ascii_text.specs.Lines.{newline}
 use Rattle.conf_change.specs.TrackerState.{TrackerState}
 use Rattle.conf_change.specs.Text.{config_text, progress_text}
 use Rattle.conf_change.specs.declared.progress.Progress.{Progress}

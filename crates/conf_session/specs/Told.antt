@@ -1,8 +1,8 @@
 -- Texts that are told line by line.
 use Rattle.std.specs.Prelude.{◌≡◌, ℕ, ◌<◌, Bool, true, false, not, ◌&&◌, ◌||◌, ◌==◌, List, length, nat_eq}
 use Rattle.std.specs.List.{list_all, ends_with}
-use Rattle.dd_file.specs.Bytes.{newline, is_blank}
-use Rattle.dd_file.specs.Lines.{text_of}
+use Rattle.ascii_text.specs.Lines.{newline, text_of}
+use Rattle.ascii_text.specs.WhiteSpace.{is_blank}
 use Rattle.dd_file.specs.Script.{is_dashes}
 use Rattle.dd_file.specs.Rewritten.{is_output, has_blank_line}
 

@@ -3,7 +3,7 @@ ghost use Rattle.std.specs.Prelude.{◌≡◌, ◌==◌, option_copied};
 ghost use Rattle.std.specs.List.{find};
 ghost use Rattle.conf_session.specs.Given.{given_in};
 
-use conf_change::read_number;
+use ascii_text::number::read_number;
 use quorum_sets::{AckSource, VoteSource};
 use smallvec::SmallVec;
 use std::collections::BTreeMap;
@@ -22,7 +22,7 @@ pub(crate) trait GivenValue: Copy + Default + Drop {
 
 /// An index that is acknowledged.
 impl GivenValue for u64 {
-    ghost use Rattle.conf_change.specs.Number.{number_in};
+    ghost use Rattle.ascii_text.specs.Number.{number_in};
 
     ghost says = { number_in };
 

@@ -2,7 +2,7 @@
 ghost use Rattle.std.specs.Prelude.{◌≡◌};
 ghost use Rattle.conf_session.specs.Parameter as says;
 
-use conf_change::read_number;
+use ascii_text::number::read_number;
 use dd_file::item::Argument;
 
 /// An argument that a command has.

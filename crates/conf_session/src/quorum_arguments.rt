@@ -2,7 +2,7 @@
 ghost use Rattle.std.specs.Prelude.{◌≡◌, ◌++◌, length, filter_map, is_some, option_map, option_to_list, IfOk, IfSome, OnOk};
 ghost use Rattle.std.specs.Ordering.{nat_cmp};
 ghost use Rattle.std.specs.FinMap as finite;
-ghost use Rattle.conf_change.specs.Number.{number_in};
+ghost use Rattle.ascii_text.specs.Number.{number_in};
 ghost use Rattle.conf_session.specs.Given.{given_in};
 ghost use Rattle.conf_session.specs.QuorumArguments as says;
 
@@ -10,7 +10,7 @@ use crate::arguments::argument_of;
 use crate::given::{FEW, Given, GivenValue};
 use crate::parameter::{Parameter, number_from};
 use crate::session_ids::SessionIds;
-use conf_change::read_number;
+use ascii_text::number::read_number;
 use dd_file::item::Argument;
 use quorum_sets::{NoMemory, set_of};
 use smallvec::SmallVec;

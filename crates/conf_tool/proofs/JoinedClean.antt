@@ -3,8 +3,7 @@ use Rattle.std.proofs.Common.{◌≡◌, ℕ, ◌≤◌, Bool, true, false, not,
 use Rattle.std.specs.Prelude.{Option, Some, None, Result, Ok, Err, option_map, bytes_eq, codes, decimal}
 use Rattle.std.specs.List.{list_all, list_any, join_with_byte}
 use Rattle.std.proofs.lemmas.List.{length-append}
-use Rattle.dd_file.specs.Bytes.{newline}
-use Rattle.dd_file.specs.Lines.{lines_of}
+use Rattle.ascii_text.specs.Lines.{newline, lines_of}
 use Rattle.dd_file.specs.DirectiveText.{DirectiveText}
 use Rattle.dd_file.specs.Place.{longest_input}
 use Rattle.dd_file.specs.Reading.{script_of}

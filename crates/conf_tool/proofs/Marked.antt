@@ -1,7 +1,6 @@
 -- Lines behind a sign, piece by piece.
 use Rattle.std.proofs.Common.{◌≡◌, ℕ, List, ◌∷◌, ◌++◌, flat_map, sym, ap, ◌∙◌, append_assoc}
-use Rattle.dd_file.specs.Bytes.{newline}
-use Rattle.dd_file.specs.Lines.{pieces, without_last}
+use Rattle.ascii_text.specs.Lines.{newline, pieces, without_last}
 use Rattle.conf_session.specs.Texts.{line}
 use Rattle.conf_tool.specs.Reports.{marked}
 

@@ -1,10 +1,10 @@
 -- What the mode `lines` answers to each line of its input.
 use Rattle.std.specs.Prelude.{ℕ, Bool, ◌==◌, List, [], ◌∷◌, ◌++◌, length, Result, Ok, Err, codes, if◌then◌else◌}
-use Rattle.dd_file.specs.Bytes.{newline}
+use Rattle.ascii_text.specs.Lines.{newline}
 use Rattle.conf_change.specs.Configuration.{Configuration}
 use Rattle.conf_change.specs.Outcome.{Outcome, outcome}
 use Rattle.conf_change.specs.ChangeList.{BadToken, changes_in}
-use Rattle.conf_change.specs.Words.{words}
+use Rattle.ascii_text.specs.Words.{words}
 use Rattle.conf_change.specs.Text.{config_text, refused_text, bad_token_text}
 use Rattle.conf_change.specs.declared.change.Change.{Change}
 use Rattle.conf_change.specs.declared.step.Step.TheVariants.{Simple}

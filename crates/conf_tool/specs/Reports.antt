@@ -1,6 +1,6 @@
 -- What the modes for scripts write of each item.
 use Rattle.std.specs.Prelude.{ℕ, Bool, false, not, List, [], ◌∷◌, ◌++◌, flat_map, count_by, codes, decimal, bytes_eq, if◌then◌else◌}
-use Rattle.dd_file.specs.Lines.{pieces, without_last}
+use Rattle.ascii_text.specs.Lines.{pieces, without_last}
 use Rattle.dd_file.specs.DirectiveText.{DirectiveText}
 use Rattle.dd_file.specs.Rewritten.{Entry, entry, entry_text, is_directive}
 use Rattle.dd_file.specs.declared.item.Item.{Item}

@@ -1,12 +1,12 @@
 //! The answer of the mode `lines` to one line.
 ghost use Rattle.std.specs.Prelude.{◌≡◌, ◌++◌, Ok, length, OnOk};
-ghost use Rattle.dd_file.specs.Bytes.{newline};
+ghost use Rattle.ascii_text.specs.Lines.{newline};
 ghost use Rattle.conf_tool.specs.LineReply as says;
 ghost use Rattle.conf_tool.specs.LineReply.{line_reply, reply_to_changes};
 
+use ascii_text::words::next_token;
 use conf_change::{
-    Change, Changer, Refused, next_token, read_changes, write_config, write_refused,
-    write_token_fault,
+    Change, Changer, Refused, read_changes, write_config, write_refused, write_token_fault,
 };
 use conf_session::SessionIds;
 use quorum_sets::NoMemory;

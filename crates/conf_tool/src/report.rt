@@ -4,7 +4,7 @@ ghost use Rattle.conf_tool.specs.Outputs.{status_of};
 ghost use Rattle.conf_tool.specs.Reports.{marked, difference_text, counts_line};
 
 use crate::status::Status;
-use dd_file::cut::{next_piece, without_end};
+use ascii_text::lines::{next_piece, without_end};
 use dd_file::item::Directive;
 use itoa::Buffer;
 use quorum_sets::NoMemory;

@@ -3,7 +3,7 @@ use Rattle.std.proofs.Common.{◌≡◌, ℕ, ◌+◌, Bool, true, false, ◌&&�
 use Rattle.std.specs.Prelude.{Option, Some, None, Result, Ok, Err, option_map}
 use Rattle.std.specs.List.{list_all, list_any}
 use Rattle.std.proofs.lemmas.List.{append-nil}
-use Rattle.dd_file.specs.Bytes.{is_blank}
+use Rattle.ascii_text.specs.WhiteSpace.{is_blank}
 use Rattle.dd_file.specs.Parts.{up_to}
 use Rattle.dd_file.specs.Words.{CommandText}
 use Rattle.dd_file.specs.Script.{Front, front, first_of, head_of, is_continued, is_separator, before_pair, has_pair, directive, after_pair, in_double, in_single, body, at_head}

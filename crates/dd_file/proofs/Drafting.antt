@@ -4,7 +4,7 @@ use Rattle.std.specs.Prelude.{Option, Some, None, is_some, Ok}
 use Rattle.std.specs.List.{list_all, list_any}
 use Rattle.std.proofs.lemmas.List.{append_assoc}
 use Rattle.std.proofs.Math.Seq.{drop-append_seam, drop-append-add}
-use Rattle.dd_file.specs.Bytes.{is_blank}
+use Rattle.ascii_text.specs.WhiteSpace.{is_blank}
 use Rattle.dd_file.specs.Parts.{up_to, behind}
 use Rattle.dd_file.specs.Words.{CommandText, command_of}
 use Rattle.dd_file.specs.Script.{Front, front, first_of, head_of, joined, is_continued, is_comment, is_separator, is_dashes, begins_with_dashes, before_pair, has_pair, directive, after_pair, in_double, in_single, body, at_command, at_head}

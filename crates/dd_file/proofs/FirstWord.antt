@@ -1,7 +1,7 @@
 -- The first word of a text, and the words behind it.
 use Rattle.std.proofs.Common.{◌≡◌, ℕ, ◌≤◌, ◌<◌, suc, Bool, true, false, not, cond, ◌&&◌, ◌||◌, List, [], ◌∷◌, length, take, drop, refl, sym, ◌∙◌, ap, subst, arith, rules}
 use Rattle.std.specs.Prelude.{◌==◌, filter}
-use Rattle.dd_file.specs.Bytes.{is_space, without_leading_space}
+use Rattle.ascii_text.specs.WhiteSpace.{is_space, without_leading_space}
 use Rattle.dd_file.specs.Words.{inside_after, placed, cut_at_spaces, word_len, words_of}
 
 -- white space opens no parentheses

@@ -4,8 +4,7 @@ use Rattle.std.specs.Prelude.{filter, Option, Some, None, Result, Ok, IfErr}
 use Rattle.std.specs.List.{list_any}
 use Rattle.std.proofs.lemmas.List.{append-nil, take-append-drop, drop-drop, length-drop}
 use Rattle.std.specs.Io.KnownBytes.{Consumes}
-use Rattle.dd_file.specs.FirstPiece.{first_len}
-use Rattle.dd_file.specs.Lines.{pieces, line_of, is_whole}
+use Rattle.ascii_text.specs.Lines.{first_len, pieces, line_of, is_whole}
 use Rattle.dd_file.specs.Place.{longest_input}
 use Rattle.dd_file.specs.Script.{Front, first_of}
 use Rattle.dd_file.specs.Reading.{next_line, next_item}
@@ -15,8 +14,7 @@ use Rattle.dd_file.specs.InHand.{CanTell, passed, whole_lines, is_line_in_hand, 
 use Rattle.dd_file.specs.Draft.{DraftText, AddsIn, front_of, front_in, is_done, found_of, IsDraftFault, blank_draft}
 use Rattle.dd_file.specs.declared.item.Item.{Item}
 use Rattle.dd_file.specs.declared.fault.FileFault.{FileFault}
-use Rattle.dd_file.proofs.Pieces.{pieces-first, first_len-bound, first_len-some}
-use Rattle.dd_file.proofs.PieceParts.{first_len-take, length-first, unfinished-rest}
+use Rattle.ascii_text.proofs.Offered.{pieces-first, first_len-bound, first_len-some, first_len-take, length-first, unfinished-rest}
 use Rattle.dd_file.proofs.InOrder.{given-none}
 use Rattle.dd_file.proofs.LineRead.{piece-reads}
 use Rattle.dd_file.proofs.DraftEnd.{Ends, draft-ends}

@@ -2,7 +2,7 @@
 use Rattle.std.proofs.Common.{◌≡◌, ℕ, ◌+◌, Bool, true, false, not, ◌&&◌, List, [], ◌++◌, length, drop, take, map, refl, sym, ◌∙◌, ap, subst, inl, inr}
 use Rattle.std.specs.Prelude.{◌⊎◌, Option, Some, None, is_some, Result, Ok, Err}
 use Rattle.std.specs.List.{concat}
-use Rattle.dd_file.specs.Lines.{pieces, line_of}
+use Rattle.ascii_text.specs.Lines.{pieces, line_of}
 use Rattle.dd_file.specs.Place.{Place}
 use Rattle.dd_file.specs.Words.{CommandText}
 use Rattle.dd_file.specs.Script.{Front, front, first_of, body, in_single, in_double, after_pair}

@@ -5,8 +5,7 @@ use Rattle.std.specs.List.{list_all}
 use Rattle.std.proofs.Math.Seq.{drop-append-add}
 use Rattle.std.proofs.lemmas.List.{append_assoc, append-nil, map-append, drop-append-le, nil_from_length}
 use Rattle.std.proofs.lemmas.List.Folds.{list_all-append}
-use Rattle.dd_file.specs.Bytes.{newline}
-use Rattle.dd_file.specs.Lines.{pieces, before_first_piece, line_of, lines_of, text_of, without_last}
+use Rattle.ascii_text.specs.Lines.{newline, pieces, before_first_piece, line_of, lines_of, text_of, without_last}
 use Rattle.dd_file.specs.Script.{front, first_of}
 use Rattle.dd_file.specs.Place.{longest_input}
 use Rattle.dd_file.specs.Reading.{Script, script_of, with_first}
@@ -17,7 +16,7 @@ use Rattle.dd_file.specs.declared.fault.FileFault.{FileFault}
 use Rattle.dd_file.proofs.Locality.{first_of-local, ended_front}
 use Rattle.dd_file.proofs.CarriageReturns.{without_return}
 use Rattle.dd_file.proofs.WrittenLines.{both, ended, lines-lines, text_of-append}
-use Rattle.dd_file.proofs.Newlines.{without_last-push}
+use Rattle.ascii_text.proofs.Offered.{without_last-push}
 use Rattle.dd_file.proofs.FrontLines.{first_of-fits, moved_item}
 use Rattle.dd_file.proofs.OpenFront.{open-front}
 use Rattle.dd_file.proofs.ScriptLines.{no_items, items_of, items_of-first, items_at-moved, moved_script, script_of-lines}

@@ -2,14 +2,13 @@ pub mod Offered
 mod ArgumentWords
 mod Commas
 mod FirstWord
-mod WhiteSpace
+mod TrimmedIn
 mod WorkedWords
 mod WorkedScripts
 mod Appending
 mod Newlines
 mod Ends
 mod BlankLines
-mod Pieces
 mod PieceParts
 mod NextLine
 mod LineRead

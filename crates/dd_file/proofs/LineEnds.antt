@@ -1,8 +1,7 @@
 -- Lines that lie in one text, found by the places where they end.
 use Rattle.std.proofs.Common.{◌≡◌, ℕ, suc, zero, ◌+◌, ◌-◌, ◌<◌, ◌≤◌, List, [], ◌∷◌, ◌++◌, length, take, drop, get_or, refl, sym, ◌∙◌, ap, arith}
 use Rattle.std.proofs.lemmas.List.{append_assoc, append-nil, length-append, take_at, drop_at, take-append-drop}
-use Rattle.dd_file.specs.Bytes.{newline}
-use Rattle.dd_file.specs.Lines.{text_of}
+use Rattle.ascii_text.specs.Lines.{newline, text_of}
 use Rattle.dd_file.specs.LineEnds.{lines_at, ends_of, LieIn, FillText}
 use Rattle.dd_file.proofs.WrittenLines.{text_of-append}
 

@@ -3,7 +3,7 @@ use Rattle.std.proofs.Common.{◌≡◌, ℕ, ◌+◌, ◌≤◌, ◌<◌, Bool,
 use Rattle.std.specs.Prelude.{◌⊎◌, ◌||◌, Option, Some, None, Ok, Err, MatchOption}
 use Rattle.std.proofs.lemmas.List.{append_assoc, append_cancel_right}
 use Rattle.std.specs.Io.KnownBytes.{IsAtEnd}
-use Rattle.dd_file.specs.Lines.{line_of, is_whole}
+use Rattle.ascii_text.specs.Lines.{line_of, is_whole}
 use Rattle.dd_file.specs.Place.{Place, longest_input}
 use Rattle.dd_file.specs.Reading.{Over, Found, Faulty, next_line}
 use Rattle.dd_file.specs.ReaderState.{ReaderState, IsOver}

@@ -3,14 +3,12 @@ use Rattle.std.proofs.Common.{◌≡◌, ℕ, suc, ◌+◌, ◌-◌, ◌≤◌, 
 use Rattle.std.specs.Prelude.{◌==◌, ◌⊎◌, filter, nat_lt}
 use Rattle.std.specs.List.{concat}
 use Rattle.std.proofs.lemmas.List.{append-nil, drop-drop, drop-take, take-append-drop, take-append-le, length-append, length-drop, length-take}
-use Rattle.dd_file.specs.FirstPiece.{first_len}
-use Rattle.dd_file.specs.Lines.{pieces, line_of, is_whole}
+use Rattle.ascii_text.specs.Lines.{first_len, pieces, line_of, is_whole}
 use Rattle.dd_file.specs.Place.{Place}
 use Rattle.dd_file.specs.Reading.{Next, Over, Found, Faulty, next_line, from_pieces, found_in, at_end, is_too_long, pieces_within}
 use Rattle.dd_file.specs.InOrder.{ReadsTo}
 use Rattle.dd_file.specs.declared.fault.FileFault.{FileFault}
-use Rattle.dd_file.proofs.Pieces.{pieces-first, first_len-bound}
-use Rattle.dd_file.proofs.PieceParts.{length-first, unfinished-rest}
+use Rattle.ascii_text.proofs.Offered.{pieces-first, first_len-bound, length-first, unfinished-rest}
 use Rattle.dd_file.proofs.Takes.{none-within}
 
 -- a first piece that is whole stays the first, whatever follows

@@ -3,13 +3,13 @@ use Rattle.std.proofs.Common.{◌≡◌, ℕ, false, List, [], ◌∷◌, ◌++�
 use Rattle.std.specs.Prelude.{◌==◌, Option, if◌then◌else◌}
 use Rattle.std.specs.Io.KnownBytes.{Appends}
 use Rattle.std.proofs.lemmas.List.{append_assoc, append-nil}
-use Rattle.dd_file.specs.Bytes.{newline}
-use Rattle.dd_file.specs.Lines.{without_last}
+use Rattle.ascii_text.specs.Lines.{newline, without_last}
 use Rattle.dd_file.specs.Device.{AppendsPart}
 use Rattle.dd_file.specs.Rewritten.{newlines_at_end, without_double_end}
 use Rattle.dd_file.specs.RewriterState.{HasBegun, HasWritten, Continues, BreaksOff, Finishes, FinishesPart}
 use Rattle.dd_file.proofs.Appending.{appends-append, append-part, part-append, part-part}
-use Rattle.dd_file.proofs.Newlines.{text-held, text-ended, without_last-append, without_last-front}
+use Rattle.dd_file.proofs.Newlines.{text-held, text-ended, without_last-front}
+use Rattle.ascii_text.proofs.Offered.{without_last-append}
 
 -- the newline that is held back behind so many
 abbrev pub held : ℕ → List ℕ

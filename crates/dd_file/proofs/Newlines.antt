@@ -1,46 +1,13 @@
 -- The newlines at the end of a text, and what is left without the last.
-use Rattle.std.proofs.Common.{◌≡◌, ℕ, ◌-◌, Bool, true, false, not, cond, ◌&&◌, ◌⊎◌, inl, inr, List, [], ◌∷◌, ◌++◌, length, drop, refl, sym, ◌∙◌, ap, eq-eqb, length-append, arith, rules}
+use Rattle.std.proofs.Common.{◌≡◌, ℕ, ◌-◌, Bool, true, false, not, cond, ◌&&◌, inl, inr, List, [], ◌∷◌, ◌++◌, length, drop, refl, sym, ◌∙◌, ap, length-append, arith, rules}
 use Rattle.std.specs.Prelude.{◌==◌, nat_eq, if◌then◌else◌}
 use Rattle.std.specs.List.{ends_with}
 use Rattle.std.proofs.Math.Seq.{drop-append_seam}
 use Rattle.std.proofs.lemmas.List.{append_assoc, append-nil}
 use lib.Pointwise.{pointwise}
-use Rattle.dd_file.specs.Bytes.{newline}
-use Rattle.dd_file.specs.Lines.{without_last}
+use Rattle.ascii_text.specs.Lines.{newline, without_last}
 use Rattle.dd_file.specs.Rewritten.{newlines_at_end, without_double_end}
-
--- a list has no element, or a last one
-pub split_last : {A : Type 0} (xs : List A) → (xs ≡ []) ⊎ ((front : List A) × (x : A) × (xs ≡ front ++ x ∷ []))
-split_last [] = inl refl
-split_last (x ∷ xs) = elim (split_last xs) [ inl e ↦ inr ([], x, ap (λ t. x ∷ t) e) | inr p ↦ inr (x ∷ p.0, p.1, ap (λ t. x ∷ t) p.2) ]
-
--- bytes with one more at their end
-pub without_last-push : (b x : ℕ) (xs : List ℕ) → without_last b (xs ++ x ∷ []) ≡ cond (x == b) xs (xs ++ x ∷ [])
-without_last-push b x [] = refl
-without_last-push b x (y ∷ []) = at (x == b) where
-  at : (c : Bool) → y ∷ cond c [] (x ∷ []) ≡ cond c (y ∷ []) (y ∷ x ∷ [])
-  at true = refl
-  at false = refl
-without_last-push b x (y ∷ z ∷ xs) = ap (λ t. y ∷ t) (without_last-push b x (z ∷ xs)) ∙ at (x == b) where
-  at : (c : Bool) → y ∷ cond c (z ∷ xs) (z ∷ xs ++ x ∷ []) ≡ cond c (y ∷ z ∷ xs) (y ∷ z ∷ xs ++ x ∷ [])
-  at true = refl
-  at false = refl
-
--- bytes that end in a newline, that end in another byte, and none
-pub without_last-same : (b x : ℕ) (front bytes : List ℕ) → bytes ≡ front ++ x ∷ [] → x ≡ b → front ≡ without_last b bytes
-without_last-same b x front bytes e h =
-    sym (ap (without_last b) e ∙ without_last-push b x front ∙ ap (λ c. cond c front (front ++ x ∷ [])) (eq-eqb x b h))
-
-pub without_last-other : (b x : ℕ) (front bytes : List ℕ) → bytes ≡ front ++ x ∷ [] → (x ≡ b → ⊥) → bytes ≡ without_last b bytes
-without_last-other b x front bytes e ne =
-    let h : (x == b) ≡ false = search rules in
-    e ∙ sym (ap (without_last b) e ∙ without_last-push b x front ∙ ap (λ c. cond c front (front ++ x ∷ [])) h)
-
--- bytes with more behind them
-pub without_last-append : (b : ℕ) (xs : List ℕ) (y : ℕ) (ys : List ℕ) → without_last b (xs ++ y ∷ ys) ≡ xs ++ without_last b (y ∷ ys)
-without_last-append b [] y ys = refl
-without_last-append b (x ∷ []) y ys = refl
-without_last-append b (x ∷ z ∷ xs) y ys = ap (λ t. x ∷ t) (without_last-append b (z ∷ xs) y ys)
+use Rattle.ascii_text.proofs.Offered.{split_last, without_last-append, without_last-push}
 
 -- what a text ends in is told by its last bytes
 pub ends_with-append : (xs ys needle : List ℕ) → length ys ≡ length needle → ends_with nat_eq (xs ++ ys) needle ≡ pointwise nat_eq needle ys

@@ -5,13 +5,11 @@ use Rattle.std.specs.List.{concat}
 use Rattle.std.proofs.lemmas.List.{append-nil, take_all, take-append-le, length-append, length-take}
 use Rattle.std.proofs.Math.Seq.{drop-append_seam, drop-length}
 use Rattle.std.proofs.lemmas.Bool.Decides.{nat_tests}
-use Rattle.dd_file.specs.FirstPiece.{first_len}
-use Rattle.dd_file.specs.Lines.{pieces, line_of, is_whole}
+use Rattle.ascii_text.specs.Lines.{first_len, pieces, line_of, is_whole}
 use Rattle.dd_file.specs.Place.{Place}
 use Rattle.dd_file.specs.Reading.{Next, Over, Found, Faulty, next_line, from_pieces, is_too_long, pieces_within}
 use Rattle.dd_file.specs.declared.fault.FileFault.TheVariants.{InputTooLong}
-use Rattle.dd_file.proofs.Pieces.{pieces-first}
-use Rattle.dd_file.proofs.PieceParts.{longer, shorter}
+use Rattle.ascii_text.proofs.Offered.{pieces-first, longer, shorter}
 use Rattle.dd_file.proofs.WholeText.{is_whole_text, pieces-append, pieces_within-whole}
 
 -- one piece alone

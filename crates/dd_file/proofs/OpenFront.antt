@@ -3,7 +3,7 @@ use Rattle.std.proofs.Common.{◌≡◌, ℕ, ◌+◌, ◌-◌, ◌<◌, Bool, t
 use Rattle.std.specs.Prelude.{Option, Some, None, Result, Ok, Err, nat_lt}
 use Rattle.std.specs.List.{list_all, list_any}
 use Rattle.std.proofs.lemmas.List.{drop-append-le}
-use Rattle.dd_file.specs.Bytes.{is_blank}
+use Rattle.ascii_text.specs.WhiteSpace.{is_blank}
 use Rattle.dd_file.specs.Parts.{up_to, behind}
 use Rattle.dd_file.specs.Words.{CommandText, command_of}
 use Rattle.dd_file.specs.Script.{Front, front, first_of, head_of, joined, is_continued, is_comment, is_separator, is_dashes, before_pair, has_pair, directive, after_pair, in_double, in_single, body, at_command, at_head}

@@ -1,62 +1,11 @@
 -- A piece that is read part by part.
 use Rattle.std.proofs.Common.{◌≡◌, ℕ, suc, ◌+◌, ◌-◌, ◌≤◌, ◌<◌, Bool, true, false, cond, List, [], ◌∷◌, ◌++◌, length, take, drop, refl, sym, ◌∙◌, ap, arith, rules}
 use Rattle.std.specs.Prelude.{◌==◌, Option, Some, None}
-use Rattle.std.proofs.lemmas.List.{append_assoc, append-nil, take-append-drop, length-append, length-take, length-drop, drop-drop, drop-take}
+use Rattle.std.proofs.lemmas.List.{append_assoc, append-nil, take-append-drop, length-append, length-drop, drop-drop, drop-take}
 use Rattle.std.specs.Io.KnownBytes.{Consumes}
-use Rattle.dd_file.specs.FirstPiece.{first_len}
-use Rattle.dd_file.specs.Lines.{is_whole}
+use Rattle.ascii_text.specs.Lines.{first_len, is_whole}
 use Rattle.dd_file.specs.PieceRead.{PartRead}
-use Rattle.dd_file.proofs.Pieces.{first_len-bound}
-
--- bytes with one more at their end
-pub is_whole-append : (x : ℕ) (xs : List ℕ) → is_whole (xs ++ x ∷ []) ≡ (x == 10)
-is_whole-append x [] = refl
-is_whole-append x (y ∷ []) = refl
-is_whole-append x (y ∷ z ∷ xs) = is_whole-append x (z ∷ xs)
-
--- one part of a piece, and more behind it
-one-more : (c : Bool) (n : ℕ) → c ≡ false → cond c 1 (suc n) ≡ 1 + n
-one-more true n e = cc
-one-more false n e = omega arith
-
-pub longer : (c : Bool) (n k : ℕ) → cond c 1 (suc n) ≡ suc (suc k) → c ≡ false
-longer true n k e = absurd (omega (arith, e))
-longer false n k e = refl
-
-pub shorter : (c : Bool) (n k : ℕ) → c ≡ false → cond c 1 (suc n) ≡ suc k → n ≡ k
-shorter true n k f e = cc
-shorter false n k f e = omega (arith, e)
-
-pub first_len-append : (xs ys : List ℕ) → first_len xs ≡ length xs → is_whole xs ≡ false → first_len (xs ++ ys) ≡ length xs + first_len ys
-first_len-append [] ys e h = omega arith
-first_len-append (b ∷ []) ys e h = one-more (b == 10) (first_len ys) h
-first_len-append (b ∷ c ∷ xs) ys e h =
-    let other : (b == 10) ≡ false = longer (b == 10) (first_len (c ∷ xs)) (length xs) e in
-    let ih = first_len-append (c ∷ xs) ys (shorter (b == 10) (first_len (c ∷ xs)) (suc (length xs)) other e) h in
-    one-more (b == 10) (first_len (c ∷ xs ++ ys)) other ∙ omega (arith, ih)
-
--- a first piece is one piece
-first-step : (c : Bool) (b : ℕ) (bytes : List ℕ) → (b == 10) ≡ c → first_len (take (first_len bytes) bytes) ≡ first_len bytes →
-    first_len (take (cond c 1 (suc (first_len bytes))) (b ∷ bytes)) ≡ cond c 1 (suc (first_len bytes))
-first-step true b bytes e ih = rw e refl
-first-step false b bytes e ih = rw e (ap suc ih)
-
-pub first_len-take : (bytes : List ℕ) → first_len (take (first_len bytes) bytes) ≡ first_len bytes
-first_len-take [] = refl
-first_len-take (b ∷ bytes) = first-step (b == 10) b bytes refl (first_len-take bytes)
-
-pub length-first : (bytes : List ℕ) → length (take (first_len bytes) bytes) ≡ first_len bytes
-length-first bytes = let h = first_len-bound bytes in simp length-take (omega (arith, h))
-
--- bytes that go on without a newline have no byte behind them
-rest-step : (c : Bool) (b : ℕ) (part bytes : List ℕ) → (b == 10) ≡ c → (is_whole ((part ++ b ∷ []) ++ take (first_len bytes) bytes) ≡ false → drop (first_len bytes) bytes ≡ []) →
-    is_whole (part ++ take (cond c 1 (suc (first_len bytes))) (b ∷ bytes)) ≡ false → drop (cond c 1 (suc (first_len bytes))) (b ∷ bytes) ≡ []
-rest-step true b part bytes e ih h = let bad : true ≡ false = sym e ∙ sym (is_whole-append b part) ∙ h in cc
-rest-step false b part bytes e ih h = ih (ap is_whole (append_assoc part (b ∷ []) (take (first_len bytes) bytes)) ∙ h)
-
-pub unfinished-rest : (part rest : List ℕ) → is_whole (part ++ take (first_len rest) rest) ≡ false → drop (first_len rest) rest ≡ []
-unfinished-rest part [] h = refl
-unfinished-rest part (b ∷ bytes) h = rest-step (b == 10) b part bytes refl (unfinished-rest (part ++ b ∷ []) bytes) h
+use Rattle.ascii_text.proofs.Offered.{first_len-append, first_len-bound, first_len-take, length-first}
 
 -- the first piece of what is held, behind a part without newline
 pub part-moved : (held rest behind : List ℕ) (before after : Option (List ℕ)) (part piece : List ℕ) → PartRead held rest before after part → is_whole part ≡ false →

@@ -2,11 +2,11 @@
 use Rattle.std.proofs.Common.{◌≡◌, ℕ, Bool, true, false, cond, ◌&&◌, List, [], ◌∷◌, ◌++◌, map, refl, sym, ◌∙◌, ap, rules}
 use Rattle.std.specs.Prelude.{◌==◌}
 use Rattle.std.proofs.lemmas.List.{append_assoc}
-use Rattle.dd_file.specs.Bytes.{newline, is_space, is_blank, without_leading_space, without_trailing_space, trimmed}
-use Rattle.dd_file.specs.Lines.{pieces, before_first_piece, line_of, lines_of, text_of, without_last}
+use Rattle.ascii_text.specs.Lines.{newline, pieces, before_first_piece, line_of, lines_of, text_of, without_last}
+use Rattle.ascii_text.specs.WhiteSpace.{is_space, is_blank, without_leading_space, without_trailing_space, trimmed}
 use Rattle.dd_file.specs.Laws.{SameButEnds}
-use Rattle.dd_file.proofs.CarriageReturns.{without_return, without_returns, without_trailing_space-without_return}
-use Rattle.dd_file.proofs.Newlines.{without_last-push}
+use Rattle.dd_file.proofs.CarriageReturns.{without_return, without_returns}
+use Rattle.ascii_text.proofs.Offered.{without_trailing_space-without_last, without_last-push}
 
 -- the second text has a carriage return more before some newlines
 pub data SameText : List ℕ → List ℕ → Type 0 where
@@ -73,13 +73,13 @@ pieces-same s t (Return s' t' same) = Piece newline (13 ∷ newline) _ _ return 
   return : (before : List ℕ) → ended before newline ≡ ended before (13 ∷ newline)
   return before = ap without_trailing_space (without_last-push 10 10 before)
       ∙ sym (ap without_trailing_space (ap (without_last 10) (sym (append_assoc before (13 ∷ []) newline)) ∙ without_last-push 10 10 (before ++ 13 ∷ []))
-      ∙ sym (without_trailing_space-without_return (before ++ 13 ∷ [])) ∙ ap without_trailing_space (without_last-push 13 13 before))
+      ∙ sym (without_trailing_space-without_last 13 (before ++ 13 ∷ []) refl) ∙ ap without_trailing_space (without_last-push 13 13 before))
 
 lines-same : (ps qs : List (List ℕ)) → SamePieces ps qs → SameButEnds (map line_of ps) (map line_of qs)
 lines-same ps qs NoPiece = refl
 lines-same ps qs (Piece p q ps' qs' h same) =
     let here : without_trailing_space (line_of p) ≡ without_trailing_space (line_of q) =
-    without_trailing_space-without_return (without_last 10 p) ∙ h [] ∙ sym (without_trailing_space-without_return (without_last 10 q)) in
+    without_trailing_space-without_last 13 (without_last 10 p) refl ∙ h [] ∙ sym (without_trailing_space-without_last 13 (without_last 10 q) refl) in
     ap (λ t. t ∷ map without_trailing_space (map line_of ps')) here ∙ ap (λ ts. without_trailing_space (line_of q) ∷ ts) (lines-same ps' qs' same)
 
 line-same : (line s t : List ℕ) → SameText s t → SameText ((without_return line ++ newline) ++ s) ((line ++ newline) ++ t)

@@ -3,9 +3,9 @@ use Rattle.std.proofs.Common.{◌≡◌, ℕ, zero, suc, Bool, true, false, not,
 use Rattle.std.specs.Prelude.{◌==◌, Some, codes, filter}
 use Rattle.std.specs.List.{list_all, list_any}
 use Rattle.std.proofs.Math.Seq.{drop-append_seam}
-use Rattle.dd_file.specs.Bytes.{is_blank}
+use Rattle.ascii_text.specs.WhiteSpace.{is_blank}
 use Rattle.dd_file.specs.Parts.{up_to, behind}
-use Rattle.dd_file.specs.Lines.{without_last}
+use Rattle.ascii_text.specs.Lines.{without_last}
 use Rattle.dd_file.specs.Script.{first_of, head_of, at_head, is_comment, is_continued, is_dashes, begins_with_dashes, before_pair, has_pair}
 use Rattle.dd_file.specs.Rewritten.{is_output_line}
 use Rattle.dd_file.proofs.CarriageReturns.{without_return, without_returns, trimmed-without_return}

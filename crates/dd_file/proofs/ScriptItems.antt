@@ -2,8 +2,7 @@
 use Rattle.std.proofs.Common.{◌≡◌, ℕ, zero, suc, Bool, true, false, not, cond, ◌&&◌, ◌+◌, ◌-◌, List, [], ◌∷◌, length, take, map, refl, ◌∙◌, ap}
 use Rattle.std.specs.Prelude.{◌==◌, Option, Some, None, Result, Ok, Err, filter}
 use Rattle.std.specs.List.{list_all}
-use Rattle.dd_file.specs.Bytes.{newline}
-use Rattle.dd_file.specs.Lines.{pieces, before_first_piece, without_last, line_of, is_whole}
+use Rattle.ascii_text.specs.Lines.{newline, pieces, before_first_piece, without_last, line_of, is_whole}
 use Rattle.dd_file.specs.Script.{Front, front, first_of}
 use Rattle.dd_file.specs.Place.{Place, start, longest_input}
 use Rattle.dd_file.specs.Reading.{followed, first_items, at_end, with_count, from_front, next_item, script_of, is_too_long, pieces_within}

@@ -3,16 +3,14 @@ use Rattle.std.proofs.Common.{◌≡◌, ℕ, zero, suc, ◌+◌, ◌≤◌, Boo
 use Rattle.std.specs.Prelude.{◌==◌, Option, Some, None, option_map, Result, Ok, Err}
 use Rattle.std.specs.List.{concat}
 use Rattle.std.proofs.lemmas.List.{drop-drop, drop-map, length-map}
-use Rattle.dd_file.specs.Bytes.{newline}
-use Rattle.dd_file.specs.FirstPiece.{first_len}
-use Rattle.dd_file.specs.Lines.{pieces, before_first_piece, line_of, lines_of}
+use Rattle.ascii_text.specs.Lines.{newline, first_len, pieces, before_first_piece, line_of, lines_of}
 use Rattle.dd_file.specs.Script.{Front, front, first_of}
 use Rattle.dd_file.specs.Place.{Place, start, longest_input}
 use Rattle.dd_file.specs.Reading.{Script, with_first, followed, first_items, next_item, script_of, is_too_long, from_front}
 use Rattle.dd_file.specs.Laws.{moved_fault}
 use Rattle.dd_file.specs.declared.item.Item.{Item}
 use Rattle.dd_file.specs.declared.fault.FileFault.{FileFault}
-use Rattle.dd_file.proofs.Pieces.{pieces-first, first_len-bound}
+use Rattle.ascii_text.proofs.Offered.{pieces-first, first_len-bound}
 use Rattle.dd_file.proofs.FrontLines.{first_of-fits, first_of-moved, moved_item, moved_front}
 
 abbrev pub no_items : Script Item

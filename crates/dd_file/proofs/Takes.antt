@@ -3,9 +3,8 @@ use Rattle.std.proofs.Common.{◌≡◌, ℕ, zero, suc, ◌+◌, ◌-◌, ◌�
 use Rattle.std.specs.Prelude.{filter, Option, Some, None, Result, Ok, Err}
 use Rattle.std.specs.List.{concat, list_all, list_any}
 use Rattle.std.proofs.lemmas.List.{length-append, length-drop}
-use Rattle.dd_file.specs.Bytes.{is_blank}
-use Rattle.dd_file.specs.FirstPiece.{first_len}
-use Rattle.dd_file.specs.Lines.{pieces, line_of, is_whole}
+use Rattle.ascii_text.specs.WhiteSpace.{is_blank}
+use Rattle.ascii_text.specs.Lines.{first_len, pieces, line_of, is_whole}
 use Rattle.dd_file.specs.Words.{CommandText, command_of}
 use Rattle.dd_file.specs.Script.{Front, front, first_of, head_of, joined, is_continued, is_comment, is_separator, begins_with_dashes, before_pair, has_pair, directive, after_pair, in_double, in_single, body, at_command, at_head}
 use Rattle.dd_file.specs.Parts.{up_to, behind}
@@ -14,8 +13,7 @@ use Rattle.dd_file.specs.Reading.{Next, Over, Found, Faulty, next_line, next_ite
 use Rattle.dd_file.specs.InOrder.{TakesBytes}
 use Rattle.dd_file.specs.declared.item.Item.{Item}
 use Rattle.dd_file.specs.declared.fault.FileFault.{FileFault}
-use Rattle.dd_file.proofs.Pieces.{pieces-first, first_len-some}
-use Rattle.dd_file.proofs.PieceParts.{length-first}
+use Rattle.ascii_text.proofs.Offered.{pieces-first, first_len-some, length-first}
 
 -- a choice of two fronts
 choice : (k : ℕ) (c : Bool) (a b : Front) → k ≤ a.count → k ≤ b.count → k ≤ (cond c a b).count

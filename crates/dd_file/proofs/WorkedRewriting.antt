@@ -1,7 +1,6 @@
 -- Worked examples of scripts that are written again.
 use Rattle.std.specs.Prelude.{◌≡◌, ℕ, List, [], ◌∷◌, ◌++◌, Ok, true, false, codes, refl}
-use Rattle.dd_file.specs.Bytes.{newline}
-use Rattle.dd_file.specs.Lines.{lines_of}
+use Rattle.ascii_text.specs.Lines.{newline, lines_of}
 use Rattle.dd_file.specs.DirectiveText.{DirectiveText}
 use Rattle.dd_file.specs.Script.{front}
 use Rattle.dd_file.specs.Rewritten.{found_text, newlines_at_end, without_double_end}

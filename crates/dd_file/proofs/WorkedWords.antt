@@ -1,7 +1,7 @@
 -- Worked examples of lines and of directives' texts.
 use Rattle.std.specs.Prelude.{◌≡◌, ℕ, List, [], ◌∷◌, ◌++◌, Option, Some, None, codes, refl}
-use Rattle.dd_file.specs.Bytes.{newline, trimmed}
-use Rattle.dd_file.specs.Lines.{lines_of}
+use Rattle.ascii_text.specs.Lines.{newline, lines_of}
+use Rattle.ascii_text.specs.WhiteSpace.{trimmed}
 use Rattle.dd_file.specs.Script.{joined}
 use Rattle.dd_file.specs.Words.{ArgumentText, CommandText, words_of, argument_of, command_of}
 

@@ -5,8 +5,8 @@ use Rattle.std.specs.List.{list_all, list_any}
 use Rattle.std.proofs.Math.Seq.{drop-append-add}
 use Rattle.std.proofs.lemmas.List.{append_assoc, append-nil, map-append}
 use Rattle.std.proofs.lemmas.List.Folds.{list_all-append}
-use Rattle.dd_file.specs.Bytes.{newline, is_blank, without_trailing_space}
-use Rattle.dd_file.specs.Lines.{lines_of, text_of}
+use Rattle.ascii_text.specs.Lines.{newline, lines_of, text_of}
+use Rattle.ascii_text.specs.WhiteSpace.{is_blank, without_trailing_space}
 use Rattle.dd_file.specs.Parts.{up_to, behind}
 use Rattle.dd_file.specs.Words.{CommandText, command_of}
 use Rattle.dd_file.specs.Script.{front, first_of, joined, is_continued, is_comment, is_separator, begins_with_dashes, before_pair, has_pair, directive, after_pair, in_double, in_single, body, at_head}
@@ -14,7 +14,8 @@ use Rattle.dd_file.specs.Rewritten.{entry_text, found_text, opening, closing, ha
 use Rattle.dd_file.specs.Laws.{is_line, IsSameItem}
 use Rattle.dd_file.specs.declared.item.Item.{Item}
 use Rattle.dd_file.specs.declared.item.Item.TheVariants.{Comment, Blank}
-use Rattle.dd_file.proofs.CarriageReturns.{without_return, without_returns, is_blank-without_return, trimmed-without_return, ends-without_returns, any_separator-without_returns, all_continued-without_returns, joined-without_returns}
+use Rattle.dd_file.proofs.CarriageReturns.{without_return, without_returns, trimmed-without_return, ends-without_returns, any_separator-without_returns, all_continued-without_returns, joined-without_returns}
+use Rattle.ascii_text.proofs.Offered.{is_blank-without_last}
 use Rattle.dd_file.proofs.WrittenLines.{both, lines_of-text_of, text_of-append, IsOutputOf, output-lines, output-returns, has_blank_line-lines}
 use Rattle.dd_file.proofs.Locality.{output_at}
 use Rattle.dd_file.proofs.Scanning.{up_to-seam, behind-seam, any-seam, first_of-head, begins_with_dashes-output, output_line-dashes, dashes_line, has_pair-output, before_pair-output}
@@ -156,7 +157,7 @@ at_head-blank m head lines ends says = rw (ends, says) refl
 first_of-again : (m : ℕ) (line : List ℕ) (rest more : List (List ℕ)) → IsHead line rest → first_of m (without_returns (line ∷ rest) ++ more) ≡ Some (at_head m (without_returns (line ∷ rest)) more)
 first_of-again m line rest more is =
     let comment : is_comment (without_return line) ≡ is_comment line = rw (trimmed-without_return line) refl in
-    first_of-head m (without_return line) (without_returns rest) more (comment ∙ is.comment) (is_blank-without_return line ∙ is.blank) (is.again more)
+    first_of-head m (without_return line) (without_returns rest) more (comment ∙ is.comment) (is_blank-without_last 13 line refl ∙ is.blank) (is.again more)
 
 -- a directive is read again
 pub directive-again : (is_ended : Bool) (n m : ℕ) (command : CommandText) (line : List ℕ) (rest input expected more lines : List (List ℕ)) (found : List ℕ) → IsHead line rest →
@@ -212,7 +213,7 @@ blank-again m line more found are comment blank =
     let written : lines_of (text_of (line ∷ []) ++ []) ≡ without_returns (line ∷ []) =
     ap lines_of (append-nil (text_of (line ∷ []))) ∙ lines_of-text_of (line ∷ []) (ap (λ b. b && true) are) in
     let none : is_comment (without_return line) ≡ false = rw (trimmed-without_return line) comment in
-    let still : is_blank (without_return line) ≡ true = is_blank-without_return line ∙ blank in
+    let still : is_blank (without_return line) ≡ true = is_blank-without_last 13 line refl ∙ blank in
     let read : first_of m (without_returns (line ∷ []) ++ more) ≡ Some (front (Ok (Blank (without_returns (line ∷ [])))) 1 true) = rw (none, still) refl in (
       Blank (without_returns (line ∷ [])),
       subst (λ (ls : List (List ℕ)). first_of m (ls ++ more) ≡ Some (front (Ok (Blank (without_returns (line ∷ [])))) (length ls) true)) (sym written) read,

@@ -3,13 +3,14 @@ use Rattle.std.proofs.Common.{◌≡◌, ℕ, Bool, true, false, not, cond, ◌&
 use Rattle.std.specs.Prelude.{◌==◌, nat_eq}
 use Rattle.std.specs.List.{list_all, list_any, ends_with}
 use Rattle.std.proofs.lemmas.List.{append_assoc, append-nil, map-append}
-use Rattle.dd_file.specs.Bytes.{newline, is_blank}
-use Rattle.dd_file.specs.Lines.{pieces, before_first_piece, line_of, lines_of, text_of, without_last}
+use Rattle.ascii_text.specs.Lines.{newline, pieces, before_first_piece, line_of, lines_of, text_of, without_last}
+use Rattle.ascii_text.specs.WhiteSpace.{is_blank}
 use Rattle.dd_file.specs.Script.{is_dashes}
 use Rattle.dd_file.specs.Laws.{is_line}
 use Rattle.dd_file.specs.Rewritten.{is_output, is_output_line, has_blank_line}
 use Rattle.dd_file.proofs.CarriageReturns.{without_return, without_returns}
-use Rattle.dd_file.proofs.Newlines.{split_last, without_last-push, ends_with-append}
+use Rattle.ascii_text.proofs.Offered.{split_last, without_last-push}
+use Rattle.dd_file.proofs.Newlines.{ends_with-append}
 
 -- two tests that both pass
 pub both : (a b : Bool) → (a && b) ≡ true → (a ≡ true) × (b ≡ true)

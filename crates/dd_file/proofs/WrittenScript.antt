@@ -5,8 +5,8 @@ use Rattle.std.specs.List.{list_all, list_any}
 use Rattle.std.proofs.Math.Seq.{drop-append_seam}
 use Rattle.std.proofs.lemmas.List.{append_assoc, append-nil}
 use Rattle.std.proofs.lemmas.List.Folds.{list_all-append}
-use Rattle.dd_file.specs.Bytes.{newline, is_blank}
-use Rattle.dd_file.specs.Lines.{line_of, lines_of, text_of}
+use Rattle.ascii_text.specs.Lines.{newline, line_of, lines_of, text_of}
+use Rattle.ascii_text.specs.WhiteSpace.{is_blank}
 use Rattle.dd_file.specs.Words.{CommandText, command_of}
 use Rattle.dd_file.specs.Script.{front, first_of, joined, is_comment, is_separator, directive}
 use Rattle.dd_file.specs.Place.{longest_input}
@@ -15,7 +15,8 @@ use Rattle.dd_file.specs.Rewritten.{Entry, entry, entry_text, has_blank_line, is
 use Rattle.dd_file.specs.Laws.{is_line, AreGiven, IsSameItem, AreReadAgain, AreOver, LastIsGone, ReadAgain, ends_in_long_blank}
 use Rattle.dd_file.specs.declared.item.Item.{Item}
 use Rattle.dd_file.specs.declared.item.Item.TheVariants.{Comment, Blank, Directive}
-use Rattle.dd_file.proofs.Newlines.{split_last, double_end-pushed}
+use Rattle.ascii_text.proofs.Offered.{split_last}
+use Rattle.dd_file.proofs.Newlines.{double_end-pushed}
 use Rattle.dd_file.proofs.WrittenLines.{both, lines-lines, pieces-text_of, text_of-append, output-lines}
 use Rattle.dd_file.proofs.Scanning.{dashes_line}
 use Rattle.dd_file.proofs.ReadItem.{IsHead, ReadItem, ReadComment, ReadBlank, ReadBlankHead, ReadDirective, given-read}

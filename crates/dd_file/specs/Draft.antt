@@ -1,7 +1,7 @@
 -- An item of a script while its lines are read.
 use Rattle.std.specs.Prelude.{◌≡◌, ◌<◌, ◌+◌, ◌-◌, ℕ, Bool, true, false, not, ◌&&◌, List, [], ◌∷◌, ◌++◌, length, drop, Option, Some, None, is_some, Result, Ok, Err, ⊤, if◌then◌else◌}
 use Rattle.std.specs.List.{list_all, list_any}
-use Rattle.dd_file.specs.Bytes.{is_blank}
+use Rattle.ascii_text.specs.WhiteSpace.{is_blank}
 use Rattle.dd_file.specs.Words.{CommandText, command_of}
 use Rattle.dd_file.specs.Script.{Front, front, first_of, is_comment, is_continued, is_separator, is_dashes, begins_with_dashes, has_pair, directive, after_pair, in_double, in_single, body}
 use Rattle.dd_file.specs.declared.phase.Phase.{Phase}

@@ -1,7 +1,7 @@
 -- What the bytes that are held say without a read.
 use Rattle.std.specs.Prelude.{◌≡◌, ◌≤◌, ◌+◌, ℕ, Bool, false, List, length, drop, map, filter, Option, Some, None, Result}
 use Rattle.std.specs.List.{list_any}
-use Rattle.dd_file.specs.Lines.{pieces, line_of, is_whole}
+use Rattle.ascii_text.specs.Lines.{pieces, line_of, is_whole}
 use Rattle.dd_file.specs.Place.{Place, longest_input}
 use Rattle.dd_file.specs.Script.{Front, first_of}
 use Rattle.dd_file.specs.Reading.{Next}

@@ -1,8 +1,8 @@
 -- Laws of scripts: told by what comes next, written again, and joined.
 use Rattle.std.specs.Prelude.{◌≡◌, ℕ, ◌+◌, ◌≤◌, Bool, true, false, not, ◌==◌, nat_lt, List, [], ◌∷◌, ◌++◌, length, drop, map, flat_map, Option, Some, option_map, None, Result, Ok, Err, ⊤, if◌then◌else◌}
 use Rattle.std.specs.List.{list_all, list_any}
-use Rattle.dd_file.specs.Bytes.{newline, is_blank, trimmed, without_trailing_space}
-use Rattle.dd_file.specs.Lines.{lines_of}
+use Rattle.ascii_text.specs.Lines.{newline, lines_of}
+use Rattle.ascii_text.specs.WhiteSpace.{is_blank, trimmed, without_trailing_space}
 use Rattle.dd_file.specs.DirectiveText.{DirectiveText}
 use Rattle.dd_file.specs.Words.{CommandText, command_of, has_keys}
 use Rattle.dd_file.specs.Script.{Front, front, first_of, directive, is_comment, is_continued, is_separator}

@@ -1,5 +1,3 @@
-pub mod Bytes
-pub mod Lines
 pub mod Parts
 pub mod Words
 pub mod DirectiveText
@@ -14,7 +12,6 @@ pub mod InOrder
 pub mod Rewritten
 pub mod RewriterState
 pub mod Device
-pub mod FirstPiece
 pub mod PieceRead
 pub mod Laws
 pub mod Wrapped

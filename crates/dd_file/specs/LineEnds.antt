@@ -1,6 +1,6 @@
 -- Lines that lie in one text, by the places where they end.
 use Rattle.std.specs.Prelude.{◌≡◌, ℕ, ◌+◌, ◌-◌, List, [], ◌∷◌, length, take, drop}
-use Rattle.dd_file.specs.Lines.{text_of}
+use Rattle.ascii_text.specs.Lines.{text_of}
 
 -- the lines of a text from a place on, by the places of their newlines
 abbrev pub lines_at : List ℕ → ℕ → List ℕ → List (List ℕ)

@@ -1,8 +1,7 @@
 -- The bytes of a line, with its newline, as they are read.
 use Rattle.std.specs.Prelude.{◌≡◌, ◌≤◌, ◌<◌, ◌+◌, ℕ, true, ◌⊎◌, List, [], ◌++◌, length, Option, ⊤}
 use Rattle.std.specs.Io.KnownBytes.{Consumes}
-use Rattle.dd_file.specs.FirstPiece.{first_len}
-use Rattle.dd_file.specs.Lines.{is_whole}
+use Rattle.ascii_text.specs.Lines.{first_len, is_whole}
 use Rattle.dd_file.specs.Place.{longest_input, longest_lookahead}
 use Rattle.dd_file.specs.ReaderState.{ReaderState}
 use Rattle.dd_file.specs.declared.fault.FileFault.{FileFault}

@@ -1,7 +1,7 @@
 -- What a rewriter keeps from call to call, and what its writer then holds.
 use Rattle.std.specs.Prelude.{◌≡◌, ◌⊎◌, ℕ, List, ◌++◌, Option}
 use Rattle.std.specs.Io.KnownBytes.{Appends}
-use Rattle.dd_file.specs.Lines.{without_last}
+use Rattle.ascii_text.specs.Lines.{without_last}
 use Rattle.dd_file.specs.Device.{AppendsPart}
 use Rattle.dd_file.specs.Rewritten.{without_double_end, newlines_at_end}
 use Rattle.dd_file.specs.declared.stage.Stage.{Stage}

@@ -1,8 +1,8 @@
 -- A script as it is written, with what was found in the place of what was expected.
 use Rattle.std.specs.Prelude.{ℕ, Bool, true, false, not, ◌&&◌, ◌||◌, List, [], ◌∷◌, ◌++◌, ◌==◌, nat_eq, length, flat_map, if◌then◌else◌, codes}
 use Rattle.std.specs.List.{list_all, list_any, ends_with}
-use Rattle.dd_file.specs.Bytes.{newline, is_blank}
-use Rattle.dd_file.specs.Lines.{pieces, lines_of, text_of, without_last}
+use Rattle.ascii_text.specs.Lines.{newline, pieces, lines_of, text_of, without_last}
+use Rattle.ascii_text.specs.WhiteSpace.{is_blank}
 use Rattle.dd_file.specs.Script.{is_dashes}
 use Rattle.dd_file.specs.declared.item.Item.{Item}
 use Rattle.dd_file.specs.declared.item.Item.TheVariants.{Comment, Blank, Directive}

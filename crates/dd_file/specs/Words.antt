@@ -3,7 +3,7 @@ use Rattle.std.specs.Prelude.{ℕ, suc, Bool, true, false, not, ◌&&◌, ◌||�
 use Rattle.std.specs.List.{list_all, list_any}
 use Rattle.std.specs.Char.{is_ascii_alphanumeric}
 use Rattle.dd_file.specs.Parts.{up_to, behind}
-use Rattle.dd_file.specs.Bytes.{is_space, is_blank, trimmed}
+use Rattle.ascii_text.specs.WhiteSpace.{is_space, is_blank, trimmed}
 
 -- an argument: a key and its values
 pub record ArgumentText : Type 0 where

@@ -6,7 +6,7 @@ ghost use Rattle.dd_file.specs.Words.{is_key_byte, is_key, is_plain, listed, val
 
 use crate::item::Argument;
 use crate::raw_lines::RawLines;
-use crate::white_space::{is_blank, is_space, trimmed};
+use ascii_text::white_space::{is_blank, is_space, trimmed};
 use std::alloc::{AllocError, Global};
 
 /// Whether a key may have the byte: ASCII letters, digits and `-_/,.`.

@@ -2,11 +2,11 @@
 ghost use Rattle.std.specs.Prelude.{◌≡◌, ◌≤◌, ◌==◌, ◌++◌, ◌||◌, [], length, take, drop, is_ok, is_err, if◌then◌else◌, IfOk, OnOk, MatchResult};
 ghost use Rattle.std.specs.Io.KnownBytes.{Consumes, IsAtEnd, Keeps};
 ghost use Rattle.dd_file.specs.Place.{longest_lookahead};
-ghost use Rattle.dd_file.specs.FirstPiece.{first_len};
+ghost use Rattle.ascii_text.specs.Lines.{first_len};
 
-use crate::cut::piece_len;
 use crate::device::Source;
 use crate::fault::DeviceFault;
+use ascii_text::lines::piece_len;
 use std::alloc::{AllocError, Global};
 use std::marker::Model;
 

@@ -11,7 +11,7 @@ use crate::line_kinds::{is_comment, is_continued, is_dashes, is_separator};
 use crate::phase::Phase;
 use crate::raw_lines::RawLines;
 use crate::text::joined;
-use crate::white_space::{is_blank, trimmed};
+use ascii_text::white_space::{is_blank, trimmed};
 use std::alloc::{AllocError, Global};
 use std::marker::Model;
 

@@ -1,12 +1,12 @@
 //! The items of a script.
 ghost use Rattle.std.specs.Prelude.{◌≡◌, ◌≤◌, true, length, drop, IfOk, option_map, slice_get};
-ghost use Rattle.dd_file.specs.Bytes.{trimmed};
-ghost use Rattle.dd_file.specs.Lines.{text_of};
+ghost use Rattle.ascii_text.specs.WhiteSpace.{trimmed};
+ghost use Rattle.ascii_text.specs.Lines.{text_of};
 ghost use Rattle.dd_file.specs.Words.{has_keys};
 
 use crate::command::{Command, Name, parse_command};
 pub use crate::raw_lines::RawLines;
-use crate::white_space::{without_leading_space, without_trailing_space};
+use ascii_text::white_space::{without_leading_space, without_trailing_space};
 use std::alloc::{AllocError, Global};
 use std::marker::Model;
 
@@ -83,7 +83,7 @@ pub struct Directive {
 
 impl Model for Directive {
     ghost use Rattle.std.specs.Prelude.{◌≡◌, ◌≤◌, ◌-◌, true, length, take, drop};
-    ghost use Rattle.dd_file.specs.Lines.{text_of};
+    ghost use Rattle.ascii_text.specs.Lines.{text_of};
     ghost use Rattle.dd_file.specs.DirectiveText.{DirectiveText};
     ghost use Rattle.dd_file.specs.Words.{has_keys};
 

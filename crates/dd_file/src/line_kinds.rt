@@ -2,7 +2,7 @@
 ghost use Rattle.std.specs.Prelude.{◌≡◌};
 ghost use Rattle.dd_file.specs.Script.{is_comment, is_continued, is_separator, is_dashes};
 
-use crate::white_space::trimmed;
+use ascii_text::white_space::trimmed;
 
 /// Whether the first byte after white space is `#`.
 pub(crate) fn is_comment(line: &[u8]) -> bool

@@ -2,16 +2,16 @@
 ghost use Rattle.std.specs.Prelude.{◌≡◌, ◌≤◌, ◌<◌, ◌+◌, ◌||◌, None, [], true, false, IfOk, IfErr, IsOkUnless, MatchOption, length, vec_len};
 ghost use Rattle.dd_file.specs.Place.{longest_input};
 ghost use Rattle.dd_file.specs.InHand.{HeldReadsOn, is_line_in_hand, CanTell, passed};
-ghost use Rattle.dd_file.specs.Lines.{line_of, without_last};
+ghost use Rattle.ascii_text.specs.Lines.{line_of, without_last};
 ghost use Rattle.dd_file.specs.PieceRead.{PieceRead, PieceFault};
 ghost use Rattle.dd_file.specs.Reading.{next_line};
 ghost use Rattle.dd_file.specs.ReaderState.{fresh, IsWithin};
 ghost use Rattle.dd_file.specs.Answer.{ReadsOn, MovesOn, IsLineFault, is_read_fault};
 
 use crate::buffer::Buffer;
-use crate::cut::{is_whole, line_of, piece_len, without_end};
 use crate::device::Source;
 use crate::fault::FileFault;
+use ascii_text::lines::{is_whole, line_of, piece_len, without_end};
 use std::alloc::Global;
 use std::marker::Model;
 

@@ -1,6 +1,6 @@
 //! Lines that lie in one text.
 ghost use Rattle.std.specs.Prelude.{◌≡◌, ◌≤◌, ◌<◌, ◌+◌, ◌-◌, ◌^◌, [], ◌∷◌, ◌++◌, length, take, drop, option_map, slice_get, slice_index_or, OnOk, OnErr};
-ghost use Rattle.dd_file.specs.Lines.{text_of};
+ghost use Rattle.ascii_text.specs.Lines.{text_of};
 
 use crate::room::{append, make_room};
 use smallvec::SmallVec;

@@ -6,12 +6,12 @@ ghost use Rattle.dd_file.specs.ReaderState.{fresh, IsWithin};
 ghost use Rattle.dd_file.specs.InHand.{CanTell, HeldReadsOn, is_item_in_hand};
 ghost use Rattle.dd_file.specs.Answer.{ReadsOn, IsItemFault, fault_of};
 
-use crate::cut::{is_whole, line_of, piece_len};
 use crate::device::Source;
 use crate::draft::Draft;
 use crate::fault::FileFault;
 use crate::item::Item;
 use crate::lines::Lines;
+use ascii_text::lines::{is_whole, line_of, piece_len};
 use std::alloc::Global;
 use std::marker::Model;
 

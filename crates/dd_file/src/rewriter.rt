@@ -1,17 +1,16 @@
 //! Writing a script again, with what was found.
 ghost use Rattle.std.specs.Prelude.{◌≡◌, ◌⊎◌, ℕ, List, [], ◌∷◌, ◌++◌, ◌==◌, Option, IsErr, OnOk, OnErr, IfOk, true, map, if◌then◌else◌};
-ghost use Rattle.dd_file.specs.Bytes.{newline};
-ghost use Rattle.dd_file.specs.Lines.{text_of, without_last};
+ghost use Rattle.ascii_text.specs.Lines.{newline, text_of, without_last};
 ghost use Rattle.dd_file.specs.RewriterState.{CanKeep, WantsFound, HasWritten, Continues, BreaksOff, Finishes, FinishesPart};
 ghost use Rattle.dd_file.specs.Rewritten.{kept_text, found_text, opening, closing, has_blank_line, is_output, is_directive, newlines_at_end};
 
-use crate::cut::next_piece;
 use crate::device::Sink;
 use crate::fault::WriteFault;
 use crate::item::Item;
 use crate::stage::Stage;
-use crate::white_space::is_blank;
 use crate::writing::write_all;
+use ascii_text::lines::{next_piece, without_end};
+use ascii_text::white_space::is_blank;
 use std::marker::Model;
 
 /// How many newlines end a text after one more byte: 0, 1, or 2 for two and more.
@@ -34,16 +33,6 @@ fn count_newlines(newlines: u8, bytes: &[u8]) -> u8
     match front.split_last() {
         None => count_newline(newlines, *last),
         Some((before, _)) => count_newline(count_newline(0, *before), *last),
-    }
-}
-
-/// The bytes without a newline at their end.
-fn without_newline(bytes: &[u8]) -> &[u8]
-    ensures { result.now ≡ without_last 10 bytes.now }
-{
-    match bytes.split_last() {
-        Some((last, front)) => { if *last == b'\n' { front } else { bytes } }
-        None => bytes,
     }
 }
 
@@ -72,7 +61,7 @@ fn write_text<W: Sink>(writer: &mut W, newlines: u8, text: &[u8]) -> Result<u8, 
         return Ok(newlines);
     }
     write_all(writer, held_newline(newlines))?;
-    write_all(writer, without_newline(text))?;
+    write_all(writer, without_end(text, b'\n'))?;
     Ok(count_newlines(newlines, text))
 }
 

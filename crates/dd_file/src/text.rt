@@ -2,9 +2,9 @@
 ghost use Rattle.std.specs.Prelude.{◌≡◌, IfOk};
 ghost use Rattle.dd_file.specs.Script.{joined};
 
-use crate::cut::without_end;
 use crate::raw_lines::RawLines;
-use crate::white_space::trimmed;
+use ascii_text::lines::without_end;
+use ascii_text::white_space::trimmed;
 use std::alloc::{AllocError, Global};
 
 /// The lines of a head as one text: each is trimmed, and a space stands for the backslash before the next.

@@ -2,7 +2,7 @@
 ghost use Rattle.std.specs.Prelude.{◌≡◌, ◌<◌, false, [], ◌∷◌, length, IfSome, MatchOption};
 ghost use Rattle.dd_file.specs.Words.{word_len, words_of};
 
-use crate::white_space::{is_space, without_leading_space};
+use ascii_text::white_space::{is_space, without_leading_space};
 
 /// How many bytes come before the first white space that is not between parentheses.
 fn word_len(text: &[u8]) -> usize

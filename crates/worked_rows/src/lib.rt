@@ -5,6 +5,8 @@
 #[cfg(test)]
 mod acknowledgements;
 #[cfg(test)]
+mod ascii_texts;
+#[cfg(test)]
 mod blocks;
 #[cfg(test)]
 mod changes;

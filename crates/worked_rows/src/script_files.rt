@@ -1,6 +1,5 @@
 //! Scripts and the items that are read of them, and the lines of inputs.
 use crate::devices::byte_by_byte;
-use dd_file::cut::{next_piece, without_end};
 use dd_file::device::{FromRead, Source};
 use dd_file::item::{Argument, Directive, Item};
 use dd_file::lines::Lines;
@@ -40,36 +39,6 @@ fn gives_lines(rt: HostRuntime) -> Result<(), Fail> {
     for (input, want) in &LINES {
         let shown = lines_of(rt.alloc(), *input)?;
         assert!(rt; shown.as_slice() == want.as_bytes(), "at {input}");
-    }
-    Ok(())
-}
-
-// The lines of a text, cut off its front one by one.
-fn pieces_of(alloc: Global, text: &str) -> Result<Vec<u8>, AllocError> {
-    let mut shown = Vec::new(alloc);
-    let mut rest = text.as_bytes();
-    for _ in 0..9 {
-        if let Some((piece, behind)) = next_piece(rest) {
-            show_line(&mut shown, without_end(piece, b'\n'))?;
-            rest = behind;
-        }
-    }
-    Ok(shown)
-}
-
-static PIECES: [(&str, &str); 5] = [
-    ("", ""),
-    ("a\n\nbc", "<a><><bc>"),
-    ("\n", "<>"),
-    ("a\r\n", "<a\r>"),
-    ("abc", "<abc>"),
-];
-
-#[test]
-fn cuts_texts_behind_newlines(rt: HostRuntime) -> Result<(), Fail> {
-    for (text, want) in &PIECES {
-        let shown = pieces_of(rt.alloc(), *text)?;
-        assert!(rt; shown.as_slice() == want.as_bytes(), "at {text}");
     }
     Ok(())
 }

@@ -1,8 +1,6 @@
-//! The words and changes that texts hold, and texts that are appended to.
+//! The changes that texts hold, and texts that are appended to.
 use conf_change::Kind::{Learner, Remove, Update, Voter};
-use conf_change::{
-    Change, Refused, TokenFault, next_token, read_changes, write_refused, write_token_fault,
-};
+use conf_change::{Change, Refused, TokenFault, read_changes, write_refused, write_token_fault};
 use conf_session::{UndoFault, undo_fault_text};
 use std::test::Fail;
 
@@ -33,21 +31,6 @@ fn tells_why_nothing_is_undone(rt: HostRuntime) -> Result<(), Fail> {
     let wanted = b"no plan: 12 earlier configurations are kept".as_slice();
     assert!(rt; few.as_slice() == wanted);
     Ok(())
-}
-
-static WORDS: [(&[u8], Option<(&[u8], &[u8])>); 5] = [
-    (b"", None),
-    (b" \t\n\x0b\x0c\r", None),
-    (b"v1", Some((b"v1", b""))),
-    (b"\r\nv1\x0bl02 r0", Some((b"v1", b"\x0bl02 r0"))),
-    (b"\xff\x0e v", Some((b"\xff\x0e", b" v"))),
-];
-
-#[test]
-fn finds_the_first_word(rt: HostRuntime) {
-    for (place, (text, wanted)) in WORDS.iter().enumerate() {
-        assert!(rt; next_token(*text) == *wanted, "row {place}");
-    }
 }
 
 static CHANGES: [(&[u8], &[Change]); 5] = [

@@ -3,7 +3,7 @@ use Rattle.std.specs.Prelude.{IfErr, IfSome}
 use Rattle.std.proofs.lemmas.Grind.{common_steps}
 use Rattle.std.proofs.lemmas.Result.{IfErr-weaker}
 use Rattle.std.proofs.lemmas.Option.{IfSome_then}
-use Rattle.conf_change.specs.Words.{words}
+use Rattle.ascii_text.specs.Words.{words}
 use Rattle.conf_change.specs.ChangeList.{changes_in, bad_token}
 use Rattle.conf_change.proofs.ChangeLemmas.{AllZip-from_ok, IsFirstBad-from_err, length-spelled}
 use Rattle.conf_change.proofs.change_list.read_changes.Goals as goal

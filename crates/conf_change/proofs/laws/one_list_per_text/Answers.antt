@@ -1,5 +1,5 @@
 use Rattle.std.proofs.Common.{sym, ap, ◌∙◌}
-use Rattle.conf_change.specs.Words.{words}
+use Rattle.ascii_text.specs.Words.{words}
 use Rattle.conf_change.specs.ChangeList.{changes_in_words}
 use Rattle.conf_change.proofs.ChangeLemmas.{changes_in_ok, AllZip-from_ok, changes_in-err, IsFirstBad-from_err}
 use Rattle.conf_change.proofs.laws.one_list_per_text.Goals as goal

@@ -1,7 +1,7 @@
 use Rattle.std.proofs.Common.{◌≡◌, ◌≢◌, ◌<◌, Some, length, inl, sym, arith}
 use Rattle.std.proofs.lemmas.Bool.Decides.{nat_tests}
 use Rattle.std.proofs.lemmas.Grind.{common_steps}
-use Rattle.conf_change.specs.Words.{words}
+use Rattle.ascii_text.specs.Words.{words}
 use Rattle.conf_plan.specs.PlanText.{SaysNothing}
 use Rattle.conf_plan.specs.PlanCode.{step_in}
 use Rattle.conf_plan.proofs.PlanLines.{something-other_words, something-more_lines}

@@ -2,7 +2,7 @@ use Rattle.std.proofs.Common.{◌≡◌, ◌++◌, filter_map, take, ◌∙◌, 
 use Rattle.std.specs.Prelude.{Some, option_map, option_to_list, slice_get}
 use Rattle.std.proofs.lemmas.Option.{gets}
 use Rattle.std.proofs.lemmas.List.{append_assoc}
-use Rattle.conf_change.specs.Number.{number_in}
+use Rattle.ascii_text.specs.Number.{number_in}
 use Rattle.conf_session.proofs.QuorumValues.{known-more}
 use Rattle.conf_session.proofs.quorum_arguments.push_numbers_in.Goals as goal
 use Rattle.conf_session.proofs.quorum_arguments.push_numbers_in.Goals.{in-Some+in_ok-push_known, in_default}

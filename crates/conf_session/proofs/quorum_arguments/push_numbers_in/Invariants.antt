@@ -1,5 +1,5 @@
 use Rattle.std.proofs.Common.{◌≡◌, ◌++◌, filter_map, take}
-use Rattle.conf_change.specs.Number.{number_in}
+use Rattle.ascii_text.specs.Number.{number_in}
 use Rattle.conf_session.proofs.quorum_arguments.push_numbers_in.Given as goal
 
 abbrev pub invariant-loop-place : goal.invariant-loop-place

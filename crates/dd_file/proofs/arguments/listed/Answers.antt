@@ -1,5 +1,5 @@
 use Rattle.std.proofs.Common.{◌≡◌, false, [], cond, map, sym, ◌∙◌, ap, rules}
-use Rattle.dd_file.specs.Bytes.{is_blank, trimmed}
+use Rattle.ascii_text.specs.WhiteSpace.{is_blank, trimmed}
 use Rattle.dd_file.specs.Words.{is_comma, cut_at_commas}
 use Rattle.dd_file.proofs.Commas.{length-behind, value-pushed, value-last}
 use Rattle.dd_file.proofs.arguments.listed.Goals as goal

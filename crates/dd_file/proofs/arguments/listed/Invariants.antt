@@ -1,5 +1,5 @@
 use Rattle.std.proofs.Common.{◌≡◌, ◌++◌, map, length}
-use Rattle.dd_file.specs.Bytes.{trimmed}
+use Rattle.ascii_text.specs.WhiteSpace.{trimmed}
 use Rattle.dd_file.specs.Words.{cut_at_commas}
 use Rattle.dd_file.proofs.arguments.listed.Given as goal
 

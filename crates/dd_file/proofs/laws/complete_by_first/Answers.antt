@@ -1,6 +1,6 @@
 use Rattle.std.proofs.Common.{◌≡◌, ℕ, ◌+◌, Bool, true, false, List, [], ◌∷◌, drop, refl, sym, subst}
 use Rattle.std.specs.Prelude.{Option, Some, None, Result, Ok, Err, if◌then◌else◌}
-use Rattle.dd_file.specs.Bytes.{is_blank}
+use Rattle.ascii_text.specs.WhiteSpace.{is_blank}
 use Rattle.dd_file.specs.Script.{Front, first_of, is_comment}
 use Rattle.dd_file.specs.Laws.{has_separator, IsComplete, Done, More, IsCompleteWith, IsCompleteBy}
 use Rattle.dd_file.specs.declared.item.Item.{Item}

@@ -1,11 +1,11 @@
 use Rattle.std.proofs.Common.{◌≡◌, ℕ, ◌+◌, false, List, [], ◌∷◌, length, refl, ◌∙◌, ap}
 use Rattle.std.specs.Prelude.{Some, Ok}
 use Rattle.std.specs.List.{list_any}
-use Rattle.dd_file.specs.Bytes.{is_blank, trimmed}
+use Rattle.ascii_text.specs.WhiteSpace.{is_blank, trimmed}
 use Rattle.dd_file.specs.Words.{CommandText, command_of}
 use Rattle.dd_file.specs.Script.{front, head_of, is_continued, is_separator, directive, at_head}
 use Rattle.dd_file.proofs.Scanning.{first_of-head}
-use Rattle.dd_file.proofs.WhiteSpace.{is_blank-trimmed}
+use Rattle.ascii_text.proofs.Offered.{is_blank-trimmed}
 use Rattle.dd_file.proofs.laws.directive_is_given.Goals as goal
 
 head-line : (line : List ℕ) (input : List (List ℕ)) → is_continued line ≡ false → head_of (line ∷ input) ≡ line ∷ []

@@ -1,6 +1,6 @@
 use Rattle.std.proofs.Common.{◌≡◌, ℕ, Bool, true, false, cond, List, [], ◌∷◌, length, take, refl, ap, ◌∙◌}
 use Rattle.std.specs.Prelude.{◌==◌}
-use Rattle.dd_file.specs.Lines.{without_last}
+use Rattle.ascii_text.specs.Lines.{without_last}
 use Rattle.dd_file.proofs.lines.drop_end.Goals as goal
 
 -- what is left without the last byte is a front part

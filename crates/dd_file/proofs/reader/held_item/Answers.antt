@@ -1,5 +1,5 @@
 use Rattle.std.proofs.Common.{◌≡◌, ℕ, ◌+◌, false, drop, refl, sym, ap, subst, ◌∙◌}
-use Rattle.dd_file.specs.Lines.{line_of, is_whole}
+use Rattle.ascii_text.specs.Lines.{line_of, is_whole}
 use Rattle.dd_file.specs.Place.{longest_input}
 use Rattle.dd_file.specs.Reading.{next_item}
 use Rattle.dd_file.specs.ReaderState.{ReaderState}

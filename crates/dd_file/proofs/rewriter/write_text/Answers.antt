@@ -12,8 +12,8 @@ pub returns-in_err-write_all-2-clause-err : goal.returns-in_err-write_all-2-clau
 returns-in_err-write_all-2-clause-err g c =
     let p = err_from_is_err_and c.from_residual-in_err-write_all-2.result c.from_residual-in_err-write_all-2.ensures.1 in
     rw (p.1) (breaks-bytes _ _ (g.W.Sink.contents c.write_all.new.writer) _ _ (sym c.if-is_empty.ensures) (rw (← c.held_newline.ensures) c.in_ok-write_all.ensures.ok)
-    (rw (← c.without_newline.ensures) c.in_err-write_all-2.ensures.err))
+    (rw (← c.without_end.ensures) c.in_err-write_all-2.ensures.err))
 
 pub returns-clause-ok : goal.returns-clause-ok
 returns-clause-ok g c = continues-bytes _ _ _ (g.W.Sink.contents c.write_all.new.writer) _ _ (sym c.if-is_empty.ensures) (rw (← c.held_newline.ensures) c.in_ok-write_all.ensures.ok)
-    (rw (← c.without_newline.ensures) c.in_ok-write_all-2.ensures.ok) c.count_newlines.ensures
+    (rw (← c.without_end.ensures) c.in_ok-write_all-2.ensures.ok) c.count_newlines.ensures

@@ -2,8 +2,8 @@ use Rattle.std.proofs.Common.{◌≡◌, ℕ, ◌+◌, ◌<◌, ◌≤◌, List,
 use Rattle.std.specs.Prelude.{Some, slice_get}
 use Rattle.std.proofs.lemmas.List.{append_assoc, append-nil, drop_more, drop_all, length-drop}
 use Rattle.std.proofs.lemmas.Option.{slice_get_within, get_or_from_slice_get}
-use Rattle.dd_file.specs.Bytes.{trimmed}
-use Rattle.dd_file.specs.Lines.{without_last}
+use Rattle.ascii_text.specs.WhiteSpace.{trimmed}
+use Rattle.ascii_text.specs.Lines.{without_last}
 use Rattle.dd_file.specs.Script.{joined}
 use Rattle.dd_file.proofs.text.joined.Goals as goal
 use Rattle.dd_file.proofs.text.joined.Goals.{then-i-count+in_ok-extend_from_slice+in_ok-push, else-i-count+in_ok-extend_from_slice-2}

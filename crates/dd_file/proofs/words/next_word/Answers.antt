@@ -1,15 +1,15 @@
 use Rattle.std.proofs.Common.{◌≡◌, ◌≤◌, ◌<◌, false, length, sym, ◌∙◌, ap, arith, rules}
 use Rattle.std.specs.Prelude.{◌==◌}
 use Rattle.dd_file.specs.Words.{words_of}
-use Rattle.dd_file.proofs.Ends.{no-length}
+use Rattle.std.proofs.lemmas.List.{nil_from_length}
 use Rattle.dd_file.proofs.FirstWord.{words_of-without_leading_space, words_of-first, word_len-bound, word_len-some}
-use Rattle.dd_file.proofs.WhiteSpace.{length-without_leading_space}
+use Rattle.ascii_text.proofs.Offered.{length-without_leading_space}
 use Rattle.dd_file.proofs.words.next_word.Goals as goal
 
 pub returns-then-is_empty-clause-words : goal.returns-then-is_empty-clause-words
 returns-then-is_empty-clause-words c =
     let none : length c.without_leading_space-begun.result.now ≡ 0 = search rules in
-    sym (words_of-without_leading_space c.args.text.now) ∙ ap words_of (sym c.without_leading_space-begun.ensures ∙ no-length _ none)
+    sym (words_of-without_leading_space c.args.text.now) ∙ ap words_of (sym c.without_leading_space-begun.ensures ∙ nil_from_length _ none)
 
 pub split_at-requires : goal.split_at-requires
 split_at-requires c = rw c.word_len.ensures (word_len-bound _ _)

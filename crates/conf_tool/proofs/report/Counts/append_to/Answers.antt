@@ -1,6 +1,6 @@
 use Rattle.std.proofs.Common.{◌≡◌, ◌++◌, ◌∙◌, List, ℕ, ap}
 use Rattle.std.proofs.lemmas.List.{append_assoc}
-use Rattle.dd_file.specs.Bytes.{newline}
+use Rattle.ascii_text.specs.Lines.{newline}
 use Rattle.conf_tool.proofs.report.Counts.append_to.Goals as goal
 
 -- a line that is appended in four parts

@@ -1,6 +1,6 @@
 use Rattle.std.proofs.Common.{◌≡◌, ◌+◌, ◌-◌, ◌≤◌, take, drop, ◌∙◌, ap, rules}
 use Rattle.std.proofs.lemmas.Grind.{common_steps}
-use Rattle.dd_file.specs.FirstPiece.{first_len}
+use Rattle.ascii_text.specs.Lines.{first_len}
 use Rattle.dd_file.proofs.PieceParts.{take-drop-later}
 use Rattle.dd_file.proofs.buffer.Buffer.move_piece.Goals as goal
 

@@ -1,10 +1,10 @@
 use Rattle.std.proofs.Common.{◌≡◌, ◌++◌, ◌-◌, List, ℕ, length, take, drop, sym, ap, ◌∙◌}
-use Rattle.dd_file.specs.Bytes.{trimmed, without_leading_space, without_trailing_space}
-use Rattle.dd_file.specs.Lines.{text_of}
+use Rattle.ascii_text.specs.WhiteSpace.{trimmed, without_leading_space, without_trailing_space}
+use Rattle.ascii_text.specs.Lines.{text_of}
 use Rattle.dd_file.specs.DirectiveText.{DirectiveText}
 use Rattle.dd_file.specs.Words.{CommandText}
 use Rattle.dd_file.proofs.LineEnds.{text-parts}
-use Rattle.dd_file.proofs.WhiteSpace.{TrimmedIn, trimmed-in}
+use Rattle.dd_file.proofs.TrimmedIn.{TrimmedIn, trimmed-in}
 use Rattle.dd_file.proofs.item.Directive.new.Goals as goal
 
 -- the trimmed text of the lines behind a head lies in the text of all lines

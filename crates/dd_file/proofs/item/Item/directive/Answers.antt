@@ -1,8 +1,8 @@
 use Rattle.std.proofs.Common.{◌≡◌, ◌∷◌, [], List, ℕ, map, take, drop, vec_items, sym, ap, ◌∙◌, arith}
 use Rattle.std.specs.Prelude.{Some, option_map}
 use Rattle.std.proofs.lemmas.Grind.{common_steps}
-use Rattle.dd_file.specs.Bytes.{trimmed}
-use Rattle.dd_file.specs.Lines.{text_of}
+use Rattle.ascii_text.specs.WhiteSpace.{trimmed}
+use Rattle.ascii_text.specs.Lines.{text_of}
 use Rattle.dd_file.specs.Words.{command_of}
 use Rattle.dd_file.specs.DirectiveText.{DirectiveText}
 use Rattle.dd_file.specs.Script.{directive}

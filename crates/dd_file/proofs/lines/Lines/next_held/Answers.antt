@@ -1,7 +1,6 @@
 use Rattle.std.proofs.Common.{◌≡◌, true, take, vec_items, refl, sym, ap, subst, ◌∙◌}
 use Rattle.std.specs.Prelude.{Ok, Some}
-use Rattle.dd_file.specs.FirstPiece.{first_len}
-use Rattle.dd_file.specs.Lines.{line_of, is_whole}
+use Rattle.ascii_text.specs.Lines.{first_len, line_of, is_whole}
 use Rattle.dd_file.specs.Place.{longest_input}
 use Rattle.dd_file.specs.Reading.{next_line}
 use Rattle.dd_file.specs.ReaderState.{ReaderState}

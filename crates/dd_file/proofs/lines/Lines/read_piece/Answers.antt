@@ -1,10 +1,10 @@
 use Rattle.std.proofs.Common.{◌≡◌, ◌++◌, ◌+◌, ◌≤◌, length, vec_len, take, drop, true, false, [], sym, ap, ◌∙◌, inl, inr, arith, rules}
 use Rattle.std.proofs.lemmas.List.{length-drop}
 use Rattle.std.specs.Io.KnownBytes.{Consumes, IsAtEnd}
-use Rattle.dd_file.specs.FirstPiece.{first_len}
-use Rattle.dd_file.specs.Lines.{is_whole}
+use Rattle.ascii_text.specs.Lines.{first_len, is_whole}
 use Rattle.dd_file.specs.Place.{longest_input}
-use Rattle.dd_file.proofs.PieceParts.{part-moved, part-filled, unfinished-rest, no-bytes, some-bytes, length-moved, left-falls}
+use Rattle.dd_file.proofs.PieceParts.{part-moved, part-filled, no-bytes, some-bytes, length-moved, left-falls}
+use Rattle.ascii_text.proofs.Offered.{unfinished-rest}
 use Rattle.dd_file.proofs.lines.Lines.read_piece.Goals as goal
 use Rattle.dd_file.proofs.lines.Lines.read_piece.Goals.{then-self-via-then-self, then-self-via-else-self+then-is_whole}
 

@@ -1,7 +1,7 @@
 use Rattle.std.proofs.Common.{◌≡◌, ◌+◌, ◌-◌, true, false, suc, cond, length, vec_len}
 use Rattle.std.specs.Prelude.{None}
 use Rattle.std.specs.Io.KnownBytes.{IsAtEnd}
-use Rattle.dd_file.specs.Lines.{is_whole}
+use Rattle.ascii_text.specs.Lines.{is_whole}
 use Rattle.dd_file.specs.Place.{longest_input}
 use Rattle.dd_file.specs.ReaderState.{IsWithin}
 use Rattle.dd_file.specs.PieceRead.{PartRead}

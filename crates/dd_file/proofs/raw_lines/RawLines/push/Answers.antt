@@ -1,5 +1,5 @@
 use Rattle.std.proofs.Common.{◌≡◌, ◌∷◌, [], ◌++◌, ◌+◌, length, ap, ◌∙◌, arith}
-use Rattle.dd_file.specs.Bytes.{newline}
+use Rattle.ascii_text.specs.Lines.{newline}
 use Rattle.dd_file.specs.LineEnds.{LieIn}
 use Rattle.dd_file.proofs.LineEnds.{lie-fields, found-lines, fill-text, lie-push}
 use Rattle.dd_file.proofs.raw_lines.RawLines.push.Goals as goal

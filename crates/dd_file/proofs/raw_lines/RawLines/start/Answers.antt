@@ -1,5 +1,5 @@
 use Rattle.std.proofs.Common.{◌≡◌, ◌+◌, ◌-◌, length, take, ap, ◌∙◌, arith}
-use Rattle.dd_file.specs.Lines.{text_of}
+use Rattle.ascii_text.specs.Lines.{text_of}
 use Rattle.dd_file.proofs.LineEnds.{next-start}
 use Rattle.dd_file.proofs.raw_lines.RawLines.start.Goals as goal
 

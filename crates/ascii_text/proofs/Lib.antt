@@ -1,0 +1,6 @@
+pub mod Offered
+mod WhiteSpace
+mod WordLemmas
+mod LineEnds
+mod Pieces
+mod NumberLemmas

@@ -1,0 +1,4 @@
+pub mod WhiteSpace
+pub mod Words
+pub mod Lines
+pub mod Number

@@ -1,0 +1,11 @@
+-- The words of a text: what stands between white space.
+use Rattle.std.specs.Prelude.{ℕ, Bool, List, length, filter, nat_lt}
+use Rattle.std.specs.List.{slice_split}
+use Rattle.ascii_text.specs.WhiteSpace.{is_space}
+
+abbrev pub has_bytes : List ℕ → Bool
+has_bytes text = nat_lt 0 (length text)
+
+-- the words of a text, in order
+abbrev pub words : List ℕ → List (List ℕ)
+words text = filter has_bytes (slice_split is_space text)

@@ -1,0 +1,23 @@
+//! Numbers in a text.
+ghost use Rattle.std.specs.Prelude.{◌≡◌};
+ghost use Rattle.ascii_text.specs.Number.{number_in};
+
+/// The number that the bytes spell: one or more decimal digits, leading zeros allowed, below 2^64. Anything else spells
+/// none (own).
+pub fn read_number(digits: &[u8]) -> Option<u64>
+    ensures { result ≡ number_in digits.now }
+{
+    if digits.is_empty() {
+        return None;
+    }
+    let mut number: u64 = 0;
+    for digit in digits {
+        if !digit.is_ascii_digit() {
+            return None;
+        }
+        number = number
+            .checked_mul(10)?
+            .checked_add(u64::from(*digit - b'0'))?;
+    }
+    Some(number)
+}

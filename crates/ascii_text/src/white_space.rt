@@ -1,0 +1,53 @@
+//! White space in a text: tab, newline, vertical tab, form feed, carriage return and space, and no other byte (Go's
+//! `unicode.IsSpace` below 128).
+ghost use Rattle.std.specs.Prelude.{◌≡◌};
+ghost use Rattle.ascii_text.specs.WhiteSpace.{is_space, is_blank, without_leading_space, without_trailing_space, trimmed};
+
+/// Whether the byte is white space: tab, newline, vertical tab, form feed, carriage return or space.
+pub fn is_space(byte: u8) -> bool
+    ensures { result ≡ is_space byte }
+{
+    matches!(byte, 9..=13 | 32)
+}
+
+/// Whether the text is white space alone, or empty.
+pub fn is_blank(text: &[u8]) -> bool
+    ensures { result ≡ is_blank text.now }
+{
+    text.iter().all(|byte| is_space(*byte))
+}
+
+/// The text from the first byte on that is not white space.
+pub fn without_leading_space(text: &[u8]) -> &[u8]
+    ensures { result.now ≡ without_leading_space text.now }
+{
+    let mut rest = text;
+    while let Some((first, behind)) = rest.split_first() {
+        if !is_space(*first) {
+            return rest;
+        }
+        rest = behind;
+    }
+    rest
+}
+
+/// The text up to the last byte that is not white space.
+pub fn without_trailing_space(text: &[u8]) -> &[u8]
+    ensures { result.now ≡ without_trailing_space text.now }
+{
+    let mut rest = text;
+    while let Some((last, front)) = rest.split_last() {
+        if !is_space(*last) {
+            return rest;
+        }
+        rest = front;
+    }
+    rest
+}
+
+/// The text without white space at its ends.
+pub fn trimmed(text: &[u8]) -> &[u8]
+    ensures { result.now ≡ trimmed text.now }
+{
+    without_leading_space(without_trailing_space(text))
+}

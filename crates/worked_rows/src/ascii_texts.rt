@@ -1,0 +1,113 @@
+//! White space, words, lines and numbers in texts.
+use ascii_text::lines::{is_whole, line_of, next_piece, piece_len, without_end};
+use ascii_text::number::read_number;
+use ascii_text::white_space::{
+    is_blank, is_space, trimmed, without_leading_space, without_trailing_space,
+};
+use ascii_text::words::next_token;
+
+static BYTES: [(u8, bool); 11] = [
+    (8, false),
+    (9, true),
+    (10, true),
+    (11, true),
+    (12, true),
+    (13, true),
+    (14, false),
+    (32, true),
+    (33, false),
+    (133, false),
+    (160, false),
+];
+
+#[test]
+fn knows_white_space(rt: HostRuntime) {
+    for (byte, wanted) in &BYTES {
+        assert!(rt; is_space(*byte) == *wanted, "byte {byte}");
+    }
+}
+
+// A text, and the same without white space before it, after it, and at both ends.
+static ENDS: [(&[u8], &[u8], &[u8], &[u8]); 4] = [
+    (b"", b"", b"", b""),
+    (b" \t\n\x0b\x0c\r", b"", b"", b""),
+    (b"\r v1  l2\x0b", b"v1  l2\x0b", b"\r v1  l2", b"v1  l2"),
+    (b"\x0e\xa0", b"\x0e\xa0", b"\x0e\xa0", b"\x0e\xa0"),
+];
+
+#[test]
+fn takes_white_space_off_the_ends(rt: HostRuntime) {
+    for (place, (text, behind, front, inside)) in ENDS.iter().enumerate() {
+        assert!(rt; without_leading_space(*text) == *behind, "row {place}");
+        assert!(rt; without_trailing_space(*text) == *front, "row {place}");
+        assert!(rt; trimmed(*text) == *inside, "row {place}");
+        assert!(rt; is_blank(*text) == inside.is_empty(), "row {place}");
+    }
+}
+
+static WORDS: [(&[u8], Option<(&[u8], &[u8])>); 5] = [
+    (b"", None),
+    (b" \t\n\x0b\x0c\r", None),
+    (b"v1", Some((b"v1", b""))),
+    (b"\r\nv1\x0bl02 r0", Some((b"v1", b"\x0bl02 r0"))),
+    (b"\xff\x0e v", Some((b"\xff\x0e", b" v"))),
+];
+
+#[test]
+fn finds_the_first_word(rt: HostRuntime) {
+    for (place, (text, wanted)) in WORDS.iter().enumerate() {
+        assert!(rt; next_token(*text) == *wanted, "row {place}");
+    }
+}
+
+static PIECES: [(&[u8], usize, Option<(&[u8], &[u8])>); 5] = [
+    (b"", 0, None),
+    (b"a\n\nbc", 2, Some((b"a\n", b"\nbc"))),
+    (b"\n", 1, Some((b"\n", b""))),
+    (b"a\r\n", 3, Some((b"a\r\n", b""))),
+    (b"abc", 3, Some((b"abc", b""))),
+];
+
+#[test]
+fn cuts_texts_behind_newlines(rt: HostRuntime) {
+    for (place, (text, len, wanted)) in PIECES.iter().enumerate() {
+        assert!(rt; piece_len(*text) == *len, "row {place}");
+        assert!(rt; next_piece(*text) == *wanted, "row {place}");
+    }
+}
+
+// A piece, its line, and whether it ends in a newline.
+static LINES: [(&[u8], &[u8], bool); 5] = [
+    (b"", b"", false),
+    (b"a\r\n", b"a", true),
+    (b"a\r\r\n", b"a\r", true),
+    (b"a\n\r", b"a\n", false),
+    (b"a", b"a", false),
+];
+
+#[test]
+fn takes_ends_off_lines(rt: HostRuntime) {
+    for (place, (piece, line, whole)) in LINES.iter().enumerate() {
+        assert!(rt; line_of(*piece) == *line, "row {place}");
+        assert!(rt; is_whole(*piece) == *whole, "row {place}");
+    }
+    assert!(rt; without_end(b"a\\\\", b'\\') == b"a\\".as_slice());
+    assert!(rt; without_end(b"a", b'\\') == b"a".as_slice());
+}
+
+static NUMBERS: [(&[u8], Option<u64>); 7] = [
+    (b"", None),
+    (b"0", Some(0)),
+    (b"007", Some(7)),
+    (b"18446744073709551615", Some(u64::MAX)),
+    (b"18446744073709551616", None),
+    (b"+1", None),
+    (b"1 ", None),
+];
+
+#[test]
+fn reads_numbers(rt: HostRuntime) {
+    for (place, (digits, wanted)) in NUMBERS.iter().enumerate() {
+        assert!(rt; read_number(*digits) == *wanted, "row {place}");
+    }
+}
