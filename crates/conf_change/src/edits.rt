@@ -64,23 +64,6 @@ fn take_out<S: MemberSet>(config: &mut Config<S>, id: u64)
     config.learners_next.remove(id);
 }
 
-// A copy with these outgoing voters and this flag.
-pub(crate) fn with_outgoing<S: MemberSet>(
-    config: &Config<S>,
-    outgoing: S,
-    auto_leave: bool,
-) -> Result<Config<S>, NoMemory>
-    ensures { IfOk result (λ after. after ≡ record config.now { outgoing = S.ids outgoing; auto_leave = auto_leave }) }
-{
-    Ok(Config {
-        incoming: config.incoming.try_clone()?,
-        outgoing,
-        learners: config.learners.try_clone()?,
-        learners_next: config.learners_next.try_clone()?,
-        auto_leave,
-    })
-}
-
 // A copy that is not joint any more: the outgoing voters are gone, and the next learners are learners.
 pub(crate) fn without_outgoing<S: MemberSet>(
     config: &Config<S>,

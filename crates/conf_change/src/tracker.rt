@@ -236,7 +236,13 @@ impl<S: MemberSet> Tracker<S> {
         requires members { (q : ℕ) → is_member (beginning self.now (S.ids outgoing) auto_leave).config q ≡ is_member self.now.config q }
         ensures { IfOk result (Applies next_index changes.now (beginning self.now (S.ids outgoing) auto_leave)) }
     {
-        let mut config = edits::with_outgoing(&self.config, outgoing, auto_leave)?;
+        let mut config = Config {
+            incoming: self.config.incoming.try_clone()?,
+            outgoing,
+            learners: self.config.learners.try_clone()?,
+            learners_next: self.config.learners_next.try_clone()?,
+            auto_leave,
+        };
         let mut members = self.members_and_room(changes.len())?;
         for change in changes {
             edits::apply(&mut config, *change)?;
