@@ -37,20 +37,19 @@ fresh_rises ids of members is =
     subst Rises (sym (ap (map (λ (m : ℕ × Progress). m.0)) is ∙ keys-mapped of (ascending ids))) (ascending-is_rising ids)
 
 -- the ids of both voter sets and the learners are the members
-has_member : (c : Configuration) (voters ids : Ids) → voters ≡ ids_of (ascending c.incoming ++ ascending c.outgoing) → ids ≡ ids_of (ascending voters ++ ascending c.learners) → (q : ℕ) → has ids q ≡ is_member c q
-has_member c voters ids voters_are ids_are q =
-    ap (λ s. has s q) ids_are ∙ has-ids_of _ q ∙ list_any-append (λ x. q == x) (ascending voters) (ascending c.learners)
-    ∙ (λ i. (sym (has-ascending voters q) ∙ ap (λ s. has s q) voters_are ∙ has-ids_of _ q ∙ list_any-append (λ x. q == x) (ascending c.incoming) (ascending c.outgoing)
+pub has-members : (c : Configuration) (q : ℕ) → has (ids_of ((ascending c.incoming ++ ascending c.outgoing) ++ ascending c.learners)) q ≡ is_member c q
+has-members c q =
+    has-ids_of _ q ∙ list_any-append (λ x. q == x) (ascending c.incoming ++ ascending c.outgoing) (ascending c.learners)
+    ∙ (λ i. (list_any-append (λ x. q == x) (ascending c.incoming) (ascending c.outgoing)
     ∙ (λ j. sym (has-ascending c.incoming q) j || sym (has-ascending c.outgoing q) j)) i || sym (has-ascending c.learners q) i)
 
-pub fresh_of_all : (next_index : ℕ) (c : Configuration) (voters ids : Ids) (members : List (ℕ × Progress))
-    → voters ≡ ids_of (ascending c.incoming ++ ascending c.outgoing) → ids ≡ ids_of (ascending voters ++ ascending c.learners)
+pub fresh_of_all : (next_index : ℕ) (c : Configuration) (ids : Ids) (members : List (ℕ × Progress)) → ((q : ℕ) → has ids q ≡ is_member c q)
     → members ≡ map (λ id. (id, fresh_progress next_index (has c.learners id))) (ascending ids) → finite.from_entries {R = nat_cmp} members ≡ all_fresh next_index c
-fresh_of_all next_index c voters ids members voters_are ids_are is =
+fresh_of_all next_index c ids members ids_are is =
     let of : ℕ → Progress = λ id. fresh_progress next_index (has c.learners id) in
     finite.same_map nat_cmp_total nat_cmp-IsAntisymmetric _ _ (λ q.
     ap (λ m. finite.get (finite.from_entries {R = nat_cmp} m) q) is
     ∙ finite.get-from_entries nat_cmp_total (map (λ id. (id, of id)) (ascending ids)) q
     ∙ find-of_each of q (ascending ids)
-    ∙ ap (λ b. cond b (Some (of q)) None) (sym (has-ascending ids q) ∙ has_member c voters ids voters_are ids_are q)
+    ∙ ap (λ b. cond b (Some (of q)) None) (sym (has-ascending ids q) ∙ ids_are q)
     ∙ sym (get-progress_by c of q))

@@ -12,7 +12,7 @@ ghost use Rattle.conf_change.specs.Changer.{IsSound, begun_with};
 
 use crate::changer::Changer;
 use crate::config::{Config, check};
-use crate::edits::union;
+use crate::edits::member_ids;
 use crate::floor::Floor;
 use crate::progress::Progress;
 use crate::saved::ConfState;
@@ -141,8 +141,7 @@ fn fresh_progress<S: MemberSet>(
     ensures rising { IfOk result (λ members. IsRising (map (λ m. m.0) members.items)) }
     ensures fresh { IfOk result (λ members. finite.from_entries members.items ≡ all_fresh next_index config.now) }
 {
-    let voters = union(&config.incoming, &config.outgoing)?;
-    let ids = union(&voters, &config.learners)?;
+    let ids = member_ids(config)?;
     fresh_of(alloc, &ids, &config.learners, next_index)
 }
 

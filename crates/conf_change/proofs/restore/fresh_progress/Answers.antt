@@ -1,10 +1,10 @@
-use Rattle.std.proofs.Common.{◌≡◌, ℕ, List, map, ap, ◌∙◌}
+use Rattle.std.proofs.Common.{◌≡◌, ℕ, List, map, sym, ap, ◌∙◌}
 use Rattle.std.specs.FinMap as finite
 use Rattle.std.specs.Ordering.{nat_cmp}
 use Rattle.std.proofs.lemmas.Result.{IfOk-weaker}
 use Rattle.quorum_sets.specs.Ids.{has, ascending}
 use Rattle.quorum_sets.specs.Rising.{IsRising}
-use Rattle.conf_change.specs.Configuration.{Configuration}
+use Rattle.conf_change.specs.Configuration.{Configuration, is_member}
 use Rattle.conf_change.specs.Progress.{all_fresh, fresh_progress}
 use Rattle.conf_change.specs.declared.progress.Progress.{Progress}
 use Rattle.conf_change.proofs.Fresh.{fresh_rises, fresh_of_all}
@@ -32,6 +32,6 @@ returns-clause-fresh g c =
     IfOk-weaker c.fresh_of.result (λ members. members.items ≡ map (λ id. (id, of id)) (ascending (own c.in_ok-ids.ids)))
     (λ members. finite.from_entries {R = nat_cmp} members.items ≡ all_fresh c.args.next_index c.args.config.now)
     (λ members e.
-    fresh_of_all c.args.next_index config (own c.in_ok-voters.voters) (own c.in_ok-ids.ids) members.items c.in_ok-voters.ensures c.in_ok-ids.ensures e
+    fresh_of_all c.args.next_index config (own c.in_ok-ids.ids) members.items (λ q. c.in_ok-ids.ensures q ∙ ap (λ those. is_member those q) (sym c.config.view_is)) e
     ∙ ap (all_fresh c.args.next_index) c.config.view_is)
     c.fresh_of.ensures
