@@ -8,6 +8,7 @@ use crate::append::{append, append_in_five_places, append_number, append_times};
 use crate::member_set::MemberSet;
 use crate::no_memory::NoMemory;
 use crate::ranking::Ranking;
+use smallvec::SmallVec;
 
 /// Appends the chart of a set: a line for each id, in ascending order, with a bar and the index that it acknowledged.
 /// The bar is as wide as there are ids with a smaller index, and left out where a lesser id has the same. An unknown
@@ -20,7 +21,7 @@ pub fn chart<S: MemberSet, A: AckSource>(
     ensures ok { OnOk result (text.new.items ≡ text.old.items ++ chart_text (ascending (S.ids set.now)) (A.acks acks.now)) }
     ensures err { OnErr result (text.new.items ≡ text.old.items) }
 {
-    let mut ids = Vec::with_capacity(*text.allocator(), set.len())?;
+    let mut ids = SmallVec::with_capacity(*text.allocator(), set.len())?;
     add_ids(&mut ids, set)?;
     append_whole(text, ids.as_slice(), acks)
 }
@@ -36,16 +37,16 @@ pub fn joint_chart<S: MemberSet, A: AckSource>(
     ensures err { OnErr result (text.new.items ≡ text.old.items) }
 {
     let most = incoming.len().saturating_add(outgoing.len());
-    let mut ids = Vec::with_capacity(*text.allocator(), most)?;
+    let mut ids = SmallVec::with_capacity(*text.allocator(), most)?;
     add_ids(&mut ids, incoming)?;
     add_ids(&mut ids, outgoing)?;
-    ids.sort_unstable();
+    ids.as_mut_slice().sort_unstable();
     ids.dedup();
     append_whole(text, ids.as_slice(), acks)
 }
 
 // Adds the ids of a set, in ascending order.
-fn add_ids<S: MemberSet>(ids: &mut Vec<u64>, set: &S) -> Result<(), NoMemory>
+fn add_ids<S: MemberSet>(ids: &mut SmallVec<u64, 16>, set: &S) -> Result<(), NoMemory>
     ensures { OnOk result (ids.new.items ≡ ids.old.items ++ ascending (S.ids set.now)) }
 {
     for place in 0..set.len() {

@@ -1,15 +1,22 @@
-use Rattle.std.proofs.Common.{◌∙◌, ◌++◌, ap, ◌==◌}
-use Rattle.std.proofs.lemmas.List.Filters.{dedup_is}
+use Rattle.std.proofs.Common.{◌≡◌, ℕ, List, ◌∙◌, ◌++◌, ap, ◌==◌, length, take, arith}
+use Rattle.std.specs.List.{dedup, refill}
+use Rattle.std.proofs.lemmas.List.{append-nil, drop_all, take_all}
 use Rattle.quorum_sets.specs.Ids.{ascending}
 use Rattle.quorum_sets.proofs.UnionLemmas.{ascending-union}
 use Rattle.quorum_sets.proofs.charting.joint_chart.Goals as goal
+
+-- a list that is written over whole
+refilled : (xs ws : List ℕ) → length ws ≡ length xs → refill (length xs) xs ws ≡ ws
+refilled xs ws e =
+    ap (take (length xs)) (ap (λ rest. ws ++ rest) (drop_all (length ws) xs (omega (arith, e))) ∙ append-nil ws) ∙ take_all (length xs) ws (omega (arith, e))
 
 pub returns-clause-ok : goal.returns-clause-ok
 returns-clause-ok g c =
     let incoming = g.S.MemberSet.ids c.args.incoming.now in
     let outgoing = g.S.MemberSet.ids c.args.outgoing.now in
     let gathered = c.in_ok-add_ids-2.ensures ∙ ap (λ ids. ids ++ ascending outgoing) (c.in_ok-add_ids.ensures ∙ ap (λ ids. ids ++ ascending incoming) c.in_ok-ids.ensures.items) in
-    let moved = rw gathered at c.sort_unstable.ensures.permutation in
-    let once = dedup_is (λ x y. x == y) _ _ c.dedup.ensures.filtered in
-    let listed = c.as_slice.ensures.value ∙ once ∙ ascending-union incoming outgoing _ moved c.sort_unstable.ensures.sorted in
+    let moved = rw (c.as_mut_slice.ensures.value ∙ gathered) at c.sort_unstable.ensures.permutation in
+    let sorted = refilled c.add_ids-2.new.ids.items c.sort_unstable.new.self (c.sort_unstable.ensures.len ∙ ap length c.as_mut_slice.ensures.value) in
+    let once = c.dedup.ensures.items ∙ ap (dedup (λ x y. x == y)) sorted in
+    let listed = c.as_slice.ensures ∙ once ∙ ascending-union incoming outgoing _ moved c.sort_unstable.ensures.sorted in
     rw (← listed) c.append_whole.ensures.ok
