@@ -11,9 +11,9 @@ ghost use Rattle.conf_plan.specs.PlanCode.{plan_in, step_in, enter_in, list_in};
 ghost use Rattle.conf_plan.specs.declared.text.PlanTextFault.{PlanTextFault};
 
 use crate::plan_steps::Plan;
+use ascii_text::append::append_number;
 use ascii_text::words::next_token;
 use conf_change::{Change, Changes, Kind, Step, TokenFault, read_changes};
-use itoa::Buffer;
 use quorum_sets::NoMemory;
 use std::alloc::{AllocFailed, Global};
 use thiserror::Error;
@@ -149,9 +149,8 @@ fn append_word(text: &mut Vec<u8>, change: Change) -> Result<(), NoMemory>
     ensures ok { OnOk result (text.new.items ≡ text.old.items ++ change_text change) }
     ensures extends { Extends text.old.items text.new.items }
 {
-    let mut buffer = Buffer::new();
     text.push(letter(change.kind))?;
-    text.extend_from_slice(buffer.format(change.id).as_bytes())?;
+    append_number(text, change.id)?;
     Ok(())
 }
 
