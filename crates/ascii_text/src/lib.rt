@@ -2,6 +2,7 @@
 #![tactic(auto)]
 
 pub mod append;
+pub mod cut;
 pub mod lines;
 pub mod number;
 pub mod white_space;

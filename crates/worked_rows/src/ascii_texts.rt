@@ -1,5 +1,6 @@
 //! White space, words, lines and numbers in texts.
 use ascii_text::append::append_number;
+use ascii_text::cut::place_of;
 use ascii_text::lines::{is_whole, line_of, next_piece, piece_len, without_end};
 use ascii_text::number::read_number;
 use ascii_text::white_space::{
@@ -76,6 +77,13 @@ fn cuts_texts_behind_newlines(rt: HostRuntime) {
         assert!(rt; piece_len(*text) == *len, "row {place}");
         assert!(rt; next_piece(*text) == *wanted, "row {place}");
     }
+}
+
+#[test]
+fn finds_the_place_of_a_byte(rt: HostRuntime) {
+    assert!(rt; place_of(b"a] b]", b']') == 1);
+    assert!(rt; place_of(b"a", b']') == 1);
+    assert!(rt; place_of(b"", b']') == 0);
 }
 
 // A piece, its line, and whether it ends in a newline.
