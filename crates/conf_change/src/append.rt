@@ -1,9 +1,9 @@
 //! Parts of a text, appended one after another, and taken back together where the last of them found no memory.
-ghost use Rattle.std.specs.Prelude.{◌≡◌, ◌++◌, take, decimal, OnOk, OnErr};
+ghost use Rattle.std.specs.Prelude.{◌≡◌, ◌++◌, take, OnOk, OnErr};
 ghost use Rattle.conf_change.specs.ConfStateLine.{SpellsNumbers};
 ghost use Rattle.conf_change.specs.Text.{Extends, where_there, spaced_number, spaced_numbers};
 
-use itoa::Buffer;
+use ascii_text::append::append_number;
 use quorum_sets::NoMemory;
 
 // Appends a part.
@@ -23,28 +23,6 @@ pub(crate) fn append_where(text: &mut Vec<u8>, there: bool, part: &[u8]) -> Resu
     if there { append(text, part) } else { Ok(()) }
 }
 
-// Appends a number in decimal. Most ids have one digit, which needs no buffer.
-pub(crate) fn append_number(text: &mut Vec<u8>, number: u64) -> Result<(), NoMemory>
-    ensures ok { OnOk result (text.new.items ≡ text.old.items ++ decimal number) }
-    ensures extends { Extends text.old.items text.new.items }
-{
-    if number >= 10 {
-        return append_digits(text, number);
-    }
-    text.push(b'0' + number as u8)?;
-    Ok(())
-}
-
-// Appends a number of any size. It stays a call, so that its buffer costs nothing where one digit is appended.
-#[inline(never)]
-fn append_digits(text: &mut Vec<u8>, number: u64) -> Result<(), NoMemory>
-    ensures ok { OnOk result (text.new.items ≡ text.old.items ++ decimal number) }
-    ensures extends { Extends text.old.items text.new.items }
-{
-    let mut buffer = Buffer::new();
-    append(text, buffer.format(number).as_bytes())
-}
-
 // Appends the number at a place of a list. A space comes before it unless it is the first.
 pub(crate) fn append_number_at(
     text: &mut Vec<u8>,
@@ -57,7 +35,8 @@ pub(crate) fn append_number_at(
     if place > 0 {
         append(text, b" ")?;
     }
-    append_number(text, number)
+    append_number(text, number)?;
+    Ok(())
 }
 
 // Appends numbers with one space between.

@@ -1,13 +1,14 @@
 //! The line of a saved configuration, written and read. The form of the line is own.
 ghost use Rattle.std.specs.Prelude.{◌≡◌, ◌<◌, ◌≤◌, [], ◌∷◌, ◌++◌, Some, None, Err, length, drop, IfOk, OnOk, OnErr};
-ghost use Rattle.std.specs.List.{position_or_len, slice_split};
+ghost use Rattle.std.specs.List.{slice_split};
 ghost use Rattle.conf_change.specs.Text.{Extends, spaced_numbers};
 ghost use Rattle.conf_change.specs.ConfState.{ConfStateLists};
 ghost use Rattle.conf_change.specs.ConfStateLine as line;
-ghost use Rattle.conf_change.specs.ConfStateLine.{SpellsNumbers, StandsForConfState, conf_state_text, conf_state_in, numbers_in, field_in, line_in, flag_in, is_close, is_space};
+ghost use Rattle.conf_change.specs.ConfStateLine.{SpellsNumbers, StandsForConfState, conf_state_text, conf_state_in, numbers_in, field_in, line_in, flag_in, is_space};
 
 use crate::append::{append, append_numbers, keep_whole};
 use crate::saved::{ConfState, ConfStateFault};
+use ascii_text::cut::place_of;
 use ascii_text::number::read_number;
 use ascii_text::white_space::trimmed;
 use quorum_sets::NoMemory;
@@ -121,16 +122,8 @@ fn read_field<'a>(
     let text = text
         .strip_prefix(prefix)
         .ok_or(ConfStateFault::BadConfState)?;
-    let (numbers, rest) = text.split_at(close_at(text));
+    let (numbers, rest) = text.split_at(place_of(text, b']'));
     Ok((read_numbers(alloc, numbers)?, rest))
-}
-
-// The place of the first closing bracket, or the length of the text.
-fn close_at(text: &[u8]) -> usize
-    ensures place { result ≡ position_or_len is_close text.now }
-    ensures within { result ≤ length text.now }
-{
-    text.iter().take_while(|byte| **byte != b']').count()
 }
 
 // Reads numbers with one space between.
@@ -161,15 +154,7 @@ fn first_piece(text: &[u8]) -> (&[u8], &[u8])
     ensures more { 0 < length result.1.now → slice_split is_space text.now ≡ result.0.now ∷ slice_split is_space (drop 1 result.1.now) }
     ensures within { length result.1.now ≤ length text.now }
 {
-    text.split_at(space_at(text))
-}
-
-// The place of the first space, or the length of the text.
-fn space_at(text: &[u8]) -> usize
-    ensures place { result ≡ position_or_len is_space text.now }
-    ensures within { result ≤ length text.now }
-{
-    text.iter().take_while(|byte| **byte != b' ').count()
+    text.split_at(place_of(text, b' '))
 }
 
 // Reads the last field.

@@ -4,11 +4,12 @@ ghost use Rattle.quorum_sets.specs.Ids.{ascending, is_empty};
 ghost use Rattle.conf_change.specs.Text.{Extends, spaced_numbers, set_text, where_there, config_text, progress_text, refused_text, bad_token_text};
 ghost use Rattle.conf_change.specs.ChangeList.{bad_token};
 
-use crate::append::{append, append_number, append_number_at, append_where, keep_whole};
+use crate::append::{append, append_number_at, append_where, keep_whole};
 use crate::change_list::TokenFault;
 use crate::config::Config;
 use crate::progress::Progress;
 use crate::refused::Refused;
+use ascii_text::append::append_number;
 use quorum_sets::{MemberSet, NoMemory};
 
 /// Appends a configuration, without a newline: `voters=(1 2)`, where it is joint `&&(2 3)`, then its learners and next
@@ -94,7 +95,8 @@ fn append_labelled(text: &mut Vec<u8>, label: &[u8], number: u64) -> Result<(), 
     ensures extends { Extends text.old.items text.new.items }
 {
     append(text, label)?;
-    append_number(text, number)
+    append_number(text, number)?;
+    Ok(())
 }
 
 /// Appends why a change was refused, without a newline, in the words of etcd's `confchange` package. Want of memory is

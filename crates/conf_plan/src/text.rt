@@ -1,19 +1,20 @@
 //! The text of a plan: a line for each step, or `nothing to do`. The form of the lines is own.
 ghost use Rattle.std.specs.Prelude.{◌≡◌, ◌⊎◌, ◌<◌, ◌≤◌, [], ◌∷◌, ◌++◌, List, Ok, Err, length, map, flat_map, IfOk, IfErr, OnOk, OnErr};
-ghost use Rattle.std.specs.List.{join_with_byte, position_or_len};
+ghost use Rattle.std.specs.List.{join_with_byte};
 ghost use Rattle.ascii_text.specs.Words.{words};
 ghost use Rattle.conf_change.specs.ChangeList.{letter_of};
 ghost use Rattle.conf_change.specs.Text.{Extends};
 ghost use Rattle.conf_change.specs.declared.step.Step.{Step};
-ghost use Rattle.conf_plan.specs.PlanText.{StandsForPlan, HasFault, command_words, change_text, spaced_change, line_and_newline, plan_text, lines_of, is_newline};
+ghost use Rattle.conf_plan.specs.PlanText.{StandsForPlan, HasFault, command_words, change_text, spaced_change, line_and_newline, plan_text, lines_of};
 ghost use Rattle.conf_plan.specs.PlanCode as code;
 ghost use Rattle.conf_plan.specs.PlanCode.{plan_in, step_in, enter_in, list_in};
 ghost use Rattle.conf_plan.specs.declared.text.PlanTextFault.{PlanTextFault};
 
 use crate::plan_steps::Plan;
+use ascii_text::append::append_number;
+use ascii_text::cut::place_of;
 use ascii_text::words::next_token;
 use conf_change::{Change, Changes, Kind, Step, TokenFault, read_changes};
-use itoa::Buffer;
 use quorum_sets::NoMemory;
 use std::alloc::{AllocFailed, Global};
 use thiserror::Error;
@@ -149,9 +150,8 @@ fn append_word(text: &mut Vec<u8>, change: Change) -> Result<(), NoMemory>
     ensures ok { OnOk result (text.new.items ≡ text.old.items ++ change_text change) }
     ensures extends { Extends text.old.items text.new.items }
 {
-    let mut buffer = Buffer::new();
     text.push(letter(change.kind))?;
-    text.extend_from_slice(buffer.format(change.id).as_bytes())?;
+    append_number(text, change.id)?;
     Ok(())
 }
 
@@ -212,19 +212,11 @@ fn first_line(text: &[u8]) -> (&[u8], &[u8])
     ensures within { length result.1.now ≤ length text.now }
     ensures shorter { 0 < length result.1.now → length result.1.now < length text.now }
 {
-    let (line, behind) = text.split_at(newline_at(text));
+    let (line, behind) = text.split_at(place_of(text, b'\n'));
     match behind {
         [_, behind @ ..] => (line, behind),
         [] => (line, behind),
     }
-}
-
-// The place of the first newline, or the length of the text.
-fn newline_at(text: &[u8]) -> usize
-    ensures place { result ≡ position_or_len is_newline text.now }
-    ensures within { result ≤ length text.now }
-{
-    text.iter().take_while(|byte| **byte != b'\n').count()
 }
 
 // Whether a line says that there is nothing to do.

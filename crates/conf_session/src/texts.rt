@@ -13,11 +13,11 @@ ghost use Rattle.conf_session.specs.Undo as says;
 use crate::given::Given;
 use crate::session_ids::SessionIds;
 use crate::undo_fault::{UndoFault, undo_fault_text};
+use ascii_text::append::append_number;
 use conf_change::{
     Config, Progress, Refused, TokenFault, Tracker, conf_state, write_conf_state, write_config,
     write_progress, write_refused, write_token_fault,
 };
-use itoa::Buffer;
 use quorum_sets::{MemberSet, NoMemory, joint_chart, joint_committed};
 use std::alloc::Global;
 
@@ -116,8 +116,7 @@ fn append_index(text: &mut Vec<u8>, index: u64) -> Result<(), NoMemory>
     if index == u64::MAX {
         text.extend_from_slice(b"\xe2\x88\x9e")?;
     } else {
-        let mut buffer = Buffer::new();
-        text.extend_from_slice(buffer.format(index).as_bytes())?;
+        append_number(text, index)?;
     }
     Ok(())
 }

@@ -2,7 +2,7 @@
 ghost use Rattle.std.specs.Prelude.{◌≡◌, IfOk};
 ghost use Rattle.conf_session.specs.Undo as says;
 
-use itoa::Buffer;
+use ascii_text::append::append_number;
 use quorum_sets::NoMemory;
 use std::alloc::Global;
 use thiserror::Error;
@@ -34,9 +34,8 @@ pub fn undo_fault_text(alloc: Global, fault: UndoFault) -> Result<Vec<u8>, NoMem
     let mut text = Vec::new(alloc);
     match fault {
         UndoFault::NotKept(kept) => {
-            let mut digits = Buffer::new();
             text.extend_from_slice(NO_PLAN.as_bytes())?;
-            text.extend_from_slice(digits.format(kept).as_bytes())?;
+            append_number(&mut text, kept as u64)?;
             text.extend_from_slice(ARE_KEPT.as_bytes())?;
         }
         UndoFault::NoVoterTarget => {

@@ -4,9 +4,9 @@ ghost use Rattle.conf_tool.specs.Outputs.{status_of};
 ghost use Rattle.conf_tool.specs.Reports.{marked, difference_text, counts_line};
 
 use crate::status::Status;
+use ascii_text::append::append_number;
 use ascii_text::lines::{next_piece, without_end};
 use dd_file::item::Directive;
-use itoa::Buffer;
 use quorum_sets::NoMemory;
 
 /// How many directives there were, and how many of them found another text than they expect.
@@ -54,9 +54,9 @@ impl Counts {
     pub(crate) fn append_to(&self, text: &mut Vec<u8>) -> Result<(), NoMemory>
         ensures { OnOk result (text.new.items ≡ text.old.items ++ counts_line self.now.directives self.now.mismatches) }
     {
-        append_number(text, self.directives)?;
+        append_count(text, self.directives)?;
         text.extend_from_slice(b" directives, ")?;
-        append_number(text, self.mismatches)?;
+        append_count(text, self.mismatches)?;
         text.extend_from_slice(b" mismatches")?;
         text.push(b'\n')?;
         Ok(())
@@ -72,7 +72,7 @@ pub(crate) fn append_difference(
 ) -> Result<(), NoMemory>
     ensures { OnOk result (text.new.items ≡ text.old.items ++ difference_text found.now directive.now) }
 {
-    append_number(text, directive.line())?;
+    append_count(text, directive.line())?;
     text.extend_from_slice(b": ")?;
     text.extend_from_slice(directive.command())?;
     text.push(b'\n')?;
@@ -80,12 +80,11 @@ pub(crate) fn append_difference(
     append_marked(text, b"+ ", found)
 }
 
-// Appends a number in decimal.
-fn append_number(text: &mut Vec<u8>, number: usize) -> Result<(), NoMemory>
-    ensures { OnOk result (text.new.items ≡ text.old.items ++ decimal number) }
+// Appends a count in decimal.
+fn append_count(text: &mut Vec<u8>, count: usize) -> Result<(), NoMemory>
+    ensures { OnOk result (text.new.items ≡ text.old.items ++ decimal count) }
 {
-    let mut buffer = Buffer::new();
-    text.extend_from_slice(buffer.format(number).as_bytes())?;
+    append_number(text, count as u64)?;
     Ok(())
 }
 

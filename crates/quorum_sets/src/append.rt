@@ -1,5 +1,5 @@
 //! Parts of a text, appended one after another.
-ghost use Rattle.std.specs.Prelude.{◌≡◌, ◌<◌, ◌^◌, ◌++◌, length, take, replicate, decimal, OnOk};
+ghost use Rattle.std.specs.Prelude.{◌≡◌, ◌<◌, ◌^◌, ◌++◌, length, take, replicate, OnOk};
 ghost use Rattle.quorum_sets.specs.Chart.{in_five_places};
 
 use crate::no_memory::NoMemory;
@@ -22,15 +22,6 @@ pub(crate) fn append_times(text: &mut Vec<u8>, byte: u8, times: usize) -> Result
 {
     text.resize(text.len() + times, byte)?;
     Ok(())
-}
-
-// Appends a number in decimal.
-pub(crate) fn append_number(text: &mut Vec<u8>, number: u64) -> Result<(), NoMemory>
-    ensures ok { OnOk result (text.new.items ≡ text.old.items ++ decimal number) }
-    ensures extends { take (length text.old.items) text.new.items ≡ text.old.items }
-{
-    let mut buffer = Buffer::new();
-    append(text, buffer.format(number).as_bytes())
 }
 
 // Appends a number in decimal, right-aligned in five places, or in full where it is wider.

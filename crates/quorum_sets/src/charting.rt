@@ -4,10 +4,11 @@ ghost use Rattle.quorum_sets.specs.Ids.{ascending, union};
 ghost use Rattle.quorum_sets.specs.Chart.{IsRanking, bar_text, row_text, chart_row, chart_text};
 
 use crate::acknowledgement::AckSource;
-use crate::append::{append, append_in_five_places, append_number, append_times};
+use crate::append::{append, append_in_five_places, append_times};
 use crate::member_set::MemberSet;
 use crate::no_memory::NoMemory;
 use crate::ranking::Ranking;
+use ascii_text::append::append_number;
 use smallvec::SmallVec;
 
 /// Appends the chart of a set: a line for each id, in ascending order, with a bar and the index that it acknowledged.

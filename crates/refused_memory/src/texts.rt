@@ -1,5 +1,6 @@
 //! Calls that append to a text.
 use crate::twice::twice;
+use ascii_text::append::append_number;
 use quorum_sets::NoMemory;
 use std::alloc::{AllocError, Global};
 
@@ -34,4 +35,15 @@ fn is_appended<F: Fn(&mut Vec<u8>) -> Result<(), NoMemory>>(
         answer = append(text);
     }
     stays & answer.is_ok() & (text.as_slice().strip_prefix(FRONT) == Some(wanted.as_bytes()))
+}
+
+fn with_number(text: &mut Vec<u8>, number: u64) -> Result<(), NoMemory> {
+    append_number(text, number)?;
+    Ok(())
+}
+
+#[test]
+fn numbers(rt: HostRuntime) {
+    assert!(rt; appends(rt.alloc(), "9", |text| with_number(text, 9)));
+    assert!(rt; appends(rt.alloc(), "10", |text| with_number(text, 10)));
 }

@@ -1,10 +1,13 @@
 //! White space, words, lines and numbers in texts.
+use ascii_text::append::append_number;
+use ascii_text::cut::place_of;
 use ascii_text::lines::{is_whole, line_of, next_piece, piece_len, without_end};
 use ascii_text::number::read_number;
 use ascii_text::white_space::{
     is_blank, is_space, trimmed, without_leading_space, without_trailing_space,
 };
 use ascii_text::words::next_token;
+use std::test::Fail;
 
 static BYTES: [(u8, bool); 11] = [
     (8, false),
@@ -76,6 +79,13 @@ fn cuts_texts_behind_newlines(rt: HostRuntime) {
     }
 }
 
+#[test]
+fn finds_the_place_of_a_byte(rt: HostRuntime) {
+    assert!(rt; place_of(b"a] b]", b']') == 1);
+    assert!(rt; place_of(b"a", b']') == 1);
+    assert!(rt; place_of(b"", b']') == 0);
+}
+
 // A piece, its line, and whether it ends in a newline.
 static LINES: [(&[u8], &[u8], bool); 5] = [
     (b"", b"", false),
@@ -110,4 +120,16 @@ fn reads_numbers(rt: HostRuntime) {
     for (place, (digits, wanted)) in NUMBERS.iter().enumerate() {
         assert!(rt; read_number(*digits) == *wanted, "row {place}");
     }
+}
+
+#[test]
+fn appends_numbers(rt: HostRuntime) -> Result<(), Fail> {
+    let mut text = Vec::new(rt.alloc());
+    for number in [0, 9, 10, u64::MAX] {
+        append_number(&mut text, number)?;
+        text.push(b' ')?;
+    }
+    let wanted = b"0 9 10 18446744073709551615 ".as_slice();
+    assert!(rt; text.as_slice() == wanted);
+    Ok(())
 }

@@ -11,5 +11,5 @@ parts-line text a b c d =
 
 pub returns : goal.returns
 returns c =
-    rw (c.in_ok-push.ensures.items, c.in_ok-extend_from_slice-2.ensures.items, c.in_ok-append_number-2.ensures, c.in_ok-extend_from_slice.ensures.items, c.in_ok-append_number.ensures)
+    rw (c.in_ok-push.ensures.items, c.in_ok-extend_from_slice-2.ensures.items, c.in_ok-append_count-2.ensures, c.in_ok-extend_from_slice.ensures.items, c.in_ok-append_count.ensures)
     (parts-line c.args.text.now.items _ _ _ _)
