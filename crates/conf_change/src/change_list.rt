@@ -1,5 +1,5 @@
 //! Reading lists of changes, as the test scripts of etcd's raft packages write them: `v1 l2 r3`.
-ghost use Rattle.std.specs.Prelude.{◌≡◌, Ok, Err, length, IfOk, IfErr, IfSome, MatchResult};
+ghost use Rattle.std.specs.Prelude.{◌≡◌, Ok, Err, length, IfOk, IfErr, IfSome, IsSomeAnd, MatchResult};
 ghost use Rattle.ascii_text.specs.Words.{words};
 ghost use Rattle.conf_change.specs.ChangeList.{StandsFor, IsFirstBad, bad_token, change_in, changes_in, kind_in};
 
@@ -67,9 +67,10 @@ pub fn read_changes(alloc: Global, text: &[u8]) -> Result<Vec<Change>, TokenFaul
     Ok(changes)
 }
 
-// The change that a token spells. This takes no memory.
-fn read_change(token: &[u8]) -> Result<Change, TokenFault<'_>>
-    ensures { MatchResult result (λ change. change_in token.now ≡ Ok change) (λ fault. IfSome (bad_token fault) (λ bad. change_in token.now ≡ Err bad)) }
+/// The change that a token spells: a letter and a decimal number below 2^64, which may have leading zeros. This takes no
+/// memory.
+pub fn read_change(token: &[u8]) -> Result<Change, TokenFault<'_>>
+    ensures { MatchResult result (λ change. change_in token.now ≡ Ok change) (λ fault. IsSomeAnd (bad_token fault) (λ bad. change_in token.now ≡ Err bad)) }
 {
     let [letter, digits @ ..] = token else {
         return Err(TokenFault::UnknownToken(token));

@@ -26,7 +26,7 @@ pub mod transition;
 
 pub use acknowledgement::AckFault;
 pub use change::{Change, Changes, Kind};
-pub use change_list::{TokenFault, read_changes};
+pub use change_list::{TokenFault, read_change, read_changes};
 pub use changer::Changer;
 pub use config::{Config, Invariant, check};
 pub use edits::union;

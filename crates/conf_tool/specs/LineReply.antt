@@ -3,7 +3,7 @@ use Rattle.std.specs.Prelude.{ℕ, Bool, ◌==◌, List, [], ◌∷◌, ◌++◌
 use Rattle.ascii_text.specs.Lines.{newline}
 use Rattle.conf_change.specs.Configuration.{Configuration}
 use Rattle.conf_change.specs.Outcome.{Outcome, outcome}
-use Rattle.conf_change.specs.ChangeList.{BadToken, changes_in}
+use Rattle.conf_change.specs.ChangeList.{BadToken, changes_in, changes_in_words}
 use Rattle.ascii_text.specs.Words.{words}
 use Rattle.conf_change.specs.Text.{config_text, refused_text, bad_token_text}
 use Rattle.conf_change.specs.declared.change.Change.{Change}
@@ -27,6 +27,10 @@ reply_to_outcome c (Err refused) = told c (refused_text refused)
 abbrev pub reply_to_changes : Configuration → Result (List Change) BadToken → LineReply
 reply_to_changes c (Ok changes) = reply_to_outcome c (outcome c (Simple changes))
 reply_to_changes c (Err bad) = told c (bad_token_text bad)
+
+-- the change that a word spells, or what is wrong with it
+abbrev pub reply_to_word : Configuration → List ℕ → LineReply
+reply_to_word c word = reply_to_changes c (changes_in_words (word ∷ []))
 
 -- the line has one word
 abbrev pub has_one_word : List ℕ → Bool

@@ -1,6 +1,8 @@
 //! The changes that texts hold, and texts that are appended to.
 use conf_change::Kind::{Learner, Remove, Update, Voter};
-use conf_change::{Change, Refused, TokenFault, read_changes, write_refused, write_token_fault};
+use conf_change::{
+    Change, Refused, TokenFault, read_change, read_changes, write_refused, write_token_fault,
+};
 use conf_session::{UndoFault, undo_fault_text};
 use std::test::Fail;
 
@@ -74,4 +76,18 @@ fn reads_changes_between_any_white_space(rt: HostRuntime) -> Result<(), Fail> {
         assert!(rt; found.as_slice() == *wanted, "row {place}");
     }
     Ok(())
+}
+
+#[test]
+fn reads_the_change_of_a_word(rt: HostRuntime) {
+    assert!(rt;
+        read_change(b"l007")
+            == Ok(Change {
+                kind: Learner,
+                id: 7
+            })
+    );
+    assert!(rt; read_change(b"v") == Err(TokenFault::UnknownToken(b"v")));
+    assert!(rt; read_change(b"x1") == Err(TokenFault::UnknownInput(b"x1")));
+    assert!(rt; read_change(b"v-1") == Err(TokenFault::BadNumber(b"v-1")));
 }

@@ -22,7 +22,6 @@ use std::alloc::Global;
 /// The lines of an input, and the changer that their changes are made with.
 #[derive(Drop)]
 pub(super) struct LineByLine {
-    alloc: Global,
     lines: Lines,
     changer: Changer<SessionIds>,
     /// The answer to the last line.
@@ -37,7 +36,6 @@ impl LineByLine {
         ensures memory { IsOkUnless result OutOfMemory }
     {
         Ok(LineByLine {
-            alloc,
             lines: Lines::new(alloc)?,
             changer: Changer::new(alloc, 0),
             text: Vec::new(alloc),
@@ -88,12 +86,7 @@ impl PartByPart for LineByLine {
 
     fn answer<W: Sink>(&mut self, line: Vec<u8>, writer: &mut W) -> Result<(), ToolFault> {
         self.text.clear();
-        answer_line(
-            self.alloc,
-            &mut self.changer,
-            line.as_slice(),
-            &mut self.text,
-        )?;
+        answer_line(&mut self.changer, line.as_slice(), &mut self.text)?;
         write_all(writer, self.text.as_slice())?;
         Ok(())
     }
