@@ -63,6 +63,21 @@ fn push_known(numbers: &mut SmallVec<u64, FEW>, number: Option<u64>) -> Result<(
     Ok(())
 }
 
+// The numbers of `cfg` and behind them those of `cfgj`, with the place where these begin.
+fn numbers_of_both(
+    alloc: Global,
+    arguments: &[Argument],
+) -> Result<(SmallVec<u64, FEW>, usize), NoMemory>
+    ensures numbers { IfOk result (λ named. named.0.items ≡ says.numbers_given Parameter.Incoming arguments.now ++ says.numbers_given Parameter.Outgoing arguments.now) }
+    ensures split { IfOk result (λ named. named.1 ≡ length (says.numbers_given Parameter.Incoming arguments.now)) }
+{
+    let mut named = SmallVec::new(alloc);
+    push_numbers(&mut named, Parameter::Incoming, arguments)?;
+    let split = named.len();
+    push_numbers(&mut named, Parameter::Outgoing, arguments)?;
+    Ok((named, split))
+}
+
 // The ids, each once, in the order in which they come first.
 fn each_once(alloc: Global, ids: &[u64]) -> Result<SmallVec<u64, FEW>, NoMemory>
     ensures { IfOk result (λ distinct. distinct.items ≡ says.each_once ids.now) }
@@ -120,10 +135,7 @@ pub(crate) fn quorum_given<V: GivenValue>(
     ensures outgoing { IfOk result (λ quorum. IfSome quorum (λ quorum. quorum.outgoing ≡ (says.voters_given arguments.now).outgoing)) }
     ensures given { IfOk result (λ quorum. IfSome quorum (λ quorum. given_in quorum.given ≡ says.map_given V.says (says.ids_given arguments.now) (says.values_given parameter arguments.now))) }
 {
-    let mut named = SmallVec::new(alloc);
-    push_numbers(&mut named, Parameter::Incoming, arguments)?;
-    let split = named.len();
-    push_numbers(&mut named, Parameter::Outgoing, arguments)?;
+    let (mut named, split) = numbers_of_both(alloc, arguments)?;
     let ids = each_once(alloc, named.as_slice())?;
     if value_count(parameter, arguments) != ids.len() {
         return Ok(None);
