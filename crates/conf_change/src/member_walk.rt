@@ -1,5 +1,5 @@
 //! A walk over the members of a configuration, in rising order of the ids.
-ghost use Rattle.std.specs.Prelude.{◌≡◌, ◌≤◌, ◌<◌, ◌⊎◌, true, false, Some, slice_get};
+ghost use Rattle.std.specs.Prelude.{◌≡◌, true, false, Some, slice_get};
 ghost use Rattle.quorum_sets.specs.Ids.{ascending};
 ghost use Rattle.conf_change.specs.MemberWalk.{IsLeast, IsLeastFrom, Passes};
 
