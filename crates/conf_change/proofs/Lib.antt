@@ -7,7 +7,6 @@ mod Validity
 mod Outcomes
 mod Soundness
 mod ConfStateLemmas
-mod Fresh
 mod Rows
 mod LastWordLemmas
 mod Joining
@@ -24,3 +23,4 @@ mod ChangeLemmas
 mod LineLemmas
 mod MemberLemmas
 mod SameSets
+mod SideBySide

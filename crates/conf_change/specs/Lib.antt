@@ -9,6 +9,7 @@ pub mod TrackerState
 pub mod ChangerState
 pub mod Progress
 pub mod LastWords
+pub mod MemberWalk
 pub mod Seat
 pub mod TrackerEdits
 pub mod Changer

@@ -1,7 +1,9 @@
 -- The progress of the members, before and after a step.
-use Rattle.std.specs.Prelude.{ℕ, Bool, not, ◌&&◌, map, unwrap_or, if◌then◌else◌}
+use Rattle.std.specs.Prelude.{◌≡◌, ℕ, ◌==◌, Bool, not, ◌&&◌, ◌||◌, List, map, unwrap_or, if◌then◌else◌}
+use Rattle.std.specs.List.{list_any}
 use Rattle.std.specs.FinMap as finite
-use Rattle.quorum_sets.specs.Ids.{has}
+use Rattle.quorum_sets.specs.Ids.{Ids, has}
+use Rattle.quorum_sets.specs.Rising.{IsRising}
 use Rattle.conf_change.specs.Configuration.{Configuration, is_member, members}
 use Rattle.conf_change.specs.Change.{removes}
 use Rattle.conf_change.specs.Floor.{fresh_next}
@@ -30,6 +32,12 @@ progress_by c of = finite.from_entries (map (λ id. (id, of id)) (members c))
 -- all progress is fresh
 abbrev pub all_fresh : ℕ → Configuration → ProgressMap
 all_fresh next_index c = progress_by c (λ id. fresh_progress next_index (has c.learners id))
+
+-- a list in rising order of the ids has fresh progress for each id of the three sets, with the learners marked, and for nobody else
+pub record IsFreshOf (next_index : ℕ) (incoming outgoing learners : Ids) (entries : List (ℕ × Progress)) : Type 0 where
+  pub rising : IsRising (map (λ m. m.0) entries)
+  pub members : (q : ℕ) → list_any (λ x. q == x) (map (λ m. m.0) entries) ≡ (has incoming q || has outgoing q || has learners q)
+  pub fresh : entries ≡ map (λ id. (id, fresh_progress next_index (has learners id))) (map (λ m. m.0) entries)
 
 -- the step puts a new member in the id's place, if the id stays: its changes remove the id, and the id does not go out
 abbrev pub is_replaced : Step → Configuration → ℕ → Bool

@@ -1,14 +1,13 @@
-//! Edits of a configuration: one change, what is left of a joint one, the ids of two sets, and those of all members. Members' progress is no matter here.
-ghost use Rattle.std.specs.Prelude.{◌≡◌, ◌≢◌, ℕ, [], ◌∷◌, ◌++◌, IfOk, OnOk};
-ghost use Rattle.quorum_sets.specs.Ids.{has, ids_of, ascending};
-ghost use Rattle.conf_change.specs.Configuration.{is_member};
+//! Edits of a configuration: one change, what is left of a joint one, and the ids of two sets. Members' progress is no matter here.
+ghost use Rattle.std.specs.Prelude.{◌≡◌, ◌≢◌, [], ◌∷◌, ◌++◌, IfOk, OnOk};
+ghost use Rattle.quorum_sets.specs.Ids.{ids_of, ascending};
 ghost use Rattle.conf_change.specs.Change.{result_of};
 ghost use Rattle.conf_change.specs.Outcome.{after_leave};
 ghost use Rattle.conf_change.specs.declared.change.Change.{Change};
 
 use crate::change::{Change, Kind};
 use crate::config::Config;
-use quorum_sets::{MemberSet, NoMemory, set_of};
+use quorum_sets::{MemberSet, NoMemory};
 use smallvec::SmallVec;
 use std::alloc::Global;
 
@@ -95,19 +94,7 @@ pub fn union<S: MemberSet>(a: &S, b: &S) -> Result<S, NoMemory>
     let mut ids = SmallVec::new(alloc);
     append_ids(&mut ids, a)?;
     append_ids(&mut ids, b)?;
-    set_of(alloc, ids.as_mut_slice())
-}
-
-// The ids of all members.
-pub(crate) fn member_ids<S: MemberSet>(config: &Config<S>) -> Result<S, NoMemory>
-    ensures { IfOk result (λ ids. (q : ℕ) → has (S.ids ids) q ≡ is_member config.now q) }
-{
-    let alloc = config.incoming.allocator();
-    let mut ids = SmallVec::new(alloc);
-    append_ids(&mut ids, &config.incoming)?;
-    append_ids(&mut ids, &config.outgoing)?;
-    append_ids(&mut ids, &config.learners)?;
-    set_of(alloc, ids.as_mut_slice())
+    S::of_list(alloc, ids.as_slice())
 }
 
 // Appends the ids of a set to a list.

@@ -11,6 +11,7 @@ mod edits;
 pub mod floor;
 mod last_words;
 pub mod laws;
+mod member_walk;
 mod members;
 mod places;
 pub mod progress;

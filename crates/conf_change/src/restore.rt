@@ -1,23 +1,22 @@
 //! Restoring a saved configuration.
 ghost use Rattle.std.specs.Prelude.{◌≡◌, ℕ, Some, None, Err, true, false, map, IfOk, MatchResult};
 ghost use Rattle.std.specs.FinMap as finite;
-ghost use Rattle.quorum_sets.specs.Ids.{has, ascending};
 ghost use Rattle.quorum_sets.specs.Rising.{IsRising};
 ghost use Rattle.conf_change.specs.Configuration.{Configuration, has_voter_or_nobody, is_restorable};
 ghost use Rattle.conf_change.specs.ConfState.{Describes, Lists, names_once, restored};
 ghost use Rattle.conf_change.specs.Described.{described};
-ghost use Rattle.conf_change.specs.Progress.{all_fresh, fresh_progress};
+ghost use Rattle.conf_change.specs.Progress.{IsFreshOf, all_fresh};
 ghost use Rattle.conf_change.specs.declared.floor.Floor.TheVariants.{One};
 ghost use Rattle.conf_change.specs.Changer.{IsSound, begun_with};
 
 use crate::changer::Changer;
 use crate::config::{Config, check};
-use crate::edits::member_ids;
 use crate::floor::Floor;
+use crate::member_walk::{least, step_over};
 use crate::progress::Progress;
 use crate::saved::ConfState;
 use crate::tracker::Tracker;
-use quorum_sets::{MemberSet, NoMemory, has_next, set_of_list};
+use quorum_sets::{MemberSet, NoMemory};
 use smallvec::SmallVec;
 use std::alloc::Global;
 use thiserror::Error;
@@ -107,7 +106,7 @@ fn set_from<S: MemberSet>(alloc: Global, list: &[u64]) -> Result<S, RestoreFault
     ensures once { IfOk result (λ set. Lists list.now (S.ids set)) }
     ensures twice { result ≡ Err RestoreFault.NotAConfiguration → names_once list.now ≡ false }
 {
-    let set: S = set_of_list(alloc, list)?;
+    let set = S::of_list(alloc, list)?;
     if set.len() == list.len() {
         Ok(set)
     } else {
@@ -141,27 +140,42 @@ fn fresh_progress<S: MemberSet>(
     ensures rising { IfOk result (λ members. IsRising (map (λ m. m.0) members.items)) }
     ensures fresh { IfOk result (λ members. finite.from_entries members.items ≡ all_fresh next_index config.now) }
 {
-    let ids = member_ids(config)?;
-    fresh_of(alloc, &ids, &config.learners, next_index)
+    fresh_of(
+        alloc,
+        &config.incoming,
+        &config.outgoing,
+        &config.learners,
+        next_index,
+    )
 }
 
-// Fresh progress of each id of a set, with the learners marked.
+// The same of the three sets of members. They are walked side by side.
 fn fresh_of<S: MemberSet>(
     alloc: Global,
-    ids: &S,
+    incoming: &S,
+    outgoing: &S,
     learners: &S,
     next_index: u64,
 ) -> Result<SmallVec<(u64, Progress), 1>, NoMemory>
-    ensures { IfOk result (λ members. members.items ≡ map (λ id. (id, fresh_progress next_index (has (S.ids learners.now) id))) (ascending (S.ids ids.now))) }
+    ensures { IfOk result (λ members. IsFreshOf next_index (S.ids incoming.now) (S.ids outgoing.now) (S.ids learners.now) members.items) }
 {
     let fresh = Progress::fresh(next_index);
-    let mut members = SmallVec::with_capacity(alloc, ids.len())?;
+    let most = incoming
+        .len()
+        .saturating_add(outgoing.len())
+        .saturating_add(learners.len());
+    let mut members = SmallVec::with_capacity(alloc, most)?;
+    let mut incoming_place = 0;
+    let mut outgoing_place = 0;
     let mut learner_place = 0;
-    for place in 0..ids.len() {
-        if let Some(id) = ids.at(place) {
-            let learner = has_next(learners, &mut learner_place, id);
-            members.push((id, Progress { learner, ..fresh }))?;
-        }
+    loop {
+        let voter = least(incoming.at(incoming_place), outgoing.at(outgoing_place));
+        let Some(id) = least(voter, learners.at(learner_place)) else {
+            return Ok(members);
+        };
+        step_over(incoming, &mut incoming_place, id);
+        step_over(outgoing, &mut outgoing_place, id);
+        let learner = step_over(learners, &mut learner_place, id);
+        members.push((id, Progress { learner, ..fresh }))?;
     }
-    Ok(members)
 }

@@ -1,15 +1,17 @@
--- The ids of two sets, as a set and as a sorted list.
-use Rattle.std.proofs.Common.{◌≡◌, ℕ, Bool, true, false, ◌||◌, ◌==◌, List, [], ◌∷◌, ◌++◌, refl, sym, ap, ◌∙◌}
+-- A sorted list with each id once, and the ids of two sets, as a set and as such a list.
+use Rattle.std.proofs.Common.{◌≡◌, ℕ, Bool, true, false, ◌||◌, ◌==◌, List, [], ◌∷◌, ◌++◌, length, take, refl, sym, ap, ◌∙◌, arith}
 use Rattle.std.specs.Ordering.{nat_cmp}
 use Rattle.std.specs.Cmp.{nat_cmp_total, unsigned_tied}
-use Rattle.std.specs.List.{list_any, dedup, dedup_from}
-use Rattle.std.specs.List.Sorted.{IsPermutation, IsSorted}
+use Rattle.std.specs.List.{list_any, dedup, dedup_from, refill}
+use Rattle.std.specs.List.Sorted.{IsPermutation, IsSorted, IsStrictlySortedBy}
 use Rattle.std.proofs.lemmas.Bool.{cond_both, eqb-true}
+use Rattle.std.proofs.lemmas.List.{append-nil, drop_all, take_all}
 use Rattle.std.proofs.lemmas.List.Folds.{list_any-append}
 use Rattle.std.proofs.lemmas.List.Kept.{IsStrictlySortedBy-dedup}
-use Rattle.std.proofs.lemmas.List.Sorted.{list_any-IsPermutation}
-use Rattle.quorum_sets.specs.Ids.{Ids, has, ascending, union}
-use Rattle.quorum_sets.proofs.IdLemmas.{has-ids_of, has-ascending, ascending-ids_of, same_ids}
+use Rattle.quorum_sets.specs.Ids.{Ids, has, ascending, ids_of, union}
+use Rattle.quorum_sets.specs.Rising.{IsRising}
+use Rattle.quorum_sets.proofs.IdLemmas.{has-ids_of, has-ascending, ascending-ids_of, ids_of-permuted, same_ids}
+use Rattle.quorum_sets.proofs.RisingLemmas.{sorted-rising}
 
 pub has-union : (a b : Ids) (q : ℕ) → has (union a b) q ≡ (has a q || has b q)
 has-union a b q =
@@ -31,12 +33,22 @@ any-dedup : (q : ℕ) (xs : List ℕ) → list_any (λ x. q == x) (dedup (λ x y
 any-dedup q [] = refl
 any-dedup q (x ∷ xs) = any-dedup_from q x xs
 
+-- a list that is written over whole
+pub refilled : (xs ws : List ℕ) → length ws ≡ length xs → refill (length xs) xs ws ≡ ws
+refilled xs ws e =
+    ap (take (length xs)) (ap (λ rest. ws ++ rest) (drop_all (length ws) xs (omega (arith, e))) ∙ append-nil ws) ∙ take_all (length xs) ws (omega (arith, e))
+
+-- ---- a sorted list with each id once
+ascends-dedup : (xs : List ℕ) → IsSorted nat_cmp xs → IsStrictlySortedBy nat_cmp (dedup (λ x y. x == y) xs)
+ascends-dedup xs sorted = IsStrictlySortedBy-dedup nat_cmp_total (λ x y. sym (unsigned_tied x y)) xs sorted
+
+pub rising-dedup : (xs : List ℕ) → IsSorted nat_cmp xs → IsRising (dedup (λ x y. x == y) xs)
+rising-dedup xs sorted = sorted-rising _ (ascends-dedup xs sorted)
+
+pub ids_of-dedup : (xs : List ℕ) → ids_of (dedup (λ x y. x == y) xs) ≡ ids_of xs
+ids_of-dedup xs = same_ids _ _ (λ q. has-ids_of (dedup (λ x y. x == y) xs) q ∙ any-dedup q xs ∙ sym (has-ids_of xs q))
+
 -- the lists of both sets, sorted, with each id once
 pub ascending-union : (a b : Ids) (xs : List ℕ) → IsPermutation (ascending a ++ ascending b) xs → IsSorted nat_cmp xs → dedup (λ x y. x == y) xs ≡ ascending (union a b)
 ascending-union a b xs moved sorted =
-    let both = ascending a ++ ascending b in
-    let once = dedup (λ (x y : ℕ). x == y) xs in
-    let up = IsStrictlySortedBy-dedup nat_cmp_total (λ x y. sym (unsigned_tied x y)) xs sorted in
-    sym (ascending-ids_of once up)
-    ∙ ap ascending (same_ids _ _ (λ q.
-    has-ids_of once q ∙ any-dedup q xs ∙ sym (list_any-IsPermutation (λ x. q == x) both xs moved) ∙ sym (has-ids_of both q)))
+    sym (ascending-ids_of _ (ascends-dedup xs sorted)) ∙ ap ascending (ids_of-dedup xs ∙ ids_of-permuted (ascending a ++ ascending b) xs moved)

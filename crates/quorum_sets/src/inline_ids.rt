@@ -1,6 +1,6 @@
 //! A set of ids as a sorted list, which lies in the value while it is short.
-ghost use Rattle.std.specs.Prelude.{◌≡◌, ◌<◌, ◌≤◌, not, insert, IfOk, OnOk, OnErr, IsOk, MatchResult};
-ghost use Rattle.quorum_sets.specs.Ids.{has, with_id, size};
+ghost use Rattle.std.specs.Prelude.{◌≡◌, ◌<◌, ◌≤◌, true, not, length, insert, IfOk, OnOk, OnErr, IsOk, MatchResult};
+ghost use Rattle.quorum_sets.specs.Ids.{has, with_id, size, ids_of};
 ghost use Rattle.smallvec.specs.SmallVec.{small_vec_len, HasRoomFor};
 ghost use Rattle.quorum_sets.specs.Rising.{IsRising, StandsAt, GoesTo};
 
@@ -39,6 +39,17 @@ impl MemberSet for InlineIds {
         InlineIds {
             list: SmallVec::new(alloc),
         }
+    }
+
+    fn of_list(alloc: Global, list: &[u64]) -> Result<InlineIds, NoMemory>
+        ensures set { IfOk result (λ set. set ≡ ids_of list.now) }
+        ensures few { length list.now ≤ 8 → IsOk result }
+    {
+        let mut own = SmallVec::from_slice(alloc, list)?;
+        if !is_rising(list) {
+            make_rising(&mut own);
+        }
+        Ok(InlineIds { list: own })
     }
 
     fn allocator(&self) -> Global {
@@ -85,6 +96,28 @@ impl MemberSet for InlineIds {
     fn at(&self, place: usize) -> Option<u64> {
         self.list.as_slice().get(place).copied()
     }
+}
+
+// Whether each id is below the next.
+fn is_rising(list: &[u64]) -> bool
+    ensures { result ≡ true → IsRising list.now }
+{
+    for place in 1..list.len() {
+        if list[place - 1] >= list[place] {
+            return false;
+        }
+    }
+    true
+}
+
+// Puts the ids in rising order, each once.
+fn make_rising(list: &mut SmallVec<u64, 8>)
+    ensures rising { IsRising list.new.items }
+    ensures same { ids_of list.new.items ≡ ids_of list.old.items }
+    ensures capacity { list.new.capacity ≡ list.old.capacity }
+{
+    list.as_mut_slice().sort_unstable();
+    list.dedup();
 }
 
 // Where the id stands in a rising list, or else where it goes. Behind the last one it takes no search.

@@ -1,11 +1,11 @@
 //! A set of ids, as the rest of the product uses it.
 ghost use Rattle.std.specs.Prelude.{◌≡◌, not, IfOk, OnOk, OnErr, slice_get};
-ghost use Rattle.quorum_sets.specs.Ids.{Ids, no_ids, has, with_id, without_id, ascending, size};
+ghost use Rattle.quorum_sets.specs.Ids.{Ids, no_ids, has, with_id, without_id, ascending, size, ids_of};
 
 use crate::no_memory::NoMemory;
 use std::alloc::Global;
 
-/// A finite set of ids, however it is kept. Only `try_clone` and `insert` take memory.
+/// A finite set of ids, however it is kept. Only `of_list`, `try_clone` and `insert` take memory.
 pub trait MemberSet: Drop {
     /// The ids that the set has.
     ghost ids: { Self → Ids };
@@ -13,6 +13,10 @@ pub trait MemberSet: Drop {
     /// The set without ids.
     fn empty(alloc: Global) -> Self
         ensures { ids result ≡ no_ids };
+
+    /// The set of the ids of a list, in any order and with repeats.
+    fn of_list(alloc: Global, list: &[u64]) -> Result<Self, NoMemory>
+        ensures { IfOk result (λ set. ids set ≡ ids_of list.now) };
 
     /// Where the set takes its memory.
     fn allocator(&self) -> Global;

@@ -38,6 +38,14 @@ impl MemberSet for TreeIds {
         }
     }
 
+    fn of_list(alloc: Global, list: &[u64]) -> Result<TreeIds, NoMemory> {
+        let mut set = TreeIds::empty(alloc);
+        for id in list {
+            set.insert(*id)?;
+        }
+        Ok(set)
+    }
+
     fn allocator(&self) -> Global {
         self.alloc
     }

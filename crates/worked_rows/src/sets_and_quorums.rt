@@ -481,3 +481,35 @@ fn tree_ids(rt: HostRuntime) -> Result<(), Fail> {
 fn inline_ids(rt: HostRuntime) -> Result<(), Fail> {
     walk_through::<InlineIds>(&rt, rt.alloc())
 }
+
+// A list, and the ids of its set in rising order.
+static LISTED: [(&[u64], &[u64]); 6] = [
+    (&[], &[]),
+    (&[1, 4, 9], &[1, 4, 9]),
+    (&[9, 1, 4], &[1, 4, 9]),
+    (&[3, 3], &[3]),
+    (&[5, 2, 5, 2], &[2, 5]),
+    (
+        &[20, 1, 2, 3, 4, 5, 6, 8, 9, 20, u64::MAX],
+        &[1, 2, 3, 4, 5, 6, 8, 9, 20, u64::MAX],
+    ),
+];
+
+fn is_set_of_list<S: MemberSet>(
+    alloc: Global,
+    list: &[u64],
+    ids: &[u64],
+) -> Result<bool, NoMemory> {
+    let set = S::of_list(alloc, list)?;
+    Ok(has_ids(&set, ids))
+}
+
+#[test]
+fn sets_of_lists(rt: HostRuntime) -> Result<(), Fail> {
+    for (number, (list, ids)) in LISTED.iter().enumerate() {
+        let in_tree = is_set_of_list::<TreeIds>(rt.alloc(), *list, *ids)?;
+        let inline = is_set_of_list::<InlineIds>(rt.alloc(), *list, *ids)?;
+        assert!(rt; in_tree & inline, "row {number}");
+    }
+    Ok(())
+}

@@ -1,21 +1,43 @@
-use Rattle.std.proofs.Common.{sym, ap, ◌∙◌}
-use Rattle.quorum_sets.specs.Ids.{has, ascending}
-use Rattle.conf_change.specs.Progress.{fresh_progress, with_mark}
-use Rattle.conf_change.proofs.Walks.{has_item}
-use Rattle.conf_change.proofs.Fresh.{mapped_more, mapped_all}
+use Rattle.std.proofs.Common.{◌++◌, ◌∷◌, [], sym, ap, subst, ◌∙◌}
+use Rattle.conf_change.specs.Progress.{with_mark}
+use Rattle.conf_change.proofs.SideBySide.{Walked, head_of, standing, least_from, past_last, walked-begin, walked-more, walked-all, walk_falls}
 use Rattle.conf_change.proofs.restore.fresh_of.Goals as goal
-use Rattle.conf_change.proofs.restore.fresh_of.Goals.{in-Some+in_ok-push, in_default}
 
-pub loop-place-preserved : goal.loop-place-preserved
-loop-place-preserved g c = elim c.match-at.branch [
-  | in-Some+in_ok-push w ↦
-      let own = g.S.MemberSet.ids in
-      mapped_more (λ id. (id, fresh_progress c.args.next_index (has (own c.args.learners.now) id))) (ascending (own c.args.ids.now)) c.loop-place.members.items c.match-at.members.items c.loop-place.place w.in-Some.id _
-      (sym w.in-Some.ensures) c.loop-place.invariant
-      (λ i. (w.in-Some.id, with_mark (w.has_next-learner.ensures i) (c.fresh-fresh.ensures i)))
-      (ap (λ v. v.items) w.members-is ∙ w.in_ok-push.ensures.ok)
-  | in_default w ↦ has_item _ _ _ (sym w.in_default.is ∙ c.at.ensures) c.len-place-end.ensures c.loop-place-test.true
-]
+pub loop-id-init : goal.loop-id-init
+loop-id-init g c =
+    let own = g.S.MemberSet.ids in
+    subst (Walked c.args.next_index (own c.args.incoming.now) (own c.args.outgoing.now) (own c.args.learners.now) 0 0 0) (sym c.in_ok-members.ensures.items)
+    (walked-begin c.args.next_index (own c.args.incoming.now) (own c.args.outgoing.now) (own c.args.learners.now))
 
-pub returns : goal.returns
-returns g c = mapped_all _ _ _ c.loop-place.place c.len-place-end.result c.len-place-end.ensures c.loop-place-test.false c.loop-place.invariant
+pub step_over-requires : goal.step_over-requires
+step_over-requires g c =
+    let head = head_of _ _ _ _ _ _ _ _ c.at.ensures c.at-in-loop-id.ensures c.at-in-loop-id-2.ensures c.least-voter.ensures c.in-Some.ensures in
+    least_from _ _ _ head.below_a
+
+pub step_over-requires-in-loop-id : goal.step_over-requires-in-loop-id
+step_over-requires-in-loop-id g c =
+    let head = head_of _ _ _ _ _ _ _ _ c.at.ensures c.at-in-loop-id.ensures c.at-in-loop-id-2.ensures c.least-voter.ensures c.in-Some.ensures in
+    least_from _ _ _ head.below_b
+
+pub step_over-learner-requires : goal.step_over-learner-requires
+step_over-learner-requires g c =
+    let head = head_of _ _ _ _ _ _ _ _ c.at.ensures c.at-in-loop-id.ensures c.at-in-loop-id-2.ensures c.least-voter.ensures c.in-Some.ensures in
+    least_from _ _ _ head.below_c
+
+pub loop-id-smaller : goal.loop-id-smaller
+loop-id-smaller g c =
+    let head = head_of _ _ _ _ _ _ _ _ c.at.ensures c.at-in-loop-id.ensures c.at-in-loop-id-2.ensures c.least-voter.ensures c.in-Some.ensures in
+    walk_falls _ _ _ _ _ _ _ _ _ c.in-Some.id (standing _ _ _ _ head) c.step_over.ensures.passes c.step_over-in-loop-id.ensures.passes c.step_over-learner.ensures.passes
+
+pub loop-id-preserved : goal.loop-id-preserved
+loop-id-preserved g c =
+    let head = head_of _ _ _ _ _ _ _ _ c.at.ensures c.at-in-loop-id.ensures c.at-in-loop-id-2.ensures c.least-voter.ensures c.in-Some.ensures in
+    walked-more _ _ _ _ _ _ _ _ _ _ c.in-Some.id c.step_over-learner.result c.loop-id.members.items _ c.loop-id.invariant (standing _ _ _ _ head)
+    c.step_over.ensures.passes c.step_over-in-loop-id.ensures.passes c.step_over-learner.ensures.passes
+    c.step_over-learner.ensures.there c.step_over-learner.ensures.stays
+    (c.in_ok-push.ensures.ok ∙ ap (λ p. c.loop-id.members.items ++ (c.in-Some.id, with_mark c.step_over-learner.result p) ∷ []) c.fresh-fresh.ensures)
+
+pub returns-in_default : goal.returns-in_default
+returns-in_default g c =
+    let head = head_of _ _ _ _ _ _ _ _ c.at.ensures c.at-in-loop-id.ensures c.at-in-loop-id-2.ensures c.least-voter.ensures c.in_default.ensures in
+    walked-all _ _ _ _ _ _ _ _ c.loop-id.invariant (past_last _ _ head.below_a) (past_last _ _ head.below_b) (past_last _ _ head.below_c)

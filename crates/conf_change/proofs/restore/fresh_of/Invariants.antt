@@ -1,9 +1,14 @@
-use Rattle.std.proofs.Common.{◌≡◌, map, take}
-use Rattle.quorum_sets.specs.Ids.{has, ascending}
-use Rattle.conf_change.specs.Progress.{fresh_progress}
+use Rattle.std.proofs.Common.{◌+◌, ◌-◌}
+use Rattle.quorum_sets.specs.Ids.{size}
+use Rattle.conf_change.proofs.SideBySide.{Walked}
 use Rattle.conf_change.proofs.restore.fresh_of.Given as goal
 
-abbrev pub invariant-loop-place : goal.invariant-loop-place
-invariant-loop-place g l =
+abbrev pub invariant-loop-id : goal.invariant-loop-id
+invariant-loop-id g l =
     let own = g.S.MemberSet.ids in
-    l.members.items ≡ map (λ id. (id, fresh_progress l.next_index (has (own l.learners) id))) (take l.place (ascending (own l.ids)))
+    Walked l.next_index (own l.incoming) (own l.outgoing) (own l.learners) l.incoming_place l.outgoing_place l.learner_place l.members.items
+
+abbrev pub decreases-loop-id : goal.decreases-loop-id
+decreases-loop-id g l =
+    let own = g.S.MemberSet.ids in
+    (size (own l.incoming) - l.incoming_place) + (size (own l.outgoing) - l.outgoing_place) + (size (own l.learners) - l.learner_place)

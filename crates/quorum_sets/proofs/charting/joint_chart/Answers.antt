@@ -1,14 +1,8 @@
-use Rattle.std.proofs.Common.{◌≡◌, ℕ, List, ◌∙◌, ◌++◌, ap, ◌==◌, length, take, arith}
-use Rattle.std.specs.List.{dedup, refill}
-use Rattle.std.proofs.lemmas.List.{append-nil, drop_all, take_all}
+use Rattle.std.proofs.Common.{◌∙◌, ◌++◌, ap, ◌==◌, length}
+use Rattle.std.specs.List.{dedup}
 use Rattle.quorum_sets.specs.Ids.{ascending}
-use Rattle.quorum_sets.proofs.UnionLemmas.{ascending-union}
+use Rattle.quorum_sets.proofs.UnionLemmas.{ascending-union, refilled}
 use Rattle.quorum_sets.proofs.charting.joint_chart.Goals as goal
-
--- a list that is written over whole
-refilled : (xs ws : List ℕ) → length ws ≡ length xs → refill (length xs) xs ws ≡ ws
-refilled xs ws e =
-    ap (take (length xs)) (ap (λ rest. ws ++ rest) (drop_all (length ws) xs (omega (arith, e))) ∙ append-nil ws) ∙ take_all (length xs) ws (omega (arith, e))
 
 pub returns-clause-ok : goal.returns-clause-ok
 returns-clause-ok g c =
