@@ -12,7 +12,7 @@ use crate::parameter::{Parameter, number_from};
 use crate::session_ids::SessionIds;
 use ascii_text::number::read_number;
 use dd_file::item::Argument;
-use quorum_sets::{NoMemory, set_of};
+use quorum_sets::{MemberSet, NoMemory};
 use smallvec::SmallVec;
 use std::alloc::Global;
 use std::collections::{BTreeMap, BTreeSet};
@@ -135,16 +135,16 @@ pub(crate) fn quorum_given<V: GivenValue>(
     ensures outgoing { IfOk result (λ quorum. IfSome quorum (λ quorum. quorum.outgoing ≡ (says.voters_given arguments.now).outgoing)) }
     ensures given { IfOk result (λ quorum. IfSome quorum (λ quorum. given_in quorum.given ≡ says.map_given V.says (says.ids_given arguments.now) (says.values_given parameter arguments.now))) }
 {
-    let (mut named, split) = numbers_of_both(alloc, arguments)?;
+    let (named, split) = numbers_of_both(alloc, arguments)?;
     let ids = each_once(alloc, named.as_slice())?;
     if value_count(parameter, arguments) != ids.len() {
         return Ok(None);
     }
     let given = given_to(alloc, ids.as_slice(), parameter, arguments)?;
-    let (first, second) = named.as_mut_slice().split_at_mut(split);
+    let (first, second) = named.as_slice().split_at(split);
     Ok(Some(Quorum {
-        incoming: set_of(alloc, first)?,
-        outgoing: set_of(alloc, second)?,
+        incoming: SessionIds::of_list(alloc, first)?,
+        outgoing: SessionIds::of_list(alloc, second)?,
         given,
     }))
 }

@@ -3,7 +3,6 @@ ghost use Rattle.std.specs.Prelude.{◌≡◌, ◌⊎◌, true, false, not, ◌&
 ghost use Rattle.std.specs.List.{zip, list_all};
 ghost use Rattle.std.specs.Ordering.{nat_cmp};
 ghost use Rattle.std.specs.FinMap as finite;
-ghost use Rattle.quorum_sets.specs.Ids.{ids_of};
 ghost use Rattle.quorum_sets.specs.Committed.{joint_committed_index};
 ghost use Rattle.quorum_sets.specs.Votes.{joint_vote_result};
 ghost use Rattle.conf_change.specs.ConfState.{names_once};
@@ -62,8 +61,8 @@ fn index_of(
     requires { length ids.now ≡ length acknowledged.now }
     ensures { IfOk result (λ index. index ≡ joint_committed_index (voters_named incoming.now outgoing.now) (says.known ids.now acknowledged.now)) }
 {
-    let incoming = named(alloc, incoming)?;
-    let outgoing = named(alloc, outgoing)?;
+    let incoming = InlineIds::of_list(alloc, incoming)?;
+    let outgoing = InlineIds::of_list(alloc, outgoing)?;
     let acks = known(alloc, ids, acknowledged)?;
     joint_committed(alloc, &incoming, &outgoing, &acks)
 }
@@ -117,8 +116,8 @@ fn result_of(
     requires { length ids.now ≡ length said.now }
     ensures { IfOk result (λ vote. vote ≡ joint_vote_result (voters_named incoming.now outgoing.now) (says.known ids.now said.now)) }
 {
-    let incoming = named(alloc, incoming)?;
-    let outgoing = named(alloc, outgoing)?;
+    let incoming = InlineIds::of_list(alloc, incoming)?;
+    let outgoing = InlineIds::of_list(alloc, outgoing)?;
     let votes = known(alloc, ids, said)?;
     Ok(joint_vote(&incoming, &outgoing, &votes))
 }
@@ -147,19 +146,11 @@ fn vote_number(vote: VoteResult) -> u64
     }
 }
 
-// The set of the ids of a list, in any order and with repeats.
-fn named(alloc: Global, ids: &[u64]) -> Result<InlineIds, NoMemory>
-    ensures { IfOk result (λ set. set ≡ ids_of ids.now) }
-{
-    let mut sorted = ids.to_vec(alloc)?;
-    quorum_sets::set_of(alloc, sorted.as_mut_slice())
-}
-
 // Whether no id stands twice.
 fn names_once(alloc: Global, ids: &[u64]) -> Result<bool, NoMemory>
     ensures { IfOk result (λ once. once ≡ names_once ids.now) }
 {
-    Ok(named(alloc, ids)?.len() == ids.len())
+    Ok(InlineIds::of_list(alloc, ids)?.len() == ids.len())
 }
 
 // What is known of each id: the value at its place. The last are put in first, for no reason but that the map is then

@@ -3,7 +3,7 @@ use crate::texts::appends;
 use crate::twice::twice;
 use quorum_sets::{
     InlineIds, MemberSet, NoMemory, TreeIds, VoteResult, chart, committed, common_member,
-    is_quorum, joint_chart, joint_committed, joint_vote, set_of, set_of_list, symdiff, vote,
+    is_quorum, joint_chart, joint_committed, joint_vote, symdiff, vote,
 };
 use std::alloc::Global;
 use std::collections::BTreeMap;
@@ -86,19 +86,9 @@ const LIST: [u64; 12] = [9, 1, 8, 2, 7, 3, 6, 4, 5, 1, 9, 5];
 
 const NINE: &[u64] = &[1, 2, 3, 4, 5, 6, 7, 8, 9];
 
-fn listed<S: MemberSet>(alloc: Global) -> Result<S, NoMemory> {
-    let mut list = LIST;
-    set_of(alloc, &mut list)
-}
-
-// Whether the set of a list, in any order and with repeats, is made.
-fn is_listed<S: MemberSet>(alloc: Global) -> bool {
-    twice(NoMemory, || listed::<S>(alloc)).is_ok_and(|set| has_ids(&set, NINE))
-}
-
-// Whether the set of a list that stays is made.
-fn is_listed_apart<S: MemberSet>(alloc: Global, list: &[u64]) -> bool {
-    twice(NoMemory, || set_of_list::<S>(alloc, list)).is_ok_and(|set| has_ids(&set, NINE))
+// Whether the set of a list is made.
+fn is_listed<S: MemberSet>(alloc: Global, list: &[u64]) -> bool {
+    twice(NoMemory, || S::of_list(alloc, list)).is_ok_and(|set| has_ids(&set, NINE))
 }
 
 #[test]
@@ -107,12 +97,10 @@ fn sets_of_ids(rt: HostRuntime) {
         assert!(rt; is_set::<TreeIds>(rt.alloc(), *before, *id, *after));
         assert!(rt; is_set::<InlineIds>(rt.alloc(), *before, *id, *after));
     }
-    assert!(rt; is_listed::<TreeIds>(rt.alloc()));
-    assert!(rt; is_listed::<InlineIds>(rt.alloc()));
-    assert!(rt; is_listed_apart::<TreeIds>(rt.alloc(), &LIST));
-    assert!(rt; is_listed_apart::<InlineIds>(rt.alloc(), &LIST));
-    assert!(rt; is_listed_apart::<TreeIds>(rt.alloc(), NINE));
-    assert!(rt; is_listed_apart::<InlineIds>(rt.alloc(), NINE));
+    for list in [&LIST[..], NINE] {
+        assert!(rt; is_listed::<TreeIds>(rt.alloc(), list));
+        assert!(rt; is_listed::<InlineIds>(rt.alloc(), list));
+    }
 }
 
 // The ids of both sets of a pair, who has acknowledged what, the committed indexes of the first set and of both, and the

@@ -30,14 +30,14 @@ pub returns-clause-incoming : goal.returns-clause-incoming
 returns-clause-incoming g c =
     let incoming = numbers_given Incoming c.args.arguments.now in
     let outgoing = numbers_given Outgoing c.args.arguments.now in
-    let named = c.as_mut_slice.ensures.value ∙ c.in_ok-named.ensures.numbers in
-    c.in_ok-set_of.ensures
-    ∙ ap ids_of (c.split_at_mut-first.ensures.front ∙ (λ i. take (c.in_ok-named.ensures.split i) (named i)) ∙ take-append_seam incoming outgoing)
+    let named = c.as_slice-3.ensures ∙ c.in_ok-named.ensures.numbers in
+    c.in_ok-of_list.ensures.set
+    ∙ ap ids_of (c.split_at-first.ensures.front ∙ (λ i. take (c.in_ok-named.ensures.split i) (named i)) ∙ take-append_seam incoming outgoing)
 
 pub returns-clause-outgoing : goal.returns-clause-outgoing
 returns-clause-outgoing g c =
     let incoming = numbers_given Incoming c.args.arguments.now in
     let outgoing = numbers_given Outgoing c.args.arguments.now in
-    let named = c.as_mut_slice.ensures.value ∙ c.in_ok-named.ensures.numbers in
-    c.in_ok-set_of-2.ensures
-    ∙ ap ids_of (c.split_at_mut-first.ensures.back ∙ (λ i. drop (c.in_ok-named.ensures.split i) (named i)) ∙ drop-append_seam incoming outgoing)
+    let named = c.as_slice-3.ensures ∙ c.in_ok-named.ensures.numbers in
+    c.in_ok-of_list-2.ensures.set
+    ∙ ap ids_of (c.split_at-first.ensures.back ∙ (λ i. drop (c.in_ok-named.ensures.split i) (named i)) ∙ drop-append_seam incoming outgoing)
