@@ -1,21 +1,114 @@
--- What a word says as an argument.
-use Rattle.std.proofs.Common.{◌≡◌, ℕ, Bool, true, false, cond, ◌||◌, List, [], ◌∷◌, Some, None, refl, sym, ◌∙◌, ap}
-use Rattle.std.specs.Prelude.{option_map}
-use Rattle.std.specs.List.{list_any}
+-- What a word says as an argument, by the bytes of a key that come first.
+use Rattle.std.proofs.Common.{◌≡◌, ℕ, ◌+◌, suc, Bool, true, false, not, cond, ◌&&◌, List, [], ◌∷◌, length, take, drop, Some, None, refl, sym, ◌∙◌, ap, arith, rules}
+use Rattle.std.specs.Prelude.{◌==◌, Option, option_map}
+use Rattle.std.proofs.Math.Bool.{and-false}
+use Rattle.std.proofs.lemmas.List.Folds.{length-prefix_len}
+use Rattle.std.specs.List.{list_all, prefix_len}
 use Rattle.dd_file.specs.Parts.{up_to, behind}
-use Rattle.dd_file.specs.Words.{is_key, is_equals, with_key, values_of, argument_of}
+use Rattle.dd_file.specs.Words.{ArgumentText, is_key_byte, is_key, is_equals, with_key, values_of, argument_of}
 
--- all stands before the first that passes where none does
-up_to-none : {X : Type 0} (test : X → Bool) (xs : List X) → list_any test xs ≡ false → up_to test xs ≡ xs
-up_to-none test [] h = refl
-up_to-none test (x ∷ xs) h = at (test x) h (up_to-none test xs) where
-  at : (c : Bool) → (c || list_any test xs) ≡ false → (list_any test xs ≡ false → up_to test xs ≡ xs) → cond c [] (x ∷ up_to test xs) ≡ x ∷ xs
-  at true h ih = cc
-  at false h ih = ap (λ t. x ∷ t) (ih h)
+-- how many bytes of a key come first
+abbrev pub key_len : List ℕ → ℕ
+key_len word = prefix_len is_key_byte word
 
--- a word that is no key and has no `=`
-pub argument_of-none : (word : List ℕ) → is_key word ≡ false → list_any is_equals word ≡ false → None ≡ argument_of word
-argument_of-none word no_key no_equals =
-    let parted = option_map (with_key (up_to is_equals word)) (values_of (behind is_equals word)) in
-    sym (ap (λ c. cond c (Some (with_key word [])) (cond (is_key (up_to is_equals word)) parted None)) no_key
-    ∙ ap (λ c. cond c parted None) (ap is_key (up_to-none is_equals word no_equals) ∙ no_key))
+abbrev some : List ℕ → Bool
+some word = not (length word == 0)
+
+length-front : (word : List ℕ) → length (take (key_len word) word) ≡ key_len word
+length-front word = length-prefix_len is_key_byte word
+
+-- no byte of a key comes first
+pub argument_of-no_key : (word : List ℕ) → key_len word ≡ 0 → None ≡ argument_of word
+argument_of-no_key [] none = refl
+argument_of-no_key (b ∷ bs) none = at (is_key_byte b) refl none where
+  found : Bool → Option ArgumentText
+  found c = cond c (option_map (with_key (up_to is_equals (b ∷ bs))) (values_of (behind is_equals (b ∷ bs)))) None
+
+  at : (c : Bool) → is_key_byte b ≡ c → cond c (1 + key_len bs) 0 ≡ 0 → None ≡ argument_of (b ∷ bs)
+  at true e h = absurd (omega (arith, h))
+  at false e h =
+      sym (ap (λ c. cond (some (b ∷ bs) && (c && list_all is_key_byte bs)) (Some (with_key (b ∷ bs) [])) (found (is_key (up_to is_equals (b ∷ bs))))) e
+      ∙ ap (λ c. cond c (Some (with_key (b ∷ bs) [])) (found (is_key (up_to is_equals (b ∷ bs))))) (and-false (some (b ∷ bs)))
+      ∙ ap found (front (is_equals b))) where
+        front : (d : Bool) → is_key (cond d [] (b ∷ up_to is_equals bs)) ≡ false
+        front true = refl
+        front false = ap (λ c. some (b ∷ up_to is_equals bs) && (c && list_all is_key_byte (up_to is_equals bs))) e ∙ and-false (some (b ∷ up_to is_equals bs))
+
+-- a word of key bytes alone
+all-keys : (word : List ℕ) → drop (key_len word) word ≡ [] → list_all is_key_byte word ≡ true
+all-keys [] h = refl
+all-keys (b ∷ bs) h = at (is_key_byte b) refl h (all-keys bs) where
+  at : (c : Bool) → is_key_byte b ≡ c → drop (cond c (1 + key_len bs) 0) (b ∷ bs) ≡ [] → (drop (key_len bs) bs ≡ [] → list_all is_key_byte bs ≡ true) → (is_key_byte b && list_all is_key_byte bs) ≡ true
+  at true e k ih = let one : 1 + key_len bs ≡ suc (key_len bs) = omega arith in ap (λ c. c && list_all is_key_byte bs) e ∙ ih (sym (ap (λ n. drop n (b ∷ bs)) one) ∙ k)
+  at false e k ih = cc
+
+pub argument_of-alone : (word : List ℕ) → (length word == 0) ≡ false → drop (key_len word) word ≡ [] → Some (with_key word []) ≡ argument_of word
+argument_of-alone word some whole =
+    let key : is_key word ≡ true = ap (λ c. not c && list_all is_key_byte word) some ∙ all-keys word whole in
+    sym (ap (λ c. cond c (Some (with_key word [])) (cond (is_key (up_to is_equals word)) (option_map (with_key (up_to is_equals word)) (values_of (behind is_equals word))) None)) key)
+
+-- a word with another byte behind the bytes of a key
+pub record KeyThen (word : List ℕ) (b : ℕ) (text : List ℕ) : Type 0 where
+  pub some : list_all is_key_byte word ≡ false
+  pub keys : list_all is_key_byte (take (key_len word) word) ≡ true
+  pub equals : is_equals b ≡ true → (up_to is_equals word ≡ take (key_len word) word) × (behind is_equals word ≡ text)
+  pub other : is_equals b ≡ false → list_all is_key_byte (up_to is_equals word) ≡ false
+
+key-then : (word : List ℕ) (b : ℕ) (text : List ℕ) → drop (key_len word) word ≡ b ∷ text → KeyThen word b text
+key-then [] b text h = cc
+key-then (x ∷ xs) b text h = at (is_key_byte x) refl h (key-then xs b text) where
+  none-equals : is_key_byte x ≡ true → is_equals x ≡ false
+  none-equals e = each (is_equals x) refl where
+    each : (d : Bool) → is_equals x ≡ d → d ≡ false
+    each true k = let is : x ≡ 61 = search rules in let no : is_key_byte 61 ≡ true = ap is_key_byte (sym is) ∙ e in cc
+    each false k = refl
+
+  at : (c : Bool) → is_key_byte x ≡ c → drop (cond c (1 + key_len xs) 0) (x ∷ xs) ≡ b ∷ text → (drop (key_len xs) xs ≡ b ∷ text → KeyThen xs b text) → KeyThen (x ∷ xs) b text
+  at true e k ih =
+      let one : 1 + key_len xs ≡ suc (key_len xs) = omega arith in
+      let r = ih (sym (ap (λ n. drop n (x ∷ xs)) one) ∙ k) in
+      let n : key_len (x ∷ xs) ≡ suc (key_len xs) = ap (λ c. cond c (1 + key_len xs) 0) e ∙ one in record {
+        some = ap (λ c. c && list_all is_key_byte xs) e ∙ r.some;
+        keys = ap (λ m. list_all is_key_byte (take m (x ∷ xs))) n ∙ ap (λ c. c && list_all is_key_byte (take (key_len xs) xs)) e ∙ r.keys;
+        equals = λ is. (
+          ap (λ d. cond d [] (x ∷ up_to is_equals xs)) (none-equals e) ∙ ap (λ t. x ∷ t) (r.equals is).0 ∙ sym (ap (λ m. take m (x ∷ xs)) n),
+          ap (λ d. cond d xs (behind is_equals xs)) (none-equals e) ∙ (r.equals is).1,
+        );
+        other = λ is. ap (λ d. list_all is_key_byte (cond d [] (x ∷ up_to is_equals xs))) (none-equals e) ∙ ap (λ c. c && list_all is_key_byte (up_to is_equals xs)) e ∙ r.other is;
+      }
+  at false e k ih =
+      let first : x ≡ b = cc in
+      let rest : xs ≡ text = cc in
+      let n : key_len (x ∷ xs) ≡ 0 = ap (λ c. cond c (1 + key_len xs) 0) e in record {
+        some = ap (λ c. c && list_all is_key_byte xs) e;
+        keys = ap (λ m. list_all is_key_byte (take m (x ∷ xs))) n;
+        equals = λ is. (
+          ap (λ d. cond d [] (x ∷ up_to is_equals xs)) (ap is_equals first ∙ is) ∙ sym (ap (λ m. take m (x ∷ xs)) n),
+          ap (λ d. cond d xs (behind is_equals xs)) (ap is_equals first ∙ is) ∙ rest,
+        );
+        other = λ is. ap (λ d. list_all is_key_byte (cond d [] (x ∷ up_to is_equals xs))) (ap is_equals first ∙ is) ∙ ap (λ c. c && list_all is_key_byte (up_to is_equals xs)) e;
+      }
+
+-- what a word says, by what it says where its bytes are not all of a key
+parted : (word : List ℕ) → list_all is_key_byte word ≡ false →
+    argument_of word ≡ cond (is_key (up_to is_equals word)) (option_map (with_key (up_to is_equals word)) (values_of (behind is_equals word))) None
+parted word full = ap (λ c. cond c (Some (with_key word [])) (cond (is_key (up_to is_equals word)) (option_map (with_key (up_to is_equals word)) (values_of (behind is_equals word))) None)) (ap (λ c. not (length word == 0) && c) full ∙ and-false (not (length word == 0)))
+
+-- a key, and `=` behind it
+pub argument_of-values : (word : List ℕ) (b : ℕ) (text : List ℕ) → (key_len word == 0) ≡ false → drop (key_len word) word ≡ b ∷ text → is_equals b ≡ true →
+    option_map (with_key (take (key_len word) word)) (values_of text) ≡ argument_of word
+argument_of-values word b text some cut is =
+    let r = key-then word b text cut in
+    let len : (length (take (key_len word) word) == 0) ≡ false = rw (length-front word) some in
+    let key : is_key (up_to is_equals word) ≡ true = ap is_key (r.equals is).0 ∙ ap (λ c. not c && list_all is_key_byte (take (key_len word) word)) len ∙ r.keys in
+    sym (parted word r.some
+    ∙ ap (λ c. cond c (option_map (with_key (up_to is_equals word)) (values_of (behind is_equals word))) None) key
+    ∙ ap (λ k. option_map (with_key k) (values_of (behind is_equals word))) (r.equals is).0
+    ∙ ap (λ t. option_map (with_key (take (key_len word) word)) (values_of t)) (r.equals is).1)
+
+-- a key, and another byte behind it
+pub argument_of-other : (word : List ℕ) (b : ℕ) (text : List ℕ) → drop (key_len word) word ≡ b ∷ text → is_equals b ≡ false → None ≡ argument_of word
+argument_of-other word b text cut is =
+    let r = key-then word b text cut in
+    let no_key : is_key (up_to is_equals word) ≡ false = ap (λ c. not (length (up_to is_equals word) == 0) && c) (r.other is) ∙ and-false (not (length (up_to is_equals word) == 0)) in
+    sym (parted word r.some ∙ ap (λ c. cond c (option_map (with_key (up_to is_equals word)) (values_of (behind is_equals word))) None) no_key)

@@ -18,3 +18,4 @@ pub mod Wrapped
 pub mod Gathered
 pub mod InTurn
 pub mod LineEnds
+pub mod ValuePlaces

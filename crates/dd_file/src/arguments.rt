@@ -1,12 +1,13 @@
 //! The arguments of a directive: a key with values, by a grammar that is own.
-ghost use Rattle.std.specs.Prelude.{◌≡◌, ◌==◌, true, false, IfOk, MatchOption};
-ghost use Rattle.std.specs.List.{list_all, list_any};
+ghost use Rattle.std.specs.Prelude.{◌≡◌, ◌==◌, ◌+◌, ◌++◌, ◌<◌, ◌≤◌, ◌^◌, ℕ, List, length, option_map, true, false, IfOk, IfSome, MatchOption};
+ghost use Rattle.std.specs.List.{list_all, list_any, prefix_len};
 ghost use Rattle.dd_file.specs.Parts.{up_to, behind};
-ghost use Rattle.dd_file.specs.Words.{is_key_byte, is_key, is_plain, listed, values_of, argument_of};
+ghost use Rattle.dd_file.specs.ValuePlaces.{values_at, listed_ends, EndWithin};
+ghost use Rattle.dd_file.specs.Words.{is_key_byte, is_key, is_plain, values_of, argument_of};
 
 use crate::item::Argument;
-use crate::raw_lines::RawLines;
-use ascii_text::white_space::{is_blank, is_space, trimmed};
+use crate::value_places::{Ends, ValuePlaces};
+use ascii_text::white_space::{is_blank, is_space};
 use std::alloc::{AllocError, Global};
 
 /// Whether a key may have the byte: ASCII letters, digits and `-_/,.`.
@@ -28,6 +29,14 @@ pub(crate) fn is_key(word: &[u8]) -> bool
     ensures { result ≡ is_key word.now }
 {
     !word.is_empty() && has_key_bytes(word)
+}
+
+/// How many bytes that a key may have come first.
+fn key_len(word: &[u8]) -> usize
+    ensures len { result ≡ prefix_len is_key_byte word.now }
+    ensures within { result ≤ length word.now }
+{
+    word.iter().take_while(|b| is_key_byte(**b)).count()
 }
 
 /// Whether the bytes can be a value without parentheses round it.
@@ -54,56 +63,66 @@ fn split_once(bytes: &[u8], mark: u8) -> Option<(&[u8], &[u8])>
     None
 }
 
-/// The values between parentheses: what stands between commas, each trimmed. White space alone has none.
-fn listed(alloc: Global, text: &[u8]) -> Result<RawLines, AllocError>
-    ensures { IfOk result (λ values. values ≡ listed text.now) }
+/// Where the values between parentheses end, of which the first begins at a place: before commas, and at the end. White
+/// space alone has none.
+fn listed(alloc: Global, start: usize, list: &[u8]) -> Result<Ends, AllocError>
+    requires { start + length list.now < 2 ^ 63 }
+    ensures { IfOk result (λ ends. ends.items ≡ listed_ends start list.now) }
 {
-    let mut values = RawLines::new(alloc);
-    if is_blank(text) {
-        return Ok(values);
+    let mut ends = Ends::new(alloc);
+    if is_blank(list) {
+        return Ok(ends);
     }
-    let mut rest = text;
-    while let Some((value, behind)) = split_once(rest, b',') {
-        values.push(trimmed(value))?;
-        rest = behind;
+    for (i, b) in list.iter().enumerate() {
+        if *b == b',' {
+            ends.push(start + i)?;
+        }
     }
-    values.push(trimmed(rest))?;
-    Ok(values)
+    ends.push(start + list.len())?;
+    Ok(ends)
 }
 
-/// The values that stand behind `=`: a list in parentheses, or one plain value. Anything else is no argument's value.
-fn values_of(alloc: Global, text: &[u8]) -> Result<Option<RawLines>, AllocError>
-    ensures { IfOk result (λ found. found ≡ values_of text.now) }
+/// The places of the values that stand behind `=`, from a place on: of a list in parentheses, or of one plain value.
+/// Anything else is no argument's value.
+fn values_of(alloc: Global, at: usize, text: &[u8]) -> Result<Option<ValuePlaces>, AllocError>
+    requires { at + length text.now < 2 ^ 63 }
+    ensures values { IfOk result (λ found. (before : List ℕ) → length before ≡ at →
+        option_map (λ places. values_at (before ++ text.now) places.start places.ends.items) found ≡ values_of text.now) }
+    ensures within { IfOk result (λ found. IfSome found (λ places. EndWithin (at + length text.now) places.start places.ends.items)) }
 {
     if let Some((b'(', inside)) = text.split_first() {
         return match split_once(inside, b')') {
-            Some((list, [])) => Ok(Some(listed(alloc, list)?)),
+            Some((list, [])) => Ok(Some(ValuePlaces {
+                start: at + 1,
+                ends: listed(alloc, at + 1, list)?,
+            })),
             _ => Ok(None),
         };
     }
     if !is_plain(text) {
         return Ok(None);
     }
-    let mut values = RawLines::new(alloc);
-    values.push(text)?;
-    Ok(Some(values))
+    let mut ends = Ends::new(alloc);
+    ends.push(at + text.len())?;
+    Ok(Some(ValuePlaces { start: at, ends }))
 }
 
 /// What a word says as an argument: a key alone, or a key, `=` and values.
 pub(crate) fn argument_of(alloc: Global, word: &[u8]) -> Result<Option<Argument>, AllocError>
     ensures { IfOk result (λ found. found ≡ argument_of word.now) }
 {
-    if is_key(word) {
-        return Ok(Some(Argument::new(word, RawLines::new(alloc))?));
-    }
-    let Some((key, text)) = split_once(word, b'=') else {
+    let len = key_len(word);
+    if len == 0 {
         return Ok(None);
+    }
+    let Some((mark, text)) = word.split_at(len).1.split_first() else {
+        return Ok(Some(Argument::new(alloc, word, len, ValuePlaces::none(alloc))?));
     };
-    if !is_key(key) {
+    if *mark != b'=' {
         return Ok(None);
     }
-    match values_of(alloc, text)? {
-        Some(values) => Ok(Some(Argument::new(key, values)?)),
+    match values_of(alloc, len + 1, text)? {
+        Some(places) => Ok(Some(Argument::new(alloc, word, len, places)?)),
         None => Ok(None),
     }
 }

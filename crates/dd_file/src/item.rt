@@ -6,64 +6,86 @@ ghost use Rattle.dd_file.specs.Words.{has_keys};
 
 use crate::command::{Command, Name, parse_command};
 pub use crate::raw_lines::RawLines;
-use ascii_text::white_space::{without_leading_space, without_trailing_space};
+use crate::value_places::ValuePlaces;
+use ascii_text::white_space::{trimmed, without_leading_space, without_trailing_space};
 use std::alloc::{AllocError, Global};
 use std::marker::Model;
 
 /// An argument of a directive: a key and its values.
 #[derive(Drop)]
 pub struct Argument {
-    /// Its values, and then its key.
-    parts: RawLines,
+    /// The word that says it.
+    word: Vec<u8>,
+    /// How much of it is the key.
+    key_len: usize,
+    places: ValuePlaces,
 }
 
 impl Model for Argument {
-    ghost use Rattle.std.specs.Prelude.{◌-◌, [], length, take, slice_index_or};
+    ghost use Rattle.std.specs.Prelude.{◌≤◌, take, vec_len};
+    ghost use Rattle.dd_file.specs.ValuePlaces.{values_at, EndWithin};
     ghost use Rattle.dd_file.specs.Words.{ArgumentText};
 
     ghost Value = { ArgumentText };
 
     ghost view = { λ a. record {
-      key = slice_index_or a.parts (length a.parts - 1) [];
-      values = take (length a.parts - 1) a.parts;
+      key = take a.key_len a.word.items;
+      values = values_at a.word.items a.places.start a.places.ends.items;
     } };
+
+    ghost invariant = { λ a. (a.key_len ≤ vec_len a.word) × EndWithin (vec_len a.word) a.places.start a.places.ends.items };
 }
 
 impl Argument {
-    pub(crate) fn new(key: &[u8], values: RawLines) -> Result<Argument, AllocError>
-        ensures { IfOk result (λ argument. argument ≡ record { key = key.now; values = values }) }
+    ghost use Rattle.std.specs.Prelude.{◌≤◌, length, take};
+    ghost use Rattle.dd_file.specs.ValuePlaces.{values_at, EndWithin};
+
+    /// The argument that a word says, of which the key comes first, with values in these places.
+    pub(crate) fn new(
+        alloc: Global,
+        word: &[u8],
+        key_len: usize,
+        places: ValuePlaces,
+    ) -> Result<Argument, AllocError>
+        requires key { key_len ≤ length word.now }
+        requires within { EndWithin (length word.now) places.start places.ends.items }
+        ensures { IfOk result (λ argument. argument ≡ record { key = take key_len word.now; values = values_at word.now places.start places.ends.items }) }
     {
-        let mut parts = values;
-        parts.push(key)?;
-        Ok(Argument { parts })
+        Ok(Argument {
+            word: Vec::from_slice(alloc, word)?,
+            key_len,
+            places,
+        })
     }
 
     /// What stands before the `=`, or the whole of an argument without values. It is never empty (datadriven's `CmdArg.Key`).
     pub fn key(&self) -> &[u8]
         ensures { result.now ≡ self.now.key }
     {
-        match self.parts.last() {
-            Some(key) => key,
-            None => &[],
-        }
+        &self.word[..self.key_len]
     }
 
     /// How many values it has.
     pub fn value_count(&self) -> usize
         ensures { result ≡ length self.now.values }
     {
-        self.parts.count().saturating_sub(1)
+        self.places.ends.len()
     }
 
     /// The value at a place, counted from 0.
     pub fn value(&self, i: usize) -> Option<&[u8]>
         ensures { option_map (λ value. value.now) result ≡ slice_get self.now.values i }
     {
-        if i < self.value_count() {
-            self.parts.get(i)
-        } else {
-            None
+        let ends = self.places.ends.as_slice();
+        if i >= ends.len() {
+            return None;
         }
+        let start = if i == 0 {
+            self.places.start
+        } else {
+            ends[i - 1] + 1
+        };
+        Some(trimmed(&self.word[start..ends[i]]))
     }
 }
 

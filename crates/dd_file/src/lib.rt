@@ -19,5 +19,6 @@ pub mod rewriter;
 mod room;
 pub mod stage;
 mod text;
+mod value_places;
 mod words;
 pub mod writing;

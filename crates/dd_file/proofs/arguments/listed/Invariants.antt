@@ -1,11 +1,8 @@
-use Rattle.std.proofs.Common.{◌≡◌, ◌++◌, map, length}
-use Rattle.ascii_text.specs.WhiteSpace.{trimmed}
+use Rattle.std.proofs.Common.{◌≡◌, ◌+◌, ◌++◌, drop}
+use Rattle.dd_file.specs.LineEnds.{ends_of}
 use Rattle.dd_file.specs.Words.{cut_at_commas}
 use Rattle.dd_file.proofs.arguments.listed.Given as goal
 
--- the values so far and those that are left
-abbrev pub invariant-loop-value : goal.invariant-loop-value
-invariant-loop-value l = l.values ++ map trimmed (cut_at_commas l.rest) ≡ map trimmed (cut_at_commas l.text)
-
-abbrev pub decreases-loop-value : goal.decreases-loop-value
-decreases-loop-value l = length l.rest
+-- the ends so far and those that are left
+abbrev pub invariant-loop-i : goal.invariant-loop-i
+invariant-loop-i l = l.ends.items ++ ends_of (l.start + l.i) (cut_at_commas (drop l.i l.list)) ≡ ends_of l.start (cut_at_commas l.list)
