@@ -6,9 +6,9 @@ use Rattle.ascii_text.specs.Lines.{without_last}
 use Rattle.ascii_text.proofs.WhiteSpace.{ends-blank}
 
 -- a list has no element, or a last one
-pub split_last : {A : Type 0} (xs : List A) → (xs ≡ []) ⊎ ((front : List A) × (x : A) × (xs ≡ front ++ x ∷ []))
-split_last [] = inl refl
-split_last (x ∷ xs) = elim (split_last xs) [ inl e ↦ inr ([], x, ap (λ t. x ∷ t) e) | inr p ↦ inr (x ∷ p.0, p.1, ap (λ t. x ∷ t) p.2) ]
+pub list-by_last : {A : Type 0} (xs : List A) → (xs ≡ []) ⊎ ((front : List A) × (x : A) × (xs ≡ front ++ x ∷ []))
+list-by_last [] = inl refl
+list-by_last (x ∷ xs) = elim (list-by_last xs) [ inl e ↦ inr ([], x, ap (λ t. x ∷ t) e) | inr p ↦ inr (x ∷ p.0, p.1, ap (λ t. x ∷ t) p.2) ]
 
 -- bytes with one more at their end
 pub without_last-push : (b x : ℕ) (xs : List ℕ) → without_last b (xs ++ x ∷ []) ≡ cond (x == b) xs (xs ++ x ∷ [])

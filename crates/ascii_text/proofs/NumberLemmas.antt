@@ -15,8 +15,8 @@ use Rattle.ascii_text.specs.Number.{SpellsNumber, number_in}
 model : IsNumeralModel (λ ds. all_ascii_digits ds ≡ true) (digits_value 10)
 model = numerals_by_value _ tells_all_ascii_digits
 
-pub number_in_ok : (digits : List ℕ) (number : ℕ) → SpellsNumber digits number → number_in digits ≡ Some number
-number_in_ok digits number h =
+pub number_in-ok : (digits : List ℕ) (number : ℕ) → SpellsNumber digits number → number_in digits ≡ Some number
+number_in-ok digits number h =
     rw (lt-ltb 0 (length digits) h.numeral.0, model.from digits h.numeral.1, h.value, lt-ltb number (2 ^ 64) h.in_range) refl
 
 pub SpellsNumber-from_some : (digits : List ℕ) (number : ℕ) → number_in digits ≡ Some number → SpellsNumber digits number
@@ -31,26 +31,26 @@ SpellsNumber-from_some digits number e =
       in_range = let below = ltb-true value (2 ^ 64) tests.1 in omega (arith, found.1);
     }
 
-pub number_in_none : (digits : List ℕ) → ((number : ℕ) → ¬ (SpellsNumber digits number)) → number_in digits ≡ None
-number_in_none digits none =
+pub number_in-none : (digits : List ℕ) → ((number : ℕ) → ¬ (SpellsNumber digits number)) → number_in digits ≡ None
+number_in-none digits none =
     elim (number_in digits) as (λ o. number_in digits ≡ o → o ≡ None) [
       | None ↦ λ _. refl
       | Some number ↦ λ e. absurd (none number (SpellsNumber-from_some digits number e))
     ] refl
 
 -- a byte that is no digit
-pub number_in_none_at : (digits : List ℕ) (i : ℕ) → i < length digits → is_ascii_digit (get_or digits i 0) ≡ false → number_in digits ≡ None
-number_in_none_at digits i within other = number_in_none digits (λ number h.
+pub number_in-none_at : (digits : List ℕ) (i : ℕ) → i < length digits → is_ascii_digit (get_or digits i 0) ≡ false → number_in digits ≡ None
+number_in-none_at digits i within other = number_in-none digits (λ number h.
     let digit = digit_at digits i h.numeral.1 within in
     let byte = get_or digits i 0 in
     true≢false (sym (and_from (leb 48 byte) (leb byte 57) (le-leb 48 byte digit.0) (le-leb byte 57 digit.1)) ∙ other))
 
 -- digits at the front whose value is too large
-pub number_in_none_front : (digits : List ℕ) (i : ℕ) → 2 ^ 64 ≤ digits_value 10 (take i digits) → number_in digits ≡ None
-number_in_none_front digits i large = number_in_none digits (λ number h. omega (arith, h.value, h.in_range, digits_value-take-le 10 digits i (omega arith)))
+pub number_in-none_front : (digits : List ℕ) (i : ℕ) → 2 ^ 64 ≤ digits_value 10 (take i digits) → number_in digits ≡ None
+number_in-none_front digits i large = number_in-none digits (λ number h. omega (arith, h.value, h.in_range, digits_value-take-le 10 digits i (omega arith)))
 
-pub number_in_some : (digits : List ℕ) → 0 < length digits → AllDigits 10 digits → digits_value 10 digits < 2 ^ 64 → number_in digits ≡ Some (digits_value 10 digits)
-number_in_some digits some all below = number_in_ok digits _ (record { numeral = (some, all); value = refl; in_range = below })
+pub number_in-some : (digits : List ℕ) → 0 < length digits → AllDigits 10 digits → digits_value 10 digits < 2 ^ 64 → number_in digits ≡ Some (digits_value 10 digits)
+number_in-some digits some all below = number_in-ok digits _ (record { numeral = (some, all); value = refl; in_range = below })
 
 IsInRange-digit : (byte : ℕ) → is_ascii_digit byte ≡ true → IsInRange 48 57 byte
 IsInRange-digit byte digit = let range = and_parts (leb 48 byte) (leb byte 57) digit in (leb-true 48 byte range.0, leb-true byte 57 range.1)

@@ -1,7 +1,7 @@
 -- The lemmas of this crate that the proofs of the crates above cite. No other module of its proofs is public.
 
-pub use Rattle.ascii_text.proofs.LineEnds.{is_blank-without_last, split_last, without_last-append, without_last-push, without_trailing_space-without_last}
-pub use Rattle.ascii_text.proofs.NumberLemmas.{SpellsNumber-from_some, number_in_none, number_in_ok}
-pub use Rattle.ascii_text.proofs.Pieces.{first_len-bound, first_len-some, first_len-append, first_len-take, length-first, longer, pieces-first, shorter, unfinished-rest}
+pub use Rattle.ascii_text.proofs.LineEnds.{is_blank-without_last, list-by_last, without_last-append, without_last-push, without_trailing_space-without_last}
+pub use Rattle.ascii_text.proofs.NumberLemmas.{SpellsNumber-from_some, number_in-none, number_in-ok}
+pub use Rattle.ascii_text.proofs.Pieces.{cond-longer, cond-shorter, first_len-append, first_len-bound, first_len-some, first_len-take, length-first, pieces-first, unfinished-rest}
 pub use Rattle.ascii_text.proofs.WhiteSpace.{blank-behind, ends-before_blank, ends-before_other, is_blank-trimmed, is_blank-without_trailing_space, leads-behind_blank, leads-behind_other, leads-blank, leads-ends, length-without_leading_space, take-without_trailing_space, without_leading_space-split, without_trailing_space-other}
 pub use Rattle.ascii_text.proofs.WordLemmas.{words-at_space, words-ends}

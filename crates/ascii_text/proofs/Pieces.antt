@@ -57,20 +57,20 @@ one-more : (c : Bool) (n : ℕ) → c ≡ false → cond c 1 (suc n) ≡ 1 + n
 one-more true n e = cc
 one-more false n e = omega arith
 
-pub longer : (c : Bool) (n k : ℕ) → cond c 1 (suc n) ≡ suc (suc k) → c ≡ false
-longer true n k e = absurd (omega (arith, e))
-longer false n k e = refl
+pub cond-longer : (c : Bool) (n k : ℕ) → cond c 1 (suc n) ≡ suc (suc k) → c ≡ false
+cond-longer true n k e = absurd (omega (arith, e))
+cond-longer false n k e = refl
 
-pub shorter : (c : Bool) (n k : ℕ) → c ≡ false → cond c 1 (suc n) ≡ suc k → n ≡ k
-shorter true n k f e = cc
-shorter false n k f e = omega (arith, e)
+pub cond-shorter : (c : Bool) (n k : ℕ) → c ≡ false → cond c 1 (suc n) ≡ suc k → n ≡ k
+cond-shorter true n k f e = cc
+cond-shorter false n k f e = omega (arith, e)
 
 pub first_len-append : (xs ys : List ℕ) → first_len xs ≡ length xs → is_whole xs ≡ false → first_len (xs ++ ys) ≡ length xs + first_len ys
 first_len-append [] ys e h = omega arith
 first_len-append (b ∷ []) ys e h = one-more (b == 10) (first_len ys) h
 first_len-append (b ∷ c ∷ xs) ys e h =
-    let other : (b == 10) ≡ false = longer (b == 10) (first_len (c ∷ xs)) (length xs) e in
-    let ih = first_len-append (c ∷ xs) ys (shorter (b == 10) (first_len (c ∷ xs)) (suc (length xs)) other e) h in
+    let other : (b == 10) ≡ false = cond-longer (b == 10) (first_len (c ∷ xs)) (length xs) e in
+    let ih = first_len-append (c ∷ xs) ys (cond-shorter (b == 10) (first_len (c ∷ xs)) (suc (length xs)) other e) h in
     one-more (b == 10) (first_len (c ∷ xs ++ ys)) other ∙ omega (arith, ih)
 
 -- a first piece is one piece

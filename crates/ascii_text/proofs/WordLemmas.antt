@@ -11,9 +11,9 @@ use Rattle.ascii_text.specs.Words.{has_bytes, words}
 use Rattle.ascii_text.proofs.WhiteSpace.{ends-tail}
 
 -- white space parts the words on its two sides
-onto-first-append : (b : ℕ) (ps qs : List (List ℕ)) → 0 < length ps → onto_first b (ps ++ qs) ≡ onto_first b ps ++ qs
-onto-first-append b [] qs h = absurd (omega (arith, h))
-onto-first-append b (p ∷ ps) qs h = refl
+onto_first-append : (b : ℕ) (ps qs : List (List ℕ)) → 0 < length ps → onto_first b (ps ++ qs) ≡ onto_first b ps ++ qs
+onto_first-append b [] qs h = absurd (omega (arith, h))
+onto_first-append b (p ∷ ps) qs h = refl
 
 split-at_space : (front : List ℕ) (b : ℕ) (back : List ℕ) → is_space b ≡ true → slice_split is_space (front ++ b ∷ back) ≡ slice_split is_space front ++ slice_split is_space back
 split-at_space [] b back h = ap (λ c. cond c ([] ∷ slice_split is_space back) (onto_first b (slice_split is_space back))) h
@@ -22,7 +22,7 @@ split-at_space (x ∷ front) b back h =
       at : (c : Bool) → cond c ([] ∷ (slice_split is_space front ++ slice_split is_space back)) (onto_first x (slice_split is_space front ++ slice_split is_space back))
           ≡ cond c ([] ∷ slice_split is_space front) (onto_first x (slice_split is_space front)) ++ slice_split is_space back
       at true = refl
-      at false = onto-first-append x (slice_split is_space front) (slice_split is_space back) (omega (arith, length-slice_split is_space front))
+      at false = onto_first-append x (slice_split is_space front) (slice_split is_space back) (omega (arith, length-slice_split is_space front))
 
 pub words-at_space : (front : List ℕ) (b : ℕ) (back : List ℕ) → is_space b ≡ true → words (front ++ b ∷ back) ≡ words front ++ words back
 words-at_space front b back h = ap (filter has_bytes) (split-at_space front b back h) ∙ filter-append has_bytes (slice_split is_space front) (slice_split is_space back)
@@ -81,9 +81,9 @@ empty_from_no_word (b ∷ bs) none = at (is_space b) refl (empty_from_no_word bs
   at false e ih none = let more : position_or_len is_space (b ∷ bs) ≡ 1 + position_or_len is_space bs = rw e refl in absurd (omega (arith, more, none))
 
 -- what stands up to the next white space, in a text without white space before it, is the first word; where that is empty, there is none
-pub no_words_at_front : (text : List ℕ) → position_or_len is_space (without_leading_space text) ≡ 0 → words text ≡ []
-no_words_at_front text none = sym (words-without_leading_space text) ∙ ap words (empty_from_no_word text none)
+pub words-none_at_front : (text : List ℕ) → position_or_len is_space (without_leading_space text) ≡ 0 → words text ≡ []
+words-none_at_front text none = sym (words-without_leading_space text) ∙ ap words (empty_from_no_word text none)
 
-pub words_at_front : (text word rest : List ℕ) (n : ℕ) → n ≡ position_or_len is_space (without_leading_space text) → word ≡ take n (without_leading_space text) → rest ≡ drop n (without_leading_space text) → 0 < n → words text ≡ word ∷ words rest
-words_at_front text word rest n n_is word_is rest_is some =
+pub words-at_front : (text word rest : List ℕ) (n : ℕ) → n ≡ position_or_len is_space (without_leading_space text) → word ≡ take n (without_leading_space text) → rest ≡ drop n (without_leading_space text) → 0 < n → words text ≡ word ∷ words rest
+words-at_front text word rest n n_is word_is rest_is some =
     rw (word_is, rest_is, n_is) (sym (words-without_leading_space text) ∙ words_first (without_leading_space text) (omega arith))

@@ -1,14 +1,13 @@
 -- The lemmas of this crate that the proofs of the crates above cite. No other module of its proofs is public.
 
-pub use Rattle.conf_change.proofs.ChangeLemmas.{AllZip-from_ok, changes_in_ok, kind_in-letter_of}
-pub use Rattle.conf_change.proofs.ConfStateLemmas.{restored_from_Describes}
-pub use Rattle.conf_change.proofs.LineLemmas.{StandsForConfState-from_some}
-pub use Rattle.conf_change.proofs.Outcomes.{enter_accepted, enter_taken, leave_accepted, leave_taken, no_outgoing, simple_accepted, simple_taken}
-pub use Rattle.conf_change.proofs.Passing.{is_passed, is_passed-all, is_passed-more}
-pub use Rattle.conf_change.proofs.ProgressLemmas.{any-members}
-pub use Rattle.conf_change.proofs.ResultLemmas.{has-incoming_after, has-learners_after, has-next_after, last_word-one, same_configuration}
-pub use Rattle.conf_change.proofs.SameSets.{is_same_set-refl, same_configurations, same_is_equal, same_sets}
-pub use Rattle.conf_change.proofs.Soundness.{get-after, has-after_leave, moved_to-is_sound, outcome-are_neighbours, outcome-has_voter, outcome-is_restorable, outcome-overlaps}
-pub use Rattle.conf_change.proofs.StepLaws.{accepted_is_given, given_is_accepted}
-pub use Rattle.conf_change.proofs.TextLemmas.{Extends-append}
-pub use Rattle.conf_change.proofs.Validity.{is_empty-no_ids, members_from_valid, none_from_is_empty}
+pub use Rattle.conf_change.proofs.Configurations.Equality.{is_same-equal, is_same-is_equality, is_same_set-equal, is_same_set-refl}
+pub use Rattle.conf_change.proofs.Configurations.Validity.{ValidByMember-from_is_valid, has-none_in_empty, is_empty-no_ids}
+pub use Rattle.conf_change.proofs.ListsOfChanges.ResultOfEach.{configuration-by_members, has-incoming_after, has-learners_after, has-next_after, last_word-one}
+pub use Rattle.conf_change.proofs.MemberProgress.OfEachId.{any-members}
+pub use Rattle.conf_change.proofs.SetWalks.PlaceByPlace.{is_passed, is_passed-all, is_passed-more}
+pub use Rattle.conf_change.proofs.Steps.Acceptance.{EnterTaken-from_outcome, LeaveTaken-from_outcome, SimpleTaken-from_outcome, outcome-enter_accepted, outcome-leave_accepted, outcome-simple_accepted, outgoing-none}
+pub use Rattle.conf_change.proofs.Steps.ChangerAfter.{Accepts-from_changer_after, changer_after-from_Accepts}
+pub use Rattle.conf_change.proofs.Steps.Soundness.{get-after, has-after_leave, moved_to-is_sound, outcome-are_neighbours, outcome-has_voter, outcome-is_restorable, outcome-overlaps}
+pub use Rattle.conf_change.proofs.Texts.AppendedParts.{Extends-append}
+pub use Rattle.conf_change.proofs.Texts.ChangeTokens.{AllZip-from_ok, changes_in_words-ok, kind_in-letter_of}
+pub use Rattle.conf_change.proofs.Texts.ConfStateLine.{StandsForConfState-from_some}

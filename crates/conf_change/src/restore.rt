@@ -10,11 +10,11 @@ ghost use Rattle.conf_change.specs.declared.floor.Floor.TheVariants.{One};
 ghost use Rattle.conf_change.specs.Changer.{IsSound, begun_with};
 
 use crate::changer::Changer;
+use crate::conf_state_form::ConfState;
 use crate::config::{Config, check};
 use crate::floor::Floor;
 use crate::member_walk::{least, step_over};
 use crate::progress::Progress;
-use crate::saved::ConfState;
 use crate::tracker::Tracker;
 use quorum_sets::{MemberSet, NoMemory};
 use smallvec::SmallVec;

@@ -1,41 +1,8 @@
--- What holds along a run, and of runs one after another.
-use Rattle.std.proofs.Common.{◌≡◌, true, List, [], ◌∷◌, ◌++◌, sym, ap, subst, ◌∙◌}
-use Rattle.std.specs.Prelude.{Ok}
-use Rattle.std.specs.Result.{result_unwrap_or}
-use Rattle.std.proofs.lemmas.Bool.{and_parts, and_from, or_left}
-use Rattle.conf_change.specs.Configuration.{Configuration, is_valid, has_voter, is_restorable}
-use Rattle.conf_change.specs.Outcome.{outcome}
-use Rattle.conf_change.specs.declared.step.Step.{Step}
-use Rattle.conf_change.proofs.Offered.{outcome-is_restorable, outcome-has_voter}
-use Rattle.conf_plan.specs.Run.{IsValidWithVoter, IsChain, IsRun, IsRunWith}
-use Rattle.conf_plan.specs.Planned.{configuration_after}
+-- Runs of steps, and changers that take them.
 
-outcome-is_settled : (c after : Configuration) (step : Step) → IsValidWithVoter c → outcome c step ≡ Ok after → IsValidWithVoter after
-outcome-is_settled c after step settled e =
-    let restorable : is_restorable c ≡ true = and_from (is_valid c) _ settled.valid (or_left (has_voter c) _ settled.voter) in
-    record { valid = (and_parts (is_valid after) _ (outcome-is_restorable c after step restorable e)).0; voter = outcome-has_voter c after step restorable e }
-
-pub run-is_settled : (before after : Configuration) (steps : List Step) → IsValidWithVoter before → IsRun before steps after → IsValidWithVoter after
-run-is_settled before after [] settled run = subst IsValidWithVoter run settled
-run-is_settled before after (step ∷ steps) settled run = run-is_settled run.0 after steps (outcome-is_settled before run.0 step settled run.1) run.2
-
--- one chain after another
-pub IsChain-append : {S : Type 0} (Leads : S → Step → S → Type 0) (a b c : S) (xs ys : List Step)
-    → IsChain Leads a xs b → IsChain Leads b ys c → IsChain Leads a (xs ++ ys) c
-IsChain-append {S} Leads a b c [] ys first second = let P : S → Type 0 = λ d. IsChain Leads d ys c in subst P (sym first) second
-IsChain-append Leads a b c (x ∷ xs) ys first second = (first.0, first.1, IsChain-append Leads first.0 b c xs ys first.2 second)
-
--- a run at each step of which something holds is a run
-pub run_of_with : (Holds : Configuration → Step → Configuration → Type 0) (a b : Configuration) (steps : List Step) → IsRunWith Holds a steps b → IsRun a steps b
-run_of_with Holds a b [] run = run
-run_of_with Holds a b (step ∷ steps) run = (run.0, run.1.0, run_of_with Holds run.0 b steps run.2)
-
--- a run of one step
-pub IsRun-one : (a b : Configuration) (step : Step) → outcome a step ≡ Ok b → IsRun a (step ∷ []) b
-IsRun-one a b step e = (b, e, λ i. b)
-
--- the steps of a run lead to its end
-pub configuration_after-run : (before after : Configuration) (steps : List Step) → IsRun before steps after → configuration_after before steps ≡ after
-configuration_after-run before after [] run = run
-configuration_after-run before after (step ∷ steps) run =
-    ap (λ o. configuration_after (result_unwrap_or o before) steps) run.1 ∙ configuration_after-run run.0 after steps run.2
+pub mod Chains
+pub mod JointEnds
+pub mod PartOfEachId
+pub mod TakenInOrder
+pub mod ChangerAfter
+pub mod KeptProgress

@@ -7,7 +7,7 @@ ghost use Rattle.conf_plan.specs.Best.{Spares};
 ghost use Rattle.conf_plan.specs.Planned.{planned};
 ghost use Rattle.conf_plan.specs.Run.{IsRun, Takes, StopsAt, HasKeptProgress};
 
-use crate::plan_steps::Plan;
+use crate::step_list::Plan;
 use conf_change::{Changer, Refused};
 use quorum_sets::MemberSet;
 use thiserror::Error;

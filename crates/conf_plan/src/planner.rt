@@ -7,8 +7,8 @@ ghost use Rattle.conf_plan.specs.Run.{IsValidWithVoter};
 ghost use Rattle.conf_plan.specs.Walking.{IsAdded};
 
 use crate::moves::moves_to;
-use crate::plan_steps::Plan;
-use crate::shared::shared_members;
+use crate::shared_members::shared_members;
+use crate::step_list::Plan;
 use conf_change::{Changes, Config, Step, union};
 use quorum_sets::{MemberSet, NoMemory, symdiff};
 use std::alloc::Global;

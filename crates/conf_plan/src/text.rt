@@ -10,7 +10,7 @@ ghost use Rattle.conf_plan.specs.PlanCode as code;
 ghost use Rattle.conf_plan.specs.PlanCode.{plan_in, step_in, enter_in, list_in};
 ghost use Rattle.conf_plan.specs.declared.text.PlanTextFault.{PlanTextFault};
 
-use crate::plan_steps::Plan;
+use crate::step_list::Plan;
 use ascii_text::append::append_number;
 use ascii_text::cut::place_of;
 use ascii_text::words::next_token;
@@ -54,7 +54,7 @@ impl From<AllocFailed<Step>> for PlanTextFault {
 
 /// Appends the lines of a plan, each with a newline: `simple v1 r2`, `enter-joint autoleave=false l3`, `leave-joint`, or
 /// `nothing to do` where it has no step. What is appended is read as the same plan.
-#[tactic(auto, using(crate::proofs::PrintedLines::printed_laws))]
+#[tactic(auto, using(crate::proofs::PlanText::PrintedPlan::printed_laws))]
 pub fn print_plan(text: &mut Vec<u8>, plan: &Plan) -> Result<(), NoMemory>
     ensures ok { OnOk result (text.new.items ≡ text.old.items ++ plan_text plan.now) }
     ensures stands { StandsForPlan (plan_text plan.now) plan.now }
@@ -169,7 +169,7 @@ fn letter(kind: Kind) -> u8
 /// Reads the lines of a plan: the form that `print_plan` appends, with any white space around the words of a line and
 /// any zeros before the ids. The lines are read in order, and the first that stands for no step, or the fifth, decides;
 /// a blank line stands for none, and the empty text is read as one blank line.
-#[tactic(auto, using(crate::proofs::PlanLines::answer_laws))]
+#[tactic(auto, using(crate::proofs::PlanText::PlanFromLines::answer_laws))]
 pub fn read_plan(alloc: Global, text: &[u8]) -> Result<Plan, PlanTextFault>
     ensures stands { IfOk result (StandsForPlan text.now) }
     ensures told { IfErr result (λ fault. (fault ≡ PlanTextFault.NoMemory) ⊎ HasFault text.now fault) }

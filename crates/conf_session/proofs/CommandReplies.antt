@@ -15,17 +15,17 @@ use Rattle.conf_change.specs.declared.refused.Refused.{Refused}
 use Rattle.conf_change.specs.declared.refused.Refused.TheVariants.{NoMemory}
 use Rattle.conf_change.specs.declared.step.Step.{Step}
 use Rattle.conf_change.specs.declared.step.Step.TheVariants.{LeaveJoint}
-use Rattle.conf_session.specs.Texts.{line, member_line, member_lines, tracker_text}
+use Rattle.conf_session.specs.ReplyTexts.{line, member_line, member_lines, tracker_text}
 use Rattle.conf_session.specs.Told.{CanStand}
 use Rattle.conf_session.specs.Reply.{Reply, told, stepped}
 use Rattle.conf_session.specs.Commands.{after_step, on_step, leave_with}
 
 -- the reply after a step
-pub step_reply : (before : ChangerState) (step : Step) (made : Result ChangerState Refused) (reply : Reply) → GivesNext before step made →
+pub on_step-reply : (before : ChangerState) (step : Step) (made : Result ChangerState Refused) (reply : Reply) → GivesNext before step made →
     MatchResult made (λ after. reply ≡ stepped after) (λ refused. (refused ≢ NoMemory) × (reply ≡ told (refused_text refused))) → reply ≡ on_step before step
-step_reply before step (Ok after) reply gives h =
+on_step-reply before step (Ok after) reply gives h =
     h ∙ ap stepped gives.accepted.whole ∙ sym (ap (λ o. after_step (moved_by before step o)) gives.accepted.configuration)
-step_reply before step (Err refused) reply gives h = h.1 ∙ sym (ap (λ o. after_step (moved_by before step o)) (gives.refused h.0))
+on_step-reply before step (Err refused) reply gives h = h.1 ∙ sym (ap (λ o. after_step (moved_by before step o)) (gives.refused h.0))
 
 pub leave-none : (before : ChangerState) (changes : List Change) → (length changes == 0) ≡ true → leave_with before changes ≡ on_step before LeaveJoint
 leave-none before changes e = ap (leave_with before) (nil_from_length changes (eqb-true (length changes) 0 e))
@@ -35,13 +35,13 @@ pub no-fault : (fault : Option Reply) (reply whole : Reply) → whole ≡ unwrap
 no-fault fault reply whole e none = e ∙ ap (λ f. unwrap_or f reply) none
 
 -- a saved form that is restored to nothing
-pub not_restored : (saved : ConfStateLists) (c : Option Configuration) → restored saved ≡ c → ((d : Configuration) → restored saved ≡ Some d → ⊥) → restored saved ≡ None
-not_restored saved None e none = e
-not_restored saved (Some c) e none = absurd (none c e)
+pub restored-none : (saved : ConfStateLists) (c : Option Configuration) → restored saved ≡ c → ((d : Configuration) → restored saved ≡ Some d → ⊥) → restored saved ≡ None
+restored-none saved None e none = e
+restored-none saved (Some c) e none = absurd (none c e)
 
 -- a text that is begun with this
-pub begun : (old new part whole : List ℕ) → old ≡ [] → new ≡ old ++ part → part ≡ whole → new ≡ whole
-begun old new part whole e f g = f ∙ ap (λ t. t ++ part) e ∙ g
+pub append-begun : (old new part whole : List ℕ) → old ≡ [] → new ≡ old ++ part → part ≡ whole → new ≡ whole
+append-begun old new part whole e f g = f ∙ ap (λ t. t ++ part) e ∙ g
 
 flat_map-suc : {X : Type 0} (f : X → List ℕ) (xs : List X) (i : ℕ) (x : X) → slice_get xs i ≡ Some x → flat_map f (take (suc i) xs) ≡ flat_map f (take i xs) ++ f x
 flat_map-suc f [] i x e = cc
@@ -60,13 +60,13 @@ same-reply (Err fault) a b e h = tt
 pub same-step : {E : Type 0} (r : Result Reply E) (before : ChangerState) (step : Step) (made : Result ChangerState Refused) (whole : Reply) → GivesNext before step made →
     on_step before step ≡ whole →
     IfOk r (λ reply. MatchResult made (λ after. reply ≡ stepped after) (λ refused. (refused ≢ NoMemory) × (reply ≡ told (refused_text refused)))) → IfOk r (λ reply. reply ≡ whole)
-same-step (Ok reply) before step made whole gives e h = step_reply before step made reply gives h ∙ e
+same-step (Ok reply) before step made whole gives e h = on_step-reply before step made reply gives h ∙ e
 same-step (Err fault) before step made whole gives e h = tt
 
 -- one member more is told
-pub members_more : (old now new : List ℕ) (members : List (ℕ × Progress)) (i id : ℕ) (p : Progress) → slice_get members i ≡ Some (id, p) → now ≡ old ++ flat_map member_line (take i members) →
+pub members-one_more : (old now new : List ℕ) (members : List (ℕ × Progress)) (i id : ℕ) (p : Progress) → slice_get members i ≡ Some (id, p) → now ≡ old ++ flat_map member_line (take i members) →
     new ≡ now ++ line (progress_text id p) → new ≡ old ++ flat_map member_line (take (i + 1) members)
-members_more old now new members i id p at so_far more =
+members-one_more old now new members i id p at so_far more =
     more ∙ ap (λ t. t ++ member_line (id, p)) so_far ∙ append_assoc old (flat_map member_line (take i members)) (member_line (id, p))
     ∙ ap (λ t. old ++ t) (sym (flat_map-front member_line members i (id, p) at))
 

@@ -40,7 +40,7 @@ use Rattle.conf_session.specs.declared.parameter.Parameter.{Parameter}
 use Rattle.conf_session.specs.declared.parameter.Parameter.TheVariants.{Steps, Id, Index, Indexes, Votes}
 use Rattle.conf_session.specs.declared.commands.Command.{Command}
 use Rattle.conf_session.specs.declared.commands.Command.TheVariants.{Simple, EnterJoint, LeaveJoint, ConfChange, ConfState, Restore, Undo, Ack, CommitIndex, Committed, Vote, Unknown}
-use Rattle.conf_session.proofs.ToldLines.{first, second}
+use Rattle.conf_session.proofs.ToldLines.{and-first, and-second}
 
 -- ---- what the crates below say
 -- laws of conf_change
@@ -103,7 +103,7 @@ is-earlier laws session count older is some e =
     }
 
 valid : (c : Configuration) → is_restorable c ≡ true → has_voter c ≡ true → IsValidWithVoter c
-valid c restorable voter = record { valid = first (is_valid c) (has_voter_or_nobody c) restorable; voter = voter }
+valid c restorable voter = record { valid = and-first (is_valid c) (has_voter_or_nobody c) restorable; voter = voter }
 
 -- ---- what becomes of them
 led-take : (now : Configuration) (kept : List Configuration) (n : ℕ) → LedTo now kept → LedTo now (take n kept)
@@ -209,9 +209,9 @@ pub record Arrives (session : SessionState) (older : Configuration) : Type 0 whe
   pub sound : IsSound (undone_changer session (planned (present session) older)).tracker
   pub there : (undone_changer session (planned (present session) older)).tracker.config ≡ older
 
-pub arrives : ChangeLaws → PlanLaws → (session : SessionState) (count : ℕ) (older : Configuration) → IsSession session → 1 ≤ count → slice_get session.kept (count - 1) ≡ Some older → has_voter older ≡ true →
+pub Arrives-planned : ChangeLaws → PlanLaws → (session : SessionState) (count : ℕ) (older : Configuration) → IsSession session → 1 ≤ count → slice_get session.kept (count - 1) ≡ Some older → has_voter older ≡ true →
     Arrives session older
-arrives laws plans session count older is some e voter =
+Arrives-planned laws plans session count older is some e voter =
     let earlier = is-earlier laws session count older is some e in
     let steps = planned (present session) older in
     let back = plans.back older (present session) earlier.steps (valid older earlier.restorable voter) earlier.run in
@@ -226,7 +226,7 @@ arrives laws plans session count older is some e voter =
 voter-due : ChangeLaws → PlanLaws → (session : SessionState) (count : ℕ) (older : Configuration) (voter : Bool) → IsSession session → 1 ≤ count → slice_get session.kept (count - 1) ≡ Some older → has_voter older ≡ voter →
     IsDue session (after_planned session count (plan_back session (Some older))).effect
 voter-due laws plans session count older true is some e voter =
-    let there = arrives laws plans session count older is some e voter in
+    let there = Arrives-planned laws plans session count older is some e voter in
     let Due : Bool → Type 0 = λ b. IsDue session (after_planned session count (cond b (Ok (planned (present session) older)) (Err NoVoterTarget))).effect in
     subst Due (sym voter) (some, there.sound, e ∙ ap Some (sym there.there))
 voter-due laws plans session count older false is some e voter =
@@ -283,7 +283,7 @@ answer-keeps laws plans session directive is =
 
 -- ---- the plan that undoes changes
 pub valid-older : (session : SessionState) (count : ℕ) (older : Configuration) → IsEarlier session count older → is_valid older ≡ true
-valid-older session count older earlier = first (is_valid older) (has_voter_or_nobody older) earlier.restorable
+valid-older session count older earlier = and-first (is_valid older) (has_voter_or_nobody older) earlier.restorable
 
 pub plan-is : (session : SessionState) (count : ℕ) (older : Configuration) (plan : List Step) → slice_get session.kept (count - 1) ≡ Some older → has_voter older ≡ true → plan ≡ planned (present session) older →
     undo_plan_of session count ≡ Ok plan

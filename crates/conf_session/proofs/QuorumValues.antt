@@ -12,15 +12,15 @@ use Rattle.std.proofs.lemmas.Option.{slice_get_within, slice_get_cases, get_or_f
 use Rattle.std.proofs.lemmas.Bool.{eqb-true}
 use Rattle.std.proofs.lemmas.List.Elements.{filter-append, filter_map-append}
 use Rattle.std.proofs.lemmas.List.Folds.{list_all_at}
-use Rattle.conf_session.proofs.ToldLines.{both, all-append}
+use Rattle.conf_session.proofs.ToldLines.{and-both, all-append}
 use Rattle.conf_session.specs.QuorumArguments.{each_once, with_given, map_given}
 
 tied : (id q : ℕ) → eq_by_cmp nat_cmp id q ≡ (q == id)
 tied id q = (eq_by_cmp_equiv nat_cmp_total).symm id q ∙ unsigned_tied q id
 
 -- ---- the items in front of a place, and one more
-pub take_here : {X : Type 0} (xs : List X) (i : ℕ) (x : X) → slice_get xs i ≡ Some x → take (i + 1) xs ≡ take i xs ++ x ∷ []
-take_here xs i x e =
+pub take-one_more : {X : Type 0} (xs : List X) (i : ℕ) (x : X) → slice_get xs i ≡ Some x → take (i + 1) xs ≡ take i xs ++ x ∷ []
+take-one_more xs i x e =
     take_more xs i x (slice_get_within xs i x e) ∙ ap (λ y. take i xs ++ y ∷ []) (get_or_from_slice_get xs i x x e)
 
 one-known : {X Y : Type 0} (h : X → Option Y) (x : X) → filter_map h (x ∷ []) ≡ option_to_list (h x)
@@ -31,7 +31,7 @@ one-known {Y = Y} h x = at (h x) refl where
 
 pub known-more : {X Y : Type 0} (h : X → Option Y) (xs : List X) (i : ℕ) (x : X) → slice_get xs i ≡ Some x → filter_map h (take i xs) ++ option_to_list (h x) ≡ filter_map h (take (i + 1) xs)
 known-more h xs i x e =
-    sym (ap (filter_map h) (take_here xs i x e) ∙ filter_map-append h (take i xs) (x ∷ []) ∙ ap (λ t. filter_map h (take i xs) ++ t) (one-known h x))
+    sym (ap (filter_map h) (take-one_more xs i x e) ∙ filter_map-append h (take i xs) (x ∷ []) ∙ ap (λ t. filter_map h (take i xs) ++ t) (one-known h x))
 
 not_within : {X : Type 0} (xs : List X) (i : ℕ) → slice_get xs i ≡ None → length xs ≤ i
 not_within xs i e = elim (slice_get_cases xs i).1 [
@@ -40,7 +40,7 @@ not_within xs i e = elim (slice_get_cases xs i).1 [
 ]
 
 pub all-more : {X : Type 0} (p : X → Bool) (xs : List X) (i : ℕ) (x : X) → slice_get xs i ≡ Some x → list_all p (take i xs) ≡ true → p x ≡ true → list_all p (take (i + 1) xs) ≡ true
-all-more p xs i x e h k = ap (list_all p) (take_here xs i x e) ∙ all-append p (take i xs) (x ∷ []) h (both _ _ k refl)
+all-more p xs i x e h k = ap (list_all p) (take-one_more xs i x e) ∙ all-append p (take i xs) (x ∷ []) h (and-both _ _ k refl)
 
 pub one-bad : {X : Type 0} (p : X → Bool) (xs : List X) (i : ℕ) (x : X) → slice_get xs i ≡ Some x → p x ≡ false → list_all p xs ≡ false
 one-bad p xs i x e k = list_all_at p xs i x (slice_get_within xs i x e) (ap p (get_or_from_slice_get xs i x x e) ∙ k)
@@ -90,7 +90,7 @@ given-past says ids values i k next e =
 
 -- ---- what a set has seen
 pub any-here : (ids : List ℕ) (i id q : ℕ) → slice_get ids i ≡ Some id → list_any (λ other. q == other) (take (i + 1) ids) ≡ ((q == id) || list_any (λ other. q == other) (take i ids))
-any-here ids i id q e = ap (list_any (λ other. q == other)) (take_here ids i id e) ∙ any-behind (take i ids) where
+any-here ids i id q e = ap (list_any (λ other. q == other)) (take-one_more ids i id e) ∙ any-behind (take i ids) where
   or-swap : (a b c : Bool) → (a || (b || c)) ≡ (b || (a || c))
   or-swap true true c = refl
   or-swap true false c = refl
@@ -112,11 +112,11 @@ seen-here ids i id s n e seen u q =
 -- an id that comes first, and one that came before
 pub new-there : (ids : List ℕ) (i id : ℕ) → slice_get ids i ≡ Some id → list_any (λ other. id == other) (take i ids) ≡ false → each_once (take i ids) ++ id ∷ [] ≡ each_once (take (i + 1) ids)
 new-there ids i id e none =
-    sym (ap each_once (take_here ids i id e) ∙ once-more (take i ids) id ∙ ap (λ b. each_once (take i ids) ++ cond b [] (id ∷ [])) none)
+    sym (ap each_once (take-one_more ids i id e) ∙ once-more (take i ids) id ∙ ap (λ b. each_once (take i ids) ++ cond b [] (id ∷ [])) none)
 
 pub old-there : (ids : List ℕ) (i id : ℕ) → slice_get ids i ≡ Some id → list_any (λ other. id == other) (take i ids) ≡ true → each_once (take i ids) ≡ each_once (take (i + 1) ids)
 old-there ids i id e some =
-    sym (ap each_once (take_here ids i id e) ∙ once-more (take i ids) id ∙ ap (λ b. each_once (take i ids) ++ cond b [] (id ∷ [])) some ∙ append-nil (each_once (take i ids)))
+    sym (ap each_once (take-one_more ids i id e) ∙ once-more (take i ids) id ∙ ap (λ b. each_once (take i ids) ++ cond b [] (id ∷ [])) some ∙ append-nil (each_once (take i ids)))
 
 -- ---- what was seen is what is there once
 or-again : (a b r : Bool) → a ≡ b → (a || (b || r)) ≡ (a || r)

@@ -10,9 +10,9 @@ use Rattle.quorum_sets.specs.declared.voting.VoteResult.{VoteResult}
 use Rattle.quorum_sets.specs.declared.voting.VoteResult.TheVariants.{VotePending, VoteLost, VoteWon}
 use Rattle.ascii_text.specs.Lines.{newline, text_of}
 use Rattle.conf_session.specs.QuorumArguments.{index_text, vote_text}
-use Rattle.conf_session.specs.Texts.{line}
+use Rattle.conf_session.specs.ReplyTexts.{line}
 use Rattle.conf_session.specs.Told.{is_line_byte, is_told_line, IsTold}
-use Rattle.conf_session.proofs.ToldLines.{both, all-append, is_mark, IsBytes, IsLine, IsTail, ◌▸◌, ◌▹◌, starts, told, goes, number, decimal-high, decimal-bytes, high-mark, line-told, told-after}
+use Rattle.conf_session.proofs.ToldLines.{and-both, all-append, is_mark, IsBytes, IsLine, IsTail, ◌▸◌, ◌▹◌, IsLine-from_mark, IsLine-told, IsTail-from_bytes, IsTail-number, decimal-high, decimal-bytes, high-mark, line-told, told-after}
 
 -- ---- a line with its mark at the end
 any-back : (xs ys : List ℕ) → list_any is_mark ys ≡ true → list_any is_mark (xs ++ ys) ≡ true
@@ -28,14 +28,14 @@ leads {front} {back} h k = record { mark = any-back front back k.mark; bytes = a
 -- ---- the lines of a chart
 same-bytes : (n b : ℕ) → is_line_byte b ≡ true → IsBytes (replicate n b)
 same-bytes zero b h = refl
-same-bytes (suc n) b h = both _ _ h (same-bytes n b h)
+same-bytes (suc n) b h = and-both _ _ h (same-bytes n b h)
 
 spaces : (n : ℕ) → IsTail (replicate n 32)
-spaces n = goes (replicate n 32) (same-bytes n 32 refl)
+spaces n = IsTail-from_bytes (replicate n 32) (same-bytes n 32 refl)
 
 bar-tail : (n : ℕ) (acked : Option ℕ) (width : ℕ) → IsTail (bar_text n acked width)
-bar-tail n None width = goes (codes "?") refl ▹ spaces n
-bar-tail n (Some index) width = goes (replicate width 120) (same-bytes width 120 refl) ▹ goes (codes ">") refl ▹ spaces (n - width)
+bar-tail n None width = IsTail-from_bytes (codes "?") refl ▹ spaces n
+bar-tail n (Some index) width = IsTail-from_bytes (replicate width 120) (same-bytes width 120 refl) ▹ IsTail-from_bytes (codes ">") refl ▹ spaces (n - width)
 
 -- the line of an id
 abbrev row_line : ℕ → ℕ → Option ℕ → ℕ → List ℕ
@@ -45,15 +45,15 @@ row_line n id acked width =
 row-told : (n id : ℕ) (acked : Option ℕ) (width : ℕ) → is_told_line (row_line n id acked width) ≡ true
 row-told n id acked width =
     let index = unwrap_or acked 0 in
-    let five : IsTail (in_five_places index) = spaces _ ▹ number index in
-    told (leads (bar-tail n acked width ▹ goes (codes " ") refl ▹ five) (starts (codes "    (id=") refl refl) ▸ number id ▸ goes (codes ")") refl)
+    let five : IsTail (in_five_places index) = spaces _ ▹ IsTail-number index in
+    IsLine-told (leads (bar-tail n acked width ▹ IsTail-from_bytes (codes " ") refl ▹ five) (IsLine-from_mark (codes "    (id=") refl refl) ▸ IsTail-number id ▸ IsTail-from_bytes (codes ")") refl)
 
 abbrev row_of : List ℕ → Acks → ℕ → List ℕ
 row_of ids acks id = row_line (length ids) id (finite.get acks id) (bar_width ids acks id)
 
 rows-told : (ids : List ℕ) (acks : Acks) (some : List ℕ) → list_all is_told_line (map (row_of ids acks) some) ≡ true
 rows-told ids acks [] = refl
-rows-told ids acks (id ∷ some) = both _ _ (row-told (length ids) id (finite.get acks id) (bar_width ids acks id)) (rows-told ids acks some)
+rows-told ids acks (id ∷ some) = and-both _ _ (row-told (length ids) id (finite.get acks id) (bar_width ids acks id)) (rows-told ids acks some)
 
 row-whole : (n id : ℕ) (acked : Option ℕ) (width : ℕ) → row_text n id acked width ≡ line (row_line n id acked width)
 row-whole n id acked width =
@@ -72,18 +72,18 @@ all-told ids acks =
       lines = head ∷ map (row_of ids acks) ids;
       some = omega arith;
       whole = ap (λ text. text ++ flat_map (chart_row ids acks) ids) (sym (append_assoc (replicate (length ids) 32) (codes "    idx") newline)) ∙ ap (λ rows. line head ++ rows) (rows-whole ids acks ids);
-      told = both _ _ (told (leads (spaces (length ids)) (starts (codes "    idx") refl refl))) (rows-told ids acks ids);
+      told = and-both _ _ (IsLine-told (leads (spaces (length ids)) (IsLine-from_mark (codes "    idx") refl refl))) (rows-told ids acks ids);
     }
 
 -- ---- an index, behind a chart or alone
 index-line : (index : ℕ) → IsLine (index_text index)
 index-line index = by (nat_eq index greatest_index) where
   by : (greatest : Bool) → IsLine (cond greatest (226 ∷ 136 ∷ 158 ∷ []) (decimal index))
-  by true = starts (226 ∷ 136 ∷ 158 ∷ []) refl refl
-  by false = starts (decimal index) (high-mark (decimal index) (decimal-high index)) (decimal-bytes index)
+  by true = IsLine-from_mark (226 ∷ 136 ∷ 158 ∷ []) refl refl
+  by false = IsLine-from_mark (decimal index) (high-mark (decimal index) (decimal-high index)) (decimal-bytes index)
 
 pub index-told : (index : ℕ) → is_told_line (index_text index) ≡ true
-index-told index = told (index-line index)
+index-told index = IsLine-told (index-line index)
 
 pub chart-told : (ids : List ℕ) (acks : Acks) (index : ℕ) → IsTold (line (chart_text ids acks ++ index_text index))
 chart-told ids acks index = by (nat_eq (length ids) 0) where
@@ -91,7 +91,7 @@ chart-told ids acks index = by (nat_eq (length ids) 0) where
   rows = replicate (length ids) 32 ++ codes "    idx\n" ++ flat_map (chart_row ids acks) ids
 
   by : (none : Bool) → IsTold (line (cond none (codes "<empty majority quorum>") rows ++ index_text index))
-  by true = line-told (codes "<empty majority quorum>" ++ index_text index) (told (starts (codes "<empty majority quorum>") refl refl ▸ goes (index_text index) (index-line index).bytes))
+  by true = line-told (codes "<empty majority quorum>" ++ index_text index) (IsLine-told (IsLine-from_mark (codes "<empty majority quorum>") refl refl ▸ IsTail-from_bytes (index_text index) (index-line index).bytes))
   by false = subst IsTold (sym (append_assoc rows (index_text index) newline)) (told-after rows (line (index_text index)) (all-told ids acks) (line-told (index_text index) (index-told index)))
 
 -- ---- the result of a vote

@@ -32,30 +32,30 @@ use Rattle.conf_plan.specs.PlanText.{change_text, flag_word, line_and_newline, p
 use Rattle.conf_session.specs.Undo.{undo_fault_text}
 use Rattle.conf_session.specs.declared.undo_fault.UndoFault.{UndoFault}
 use Rattle.conf_session.specs.declared.undo_fault.UndoFault.TheVariants.{NotKept, NoVoterTarget, NoMemory as NoMemoryToUndo}
-use Rattle.conf_session.specs.Texts.{line, member_line, tracker_text}
+use Rattle.conf_session.specs.ReplyTexts.{line, member_line, tracker_text}
 use Rattle.conf_session.specs.Told.{is_line_byte, is_told_line, IsTold}
 
-pub first : (a b : Bool) → (a && b) ≡ true → a ≡ true
-first true b e = refl
-first false b e = cc
+pub and-first : (a b : Bool) → (a && b) ≡ true → a ≡ true
+and-first true b e = refl
+and-first false b e = cc
 
-pub second : (a b : Bool) → (a && b) ≡ true → b ≡ true
-second true b e = e
-second false b e = cc
+pub and-second : (a b : Bool) → (a && b) ≡ true → b ≡ true
+and-second true b e = e
+and-second false b e = cc
 
-pub both : (a b : Bool) → a ≡ true → b ≡ true → (a && b) ≡ true
-both true b p q = q
-both false b p q = cc
+pub and-both : (a b : Bool) → a ≡ true → b ≡ true → (a && b) ≡ true
+and-both true b p q = q
+and-both false b p q = cc
 
 pub all-append : {X : Type 0} (p : X → Bool) (xs ys : List X) → list_all p xs ≡ true → list_all p ys ≡ true → list_all p (xs ++ ys) ≡ true
 all-append p [] ys h k = k
-all-append p (x ∷ xs) ys h k = both _ _ (first _ _ h) (all-append p xs ys (second _ _ h) k)
+all-append p (x ∷ xs) ys h k = and-both _ _ (and-first _ _ h) (all-append p xs ys (and-second _ _ h) k)
 
 abbrev pub IsBytes : List ℕ → Type 0
 IsBytes text = list_all is_line_byte text ≡ true
 
 pub told-bytes : (text : List ℕ) → is_told_line text ≡ true → list_all is_line_byte text ≡ true
-told-bytes text h = second (not (is_blank text || is_dashes text)) _ h
+told-bytes text h = and-second (not (is_blank text || is_dashes text)) _ h
 
 -- a byte that makes a line neither blank nor dashes
 abbrev pub is_mark : ℕ → Bool
@@ -85,7 +85,7 @@ no_dashes-if bytes false e h = refl
 
 pub marked-told : (text : List ℕ) → list_any is_mark text ≡ true → IsBytes text → is_told_line text ≡ true
 marked-told text h k =
-    both _ _ (ap not (ap (λ t. t || is_dashes text) (no_blank text h) ∙ no_dashes-if text (is_dashes text) refl h)) k
+    and-both _ _ (ap not (ap (λ t. t || is_dashes text) (no_blank text h) ∙ no_dashes-if text (is_dashes text) refl h)) k
 
 pub told-append : (front back : List ℕ) → list_any is_mark front ≡ true → IsBytes front → IsBytes back → is_told_line (front ++ back) ≡ true
 told-append front back h k l = marked-told (front ++ back) (any-front is_mark front back h) (all-append is_line_byte front back k l)
@@ -100,7 +100,7 @@ byte-high b h = grind (arith, nat_tests)
 
 bytes-high : (bs : List ℕ) → list_all (nat_le 48) bs ≡ true → IsBytes bs
 bytes-high [] h = refl
-bytes-high (b ∷ bs) h = both _ _ (byte-high b (first _ _ h)) (bytes-high bs (second _ _ h))
+bytes-high (b ∷ bs) h = and-both _ _ (byte-high b (and-first _ _ h)) (bytes-high bs (and-second _ _ h))
 
 glyph-high : (d : ℕ) → nat_le 48 (digit_glyph false d) ≡ true
 glyph-high d = grind (arith, nat_tests)
@@ -115,26 +115,26 @@ mark-high b h = grind (arith, nat_tests)
 
 pub high-mark : (bs : List ℕ) → is_high bs ≡ true → list_any is_mark bs ≡ true
 high-mark [] h = cc
-high-mark (b ∷ bs) h = ap (λ t. t || list_any is_mark bs) (mark-high b (first _ _ h))
+high-mark (b ∷ bs) h = ap (λ t. t || list_any is_mark bs) (mark-high b (and-first _ _ h))
 
 high-bytes : (bs : List ℕ) → is_high bs ≡ true → IsBytes bs
 high-bytes [] h = cc
 high-bytes (b ∷ bs) h = bytes-high (b ∷ bs) h
 
-pub either : (b : Bool) (xs ys : List ℕ) → is_high xs ≡ true → is_high ys ≡ true → is_high (cond b xs ys) ≡ true
-either true xs ys h k = h
-either false xs ys h k = k
+pub is_high-either : (b : Bool) (xs ys : List ℕ) → is_high xs ≡ true → is_high ys ≡ true → is_high (cond b xs ys) ≡ true
+is_high-either true xs ys h k = h
+is_high-either false xs ys h k = k
 
 digits_onto-high : (k n : ℕ) (b : ℕ) (bs : List ℕ) → is_high (b ∷ bs) ≡ true → is_high (digits_onto k 10 false n (b ∷ bs)) ≡ true
 digits_onto-high zero n b bs h = h
 digits_onto-high (suc k) n b bs h =
-    let more : is_high (digit_glyph false (n % 10) ∷ b ∷ bs) ≡ true = both _ _ (glyph-high (n % 10)) h in
-    either (n / 10 == 0) _ _ more (digits_onto-high k (n / 10) (digit_glyph false (n % 10)) (b ∷ bs) more)
+    let more : is_high (digit_glyph false (n % 10) ∷ b ∷ bs) ≡ true = and-both _ _ (glyph-high (n % 10)) h in
+    is_high-either (n / 10 == 0) _ _ more (digits_onto-high k (n / 10) (digit_glyph false (n % 10)) (b ∷ bs) more)
 
 number-high : (k n : ℕ) → is_high (digits_onto (suc k) 10 false n []) ≡ true
 number-high k n =
-    let one : is_high (digit_glyph false (n % 10) ∷ []) ≡ true = both _ _ (glyph-high (n % 10)) refl in
-    either (n / 10 == 0) _ _ one (digits_onto-high k (n / 10) (digit_glyph false (n % 10)) [] one)
+    let one : is_high (digit_glyph false (n % 10) ∷ []) ≡ true = and-both _ _ (glyph-high (n % 10)) refl in
+    is_high-either (n / 10 == 0) _ _ one (digits_onto-high k (n / 10) (digit_glyph false (n % 10)) [] one)
 
 pub decimal-high : (n : ℕ) → is_high (decimal n) ≡ true
 unfolding digits
@@ -156,14 +156,14 @@ pub record IsLine (text : List ℕ) : Type 0 where
 pub record IsTail (text : List ℕ) : Type 0 where
   pub tail : list_all is_line_byte text ≡ true
 
-pub starts : (text : List ℕ) → list_any is_mark text ≡ true → IsBytes text → IsLine text
-starts text h k = record { mark = h; bytes = k }
+pub IsLine-from_mark : (text : List ℕ) → list_any is_mark text ≡ true → IsBytes text → IsLine text
+IsLine-from_mark text h k = record { mark = h; bytes = k }
 
-pub told : {text : List ℕ} → IsLine text → is_told_line text ≡ true
-told {text} h = marked-told text h.mark h.bytes
+pub IsLine-told : {text : List ℕ} → IsLine text → is_told_line text ≡ true
+IsLine-told {text} h = marked-told text h.mark h.bytes
 
-pub goes : (text : List ℕ) → IsBytes text → IsTail text
-goes text h = record { tail = h }
+pub IsTail-from_bytes : (text : List ℕ) → IsBytes text → IsTail text
+IsTail-from_bytes text h = record { tail = h }
 
 infixl 60 ◌▸◌
 pub ◌▸◌ : {front back : List ℕ} → IsLine front → IsTail back → IsLine (front ++ back)
@@ -173,36 +173,36 @@ infixl 61 ◌▹◌
 pub ◌▹◌ : {front back : List ℕ} → IsTail front → IsTail back → IsTail (front ++ back)
 ◌▹◌ {front} {back} h k = record { tail = all-append is_line_byte front back h.tail k.tail }
 
-pub number : (n : ℕ) → IsTail (decimal n)
-number n = goes (decimal n) (decimal-bytes n)
+pub IsTail-number : (n : ℕ) → IsTail (decimal n)
+IsTail-number n = IsTail-from_bytes (decimal n) (decimal-bytes n)
 
 numbers : (ns : List ℕ) → IsTail (spaced_numbers ns)
-numbers ns = goes (spaced_numbers ns) (spaced-bytes ns)
+numbers ns = IsTail-from_bytes (spaced_numbers ns) (spaced-bytes ns)
 
 set : (ids : Ids) → IsTail (set_text ids)
-set ids = goes (codes "(") refl ▹ numbers (ascending ids) ▹ goes (codes ")") refl
+set ids = IsTail-from_bytes (codes "(") refl ▹ numbers (ascending ids) ▹ IsTail-from_bytes (codes ")") refl
 
 named : (there : Bool) (name : List ℕ) (ids : Ids) → IsBytes name → IsTail (where_there there (name ++ set_text ids))
-named there name ids h = goes _ (where-bytes there (name ++ set_text ids) (all-append is_line_byte name (set_text ids) h (set ids).tail))
+named there name ids h = IsTail-from_bytes _ (where-bytes there (name ++ set_text ids) (all-append is_line_byte name (set_text ids) h (set ids).tail))
 
 config-line : (c : Configuration) → IsLine (config_text c)
 config-line c =
-    starts (codes "voters=") refl refl ▸ set c.incoming
+    IsLine-from_mark (codes "voters=") refl refl ▸ set c.incoming
     ▸ named (is_joint c) (codes "&&") c.outgoing refl
     ▸ named (not (is_empty c.learners)) (codes " learners=") c.learners refl
     ▸ named (not (is_empty c.learners_next)) (codes " learners_next=") c.learners_next refl
-    ▸ goes (where_there c.auto_leave (codes " autoleave")) (where-bytes c.auto_leave (codes " autoleave") refl)
+    ▸ IsTail-from_bytes (where_there c.auto_leave (codes " autoleave")) (where-bytes c.auto_leave (codes " autoleave") refl)
 
 pub config-told : (c : Configuration) → is_told_line (config_text c) ≡ true
-config-told c = told (config-line c)
+config-told c = IsLine-told (config-line c)
 
 progress-line : (id : ℕ) (p : Progress) → IsLine (progress_text id p)
 progress-line id p =
-    starts (decimal id) (high-mark (decimal id) (decimal-high id)) (decimal-bytes id) ▸ goes (codes ": StateProbe match=") refl ▸ number p.matched ▸ goes (codes " next=") refl ▸ number p.next
-    ▸ goes (where_there p.learner (codes " learner")) (where-bytes p.learner (codes " learner") refl)
+    IsLine-from_mark (decimal id) (high-mark (decimal id) (decimal-high id)) (decimal-bytes id) ▸ IsTail-from_bytes (codes ": StateProbe match=") refl ▸ IsTail-number p.matched ▸ IsTail-from_bytes (codes " next=") refl ▸ IsTail-number p.next
+    ▸ IsTail-from_bytes (where_there p.learner (codes " learner")) (where-bytes p.learner (codes " learner") refl)
 
 pub progress-told : (id : ℕ) (p : Progress) → is_told_line (progress_text id p) ≡ true
-progress-told id p = told (progress-line id p)
+progress-told id p = IsLine-told (progress-line id p)
 
 pub refused-told : (refused : Refused) → is_told_line (refused_text refused) ≡ true
 refused-told AlreadyJoint = refl
@@ -214,7 +214,7 @@ refused-told MoreThanOneVoter = refl
 refused-told NoMemory = refl
 
 pub undo_fault-told : (fault : UndoFault) → is_told_line (undo_fault_text fault) ≡ true
-undo_fault-told (NotKept kept) = told (starts (codes "no plan: ") refl refl ▸ number kept ▸ goes (codes " earlier configurations are kept") refl)
+undo_fault-told (NotKept kept) = IsLine-told (IsLine-from_mark (codes "no plan: ") refl refl ▸ IsTail-number kept ▸ IsTail-from_bytes (codes " earlier configurations are kept") refl)
 undo_fault-told NoVoterTarget = refl
 undo_fault-told NoMemoryToUndo = refl
 
@@ -224,13 +224,13 @@ truth-bytes false = refl
 
 saved-line : (a b c d : List ℕ) (auto_leave : Bool) → IsTail a → IsTail b → IsTail c → IsTail d → IsLine (line_text a b c d auto_leave)
 saved-line a b c d auto_leave voters voters_outgoing learners learners_next =
-    starts (codes "Voters:[") refl refl ▸ voters ▸ goes (codes "] VotersOutgoing:[") refl ▸ voters_outgoing
-    ▸ goes (codes "] Learners:[") refl ▸ learners ▸ goes (codes "] LearnersNext:[") refl ▸ learners_next
-    ▸ goes (codes "] AutoLeave:") refl ▸ goes (truth_text auto_leave) (truth-bytes auto_leave)
+    IsLine-from_mark (codes "Voters:[") refl refl ▸ voters ▸ IsTail-from_bytes (codes "] VotersOutgoing:[") refl ▸ voters_outgoing
+    ▸ IsTail-from_bytes (codes "] Learners:[") refl ▸ learners ▸ IsTail-from_bytes (codes "] LearnersNext:[") refl ▸ learners_next
+    ▸ IsTail-from_bytes (codes "] AutoLeave:") refl ▸ IsTail-from_bytes (truth_text auto_leave) (truth-bytes auto_leave)
 
 pub conf_state-told : (saved : ConfStateLists) → is_told_line (conf_state_text saved) ≡ true
 conf_state-told saved =
-    told (saved-line _ _ _ _ saved.auto_leave (numbers saved.voters) (numbers saved.voters_outgoing) (numbers saved.learners) (numbers saved.learners_next))
+    IsLine-told (saved-line _ _ _ _ saved.auto_leave (numbers saved.voters) (numbers saved.voters_outgoing) (numbers saved.learners) (numbers saved.learners_next))
 
 -- numbers that were read, with any zeros before them
 byte-from_zero : (b : ℕ) → 48 ≤ b → is_line_byte b ≡ true
@@ -238,7 +238,7 @@ byte-from_zero b h = grind (arith, nat_tests)
 
 digits-bytes : (spelled : List ℕ) → AllDigits 10 spelled → IsBytes spelled
 digits-bytes [] h = refl
-digits-bytes (b ∷ bs) h = both _ _ (byte-from_zero b (digit_at (b ∷ bs) 0 h (omega arith)).0) (digits-bytes bs h.1)
+digits-bytes (b ∷ bs) h = and-both _ _ (byte-from_zero b (digit_at (b ∷ bs) 0 h (omega arith)).0) (digits-bytes bs h.1)
 
 joined-bytes : (pieces : List (List ℕ)) (ns : List ℕ) → AllZip SpellsNumber pieces ns → IsBytes (join_with_byte 32 pieces)
 joined-bytes [] ns h = refl
@@ -248,7 +248,7 @@ joined-bytes (piece ∷ next ∷ pieces) (n ∷ ns) h =
     all-append is_line_byte piece (32 ∷ join_with_byte 32 (next ∷ pieces)) (digits-bytes piece h.0.numeral.1) (joined-bytes (next ∷ pieces) ns h.1)
 
 spelled-tail : (text ns : List ℕ) → SpellsNumbers text ns → IsTail text
-spelled-tail text ns h = goes text (ap (list_all is_line_byte) h.spaced ∙ joined-bytes h.pieces ns h.spelled)
+spelled-tail text ns h = IsTail-from_bytes text (ap (list_all is_line_byte) h.spaced ∙ joined-bytes h.pieces ns h.spelled)
 
 -- the text of a saved configuration is one line
 pub saved-bytes : (text : List ℕ) (saved : ConfStateLists) → StandsForConfState text saved → list_all is_line_byte (trimmed text) ≡ true
@@ -259,7 +259,7 @@ saved-bytes text saved h =
 
 -- ---- texts of such lines
 pub line-told : (text : List ℕ) → is_told_line text ≡ true → IsTold (line text)
-line-told text h = record { lines = text ∷ []; some = omega arith; whole = sym (append-nil (line text)); told = both _ _ h refl }
+line-told text h = record { lines = text ∷ []; some = omega arith; whole = sym (append-nil (line text)); told = and-both _ _ h refl }
 
 members-whole : (members : List (ℕ × Progress)) → flat_map member_line members ≡ text_of (map (λ member. progress_text member.0 member.1) members)
 members-whole [] = refl
@@ -267,7 +267,7 @@ members-whole (member ∷ members) = ap (λ rest. member_line member ++ rest) (m
 
 members-told : (members : List (ℕ × Progress)) → list_all is_told_line (map (λ member. progress_text member.0 member.1) members) ≡ true
 members-told [] = refl
-members-told (member ∷ members) = both _ _ (progress-told member.0 member.1) (members-told members)
+members-told (member ∷ members) = and-both _ _ (progress-told member.0 member.1) (members-told members)
 
 pub tracker-told : (tracker : TrackerState) → IsTold (tracker_text tracker)
 tracker-told tracker =
@@ -276,7 +276,7 @@ tracker-told tracker =
       lines = config_text tracker.config ∷ map (λ member. progress_text member.0 member.1) members;
       some = omega arith;
       whole = ap (λ rest. line (config_text tracker.config) ++ rest) (members-whole members);
-      told = both _ _ (config-told tracker.config) (members-told members);
+      told = and-both _ _ (config-told tracker.config) (members-told members);
     }
 
 -- one text behind another
@@ -305,32 +305,32 @@ change-bytes change = all-append is_line_byte (letter_of change.kind ∷ []) (de
 -- words with one space between
 pub spaced-words : (words : List (List ℕ)) → list_all (λ word. list_all is_line_byte word) words ≡ true → IsBytes (join_with_byte 32 words)
 spaced-words [] h = refl
-spaced-words (word ∷ []) h = first _ _ h
-spaced-words (word ∷ next ∷ words) h = all-append is_line_byte word (32 ∷ join_with_byte 32 (next ∷ words)) (first _ _ h) (spaced-words (next ∷ words) (second _ _ h))
+spaced-words (word ∷ []) h = and-first _ _ h
+spaced-words (word ∷ next ∷ words) h = all-append is_line_byte word (32 ∷ join_with_byte 32 (next ∷ words)) (and-first _ _ h) (spaced-words (next ∷ words) (and-second _ _ h))
 
 pub changes-words : (changes : List Change) → list_all (λ word. list_all is_line_byte word) (map change_text changes) ≡ true
 changes-words [] = refl
-changes-words (change ∷ changes) = both _ _ (change-bytes change) (changes-words changes)
+changes-words (change ∷ changes) = and-both _ _ (change-bytes change) (changes-words changes)
 
 -- a word, and others behind it
 words-line : (word : List ℕ) (words : List (List ℕ)) → IsLine word → list_all (λ w. list_all is_line_byte w) words ≡ true → IsLine (join_with_byte 32 (word ∷ words))
 words-line word [] h k = h
-words-line word (next ∷ words) h k = h ▸ goes (32 ∷ join_with_byte 32 (next ∷ words)) (spaced-words (next ∷ words) k)
+words-line word (next ∷ words) h k = h ▸ IsTail-from_bytes (32 ∷ join_with_byte 32 (next ∷ words)) (spaced-words (next ∷ words) k)
 
 flag-bytes : (auto_leave : Bool) → IsBytes (flag_word auto_leave)
 flag-bytes true = refl
 flag-bytes false = refl
 
 step-line : (step : Step) → IsLine (step_text step)
-step-line (Simple changes) = words-line (codes "simple") (map change_text changes) (starts (codes "simple") refl refl) (changes-words changes)
+step-line (Simple changes) = words-line (codes "simple") (map change_text changes) (IsLine-from_mark (codes "simple") refl refl) (changes-words changes)
 step-line (EnterJoint auto_leave changes) =
-    words-line (codes "enter-joint") (flag_word auto_leave ∷ map change_text changes) (starts (codes "enter-joint") refl refl)
-    (both _ _ (flag-bytes auto_leave) (changes-words changes))
-step-line LeaveJoint = words-line (codes "leave-joint") [] (starts (codes "leave-joint") refl refl) refl
+    words-line (codes "enter-joint") (flag_word auto_leave ∷ map change_text changes) (IsLine-from_mark (codes "enter-joint") refl refl)
+    (and-both _ _ (flag-bytes auto_leave) (changes-words changes))
+step-line LeaveJoint = words-line (codes "leave-joint") [] (IsLine-from_mark (codes "leave-joint") refl refl) refl
 
 step-lines : (steps : List Step) → list_all is_told_line (map step_text steps) ≡ true
 step-lines [] = refl
-step-lines (step ∷ steps) = both _ _ (told (step-line step)) (step-lines steps)
+step-lines (step ∷ steps) = and-both _ _ (IsLine-told (step-line step)) (step-lines steps)
 
 steps-whole : (steps : List Step) → flat_map line_and_newline steps ≡ text_of (map step_text steps)
 steps-whole [] = refl

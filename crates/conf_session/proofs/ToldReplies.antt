@@ -43,7 +43,7 @@ use Rattle.conf_session.specs.declared.parameter.Parameter.TheVariants.{AutoLeav
 use Rattle.conf_session.specs.declared.commands.Command.{Command}
 use Rattle.conf_session.specs.declared.commands.Command.TheVariants.{Simple, EnterJoint, LeaveJoint, ConfChange, ConfState, Restore, Undo, Ack, CommitIndex, Committed, Vote, Unknown}
 use Rattle.conf_session.proofs.ToldCharts.{chart-told, index-told, vote-told}
-use Rattle.conf_session.proofs.ToldLines.{first, second, both, told-append, progress-told, refused-told, undo_fault-told, conf_state-told, line-told, told-after, plan-told, tracker-told}
+use Rattle.conf_session.proofs.ToldLines.{and-first, and-second, and-both, told-append, progress-told, refused-told, undo_fault-told, conf_state-told, line-told, told-after, plan-told, tracker-told}
 
 abbrev Tells : Reply → Type 0
 Tells reply = IsTold reply.found
@@ -60,8 +60,8 @@ abbrev has_no_white : List ℕ → Bool
 has_no_white word = list_all (λ b. not (is_space b)) word
 
 onto-whole : (b : ℕ) (pieces : List (List ℕ)) → is_space b ≡ false → list_all has_no_white pieces ≡ true → list_all has_no_white (onto_first b pieces) ≡ true
-onto-whole b [] e h = both _ _ (both _ _ (ap not e) refl) refl
-onto-whole b (piece ∷ pieces) e h = both _ _ (both _ _ (ap not e) (first _ _ h)) (second _ _ h)
+onto-whole b [] e h = and-both _ _ (and-both _ _ (ap not e) refl) refl
+onto-whole b (piece ∷ pieces) e h = and-both _ _ (and-both _ _ (ap not e) (and-first _ _ h)) (and-second _ _ h)
 
 split-step : (b : ℕ) (pieces : List (List ℕ)) (white : Bool) → is_space b ≡ white → list_all has_no_white pieces ≡ true → list_all has_no_white (cond white ([] ∷ pieces) (onto_first b pieces)) ≡ true
 split-step b pieces true e h = h
@@ -72,26 +72,26 @@ split-whole [] = refl
 split-whole (b ∷ text) = split-step b (slice_split is_space text) (is_space b) refl (split-whole text)
 
 filter-step : (test : List ℕ → Bool) (piece : List ℕ) (pieces : List (List ℕ)) (kept : Bool) → has_no_white piece ≡ true → list_all has_no_white pieces ≡ true → list_all has_no_white (cond kept (piece ∷ pieces) pieces) ≡ true
-filter-step test piece pieces true h k = both _ _ h k
+filter-step test piece pieces true h k = and-both _ _ h k
 filter-step test piece pieces false h k = k
 
 filter-whole : (test : List ℕ → Bool) (pieces : List (List ℕ)) → list_all has_no_white pieces ≡ true → list_all has_no_white (filter test pieces) ≡ true
 filter-whole test [] h = refl
-filter-whole test (piece ∷ pieces) h = filter-step test piece (filter test pieces) (test piece) (first _ _ h) (filter-whole test pieces (second _ _ h))
+filter-whole test (piece ∷ pieces) h = filter-step test piece (filter test pieces) (test piece) (and-first _ _ h) (filter-whole test pieces (and-second _ _ h))
 
 words-whole : (text : List ℕ) → list_all has_no_white (words text) ≡ true
 words-whole text = filter-whole has_bytes (slice_split is_space text) (split-whole text)
 
 among : (before : List (List ℕ)) (word : List ℕ) (after : List (List ℕ)) → list_all has_no_white (before ++ word ∷ after) ≡ true → has_no_white word ≡ true
-among [] word after h = first _ _ h
-among (w ∷ before) word after h = among before word after (second _ _ h)
+among [] word after h = and-first _ _ h
+among (w ∷ before) word after h = among before word after (and-second _ _ h)
 
 byte-black : (b : ℕ) → not (is_space b) ≡ true → is_line_byte b ≡ true
 byte-black b h = grind (arith, nat_tests)
 
 bytes-black : (word : List ℕ) → has_no_white word ≡ true → list_all is_line_byte word ≡ true
 bytes-black [] h = refl
-bytes-black (b ∷ word) h = both _ _ (byte-black b (first _ _ h)) (bytes-black word (second _ _ h))
+bytes-black (b ∷ word) h = and-both _ _ (byte-black b (and-first _ _ h)) (bytes-black word (and-second _ _ h))
 
 token-told : (bad : BadToken) → list_all is_line_byte (token_of bad) ≡ true → is_told_line (bad_token_text bad) ≡ true
 token-told (unknown_token token) h = told-append (codes "unknown token ") token refl refl h
@@ -116,11 +116,11 @@ apart : (b n : ℕ) → is_key_byte n ≡ false → is_key_byte b ≡ true → n
 apart b n e h = unequal (b == n) (λ same. let f : is_key_byte b ≡ is_key_byte n = ap is_key_byte (eqb-true b n same) in cc)
 
 byte-key : (b : ℕ) → is_key_byte b ≡ true → is_line_byte b ≡ true
-byte-key b h = both _ _ (apart b 10 refl h) (apart b 13 refl h)
+byte-key b h = and-both _ _ (apart b 10 refl h) (apart b 13 refl h)
 
 bytes-key : (key : List ℕ) → list_all is_key_byte key ≡ true → list_all is_line_byte key ≡ true
 bytes-key [] h = refl
-bytes-key (b ∷ key) h = both _ _ (byte-key b (first _ _ h)) (bytes-key key (second _ _ h))
+bytes-key (b ∷ key) h = and-both _ _ (byte-key b (and-first _ _ h)) (bytes-key key (and-second _ _ h))
 
 abbrev are_keys : List ArgumentText → Bool
 are_keys arguments = list_all (λ argument. is_key argument.key) arguments
@@ -132,7 +132,7 @@ bad-step argument rest false key h k e = let same : argument.key ≡ key = cc in
 bad-key : (parameters : List Parameter) (before arguments : List ArgumentText) (key : List ℕ) → are_keys arguments ≡ true → first_bad parameters before arguments ≡ Some key → is_key key ≡ true
 bad-key parameters before [] key h e = cc
 bad-key parameters before (argument ∷ arguments) key h e =
-    bad-step argument (first_bad parameters (before ++ argument ∷ []) arguments) (is_good parameters before argument) key (first _ _ h) (bad-key parameters (before ++ argument ∷ []) arguments key (second _ _ h)) e
+    bad-step argument (first_bad parameters (before ++ argument ∷ []) arguments) (is_good parameters before argument) key (and-first _ _ h) (bad-key parameters (before ++ argument ∷ []) arguments key (and-second _ _ h)) e
 
 parameter-bytes : (parameter : Parameter) → list_all is_line_byte (key_of parameter) ≡ true
 parameter-bytes AutoLeave = refl
@@ -148,7 +148,7 @@ parameter-bytes Votes = refl
 fault-tells : (bad : Option (List ℕ)) (missing : Option Parameter) (reply : Reply) → ((key : List ℕ) → bad ≡ Some key → is_key key ≡ true) → Tells reply →
     Tells (unwrap_or (option_or (option_map (λ key. told (codes "bad argument: " ++ key)) bad) (option_map (λ parameter. told (codes "missing argument: " ++ key_of parameter)) missing)) reply)
 fault-tells (Some key) missing reply h t =
-    tells (codes "bad argument: " ++ key) (told-append (codes "bad argument: ") key refl refl (bytes-key key (second _ _ (h key refl))))
+    tells (codes "bad argument: " ++ key) (told-append (codes "bad argument: ") key refl refl (bytes-key key (and-second _ _ (h key refl))))
 fault-tells None (Some parameter) reply h t =
     tells (codes "missing argument: " ++ key_of parameter) (told-append (codes "missing argument: ") (key_of parameter) refl refl (parameter-bytes parameter))
 fault-tells None None reply h t = t

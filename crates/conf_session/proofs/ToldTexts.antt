@@ -9,9 +9,9 @@ use Rattle.ascii_text.specs.Lines.{newline, pieces, line_of, text_of, without_la
 use Rattle.ascii_text.specs.WhiteSpace.{is_blank}
 use Rattle.dd_file.specs.Script.{is_dashes}
 use Rattle.dd_file.specs.Rewritten.{is_output_line}
-use Rattle.conf_session.specs.Texts.{line}
+use Rattle.conf_session.specs.ReplyTexts.{line}
 use Rattle.conf_session.specs.Told.{is_line_byte, is_told_line, IsTold, CanStand}
-use Rattle.conf_session.proofs.ToldLines.{first, second, both, told-bytes}
+use Rattle.conf_session.proofs.ToldLines.{and-first, and-second, and-both, told-bytes}
 
 no : (b : Bool) → not b ≡ true → b ≡ false
 no true e = cc
@@ -21,12 +21,12 @@ no false e = refl
 pieces-line : (bytes rest : List ℕ) → list_all is_line_byte bytes ≡ true → pieces (line bytes ++ rest) ≡ line bytes ∷ pieces rest
 pieces-line [] rest h = refl
 pieces-line (b ∷ bytes) rest h =
-    ap (λ t. cond t (newline ∷ pieces (line bytes ++ rest)) (before_first_piece b (pieces (line bytes ++ rest)))) (no _ (first _ _ (first _ _ h)))
-    ∙ ap (before_first_piece b) (pieces-line bytes rest (second _ _ h))
+    ap (λ t. cond t (newline ∷ pieces (line bytes ++ rest)) (before_first_piece b (pieces (line bytes ++ rest)))) (no _ (and-first _ _ (and-first _ _ h)))
+    ∙ ap (before_first_piece b) (pieces-line bytes rest (and-second _ _ h))
 
 pieces-lines : (lines : List (List ℕ)) → list_all is_told_line lines ≡ true → pieces (text_of lines) ≡ map line lines
 pieces-lines [] h = refl
-pieces-lines (bytes ∷ lines) h = pieces-line bytes (text_of lines) (told-bytes bytes (first _ _ h)) ∙ ap (λ ps. line bytes ∷ ps) (pieces-lines lines (second _ _ h))
+pieces-lines (bytes ∷ lines) h = pieces-line bytes (text_of lines) (told-bytes bytes (and-first _ _ h)) ∙ ap (λ ps. line bytes ∷ ps) (pieces-lines lines (and-second _ _ h))
 
 without_newline : (bytes : List ℕ) → without_last 10 (line bytes) ≡ bytes
 without_newline [] = refl
@@ -35,8 +35,8 @@ without_newline (x ∷ y ∷ bytes) = ap (λ rest. x ∷ rest) (without_newline 
 
 without_return : (bytes : List ℕ) → list_all is_line_byte bytes ≡ true → without_last 13 bytes ≡ bytes
 without_return [] h = refl
-without_return (x ∷ []) h = ap (λ t. cond t [] (x ∷ [])) (no _ (second _ _ (first _ _ h)))
-without_return (x ∷ y ∷ bytes) h = ap (λ rest. x ∷ rest) (without_return (y ∷ bytes) (second _ _ h))
+without_return (x ∷ []) h = ap (λ t. cond t [] (x ∷ [])) (no _ (and-second _ _ (and-first _ _ h)))
+without_return (x ∷ y ∷ bytes) h = ap (λ rest. x ∷ rest) (without_return (y ∷ bytes) (and-second _ _ h))
 
 -- ---- the end of a text
 ends-more : (c x y : ℕ) (bytes : List ℕ) → ends_with nat_eq (x ∷ y ∷ bytes) (c ∷ []) ≡ ends_with nat_eq (y ∷ bytes) (c ∷ [])
@@ -49,8 +49,8 @@ other_byte x h = grind (arith, nat_tests)
 
 no_return_at_end : (bytes : List ℕ) → list_all is_line_byte bytes ≡ true → ends_with nat_eq bytes (13 ∷ []) ≡ false
 no_return_at_end [] h = refl
-no_return_at_end (x ∷ []) h = other_byte x (second _ _ (first _ _ h))
-no_return_at_end (x ∷ y ∷ bytes) h = ends-more 13 x y bytes ∙ no_return_at_end (y ∷ bytes) (second _ _ h)
+no_return_at_end (x ∷ []) h = other_byte x (and-second _ _ (and-first _ _ h))
+no_return_at_end (x ∷ y ∷ bytes) h = ends-more 13 x y bytes ∙ no_return_at_end (y ∷ bytes) (and-second _ _ h)
 
 -- what has a byte and a newline behind it ends in a newline
 ends-line : (bytes : List ℕ) → ends_with nat_eq (line bytes) newline ≡ true
@@ -65,8 +65,8 @@ ends-behind (x ∷ z ∷ front) y back h = ends-more 10 x z (front ++ y ∷ back
 
 ends-text : (bytes : List ℕ) (lines : List (List ℕ)) → list_all is_told_line (bytes ∷ lines) ≡ true → ends_with nat_eq (text_of (bytes ∷ lines)) newline ≡ true
 ends-text bytes [] h = ap (λ t. ends_with nat_eq t newline) (append-nil (line bytes)) ∙ ends-line bytes
-ends-text bytes ([] ∷ lines) h = let e : false ≡ true = second (is_told_line bytes) false h in cc
-ends-text bytes ((b ∷ bs) ∷ lines) h = ends-behind (line bytes) b (bs ++ newline ++ text_of lines) (ends-text (b ∷ bs) lines (second _ _ h))
+ends-text bytes ([] ∷ lines) h = let e : false ≡ true = and-second (is_told_line bytes) false h in cc
+ends-text bytes ((b ∷ bs) ∷ lines) h = ends-behind (line bytes) b (bs ++ newline ++ text_of lines) (ends-text (b ∷ bs) lines (and-second _ _ h))
 
 -- ---- each line
 neither : (a b : Bool) → (a || b) ≡ false → (a ≡ false) × (b ≡ false)
@@ -74,7 +74,7 @@ neither true b h = cc
 neither false b h = (refl, h)
 
 is_none : (bytes : List ℕ) → is_told_line bytes ≡ true → (is_blank bytes ≡ false) × (is_dashes bytes ≡ false)
-is_none bytes h = neither _ _ (no (is_blank bytes || is_dashes bytes) (first _ _ h))
+is_none bytes h = neither _ _ (no (is_blank bytes || is_dashes bytes) (and-first _ _ h))
 
 no_dashes : (bytes : List ℕ) → is_told_line bytes ≡ true → is_dashes bytes ≡ false
 no_dashes bytes h = (is_none bytes h).1
@@ -87,14 +87,14 @@ output-line bytes h = ap not (ap (λ t. t || ends_with nat_eq bytes (13 ∷ []))
 
 output-lines : (lines : List (List ℕ)) → list_all is_told_line lines ≡ true → list_all (λ piece. is_output_line (without_last 10 piece)) (map line lines) ≡ true
 output-lines [] h = refl
-output-lines (bytes ∷ lines) h = both _ _ (ap is_output_line (without_newline bytes) ∙ output-line bytes (first _ _ h)) (output-lines lines (second _ _ h))
+output-lines (bytes ∷ lines) h = and-both _ _ (ap is_output_line (without_newline bytes) ∙ output-line bytes (and-first _ _ h)) (output-lines lines (and-second _ _ h))
 
 no_blank-lines : (lines : List (List ℕ)) → list_all is_told_line lines ≡ true → list_any is_blank (map line_of (map line lines)) ≡ false
 no_blank-lines [] h = refl
 no_blank-lines (bytes ∷ lines) h =
     ap (λ t. t || list_any is_blank (map line_of (map line lines)))
-    (ap is_blank (ap (without_last 13) (without_newline bytes) ∙ without_return bytes (told-bytes bytes (first _ _ h))) ∙ no_blank bytes (first _ _ h))
-    ∙ no_blank-lines lines (second _ _ h)
+    (ap is_blank (ap (without_last 13) (without_newline bytes) ∙ without_return bytes (told-bytes bytes (and-first _ _ h))) ∙ no_blank bytes (and-first _ _ h))
+    ∙ no_blank-lines lines (and-second _ _ h)
 
 text-ends : (lines : List (List ℕ)) → 0 < length lines → list_all is_told_line lines ≡ true → ends_with nat_eq (text_of lines) newline ≡ true
 text-ends [] some h = absurd (omega arith)
@@ -109,7 +109,7 @@ told-stands text t =
     let ends : ends_with nat_eq text newline ≡ true = ap (λ x. ends_with nat_eq x newline) t.whole ∙ text-ends t.lines t.some t.told in
     let cut : pieces text ≡ map line t.lines = ap pieces t.whole ∙ pieces-lines t.lines t.told in
     record {
-      output = both _ _ (or-right _ _ ends) (ap (list_all (λ piece. is_output_line (without_last 10 piece))) cut ∙ output-lines t.lines t.told);
+      output = and-both _ _ (or-right _ _ ends) (ap (list_all (λ piece. is_output_line (without_last 10 piece))) cut ∙ output-lines t.lines t.told);
       ended = ends;
       full = ap (λ ps. list_any is_blank (map line_of ps)) cut ∙ no_blank-lines t.lines t.told;
     }

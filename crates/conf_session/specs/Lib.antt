@@ -1,4 +1,4 @@
-pub mod Texts
+pub mod ReplyTexts
 pub mod History
 pub mod SessionState
 pub mod Parameter

@@ -5,7 +5,7 @@ use Rattle.std.proofs.Common.{inl, inr}
 use Rattle.conf_change.specs.ChangerState.{ChangerState, changer_code}
 use Rattle.conf_change.specs.Text.{progress_text}
 use Rattle.conf_change.specs.declared.progress.Progress.{Progress}
-use Rattle.conf_session.specs.Texts.{line, tracker_text}
+use Rattle.conf_session.specs.ReplyTexts.{line, tracker_text}
 use Rattle.conf_session.specs.declared.effect.Effect.{Effect}
 use Rattle.conf_session.specs.declared.effect.Effect.TheVariants.{Nothing, Acknowledged, Stepped, Restored, Undone}
 

@@ -11,9 +11,9 @@ pub mod laws;
 mod parameter;
 mod quorum_arguments;
 mod reply;
+mod reply_texts;
 pub mod session;
 pub mod session_ids;
-mod texts;
 pub mod undo_fault;
 
 pub use session::Session;

@@ -1,15 +1,4 @@
-pub mod Replies
-pub mod Script
-pub mod Reached
-pub mod Faults
-pub mod WrittenOn
-pub mod WrittenFront
-pub mod Checking
-pub mod Rewriting
-pub mod Undoing
-pub mod Marked
-pub mod RewrittenClean
-pub mod JoinedClean
-pub mod Planning
-pub mod TwoConfigurations
-pub mod PlannedBest
+mod ModeInput
+mod ModeOutput
+mod Modes
+mod Theorems

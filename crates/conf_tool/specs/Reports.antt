@@ -7,7 +7,7 @@ use Rattle.dd_file.specs.declared.item.Item.{Item}
 use Rattle.dd_file.specs.declared.item.Item.TheVariants.{Comment, Blank, Directive}
 use Rattle.conf_session.specs.SessionState.{SessionState}
 use Rattle.conf_session.specs.Commands.{answer}
-use Rattle.conf_session.specs.Texts.{line}
+use Rattle.conf_session.specs.ReplyTexts.{line}
 
 -- what a session finds for an item: nothing, unless it is a directive
 abbrev pub found_for : SessionState → Item → List ℕ

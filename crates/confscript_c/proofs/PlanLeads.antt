@@ -1,12 +1,10 @@
 -- That the steps of a plan lead from the one line to the other.
-use Rattle.std.proofs.Common.{◌≡◌, ℕ, ◌+◌, true, ◌∷◌, List, [], ap, ◌∙◌}
-use Rattle.std.specs.Prelude.{Some, Ok}
-use Rattle.std.proofs.lemmas.Bool.{and_from, or_left}
-use Rattle.conf_change.specs.Configuration.{Configuration, is_valid, has_voter}
-use Rattle.conf_change.specs.ConfState.{ConfStateLists, Describes, lists_of, restored}
+use Rattle.std.proofs.Common.{◌≡◌, ℕ, ◌+◌, ◌∷◌, List, [], ap, ◌∙◌}
+use Rattle.std.specs.Prelude.{Ok}
+use Rattle.conf_change.specs.Configuration.{Configuration}
+use Rattle.conf_change.specs.ConfState.{lists_of}
 use Rattle.conf_change.specs.ConfStateLine.{conf_state_text}
 use Rattle.conf_change.specs.declared.step.Step.{Step}
-use Rattle.conf_change.proofs.Offered.{restored_from_Describes}
 use Rattle.conf_plan.specs.Run.{IsRun}
 use Rattle.confscript_c.specs.Applied.{steps_told, then_told}
 
@@ -17,7 +15,3 @@ steps_told-run number before after [] run = ap (λ c. Ok (conf_state_text (lists
 steps_told-run number before after (step ∷ steps) run =
     ap (λ o. then_told number o (λ next. steps_told (number + 1) next steps)) run.1
     ∙ steps_told-run (number + 1) run.0 after steps run.2
-
--- a valid configuration with a voter is restored
-pub restored-settled : (saved : ConfStateLists) (c : Configuration) → Describes saved c → is_valid c ≡ true → has_voter c ≡ true → restored saved ≡ Some c
-restored-settled saved c describes valid voter = restored_from_Describes saved c describes (and_from (is_valid c) _ valid (or_left (has_voter c) _ voter))

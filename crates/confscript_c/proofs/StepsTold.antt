@@ -11,7 +11,7 @@ use Rattle.conf_change.specs.declared.refused.Refused.{Refused}
 use Rattle.conf_change.specs.declared.refused.Refused.TheVariants.{AlreadyJoint, ZeroVoterJoint, NotJoint, SimpleInJoint, RemovedAllVoters, MoreThanOneVoter, NoMemory}
 use Rattle.conf_change.specs.declared.step.Step.{Step}
 use Rattle.conf_plan.specs.Run.{Takes, StopsAt}
-use Rattle.conf_plan.proofs.Offered.{split_at}
+use Rattle.conf_plan.proofs.Offered.{slice_get-split}
 use Rattle.confscript_c.specs.Answer.{no_memory}
 use Rattle.confscript_c.specs.Applied.{steps_told, then_told, refusal_told}
 
@@ -44,16 +44,16 @@ steps_told-stopped before after steps number why other stop =
     let some = stop.in_range in
     let within : number - 1 < length steps = slice_get_within steps (number - 1) step here in
     let many : length (take (number - 1) steps) ≡ number - 1 = length-take-le (number - 1) steps (omega arith) in
-    ap (steps_told 1 before.tracker.config) (split_at steps (number - 1) step here)
+    ap (steps_told 1 before.tracker.config) (slice_get-split steps (number - 1) step here)
     ∙ stopped_behind 1 before after (take (number - 1) steps) (drop (number - 1 + 1) steps) step why stop.taken (stop.refused.2 other)
     ∙ ap (λ n. Err (refusal_told why n)) (omega arith)
 
-pub stopped_or_no_memory : (before after : ChangerState) (steps : List Step) (number : ℕ) (why : Refused) → StopsAt before steps number why after
+pub steps_told-stopped_or_no_memory : (before after : ChangerState) (steps : List Step) (number : ℕ) (why : Refused) → StopsAt before steps number why after
     → (refusal_told why number ≡ no_memory) ⊎ (steps_told 1 before.tracker.config steps ≡ Err (refusal_told why number))
-stopped_or_no_memory before after steps number NoMemory stop = inl refl
-stopped_or_no_memory before after steps number AlreadyJoint stop = inr (steps_told-stopped before after steps number AlreadyJoint (λ e. cc) stop)
-stopped_or_no_memory before after steps number ZeroVoterJoint stop = inr (steps_told-stopped before after steps number ZeroVoterJoint (λ e. cc) stop)
-stopped_or_no_memory before after steps number NotJoint stop = inr (steps_told-stopped before after steps number NotJoint (λ e. cc) stop)
-stopped_or_no_memory before after steps number SimpleInJoint stop = inr (steps_told-stopped before after steps number SimpleInJoint (λ e. cc) stop)
-stopped_or_no_memory before after steps number RemovedAllVoters stop = inr (steps_told-stopped before after steps number RemovedAllVoters (λ e. cc) stop)
-stopped_or_no_memory before after steps number MoreThanOneVoter stop = inr (steps_told-stopped before after steps number MoreThanOneVoter (λ e. cc) stop)
+steps_told-stopped_or_no_memory before after steps number NoMemory stop = inl refl
+steps_told-stopped_or_no_memory before after steps number AlreadyJoint stop = inr (steps_told-stopped before after steps number AlreadyJoint (λ e. cc) stop)
+steps_told-stopped_or_no_memory before after steps number ZeroVoterJoint stop = inr (steps_told-stopped before after steps number ZeroVoterJoint (λ e. cc) stop)
+steps_told-stopped_or_no_memory before after steps number NotJoint stop = inr (steps_told-stopped before after steps number NotJoint (λ e. cc) stop)
+steps_told-stopped_or_no_memory before after steps number SimpleInJoint stop = inr (steps_told-stopped before after steps number SimpleInJoint (λ e. cc) stop)
+steps_told-stopped_or_no_memory before after steps number RemovedAllVoters stop = inr (steps_told-stopped before after steps number RemovedAllVoters (λ e. cc) stop)
+steps_told-stopped_or_no_memory before after steps number MoreThanOneVoter stop = inr (steps_told-stopped before after steps number MoreThanOneVoter (λ e. cc) stop)

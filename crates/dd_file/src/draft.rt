@@ -7,10 +7,10 @@ ghost use Rattle.dd_file.specs.Draft.{blank_draft, Fits, FitsIn, AddsIn, behind_
 use crate::command::{Command, parse_command};
 use crate::fault::FileFault;
 use crate::item::{Directive, Item};
+use crate::joined_lines::joined;
 use crate::line_kinds::{is_comment, is_continued, is_dashes, is_separator};
 use crate::phase::Phase;
 use crate::raw_lines::RawLines;
-use crate::text::joined;
 use ascii_text::white_space::{is_blank, trimmed};
 use std::alloc::{AllocError, Global};
 use std::marker::Model;

@@ -6,6 +6,8 @@
 #[cfg(test)]
 mod changers;
 #[cfg(test)]
+mod conf_states;
+#[cfg(test)]
 mod files;
 #[cfg(test)]
 mod matching;
@@ -13,8 +15,6 @@ mod matching;
 mod modes;
 #[cfg(test)]
 mod plans;
-#[cfg(test)]
-mod saved;
 #[cfg(test)]
 mod sessions;
 #[cfg(test)]

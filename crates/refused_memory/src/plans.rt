@@ -3,7 +3,7 @@ ghost use Rattle.std.specs.Prelude.{◌≡◌, true};
 ghost use Rattle.conf_change.specs.Configuration.{is_valid};
 
 use crate::changers::{Shown, is_shown};
-use crate::saved::{read, restored};
+use crate::conf_states::{read, restored};
 use crate::texts::appends;
 use crate::twice::twice;
 use conf_change::{Changer, ConfState, Config, Floor, Refused, check};

@@ -13,6 +13,8 @@ mod changes;
 #[cfg(test)]
 mod command_line;
 #[cfg(test)]
+mod conf_states;
+#[cfg(test)]
 mod configurations;
 #[cfg(test)]
 mod devices;
@@ -30,8 +32,6 @@ mod next_changers;
 mod plans;
 #[cfg(test)]
 mod rewriting;
-#[cfg(test)]
-mod saved_states;
 #[cfg(test)]
 mod script_files;
 #[cfg(test)]

@@ -7,7 +7,7 @@ use super::telling::{tell, tell_fault};
 use crate::parameter::Parameter;
 use crate::quorum_arguments::quorum_given;
 use crate::reply::Reply;
-use crate::texts::committed_lines;
+use crate::reply_texts::committed_lines;
 use dd_file::item::Argument;
 use quorum_sets::NoMemory;
 use std::alloc::Global;

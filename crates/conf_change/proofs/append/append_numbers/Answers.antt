@@ -1,8 +1,8 @@
 use Rattle.std.proofs.Common.{◌<◌, ◌^◌, arith}
 use Rattle.std.proofs.lemmas.Grind.{common_steps}
 use Rattle.std.proofs.lemmas.List.Elements.{All-from_get_or}
-use Rattle.conf_change.proofs.LineLemmas.{SpellsNumbers-spaced}
-use Rattle.conf_change.proofs.TextLemmas.{Extends-append, spaced_numbers_more}
+use Rattle.conf_change.proofs.Texts.ConfStateLine.{SpellsNumbers-spaced}
+use Rattle.conf_change.proofs.Texts.AppendedParts.{Extends-append, spaced_numbers-one_more}
 use Rattle.conf_change.proofs.append.append_numbers.Goals as goal
 
 pub returns-in_err-append_number_at-clause-extends : goal.returns-in_err-append_number_at-clause-extends
@@ -10,7 +10,7 @@ returns-in_err-append_number_at-clause-extends c =
     Extends-append _ _ _ (rw c.loop-place.invariant at c.append_number_at.ensures.extends)
 
 pub loop-place-preserved : goal.loop-place-preserved
-loop-place-preserved c = grind (arith, common_steps, spaced_numbers_more)
+loop-place-preserved c = grind (arith, common_steps, spaced_numbers-one_more)
 
 pub returns-clause-spells : goal.returns-clause-spells
 returns-clause-spells c =

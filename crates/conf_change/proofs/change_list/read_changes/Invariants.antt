@@ -1,6 +1,6 @@
 use Rattle.std.proofs.Common.{◌≡◌, length}
 use Rattle.conf_change.specs.ChangeList.{changes_in}
-use Rattle.conf_change.proofs.ChangeLemmas.{onto}
+use Rattle.conf_change.proofs.Texts.ChangeTokens.{onto}
 use Rattle.conf_change.proofs.change_list.read_changes.Given as goal
 
 abbrev pub invariant-loop-token : goal.invariant-loop-token

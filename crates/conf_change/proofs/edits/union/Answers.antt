@@ -1,7 +1,7 @@
 use Rattle.std.proofs.Common.{ap, sym, ◌∙◌, ◌++◌, ◌≡◌}
 use Rattle.std.proofs.lemmas.Result.{IfOk-weaker}
 use Rattle.quorum_sets.specs.Ids.{ids_of, ascending}
-use Rattle.conf_change.proofs.ConfStateLemmas.{union-nobody, nobody-union}
+use Rattle.conf_change.proofs.Configurations.DescribedByLists.{union-nobody, nobody-union}
 use Rattle.conf_change.proofs.edits.union.Goals as goal
 
 pub returns-then-len-eq0 : goal.returns-then-len-eq0

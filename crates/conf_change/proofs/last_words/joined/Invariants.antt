@@ -1,6 +1,6 @@
 use Rattle.std.proofs.Common.{◌≡◌, [], ◌++◌}
 use Rattle.std.specs.Prelude.{option_to_list, IsNone}
-use Rattle.conf_change.proofs.Joining.{JoinedSoFar}
+use Rattle.conf_change.proofs.ListsOfChanges.JoinedEntries.{JoinedSoFar}
 use Rattle.conf_change.proofs.last_words.joined.Given as goal
 
 abbrev pub invariant-loop-word : goal.invariant-loop-word

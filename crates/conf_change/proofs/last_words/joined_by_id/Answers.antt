@@ -2,7 +2,7 @@ use Rattle.std.proofs.Common.{rules}
 use Rattle.std.proofs.lemmas.List.Sorted.{answers_always, IsNonDecreasingBy-from_sort}
 use Rattle.std.proofs.lemmas.Result.{IfOk-weaker}
 use Rattle.conf_change.specs.LastWords.{Joins}
-use Rattle.conf_change.proofs.LastWordLemmas.{joins-sorted}
+use Rattle.conf_change.proofs.ListsOfChanges.LastWord.{joins-sorted}
 use Rattle.conf_change.proofs.last_words.joined_by_id.Goals as goal
 
 pub joined-requires : goal.joined-requires

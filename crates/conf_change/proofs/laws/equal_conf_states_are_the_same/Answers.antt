@@ -1,4 +1,4 @@
-use Rattle.conf_change.proofs.SameForms.{is_same_form-Decides}
+use Rattle.conf_change.proofs.Configurations.SameSavedForm.{is_same_form-Decides}
 use Rattle.conf_change.proofs.laws.equal_conf_states_are_the_same.Goals as goal
 
 pub returns : goal.returns

@@ -1,8 +1,8 @@
-use Rattle.conf_change.proofs.StepLaws.{accepted_is_given, given_is_accepted, refused_is_given, given_is_refused}
+use Rattle.conf_change.proofs.Steps.ChangerAfter.{changer_after-from_Accepts, Accepts-from_changer_after, changer_after-from_refusal, outcome-from_refusal}
 use Rattle.conf_change.proofs.laws.one_changer_after_a_step.Goals as goal
 
 pub returns-clause-ok : goal.returns-clause-ok
-returns-clause-ok c = λ before after step. (accepted_is_given before after step, given_is_accepted before after step)
+returns-clause-ok c = λ before after step. (changer_after-from_Accepts before after step, Accepts-from_changer_after before after step)
 
 pub returns-clause-err : goal.returns-clause-err
-returns-clause-err c = λ before step why. (refused_is_given before step why, given_is_refused before step why)
+returns-clause-err c = λ before step why. (changer_after-from_refusal before step why, outcome-from_refusal before step why)

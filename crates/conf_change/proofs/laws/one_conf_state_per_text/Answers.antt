@@ -1,10 +1,10 @@
 use Rattle.std.proofs.Common.{sym, ◌∙◌}
-use Rattle.conf_change.proofs.LineLemmas.{conf_state_in_ok, StandsForConfState-from_some}
+use Rattle.conf_change.proofs.Texts.ConfStateLine.{conf_state_in-ok, StandsForConfState-from_some}
 use Rattle.conf_change.proofs.laws.one_conf_state_per_text.Goals as goal
 
 pub returns-clause-some : goal.returns-clause-some
-returns-clause-some c = λ text saved. (conf_state_in_ok text saved, StandsForConfState-from_some text saved)
+returns-clause-some c = λ text saved. (conf_state_in-ok text saved, StandsForConfState-from_some text saved)
 
 pub returns-clause-one : goal.returns-clause-one
 returns-clause-one c = λ text a b first second.
-    let same = sym (conf_state_in_ok text a first) ∙ conf_state_in_ok text b second in cc
+    let same = sym (conf_state_in-ok text a first) ∙ conf_state_in-ok text b second in cc

@@ -1,4 +1,4 @@
-use Rattle.conf_change.proofs.ResultLemmas.{has-incoming_after, has-learners_after, has-next_after}
+use Rattle.conf_change.proofs.ListsOfChanges.ResultOfEach.{has-incoming_after, has-learners_after, has-next_after}
 use Rattle.conf_change.proofs.laws.result_by_member.Goals as goal
 
 pub returns-clause-incoming : goal.returns-clause-incoming

@@ -1,5 +1,5 @@
-use Rattle.conf_change.proofs.Acknowledging.{ack_answer-is_sound}
-use Rattle.conf_change.proofs.Soundness.{outcome-has_voter, outcome-is_restorable, moved_to-is_sound, begun_with-is_sound}
+use Rattle.conf_change.proofs.MemberProgress.Acknowledged.{ack_answer-is_sound}
+use Rattle.conf_change.proofs.Steps.Soundness.{outcome-has_voter, outcome-is_restorable, moved_to-is_sound, begun_with-is_sound}
 use Rattle.conf_change.proofs.laws.trackers_stay_sound.Goals as goal
 
 pub returns-clause-step : goal.returns-clause-step

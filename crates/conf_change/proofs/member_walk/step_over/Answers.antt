@@ -1,7 +1,7 @@
 use Rattle.std.proofs.Common.{◌≡◌, ℕ, sym, ap, ◌∙◌}
 use Rattle.std.specs.Prelude.{Some}
-use Rattle.conf_change.proofs.SideBySide.{passes-there, passes-apart}
-use Rattle.conf_change.proofs.Walks.{has_item}
+use Rattle.conf_change.proofs.SetWalks.SideBySide.{passes-there, passes-apart}
+use Rattle.conf_change.proofs.SetWalks.TestOfEachId.{slice_get-not_past}
 use Rattle.conf_change.proofs.member_walk.step_over.Goals as goal
 
 some_injective : (x y : ℕ) → Some x ≡ Some y → x ≡ y
@@ -17,4 +17,4 @@ returns-else-found-id-clause-passes g c =
     (λ x here same. c.if-found-id.false (some_injective c.in-Some.found x (c.in-Some.ensures ∙ here) ∙ same))
 
 pub returns-in_default-clause-passes : goal.returns-in_default-clause-passes
-returns-in_default-clause-passes g c = has_item _ _ _ (sym c.in_default.is ∙ c.at.ensures) c.len.ensures c.if-place-len.true
+returns-in_default-clause-passes g c = slice_get-not_past _ _ _ (sym c.in_default.is ∙ c.at.ensures) c.len.ensures c.if-place-len.true

@@ -7,7 +7,7 @@ use Rattle.smallvec.proofs.SmallVecLemmas.{items-with_items}
 use Rattle.quorum_sets.specs.Rising.{IsRising, StandsAt, GoesTo}
 use Rattle.conf_change.specs.Progress.{fresh_progress, with_mark}
 use Rattle.conf_change.specs.declared.progress.Progress.{Progress}
-use Rattle.conf_change.proofs.MemberLemmas.{kept_standing, rising-put, get-put}
+use Rattle.conf_change.proofs.MemberProgress.Entries.{with_mark-standing, rising-put, get-put}
 use Rattle.conf_change.proofs.members.keep_or_begin.Goals as goal
 
 abbrev Members : Type 0
@@ -23,7 +23,7 @@ returns-in-Ok-clause-entries c = λ q.
     rw (items-with_items c.args.members.now c.mark.new.members (search rules))
     (subst P c.as_mut_slice.ensures.value (c.mark.ensures.entries q)
     ∙ ap (λ o. cond (q == id) o (finite.get (finite.from_entries {R = nat_cmp} items) q))
-    (kept_standing items id c.in-Ok.place c.args.learner (fresh_progress c.args.next_index c.args.learner) c.requires (subst S c.as_slice.ensures c.in-Ok.ensures)))
+    (with_mark-standing items id c.in-Ok.place c.args.learner (fresh_progress c.args.next_index c.args.learner) c.requires (subst S c.as_slice.ensures c.in-Ok.ensures)))
 
 pub returns-in_ok-insert-in-Err-clause-rising : goal.returns-in_ok-insert-in-Err-clause-rising
 returns-in_ok-insert-in-Err-clause-rising c =

@@ -1,4 +1,4 @@
-use Rattle.conf_change.proofs.MemberLemmas.{keys-set, get-marked}
+use Rattle.conf_change.proofs.MemberProgress.Entries.{keys-set, get-marked}
 use Rattle.conf_change.proofs.members.mark.Goals as goal
 
 pub returns-clause-keys : goal.returns-clause-keys

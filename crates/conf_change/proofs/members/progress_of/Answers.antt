@@ -1,4 +1,4 @@
-use Rattle.conf_change.proofs.MemberLemmas.{get-standing, get-missing}
+use Rattle.conf_change.proofs.MemberProgress.Entries.{get-standing, get-missing}
 use Rattle.conf_change.proofs.members.progress_of.Goals as goal
 
 pub returns-in-Ok : goal.returns-in-Ok

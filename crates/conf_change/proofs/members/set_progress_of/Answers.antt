@@ -1,6 +1,6 @@
 use Rattle.std.proofs.Common.{◌∙◌, ap, is_some}
 use Rattle.std.proofs.lemmas.Bool.{false≢true}
-use Rattle.conf_change.proofs.MemberLemmas.{get-set, keys-set, get-missing}
+use Rattle.conf_change.proofs.MemberProgress.Entries.{get-set, keys-set, get-missing}
 use Rattle.conf_change.proofs.members.set_progress_of.Goals as goal
 
 pub returns-in-Ok-clause-keys : goal.returns-in-Ok-clause-keys

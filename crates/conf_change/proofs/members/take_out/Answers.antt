@@ -4,7 +4,7 @@ use Rattle.std.specs.Ordering.{nat_cmp}
 use Rattle.std.specs.FinMap as finite
 use Rattle.quorum_sets.specs.Rising.{IsRising, StandsAt, GoesTo}
 use Rattle.conf_change.specs.declared.progress.Progress.{Progress}
-use Rattle.conf_change.proofs.MemberLemmas.{rising-taken, get-taken, get-absent}
+use Rattle.conf_change.proofs.MemberProgress.Entries.{rising-taken, get-taken, get-absent}
 use Rattle.conf_change.proofs.members.take_out.Goals as goal
 
 abbrev Members : Type 0

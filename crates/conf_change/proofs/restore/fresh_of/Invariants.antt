@@ -1,6 +1,6 @@
 use Rattle.std.proofs.Common.{◌+◌, ◌-◌}
 use Rattle.quorum_sets.specs.Ids.{size}
-use Rattle.conf_change.proofs.SideBySide.{Walked}
+use Rattle.conf_change.proofs.SetWalks.SideBySide.{Walked}
 use Rattle.conf_change.proofs.restore.fresh_of.Given as goal
 
 abbrev pub invariant-loop-id : goal.invariant-loop-id

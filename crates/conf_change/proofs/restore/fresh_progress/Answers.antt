@@ -5,7 +5,7 @@ use Rattle.std.proofs.lemmas.Result.{IfOk-weaker}
 use Rattle.quorum_sets.specs.Rising.{IsRising}
 use Rattle.conf_change.specs.Configuration.{Configuration}
 use Rattle.conf_change.specs.Progress.{IsFreshOf, all_fresh}
-use Rattle.conf_change.proofs.SideBySide.{fresh_of_all}
+use Rattle.conf_change.proofs.SetWalks.SideBySide.{all_fresh-from_walk}
 use Rattle.conf_change.proofs.restore.fresh_progress.Goals as goal
 
 pub returns-clause-rising : goal.returns-clause-rising
@@ -28,5 +28,5 @@ returns-clause-fresh g c =
     IfOk-weaker c.fresh_of.result
     (λ members. IsFreshOf c.args.next_index config.incoming config.outgoing config.learners members.items)
     (λ members. finite.from_entries {R = nat_cmp} members.items ≡ all_fresh c.args.next_index c.args.config.now)
-    (λ members is. fresh_of_all c.args.next_index config members.items is ∙ ap (all_fresh c.args.next_index) c.config.view_is)
+    (λ members is. all_fresh-from_walk c.args.next_index config members.items is ∙ ap (all_fresh c.args.next_index) c.config.view_is)
     c.fresh_of.ensures

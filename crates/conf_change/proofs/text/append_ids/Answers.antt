@@ -1,7 +1,7 @@
 use Rattle.std.proofs.Common.{arith}
 use Rattle.std.proofs.lemmas.Grind.{common_steps}
 use Rattle.std.proofs.lemmas.Option.{gets}
-use Rattle.conf_change.proofs.TextLemmas.{Extends-append, spaced_numbers_more}
+use Rattle.conf_change.proofs.Texts.AppendedParts.{Extends-append, spaced_numbers-one_more}
 use Rattle.conf_change.proofs.text.append_ids.Goals as goal
 use Rattle.conf_change.proofs.text.append_ids.Goals.{in-Some+in_ok-append_number_at, in_default}
 
@@ -11,6 +11,6 @@ returns-in_err-append_number_at-clause-extends g c =
 
 pub loop-place-preserved : goal.loop-place-preserved
 loop-place-preserved g c = elim c.match-at.branch [
-  | in-Some+in_ok-append_number_at w ↦ grind (arith, common_steps, gets, spaced_numbers_more)
+  | in-Some+in_ok-append_number_at w ↦ grind (arith, common_steps, gets, spaced_numbers-one_more)
   | in_default w ↦ grind (arith, gets)
 ]

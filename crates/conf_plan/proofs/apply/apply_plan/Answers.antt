@@ -3,8 +3,8 @@ use Rattle.std.proofs.lemmas.List.{take_all}
 use Rattle.conf_change.specs.Changer.{ChangerState}
 use Rattle.conf_change.specs.declared.step.Step.{Step}
 use Rattle.conf_plan.specs.Run.{IsRun, Takes}
-use Rattle.conf_plan.proofs.KeptProgress.{takes-is_sound, takes-keep, takes-keep_planned}
-use Rattle.conf_plan.proofs.Taking.{takes_push, takes_to_target, refused_for_memory, split_at, take_one_more, not_past}
+use Rattle.conf_plan.proofs.Runs.KeptProgress.{takes-is_sound, takes-keep, takes-keep_planned}
+use Rattle.conf_plan.proofs.Runs.TakenInOrder.{Takes-push, Takes-to_target, Refuses-for_memory, slice_get-split, take-one_more, slice_get-not_past}
 use Rattle.conf_plan.proofs.apply.apply_plan.Goals as goal
 use Rattle.conf_plan.proofs.apply.apply_plan.Goals.{in-Some+in-Ok, in_default}
 
@@ -15,9 +15,9 @@ loop-place-preserved g c = elim c.match-step.branch [
       let P : ChangerState → Type 0 = λ s. Takes c.args.changer.now (take (c.loop-place.place + 1) plan) s in
       let Q : List Step → Type 0 = λ xs. Takes c.args.changer.now xs w.step-in-Some.new.self in
       subst P (sym w.changer-is)
-      (subst Q (sym (take_one_more plan c.loop-place.place w.in-Some.step.now (sym w.in-Some.ensures)))
-      (takes_push _ _ _ _ _ c.loop-place.invariant w.in-Ok.ensures.accepted))
-  | in_default w ↦ not_past c.args.plan.now c.loop-place.place c.len-place-end.result w.in_default.ensures c.len-place-end.ensures.len c.loop-place-test.true
+      (subst Q (sym (take-one_more plan c.loop-place.place w.in-Some.step.now (sym w.in-Some.ensures)))
+      (Takes-push _ _ _ _ _ c.loop-place.invariant w.in-Ok.ensures.accepted))
+  | in_default w ↦ slice_get-not_past c.args.plan.now c.loop-place.place c.len-place-end.result w.in_default.ensures c.len-place-end.ensures.len c.loop-place-test.true
 ]
 
 -- the whole plan was taken
@@ -41,11 +41,11 @@ returns-clause-sparing g c = λ target other id made spares.
 
 pub returns-clause-reached : goal.returns-clause-reached
 returns-clause-reached g c = λ target run.
-    takes_to_target _ _ c.args.plan.now target
+    Takes-to_target _ _ c.args.plan.now target
     (all_taken _ _ c.args.plan.now c.loop-place.place _ c.len-place-end.ensures.len c.loop-place-test.false c.loop-place.invariant) run
 
 pub returns-in-Err-clause-memory_alone : goal.returns-in-Err-clause-memory_alone
 returns-in-Err-clause-memory_alone g c = λ target run.
     let P : List Step → Type 0 = λ xs. IsRun c.args.changer.now.tracker.config xs target in
-    refused_for_memory _ _ _ _ _ _ target c.loop-place.invariant c.in-Err.ensures.refused
-    (subst P (split_at c.args.plan.now c.loop-place.place c.in-Some.step.now (sym c.in-Some.ensures)) run)
+    Refuses-for_memory _ _ _ _ _ _ target c.loop-place.invariant c.in-Err.ensures.refused
+    (subst P (slice_get-split c.args.plan.now c.loop-place.place c.in-Some.step.now (sym c.in-Some.ensures)) run)

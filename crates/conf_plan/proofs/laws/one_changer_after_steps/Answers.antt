@@ -1,8 +1,8 @@
-use Rattle.conf_plan.proofs.OneChanger.{taken_is_given, given_is_taken, run_is_given}
+use Rattle.conf_plan.proofs.Runs.ChangerAfter.{after_steps-from_Takes, Takes-from_after_steps, after_steps-from_IsRun}
 use Rattle.conf_plan.proofs.laws.one_changer_after_steps.Goals as goal
 
 pub returns-clause-taken : goal.returns-clause-taken
-returns-clause-taken c = λ before after steps. (taken_is_given before after steps, given_is_taken before after steps)
+returns-clause-taken c = λ before after steps. (after_steps-from_Takes before after steps, Takes-from_after_steps before after steps)
 
 pub returns-clause-run : goal.returns-clause-run
-returns-clause-run c = run_is_given
+returns-clause-run c = after_steps-from_IsRun

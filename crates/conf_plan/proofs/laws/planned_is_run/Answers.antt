@@ -1,4 +1,4 @@
-use Rattle.conf_plan.proofs.PlannedRun.{planned-is_run, planned-at_most_four}
+use Rattle.conf_plan.proofs.PlannedSteps.RunToTarget.{planned-is_run, planned-at_most_four}
 use Rattle.conf_plan.proofs.laws.planned_is_run.Goals as goal
 
 pub returns-clause-run : goal.returns-clause-run

@@ -1,4 +1,4 @@
-use Rattle.conf_plan.proofs.Runs.{run-is_settled}
+use Rattle.conf_plan.proofs.Runs.Chains.{run-is_settled}
 use Rattle.conf_plan.proofs.laws.run_stays_settled.Goals as goal
 
 pub returns : goal.returns

@@ -1,8 +1,8 @@
 use Rattle.std.proofs.Common.{◌∙◌}
 use Rattle.std.proofs.lemmas.List.{length-map}
 use Rattle.conf_change.specs.Transition.{step_taken, steps_taken}
-use Rattle.conf_plan.proofs.Runs.{run-is_settled}
-use Rattle.conf_plan.proofs.PlannedRun.{planned-is_run, planned-at_most_four, undo_of_one-at_most_three}
+use Rattle.conf_plan.proofs.Runs.Chains.{run-is_settled}
+use Rattle.conf_plan.proofs.PlannedSteps.RunToTarget.{planned-is_run, planned-at_most_four, undo_of_one-at_most_three}
 use Rattle.conf_plan.proofs.laws.undo_of_changes.Goals as goal
 
 pub returns-clause-back : goal.returns-clause-back

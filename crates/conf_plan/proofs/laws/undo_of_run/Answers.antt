@@ -1,5 +1,5 @@
-use Rattle.conf_plan.proofs.Runs.{run-is_settled}
-use Rattle.conf_plan.proofs.PlannedRun.{planned-is_run, planned-at_most_four, undo_of_one-at_most_three}
+use Rattle.conf_plan.proofs.Runs.Chains.{run-is_settled}
+use Rattle.conf_plan.proofs.PlannedSteps.RunToTarget.{planned-is_run, planned-at_most_four, undo_of_one-at_most_three}
 use Rattle.conf_plan.proofs.laws.undo_of_run.Goals as goal
 
 pub returns-clause-back : goal.returns-clause-back

@@ -1,4 +1,4 @@
-use Rattle.conf_plan.proofs.Parts.{run-same_part}
+use Rattle.conf_plan.proofs.Runs.PartOfEachId.{run-same_part}
 use Rattle.conf_plan.proofs.laws.unnamed_stays.Goals as goal
 
 pub returns : goal.returns

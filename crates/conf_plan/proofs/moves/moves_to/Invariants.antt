@@ -1,5 +1,5 @@
 use Rattle.conf_plan.specs.Planned.{single_with}
-use Rattle.conf_plan.proofs.OneWalk.{IsWalked, left_of_four}
+use Rattle.conf_plan.proofs.FindingMoves.FourSetWalk.{IsWalked, left_of_four}
 use Rattle.conf_plan.proofs.moves.moves_to.Given as goal
 
 abbrev pub invariant-loop-id : goal.invariant-loop-id

@@ -7,20 +7,20 @@ use Rattle.conf_change.specs.Configuration.{Configuration}
 use Rattle.conf_plan.specs.Run.{IsValidWithVoter}
 use Rattle.conf_plan.specs.Planned.{union_of, single_with, planned_from_single}
 use Rattle.conf_plan.specs.Walking.{IsAdded}
-use Rattle.conf_plan.proofs.PlanCases.{on_ok, joint_from_count, single_from_count, planned-single, planned-leaving, own-is_settled, left-is_settled, added-leave, added-more}
+use Rattle.conf_plan.proofs.PlannedSteps.Cases.{OnOk-weaker, is_joint-from_count, is_joint-not_from_count, planned-single, planned-leaving, own-is_settled, left-is_settled, added-leave, added-more}
 use Rattle.conf_plan.proofs.planner.add_plan.Goals as goal
 
 pub add_from_single-requires-clause-start : goal.add_from_single-requires-clause-start
 add_from_single-requires-clause-start g c =
     let now = c.args.now.now in
-    let single = single_from_count now c.len.result (c.len.ensures ∙ ap (λ d. size d.outgoing) c.now.view_is) c.if-len-eq0.true in
+    let single = is_joint-not_from_count now c.len.result (c.len.ensures ∙ ap (λ d. size d.outgoing) c.now.view_is) c.if-len-eq0.true in
     subst (λ (d : Configuration). IsValidWithVoter (single_with d.incoming d.learners)) (sym c.now.view_is) (own-is_settled now (record { settled = c.requires.now; single = single }))
 
 pub returns-then-len-eq0 : goal.returns-then-len-eq0
 returns-then-len-eq0 g c =
     let now = c.args.now.now in
     let target = c.args.target.now in
-    let single = single_from_count now c.len.result (c.len.ensures ∙ ap (λ d. size d.outgoing) c.now.view_is) c.if-len-eq0.true in
+    let single = is_joint-not_from_count now c.len.result (c.len.ensures ∙ ap (λ d. size d.outgoing) c.now.view_is) c.if-len-eq0.true in
     let P : List Step → Type 0 = λ more. OnOk c.add_from_single.result (IsAdded c.args.steps.now.items more c.add_from_single.new.steps.items) in
     subst P
     (ap (λ d. planned_from_single (single_with d.incoming d.learners) target) c.now.view_is
@@ -30,7 +30,7 @@ returns-then-len-eq0 g c =
 pub add_from_single-requires-2-clause-start : goal.add_from_single-requires-2-clause-start
 add_from_single-requires-2-clause-start g c =
     let now = c.args.now.now in
-    let joint = joint_from_count now c.len.result (c.len.ensures ∙ ap (λ d. size d.outgoing) c.now.view_is) c.if-len-eq0.false in
+    let joint = is_joint-from_count now c.len.result (c.len.ensures ∙ ap (λ d. size d.outgoing) c.now.view_is) c.if-len-eq0.false in
     subst (λ s. IsValidWithVoter (single_with (g.S.MemberSet.ids c.now.inside.incoming) s)) (sym c.in_ok-learners.ensures)
     (subst (λ (d : Configuration). IsValidWithVoter (single_with d.incoming (union_of d.learners d.learners_next))) (sym c.now.view_is) (left-is_settled now c.requires.now joint))
 
@@ -38,12 +38,12 @@ pub returns : goal.returns
 returns g c =
     let now = c.args.now.now in
     let target = c.args.target.now in
-    let joint = joint_from_count now c.len.result (c.len.ensures ∙ ap (λ d. size d.outgoing) c.now.view_is) c.if-len-eq0.false in
+    let joint = is_joint-from_count now c.len.result (c.len.ensures ∙ ap (λ d. size d.outgoing) c.now.view_is) c.if-len-eq0.false in
     let rest =
     ap (λ s. planned_from_single (single_with (g.S.MemberSet.ids c.now.inside.incoming) s) target) c.in_ok-learners.ensures
     ∙ ap (λ d. planned_from_single (single_with d.incoming (union_of d.learners d.learners_next)) target) c.now.view_is in
     let P : List Step → Type 0 = λ more. IsAdded c.args.steps.now.items more c.add_from_single-2.new.steps.items in
-    on_ok c.add_from_single-2.result
+    OnOk-weaker c.add_from_single-2.result
     (λ added.
     subst P (ap (λ steps. LeaveJoint ∷ steps) rest ∙ sym (planned-leaving now target joint (sym c.same.ensures.same ∙ c.if-same.false)))
     (added-more _ (LeaveJoint ∷ []) _ _ _ (added-leave _ _ c.in_ok-push.ensures.items) added))

@@ -4,8 +4,8 @@ use Rattle.conf_change.specs.declared.step.Step.{Step}
 use Rattle.conf_plan.specs.Best.{IsBest}
 use Rattle.conf_plan.specs.Planned.{planned}
 use Rattle.conf_plan.specs.Walking.{IsAdded}
-use Rattle.conf_plan.proofs.Best.{planned-is_best}
-use Rattle.conf_plan.proofs.PlanCases.{voter_from_count, added-is_plan}
+use Rattle.conf_plan.proofs.BestPlan.Theorem.{planned-is_best}
+use Rattle.conf_plan.proofs.PlannedSteps.Cases.{has_voter-from_count, added-is_plan}
 use Rattle.conf_plan.proofs.planner.plan.Goals as goal
 
 pub of_steps-requires : goal.of_steps-requires
@@ -23,5 +23,5 @@ returns-clause-best g c =
     let is = c.of_steps.ensures ∙ (added-is_plan now target c.add_plan.new.steps.items (subst P c.new-steps.ensures.items c.in_ok-add_plan.ensures)).0 in
     subst (λ steps. IsBest now steps target) (sym is)
     (planned-is_best now target
-    (record { valid = c.requires.valid_now; voter = voter_from_count now c.len.result (c.len.ensures ∙ ap (λ d. size d.incoming) c.now.view_is) c.if-len-eq0.false })
-    (record { valid = c.requires.valid_target; voter = voter_from_count target c.len-2.result (c.len-2.ensures ∙ ap (λ d. size d.incoming) c.target.view_is) c.if-len-eq0-2.false }))
+    (record { valid = c.requires.valid_now; voter = has_voter-from_count now c.len.result (c.len.ensures ∙ ap (λ d. size d.incoming) c.now.view_is) c.if-len-eq0.false })
+    (record { valid = c.requires.valid_target; voter = has_voter-from_count target c.len-2.result (c.len-2.ensures ∙ ap (λ d. size d.incoming) c.target.view_is) c.if-len-eq0-2.false }))

@@ -2,7 +2,7 @@ use Rattle.std.proofs.Common.{◌∙◌, ◌++◌, ap, map, sym}
 use Rattle.std.specs.Prelude.{flat_map}
 use Rattle.std.specs.List.{join_with_byte}
 use Rattle.conf_plan.specs.PlanText.{change_text, spaced_change}
-use Rattle.conf_plan.proofs.PrintedParts.{join-changes}
+use Rattle.conf_plan.proofs.PlanText.PrintedStep.{join-changes}
 use Rattle.conf_plan.proofs.text.changes_text.Goals as goal
 
 pub returns : goal.returns

@@ -1,6 +1,6 @@
 use Rattle.std.proofs.Common.{◌≡◌, ◌-◌, List, ℕ, length, take, drop, arith}
 use Rattle.std.proofs.lemmas.List.{take_all, length-drop}
-use Rattle.conf_plan.proofs.Lines.{lines_of-last, lines_of-more}
+use Rattle.conf_plan.proofs.PlanText.LineByLine.{lines_of-last, lines_of-more}
 use Rattle.conf_plan.proofs.text.first_line.Goals as goal
 
 -- what follows the first of some bytes

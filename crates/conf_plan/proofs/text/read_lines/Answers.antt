@@ -4,8 +4,8 @@ use Rattle.std.proofs.lemmas.Grind.{common_steps}
 use Rattle.ascii_text.specs.Words.{words}
 use Rattle.conf_plan.specs.PlanText.{SaysNothing}
 use Rattle.conf_plan.specs.PlanCode.{step_in}
-use Rattle.conf_plan.proofs.PlanLines.{something-other_words, something-more_lines}
-use Rattle.conf_plan.proofs.ReadSoFar.{IsReadSoFar-start, IsReadSoFar-more, IsPlan-push, read_long}
+use Rattle.conf_plan.proofs.PlanText.PlanFromLines.{something-other_words, something-more_lines}
+use Rattle.conf_plan.proofs.PlanText.ReadSoFar.{IsReadSoFar-start, IsReadSoFar-more, IsPlan-push, IsReadSoFar-long}
 use Rattle.conf_plan.proofs.text.read_lines.Goals as goal
 use Rattle.conf_plan.proofs.text.read_lines.Goals.{else-is_empty-via-then-is_empty+else-is_nothing, else-is_empty-via-else-is_empty}
 
@@ -20,7 +20,7 @@ loop-rest-init c =
     rw c.new-steps.ensures.items (IsReadSoFar-start text something)
 
 pub returns-then-len-eq4 : goal.returns-then-len-eq4
-returns-then-len-eq4 c = inl (sym (read_long c.args.text.now c.loop-rest.rest.now c.loop-rest.steps.items c.loop-rest.invariant (grind (arith, nat_tests, common_steps))))
+returns-then-len-eq4 c = inl (sym (IsReadSoFar-long c.args.text.now c.loop-rest.rest.now c.loop-rest.steps.items c.loop-rest.invariant (grind (arith, nat_tests, common_steps))))
 
 pub of_steps-requires-then-is_empty-2 : goal.of_steps-requires-then-is_empty-2
 of_steps-requires-then-is_empty-2 c =

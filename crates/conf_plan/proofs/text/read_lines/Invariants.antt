@@ -1,5 +1,5 @@
 use Rattle.std.proofs.Common.{length}
-use Rattle.conf_plan.proofs.ReadSoFar.{IsReadSoFar}
+use Rattle.conf_plan.proofs.PlanText.ReadSoFar.{IsReadSoFar}
 use Rattle.conf_plan.proofs.text.read_lines.Given as goal
 
 abbrev pub invariant-loop-rest : goal.invariant-loop-rest

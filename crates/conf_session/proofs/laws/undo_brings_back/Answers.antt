@@ -1,4 +1,4 @@
-use Rattle.conf_session.proofs.Kept.{ChangeLaws, PlanLaws, arrives}
+use Rattle.conf_session.proofs.Kept.{ChangeLaws, PlanLaws, Arrives-planned}
 use Rattle.conf_session.proofs.laws.undo_brings_back.Goals as goal
 
 pub returns : goal.returns
@@ -12,4 +12,4 @@ returns c = λ session count older is some kept voter.
       described = c.restored_is_described.ensures;
     } in
     let plans : PlanLaws = record { back = c.undo_of_run.ensures.back; taken = c.one_changer_after_steps.ensures.taken; run = c.one_changer_after_steps.ensures.run } in
-    (arrives changes plans session count older is some kept voter).there
+    (Arrives-planned changes plans session count older is some kept voter).there

@@ -32,7 +32,7 @@ returns-clause-incoming g c =
     let outgoing = numbers_given Outgoing c.args.arguments.now in
     let named = c.as_slice-3.ensures ∙ c.in_ok-named.ensures.numbers in
     c.in_ok-of_list.ensures.set
-    ∙ ap ids_of (c.split_at-first.ensures.front ∙ (λ i. take (c.in_ok-named.ensures.split i) (named i)) ∙ take-append_seam incoming outgoing)
+    ∙ ap ids_of (c.split_at.ensures.front ∙ (λ i. take (c.in_ok-named.ensures.split i) (named i)) ∙ take-append_seam incoming outgoing)
 
 pub returns-clause-outgoing : goal.returns-clause-outgoing
 returns-clause-outgoing g c =
@@ -40,4 +40,4 @@ returns-clause-outgoing g c =
     let outgoing = numbers_given Outgoing c.args.arguments.now in
     let named = c.as_slice-3.ensures ∙ c.in_ok-named.ensures.numbers in
     c.in_ok-of_list-2.ensures.set
-    ∙ ap ids_of (c.split_at-first.ensures.back ∙ (λ i. drop (c.in_ok-named.ensures.split i) (named i)) ∙ drop-append_seam incoming outgoing)
+    ∙ ap ids_of (c.split_at.ensures.back ∙ (λ i. drop (c.in_ok-named.ensures.split i) (named i)) ∙ drop-append_seam incoming outgoing)

@@ -1,4 +1,4 @@
-use Rattle.conf_tool.proofs.JoinedClean.{joined-clean}
+use Rattle.conf_tool.proofs.Theorems.JoinedScript.{joined-clean}
 use Rattle.conf_tool.proofs.laws.joined_clean.Goals as goal
 
 pub returns : goal.returns

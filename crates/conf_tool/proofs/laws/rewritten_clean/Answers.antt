@@ -1,4 +1,4 @@
-use Rattle.conf_tool.proofs.RewrittenClean.{rewritten-clean}
+use Rattle.conf_tool.proofs.Theorems.RewrittenScript.{rewritten-clean}
 use Rattle.conf_tool.proofs.laws.rewritten_clean.Goals as goal
 
 pub returns : goal.returns

@@ -1,7 +1,7 @@
 use Rattle.std.proofs.Common.{◌≡◌, ◌++◌, List, ℕ, ap, sym, ◌∙◌, subst, OnOk}
 use Rattle.conf_change.specs.Text.{config_text}
 use Rattle.conf_tool.specs.LineReply.{LineReply}
-use Rattle.conf_tool.proofs.Replies.{reply-accepted, reply-refused, ok-of}
+use Rattle.conf_tool.proofs.ModeInput.LineReplies.{reply-accepted, reply-refused, ok-of}
 use Rattle.conf_tool.proofs.line_reply.make_change.Goals as goal
 
 pub returns-in-Ok-clause-text : goal.returns-in-Ok-clause-text

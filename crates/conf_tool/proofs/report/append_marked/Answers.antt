@@ -1,6 +1,6 @@
 use Rattle.std.proofs.Common.{◌∷◌, [], ◌++◌, ap, ◌∙◌}
 use Rattle.conf_tool.specs.Reports.{marked}
-use Rattle.conf_tool.proofs.Marked.{marked-first}
+use Rattle.conf_tool.proofs.ModeOutput.MarkedLines.{marked-first}
 use Rattle.conf_tool.proofs.report.append_marked.Goals as goal
 
 pub loop-piece-preserved : goal.loop-piece-preserved

@@ -1,7 +1,7 @@
 use Rattle.std.proofs.Common.{◌<◌, ◌≤◌, length, map, sym, subst, refl, inl, inr}
 use Rattle.std.proofs.lemmas.List.{length-map}
 use Rattle.std.proofs.lemmas.Result.{err_from_is_err_and}
-use Rattle.conf_tool.proofs.TwoConfigurations.{second-bad, third-there, two-lines}
+use Rattle.conf_tool.proofs.ModeInput.TwoLines.{second-bad, third-there, two-lines}
 use Rattle.conf_tool.proofs.two_configurations.read_configurations.Goals as goal
 
 pub returns-in_err-target-clause-fault : goal.returns-in_err-target-clause-fault

@@ -3,7 +3,7 @@ use Rattle.std.specs.Prelude.{◌==◌, Some, None, option_map}
 use Rattle.std.proofs.lemmas.List.{append_assoc, length-append, length-take, length-drop, nil_from_length, take_all, take-append-drop}
 use Rattle.dd_file.specs.ValuePlaces.{values_at}
 use Rattle.dd_file.specs.Words.{is_equals, with_key, values_of, argument_of}
-use Rattle.dd_file.proofs.ArgumentWords.{key_len, argument_of-no_key, argument_of-alone, argument_of-values, argument_of-other}
+use Rattle.dd_file.proofs.DirectiveWords.LoneKey.{key_len, argument_of-no_key, argument_of-alone, argument_of-values, argument_of-other}
 use Rattle.dd_file.proofs.arguments.argument_of.Goals as goal
 
 -- an argument with no values

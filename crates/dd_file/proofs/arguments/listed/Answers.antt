@@ -2,7 +2,7 @@ use Rattle.std.proofs.Common.{◌≡◌, ◌∷◌, [], ◌<◌, ◌+◌, ◌++�
 use Rattle.std.proofs.lemmas.List.{append_assoc, drop_more}
 use Rattle.dd_file.specs.LineEnds.{ends_of}
 use Rattle.dd_file.specs.Words.{is_comma, cut_at_commas}
-use Rattle.dd_file.proofs.Commas.{ends_of-comma, ends_of-other}
+use Rattle.dd_file.proofs.DirectiveWords.ListedValues.{ends_of-comma, ends_of-other}
 use Rattle.dd_file.proofs.arguments.listed.Goals as goal
 use Rattle.dd_file.proofs.arguments.listed.Goals.{then-b-eq44+in_ok-push, else-b-eq44}
 

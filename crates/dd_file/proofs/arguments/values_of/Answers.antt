@@ -9,7 +9,7 @@ use Rattle.dd_file.specs.Parts.{up_to, behind}
 use Rattle.dd_file.specs.LineEnds.{ends_of}
 use Rattle.dd_file.specs.ValuePlaces.{values_at, listed_ends, EndWithin}
 use Rattle.dd_file.specs.Words.{is_opening, is_closing, is_plain, cut_at_commas, listed, values_of}
-use Rattle.dd_file.proofs.Commas.{begins-cut, lines_at-begins, end-within, up_to-front, trimmed-plain}
+use Rattle.dd_file.proofs.DirectiveWords.ListedValues.{begins-cut, lines_at-begins, end-within, up_to-front, trimmed-plain}
 use Rattle.dd_file.proofs.arguments.values_of.Goals as goal
 
 -- the values between parentheses are found where they end

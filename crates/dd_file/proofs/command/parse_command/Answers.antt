@@ -1,6 +1,6 @@
 use Rattle.std.proofs.Common.{sym}
 use Rattle.dd_file.specs.Words.{words_of}
-use Rattle.dd_file.proofs.Keys.{arguments_of-keys}
+use Rattle.dd_file.proofs.DirectiveWords.Keys.{arguments_of-keys}
 use Rattle.dd_file.proofs.command.parse_command.Goals as goal
 
 pub invariant_of-result : goal.invariant_of-result

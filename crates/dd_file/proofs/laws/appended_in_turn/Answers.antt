@@ -1,4 +1,4 @@
-use Rattle.dd_file.proofs.Appending.{appends-append, part-part, append-part}
+use Rattle.dd_file.proofs.Rewriting.KnownBytes.{appends-append, part-part, append-part}
 use Rattle.dd_file.proofs.laws.appended_in_turn.Goals as goal
 
 pub returns-clause-whole : goal.returns-clause-whole

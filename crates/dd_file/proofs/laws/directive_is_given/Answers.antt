@@ -4,7 +4,7 @@ use Rattle.std.specs.List.{list_any}
 use Rattle.ascii_text.specs.WhiteSpace.{is_blank, trimmed}
 use Rattle.dd_file.specs.Words.{CommandText, command_of}
 use Rattle.dd_file.specs.Script.{front, head_of, is_continued, is_separator, directive, at_head}
-use Rattle.dd_file.proofs.Scanning.{first_of-head}
+use Rattle.dd_file.proofs.ScriptGrammar.FoundInLines.{first_of-head}
 use Rattle.ascii_text.proofs.Offered.{is_blank-trimmed}
 use Rattle.dd_file.proofs.laws.directive_is_given.Goals as goal
 

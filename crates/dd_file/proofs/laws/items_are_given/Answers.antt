@@ -1,4 +1,4 @@
-use Rattle.dd_file.proofs.ScriptItems.{script_of-given}
+use Rattle.dd_file.proofs.ScriptGrammar.GivenItems.{script_of-given}
 use Rattle.dd_file.proofs.laws.items_are_given.Goals as goal
 
 pub returns : goal.returns

@@ -1,7 +1,7 @@
 use Rattle.dd_file.specs.Place.{longest_input}
 use Rattle.dd_file.specs.Reading.{next_item}
-use Rattle.dd_file.proofs.InOrder.{script_from-followed}
-use Rattle.dd_file.proofs.Takes.{next_item-takes}
+use Rattle.dd_file.proofs.ScriptGrammar.CallAfterCall.{script_from-followed}
+use Rattle.dd_file.proofs.ItemReading.BytesTaken.{next_item-takes}
 use Rattle.dd_file.proofs.laws.items_by_next.Goals as goal
 
 pub returns : goal.returns

@@ -1,4 +1,4 @@
-use Rattle.dd_file.proofs.JoinedItems.{script-joined}
+use Rattle.dd_file.proofs.ScriptGrammar.JoinedItems.{script-joined}
 use Rattle.dd_file.proofs.laws.joined_items.Goals as goal
 
 pub returns : goal.returns

@@ -1,4 +1,4 @@
-use Rattle.dd_file.proofs.LinesWritten.{continues-append, breaks-first, breaks-second}
+use Rattle.dd_file.proofs.Rewriting.PartByPart.{continues-append, breaks-first, breaks-second}
 use Rattle.dd_file.proofs.laws.rewritten_in_turn.Goals as goal
 
 pub returns-clause-whole : goal.returns-clause-whole

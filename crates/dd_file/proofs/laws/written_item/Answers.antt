@@ -1,5 +1,5 @@
-use Rattle.dd_file.proofs.ReadItem.{first_of-item}
-use Rattle.dd_file.proofs.WrittenItem.{read-again}
+use Rattle.dd_file.proofs.ScriptGrammar.LinesOfItem.{first_of-item}
+use Rattle.dd_file.proofs.Rewriting.ItemAgain.{read-again}
 use Rattle.dd_file.proofs.laws.written_item.Goals as goal
 
 pub returns : goal.returns

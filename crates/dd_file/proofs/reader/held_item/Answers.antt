@@ -6,8 +6,8 @@ use Rattle.dd_file.specs.ReaderState.{ReaderState}
 use Rattle.dd_file.specs.Answer.{ReadsOn, IsItemFault, fault_of}
 use Rattle.dd_file.specs.InHand.{CanTell, is_item_in_hand, passed}
 use Rattle.dd_file.specs.Draft.{DraftText, AddsIn, blank_draft, is_done}
-use Rattle.dd_file.proofs.Appending.{rest-whole}
-use Rattle.dd_file.proofs.HeldItem.{Within, HeldSoFar, same-piece, held-none, held-more, held-done, held-open}
+use Rattle.dd_file.proofs.Rewriting.KnownBytes.{rest-whole}
+use Rattle.dd_file.proofs.ItemReading.HeldBytes.{Within, HeldSoFar, same-piece, held-none, held-more, held-done, held-open}
 use Rattle.dd_file.proofs.reader.held_item.Goals as goal
 
 pub held-init : goal.held-init

@@ -1,6 +1,6 @@
 use Rattle.std.proofs.Common.{◌≡◌, ◌-◌, false, length}
 use Rattle.dd_file.specs.Draft.{is_done}
-use Rattle.dd_file.proofs.HeldItem.{HeldSoFar}
+use Rattle.dd_file.proofs.ItemReading.HeldBytes.{HeldSoFar}
 use Rattle.dd_file.proofs.reader.held_item.Given as goal
 
 -- the lines so far are the item's, and more of them come; nothing was given out yet

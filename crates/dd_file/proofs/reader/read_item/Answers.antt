@@ -1,6 +1,6 @@
 use Rattle.std.proofs.Common.{◌+◌, vec_items, refl, sym, ap, subst, ◌∙◌, arith}
 use Rattle.dd_file.specs.Draft.{DraftText, AddsIn, blank_draft, is_done}
-use Rattle.dd_file.proofs.ItemLoop.{reading-none, reading-more, done-reads, memory-reads, fault-item, end-reads, or-false}
+use Rattle.dd_file.proofs.ItemReading.UntilDone.{reading-none, reading-more, done-reads, memory-reads, fault-item, end-reads, or-false}
 use Rattle.dd_file.proofs.reader.read_item.Goals as goal
 
 pub read-init : goal.read-init

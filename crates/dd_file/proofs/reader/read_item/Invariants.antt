@@ -1,7 +1,7 @@
 use Rattle.std.proofs.Common.{◌≡◌, ◌-◌, false, suc}
 use Rattle.dd_file.specs.Place.{longest_input}
 use Rattle.dd_file.specs.Draft.{is_done}
-use Rattle.dd_file.proofs.ItemLoop.{ReadingItem}
+use Rattle.dd_file.proofs.ItemReading.UntilDone.{ReadingItem}
 use Rattle.dd_file.proofs.reader.read_item.Given as goal
 
 -- the lines so far are the item's, and more of them come

@@ -1,4 +1,4 @@
-use Rattle.dd_file.proofs.Newlines.{newlines_at_end-second}
+use Rattle.dd_file.proofs.TextLines.LastNewlines.{newlines_at_end-second}
 use Rattle.dd_file.proofs.rewriter.count_newline.Goals as goal
 
 pub returns-else-newlines-eq0 : goal.returns-else-newlines-eq0

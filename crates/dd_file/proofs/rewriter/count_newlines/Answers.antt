@@ -1,6 +1,6 @@
 use Rattle.std.proofs.Common.{◌≡◌, ℕ, List, [], ◌∷◌, ◌++◌, refl, sym, ap, ◌∙◌, append_assoc}
 use Rattle.dd_file.specs.Rewritten.{newlines_at_end}
-use Rattle.dd_file.proofs.Newlines.{newlines_at_end-last}
+use Rattle.dd_file.proofs.TextLines.LastNewlines.{newlines_at_end-last}
 use Rattle.dd_file.proofs.rewriter.count_newlines.Goals as goal
 
 -- the last two bytes tell

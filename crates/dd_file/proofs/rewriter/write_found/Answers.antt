@@ -1,5 +1,5 @@
 use Rattle.std.proofs.lemmas.Result.{err_from_is_err_and}
-use Rattle.dd_file.proofs.LinesWritten.{continues-append, breaks-first, breaks-second}
+use Rattle.dd_file.proofs.Rewriting.PartByPart.{continues-append, breaks-first, breaks-second}
 use Rattle.dd_file.proofs.rewriter.write_found.Goals as goal
 
 pub returns-in_err-before-clause-err : goal.returns-in_err-before-clause-err

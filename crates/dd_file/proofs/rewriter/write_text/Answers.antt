@@ -1,6 +1,6 @@
 use Rattle.std.proofs.Common.{sym}
 use Rattle.std.proofs.lemmas.Result.{err_from_is_err_and}
-use Rattle.dd_file.proofs.LinesWritten.{continues-bytes, breaks-held, breaks-bytes}
+use Rattle.dd_file.proofs.Rewriting.PartByPart.{continues-bytes, breaks-held, breaks-bytes}
 use Rattle.dd_file.proofs.rewriter.write_text.Goals as goal
 
 pub returns-in_err-write_all-clause-err : goal.returns-in_err-write_all-clause-err

@@ -2,7 +2,7 @@ use Rattle.std.proofs.Common.{◌≡◌, ◌≤◌, ◌<◌, false, length, sym,
 use Rattle.std.specs.Prelude.{◌==◌}
 use Rattle.dd_file.specs.Words.{words_of}
 use Rattle.std.proofs.lemmas.List.{nil_from_length}
-use Rattle.dd_file.proofs.FirstWord.{words_of-without_leading_space, words_of-first, word_len-bound, word_len-some}
+use Rattle.dd_file.proofs.DirectiveWords.FirstWord.{words_of-without_leading_space, words_of-first, word_len-bound, word_len-some}
 use Rattle.ascii_text.proofs.Offered.{length-without_leading_space}
 use Rattle.dd_file.proofs.words.next_word.Goals as goal
 

@@ -1,4 +1,4 @@
-use Rattle.dd_file.proofs.Appending.{front-part}
+use Rattle.dd_file.proofs.Rewriting.KnownBytes.{front-part}
 use Rattle.dd_file.proofs.writing.write_all.Goals as goal
 
 pub returns-then-write_front-bytes-clause-err : goal.returns-then-write_front-bytes-clause-err

@@ -1,6 +1,6 @@
 use Rattle.std.proofs.lemmas.Grind.{common_steps}
 use Rattle.std.proofs.Common.{◌≤◌, ◌-◌, take, drop, ◌<◌, ◌∙◌, length, subst, arith}
-use Rattle.dd_file.proofs.Appending.{front-more, not-failed}
+use Rattle.dd_file.proofs.Rewriting.KnownBytes.{front-more, not-failed}
 use Rattle.dd_file.proofs.writing.write_front.Goals as goal
 
 pub loop-written-preserved : goal.loop-written-preserved

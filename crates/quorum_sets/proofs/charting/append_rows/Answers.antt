@@ -4,7 +4,7 @@ use Rattle.std.proofs.lemmas.List.Concat.{flat_map-append}
 use Rattle.std.proofs.lemmas.List.Elements.{Contains-get_or}
 use Rattle.std.specs.Prelude.{unwrap_or}
 use Rattle.quorum_sets.specs.Chart.{chart_row, row_text}
-use Rattle.quorum_sets.proofs.RankingLemmas.{IsRanking-len}
+use Rattle.quorum_sets.proofs.Quorums.ChartBars.{IsRanking-len}
 use Rattle.quorum_sets.proofs.charting.append_rows.Goals as goal
 
 begins-append : (old more new : List ℕ) → take (length (old ++ more)) new ≡ old ++ more → take (length old) new ≡ old

@@ -1,5 +1,5 @@
 use Rattle.std.proofs.Common.{◌∙◌}
-use Rattle.quorum_sets.proofs.CommitLemmas.{IsCommitted-committed_index, IsCommitted-alone, IsCommitted-from_indexes}
+use Rattle.quorum_sets.proofs.Quorums.CommittedIndex.{IsCommitted-committed_index, IsCommitted-alone, IsCommitted-from_indexes}
 use Rattle.quorum_sets.proofs.commit.committed.Goals as goal
 
 pub returns-clause-index : goal.returns-clause-index

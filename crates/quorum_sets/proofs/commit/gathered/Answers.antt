@@ -1,8 +1,8 @@
 use Rattle.std.proofs.Common.{sym, ap, ◌∙◌, arith, length, length-append}
 use Rattle.std.specs.Prelude.{unwrap_or}
 use Rattle.quorum_sets.specs.Committed.{acked_index}
-use Rattle.quorum_sets.proofs.Counts.{not_past}
-use Rattle.quorum_sets.proofs.SortedLemmas.{map_more-item}
+use Rattle.quorum_sets.proofs.Quorums.Counts.{slice_get-not_past}
+use Rattle.quorum_sets.proofs.Quorums.MajorityPlace.{map_more-item}
 use Rattle.quorum_sets.proofs.commit.gathered.Goals as goal
 use Rattle.quorum_sets.proofs.commit.gathered.Goals.{in-Some, in_default}
 
@@ -16,5 +16,5 @@ loop-place-preserved g c = elim c.match-at.branch [
         count = ap length items ∙ simp length-append (omega arith);
         room = omega (arith, ap (λ v. v.capacity) w.indexes-is);
       }
-  | in_default w ↦ not_past _ _ _ (sym w.in_default.is ∙ c.at.ensures) c.len-place-end.ensures c.loop-place-test.true
+  | in_default w ↦ slice_get-not_past _ _ _ (sym w.in_default.is ∙ c.at.ensures) c.len-place-end.ensures c.loop-place-test.true
 ]

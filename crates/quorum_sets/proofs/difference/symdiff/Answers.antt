@@ -1,5 +1,5 @@
 use Rattle.std.proofs.Common.{arith}
-use Rattle.quorum_sets.proofs.Differing.{difference_count-common}
+use Rattle.quorum_sets.proofs.IdSets.Difference.{difference_count-common}
 use Rattle.quorum_sets.proofs.difference.symdiff.Goals as goal
 
 pub returns : goal.returns

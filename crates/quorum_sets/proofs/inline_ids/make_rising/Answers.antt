@@ -1,16 +1,16 @@
-use Rattle.std.proofs.Common.{◌≡◌, ℕ, List, sym, ap, subst, ◌∙◌, ◌==◌, length}
+use Rattle.std.proofs.Common.{◌≡◌, sym, ap, subst, ◌∙◌, ◌==◌, length}
 use Rattle.std.specs.List.{dedup}
 use Rattle.quorum_sets.specs.Ids.{ids_of}
 use Rattle.quorum_sets.specs.Rising.{IsRising}
-use Rattle.quorum_sets.proofs.UnionLemmas.{refilled, rising-dedup, ids_of-dedup}
-use Rattle.quorum_sets.proofs.IdLemmas.{ids_of-permuted}
+use Rattle.quorum_sets.proofs.IdSets.Union.{refill-whole, rising-dedup, ids_of-dedup}
+use Rattle.quorum_sets.proofs.IdSets.Members.{ids_of-permuted}
 use Rattle.quorum_sets.proofs.inline_ids.make_rising.Goals as goal
 
 -- the list as it is after the two calls
 once : (c : goal.After-dedup) → c.dedup.new.self.items ≡ dedup (λ x y. x == y) c.sort_unstable.new.self
 once c =
     c.dedup.ensures.items
-    ∙ ap (dedup (λ x y. x == y)) (refilled c.args.list.now.items c.sort_unstable.new.self (c.sort_unstable.ensures.len ∙ ap length c.as_mut_slice.ensures.value))
+    ∙ ap (dedup (λ x y. x == y)) (refill-whole c.args.list.now.items c.sort_unstable.new.self (c.sort_unstable.ensures.len ∙ ap length c.as_mut_slice.ensures.value))
 
 pub returns-clause-rising : goal.returns-clause-rising
 returns-clause-rising c = subst IsRising (sym (once c)) (rising-dedup c.sort_unstable.new.self c.sort_unstable.ensures.sorted)

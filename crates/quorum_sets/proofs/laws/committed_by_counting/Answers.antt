@@ -1,5 +1,5 @@
 use Rattle.quorum_sets.specs.Committed.{committed_index}
-use Rattle.quorum_sets.proofs.CommitLemmas.{IsCommitted-committed_index, IsCommitted-alone}
+use Rattle.quorum_sets.proofs.Quorums.CommittedIndex.{IsCommitted-committed_index, IsCommitted-alone}
 use Rattle.quorum_sets.proofs.laws.committed_by_counting.Goals as goal
 
 pub returns-clause-fits : goal.returns-clause-fits

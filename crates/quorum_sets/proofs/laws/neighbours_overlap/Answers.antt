@@ -1,5 +1,5 @@
-use Rattle.quorum_sets.proofs.Overlapping.{quorums_meet, quorums_meet_back}
+use Rattle.quorum_sets.proofs.Quorums.Overlap.{QuorumsMeet-from_neighbours, QuorumsMeet-from_neighbours_back}
 use Rattle.quorum_sets.proofs.laws.neighbours_overlap.Goals as goal
 
 pub returns : goal.returns
-returns c = record { before = quorums_meet; after = quorums_meet_back }
+returns c = record { before = QuorumsMeet-from_neighbours; after = QuorumsMeet-from_neighbours_back }

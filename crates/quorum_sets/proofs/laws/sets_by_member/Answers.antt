@@ -1,5 +1,5 @@
-use Rattle.quorum_sets.proofs.IdLemmas.{has-no_ids, has-with_id, has-without_id, has-ascending, ascending-is_sorted, same_ids}
-use Rattle.quorum_sets.proofs.UnionLemmas.{has-union}
+use Rattle.quorum_sets.proofs.IdSets.Members.{has-no_ids, has-with_id, has-without_id, has-ascending, ascending-is_sorted, has-same_ids}
+use Rattle.quorum_sets.proofs.IdSets.Union.{has-union}
 use Rattle.quorum_sets.proofs.laws.sets_by_member.Goals as goal
 
 pub returns : goal.returns
@@ -10,5 +10,5 @@ returns c = record {
   united = has-union;
   listed = has-ascending;
   rises = ascending-is_sorted;
-  equal = same_ids;
+  equal = has-same_ids;
 }

@@ -1,6 +1,6 @@
 use Rattle.std.proofs.Common.{sym, ◌∙◌}
 use Rattle.quorum_sets.specs.Votes.{both}
-use Rattle.quorum_sets.proofs.VoteLemmas.{joint_vote_result-both}
+use Rattle.quorum_sets.proofs.Quorums.VoteResults.{joint_vote_result-both}
 use Rattle.quorum_sets.proofs.voting.joint_vote.Goals as goal
 
 pub returns : goal.returns

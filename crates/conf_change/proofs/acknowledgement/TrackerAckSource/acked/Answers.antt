@@ -1,5 +1,5 @@
 use Rattle.std.proofs.Common.{sym, ap, ◌∙◌, option_map}
-use Rattle.conf_change.proofs.Acknowledging.{get-matches}
+use Rattle.conf_change.proofs.MemberProgress.Acknowledged.{get-matches}
 use Rattle.conf_change.proofs.acknowledgement.TrackerAckSource.acked.Goals as goal
 
 pub returns-in_err-progress : goal.returns-in_err-progress

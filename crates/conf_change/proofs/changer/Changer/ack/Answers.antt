@@ -1,6 +1,6 @@
 use Rattle.std.proofs.Common.{sym, subst}
 use Rattle.conf_change.specs.Changer.{TrackerState, IsSound}
-use Rattle.conf_change.proofs.Acknowledging.{ack-is_sound}
+use Rattle.conf_change.proofs.MemberProgress.Acknowledged.{ack-is_sound}
 use Rattle.conf_change.proofs.changer.Changer.ack.Goals as goal
 
 pub invariant_of-self : goal.invariant_of-self

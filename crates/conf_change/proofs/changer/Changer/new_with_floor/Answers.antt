@@ -1,6 +1,6 @@
 use Rattle.std.proofs.Common.{sym, subst}
 use Rattle.conf_change.specs.Changer.{IsSound, TrackerState}
-use Rattle.conf_change.proofs.Sound.{nobody-is_sound}
+use Rattle.conf_change.proofs.Steps.NobodyTracked.{nobody-is_sound}
 use Rattle.conf_change.proofs.changer.Changer.new_with_floor.Goals as goal
 
 pub begin-requires : goal.begin-requires

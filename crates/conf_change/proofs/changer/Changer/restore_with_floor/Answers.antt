@@ -2,11 +2,11 @@ use Rattle.std.proofs.Common.{◌≡◌, sym, subst, ◌∙◌, ap, true, Result
 use Rattle.conf_change.specs.ConfState.{restored}
 use Rattle.conf_change.specs.declared.restore.RestoreFault.{RestoreFault}
 use Rattle.conf_change.specs.declared.restore.RestoreFault.TheVariants.{NotAConfiguration}
-use Rattle.conf_change.proofs.ConfStateLemmas.{none_restored}
+use Rattle.conf_change.proofs.Configurations.DescribedByLists.{restored-none}
 use Rattle.conf_change.specs.Configuration.{is_restorable}
 use Rattle.conf_change.specs.Changer.{IsSound, TrackerState, begun_with, tracker_of}
 use Rattle.conf_change.specs.Progress.{all_fresh}
-use Rattle.conf_change.proofs.Soundness.{begun_with-is_sound}
+use Rattle.conf_change.proofs.Steps.Soundness.{begun_with-is_sound}
 use Rattle.conf_change.proofs.changer.Changer.restore_with_floor.Goals as goal
 
 pub begin-requires-2 : goal.begin-requires-2
@@ -24,4 +24,4 @@ refused (Err e) fault P Q h q = subst Q (sym h) q
 pub returns-in_err-config-clause-as_function : goal.returns-in_err-config-clause-as_function
 returns-in_err-config-clause-as_function g c =
     refused c.from_residual.result c.in_err-config.field-0.0 _ (λ fault. fault ≡ NotAConfiguration → restored c.args.state.now ≡ None) c.from_residual.ensures.1
-    (λ e. none_restored c.args.state.now (λ d described _. c.in_err-config.ensures.refused (ap Err e) d described))
+    (λ e. restored-none c.args.state.now (λ d described _. c.in_err-config.ensures.refused (ap Err e) d described))

@@ -1,5 +1,5 @@
 use Rattle.std.proofs.Common.{take}
-use Rattle.conf_change.proofs.ListSteps.{MadeSoFar}
+use Rattle.conf_change.proofs.ListsOfChanges.ChangeByChange.{MadeSoFar}
 use Rattle.conf_change.proofs.tracker.Tracker.after_each.Given as goal
 
 abbrev pub invariant-loop-change : goal.invariant-loop-change

@@ -1,7 +1,7 @@
 use Rattle.std.proofs.Common.{take}
 use Rattle.conf_change.specs.TrackerEdits.{beginning}
-use Rattle.conf_change.proofs.Joining.{ids}
-use Rattle.conf_change.proofs.Stepping.{WalkedSoFar}
+use Rattle.conf_change.proofs.ListsOfChanges.JoinedEntries.{ids}
+use Rattle.conf_change.proofs.ListsOfChanges.WordByWord.{WalkedSoFar}
 use Rattle.conf_change.proofs.tracker.Tracker.after_last_words.Given as goal
 
 abbrev pub invariant-loop-word : goal.invariant-loop-word

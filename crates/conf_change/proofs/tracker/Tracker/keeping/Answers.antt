@@ -6,12 +6,12 @@ use Rattle.quorum_sets.specs.Rising.{IsRising}
 use Rattle.conf_change.specs.Configuration.{is_member}
 use Rattle.conf_change.specs.TrackerEdits.{kept_by}
 use Rattle.conf_change.specs.declared.progress.Progress.{Progress}
-use Rattle.conf_change.proofs.Picking.{picked, kept_entry, kept_more, rising-picked, get-kept}
+use Rattle.conf_change.proofs.MemberProgress.Picked.{picked, kept_entry, kept-one_more, rising-picked, get-kept}
 use Rattle.conf_change.proofs.tracker.Tracker.keeping.Goals as goal
 
 pub loop-member-preserved : goal.loop-member-preserved
 loop-member-preserved g c =
-    kept_more (is_member c.args.config.now) (has c.args.config.now.learners) c.as_slice-member-items.result.now c.loop-member.member-index _
+    kept-one_more (is_member c.args.config.now) (has c.args.config.now.learners) c.as_slice-member-items.result.now c.loop-member.member-index _
     c.loop-member.members.items c.push_entry.new.members.items _ c.loop-member-test.true c.loop-member.invariant c.kept-entry.ensures c.in_ok-push_entry.ensures
 
 pub returns-clause-rising : goal.returns-clause-rising

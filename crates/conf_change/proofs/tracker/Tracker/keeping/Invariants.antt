@@ -1,7 +1,7 @@
 use Rattle.std.proofs.Common.{◌≡◌, take}
 use Rattle.quorum_sets.specs.Ids.{has}
 use Rattle.conf_change.specs.Configuration.{is_member}
-use Rattle.conf_change.proofs.Picking.{picked, kept_entry}
+use Rattle.conf_change.proofs.MemberProgress.Picked.{picked, kept_entry}
 use Rattle.conf_change.proofs.tracker.Tracker.keeping.Given as goal
 
 abbrev pub invariant-loop-member : goal.invariant-loop-member

@@ -1,7 +1,7 @@
 use Rattle.std.proofs.Common.{ap, sym, ◌∙◌, length}
 use Rattle.std.specs.FinMap.{entries}
 use Rattle.quorum_sets.proofs.Offered.{rising-sorted}
-use Rattle.conf_change.proofs.MemberLemmas.{entries-from_entries}
+use Rattle.conf_change.proofs.MemberProgress.Entries.{entries-from_entries}
 use Rattle.conf_change.proofs.tracker.Tracker.member_count.Goals as goal
 
 pub returns : goal.returns

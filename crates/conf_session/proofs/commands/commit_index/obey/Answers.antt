@@ -5,7 +5,7 @@ use Rattle.conf_change.specs.Configuration.{voters_of}
 use Rattle.conf_change.specs.TrackerState.{TrackerState}
 use Rattle.conf_session.specs.Reply.{Reply, told}
 use Rattle.conf_session.specs.QuorumArguments.{index_text}
-use Rattle.conf_session.specs.Texts.{line}
+use Rattle.conf_session.specs.ReplyTexts.{line}
 use Rattle.conf_session.specs.declared.effect.Effect.TheVariants.{Nothing}
 use Rattle.conf_session.proofs.CommandReplies.{no-fault}
 use Rattle.conf_session.proofs.commands.commit_index.obey.Goals as goal

@@ -1,5 +1,5 @@
 use Rattle.std.proofs.Common.{ap, ◌∙◌}
-use Rattle.conf_session.specs.Texts.{tracker_text}
+use Rattle.conf_session.specs.ReplyTexts.{tracker_text}
 use Rattle.conf_session.specs.declared.effect.Effect.TheVariants.{Stepped}
 use Rattle.conf_session.proofs.commands.telling.tell_stepped.Goals as goal
 

@@ -1,6 +1,6 @@
 use Rattle.std.proofs.Common.{ap, ◌∙◌, ◌++◌}
 use Rattle.conf_plan.specs.PlanText.{plan_text}
-use Rattle.conf_session.specs.Texts.{tracker_text}
+use Rattle.conf_session.specs.ReplyTexts.{tracker_text}
 use Rattle.conf_session.specs.declared.effect.Effect.TheVariants.{Undone}
 use Rattle.conf_session.proofs.commands.undo.tell_undone.Goals as goal
 

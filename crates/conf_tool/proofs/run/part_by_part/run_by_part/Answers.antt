@@ -7,8 +7,8 @@ use Rattle.dd_file.specs.Reading.{script_from}
 use Rattle.dd_file.specs.ReaderState.{ReaderState}
 use Rattle.conf_tool.specs.Answered.{script}
 use Rattle.conf_tool.specs.Run.{Means}
-use Rattle.conf_tool.proofs.Reached.{Reached, loses-nothing, loses-more, reached-begin, reached-end, reached-fault, reached-part, reached-next, reached-front}
-use Rattle.conf_tool.proofs.Faults.{input-fault, input-uncut, reader-fault, reader-means, reader-read, reader-unwritten, answer-means, or-false, or-fault}
+use Rattle.conf_tool.proofs.ModeInput.PlaceReached.{Reached, loses-nothing, loses-more, reached-begin, reached-end, reached-fault, reached-part, reached-next, reached-front}
+use Rattle.conf_tool.proofs.ModeInput.Faults.{input-fault, input-uncut, reader-fault, reader-means, reader-read, reader-unwritten, answer-means, or-false, or-fault}
 use Rattle.conf_tool.proofs.run.part_by_part.run_by_part.Goals as goal
 
 pub loop-mode-init : goal.loop-mode-init

@@ -3,7 +3,7 @@ use Rattle.std.specs.Prelude.{Option}
 use Rattle.dd_file.specs.Place.{longest_input}
 use Rattle.dd_file.specs.Reading.{Script}
 use Rattle.conf_tool.specs.Outputs.{Output}
-use Rattle.conf_tool.proofs.Reached.{Reached}
+use Rattle.conf_tool.proofs.ModeInput.PlaceReached.{Reached}
 use Rattle.conf_tool.proofs.run.part_by_part.run_by_part.Given as goal
 
 -- the parts so far were read and answered, and no device failed

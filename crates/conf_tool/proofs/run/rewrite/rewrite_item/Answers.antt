@@ -2,7 +2,7 @@ use Rattle.std.proofs.Common.{◌∙◌, subst}
 use Rattle.std.proofs.lemmas.Result.{err_from_is_err_and}
 use Rattle.dd_file.specs.Rewritten.{entry_text}
 use Rattle.dd_file.specs.RewriterState.{Continues, BreaksOff}
-use Rattle.conf_tool.proofs.Rewriting.{breaks-nothing}
+use Rattle.conf_tool.proofs.Modes.Rewrite.{breaks-nothing}
 use Rattle.conf_tool.proofs.run.rewrite.rewrite_item.Goals as goal
 
 pub returns-in_err-found-clause-part : goal.returns-in_err-found-clause-part

@@ -2,7 +2,7 @@ use Rattle.std.proofs.Common.{sym, subst}
 use Rattle.std.proofs.lemmas.Result.{err_from_is_err_and}
 use Rattle.dd_file.specs.RewriterState.{Continues, BreaksOff}
 use Rattle.dd_file.proofs.Offered.{continues-append, breaks-second, breaks-first}
-use Rattle.conf_tool.proofs.Rewriting.{ok-by, err-by, entry_text-directive}
+use Rattle.conf_tool.proofs.Modes.Rewrite.{ok-by, err-by, entry_text-directive}
 use Rattle.conf_tool.proofs.run.rewrite.write_entry.Goals as goal
 
 pub returns-in_err-keep-clause-part : goal.returns-in_err-keep-clause-part

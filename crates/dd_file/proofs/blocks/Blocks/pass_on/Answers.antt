@@ -1,4 +1,4 @@
-use Rattle.dd_file.proofs.Appending.{gathered-more, gathered-part}
+use Rattle.dd_file.proofs.Rewriting.KnownBytes.{gathered-more, gathered-part}
 use Rattle.dd_file.proofs.blocks.Blocks.pass_on.Goals as goal
 
 pub returns-then-count-wanted-clause-bytes : goal.returns-then-count-wanted-clause-bytes

@@ -1,7 +1,7 @@
 use Rattle.std.proofs.Common.{◌≡◌, ◌+◌, ◌-◌, ◌≤◌, take, drop, ◌∙◌, ap, rules}
 use Rattle.std.proofs.lemmas.Grind.{common_steps}
 use Rattle.ascii_text.specs.Lines.{first_len}
-use Rattle.dd_file.proofs.PieceParts.{take-drop-later}
+use Rattle.dd_file.proofs.LineReading.PartsOfPiece.{take-drop_later}
 use Rattle.dd_file.proofs.buffer.Buffer.move_piece.Goals as goal
 
 pub returns-clause-rest : goal.returns-clause-rest
@@ -12,4 +12,4 @@ returns-clause-rest c =
     let fits : inside.start + count ≤ inside.end = search (rules, common_steps) in
     let first : count ≡ first_len c.args.self.now =
     c.piece_len-count.ensures.count ∙ ap (λ bytes. first_len (take (inside.end - inside.start) (drop inside.start bytes))) c.deref.ensures.value ∙ ap first_len c.self.view_is in
-    take-drop-later inside.start inside.end count inside.bytes.items fits ∙ ap (drop count) c.self.view_is ∙ ap (λ n. drop n c.args.self.now) first
+    take-drop_later inside.start inside.end count inside.bytes.items fits ∙ ap (drop count) c.self.view_is ∙ ap (λ n. drop n c.args.self.now) first

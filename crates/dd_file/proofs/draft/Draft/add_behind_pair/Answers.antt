@@ -1,5 +1,5 @@
 use Rattle.std.proofs.Common.{true, false, rules}
-use Rattle.dd_file.proofs.DraftSteps.{adds-behind}
+use Rattle.dd_file.proofs.ItemReading.PhaseByPhase.{adds-behind}
 use Rattle.dd_file.proofs.draft.Draft.add_behind_pair.Goals as goal
 use Rattle.dd_file.proofs.draft.Draft.add_behind_pair.Goals.{then-is_blank, else-is_blank}
 

@@ -3,7 +3,7 @@ use Rattle.std.proofs.lemmas.Grind.{common_steps}
 use Rattle.dd_file.specs.Script.{is_dashes}
 use Rattle.dd_file.specs.Draft.{DraftText, ends_in_dashes}
 use Rattle.dd_file.specs.declared.phase.Phase.TheVariants.{Pair, Double}
-use Rattle.dd_file.proofs.DraftSteps.{adds-pair, adds-expected, dashes-some, last-split}
+use Rattle.dd_file.proofs.ItemReading.PhaseByPhase.{adds-pair, adds-expected, dashes-some, last-split}
 use Rattle.dd_file.proofs.draft.Draft.add_double.Goals as goal
 use Rattle.dd_file.proofs.draft.Draft.add_double.Goals.{else-is_dashes-via-then-is_dashes+else-ends_in_dashes, else-is_dashes-via-else-is_dashes}
 

@@ -3,7 +3,7 @@ use Rattle.std.proofs.lemmas.List.{take-append-drop, append-nil}
 use Rattle.std.proofs.lemmas.Result.{IfOk-weaker}
 use Rattle.dd_file.specs.Script.{joined, is_continued}
 use Rattle.dd_file.specs.Draft.{DraftText, behind_head}
-use Rattle.dd_file.proofs.DraftSteps.{adds-last}
+use Rattle.dd_file.proofs.ItemReading.PhaseByPhase.{adds-last}
 use Rattle.dd_file.proofs.draft.Draft.add_head.Goals as goal
 
 pub returns : goal.returns

@@ -2,30 +2,30 @@ use Rattle.std.proofs.Common.{◌≡◌, ◌++◌, ap, sym, ◌∙◌, true, Ok,
 use Rattle.std.proofs.lemmas.List.{take-append-drop}
 use Rattle.dd_file.specs.Draft.{DraftText}
 use Rattle.dd_file.specs.declared.phase.Phase.TheVariants.{CommentLine, BlankLines, Head, Double}
-use Rattle.dd_file.proofs.DraftEnd.{found-comment-at, found-blank-at, found-bad-at, found-unclosed-at, found-parts, directive-phase, is_directive_phase}
+use Rattle.dd_file.proofs.ItemReading.NoMoreLine.{found-comment_at, found-blank_at, found-bad_at, found-unclosed_at, found-parts, directive-phase, is_directive_phase}
 use Rattle.dd_file.proofs.draft.Draft.finish.Goals as goal
 
 pub returns-in-CommentLine-clause-found : goal.returns-in-CommentLine-clause-found
 returns-in-CommentLine-clause-found c =
     let phase : c.args.self.phase ≡ CommentLine = search rules in
     let fields = c.self.inside in
-    found-comment-at c.args.self fields.raw_lines phase c.requires.fits (sym (take-append-drop fields.heads fields.raw_lines) ∙ ap (λ (d : DraftText). d.head ++ d.input) c.self.view_is)
+    found-comment_at c.args.self fields.raw_lines phase c.requires.fits (sym (take-append-drop fields.heads fields.raw_lines) ∙ ap (λ (d : DraftText). d.head ++ d.input) c.self.view_is)
 
 pub returns-in-BlankLines-clause-found : goal.returns-in-BlankLines-clause-found
 returns-in-BlankLines-clause-found c =
     let phase : c.args.self.phase ≡ BlankLines = search rules in
     let fields = c.self.inside in
-    found-blank-at c.args.self fields.raw_lines phase c.requires.fits (sym (take-append-drop fields.heads fields.raw_lines) ∙ ap (λ (d : DraftText). d.head ++ d.input) c.self.view_is)
+    found-blank_at c.args.self fields.raw_lines phase c.requires.fits (sym (take-append-drop fields.heads fields.raw_lines) ∙ ap (λ (d : DraftText). d.head ++ d.input) c.self.view_is)
 
 pub returns-in-Head-clause-found : goal.returns-in-Head-clause-found
 returns-in-Head-clause-found c =
     let phase : c.args.self.phase ≡ Head = search rules in
-    found-bad-at c.args.self c.self.inside.line phase c.requires.fits (ap (λ (d : DraftText). d.line) c.self.view_is)
+    found-bad_at c.args.self c.self.inside.line phase c.requires.fits (ap (λ (d : DraftText). d.line) c.self.view_is)
 
 pub returns-in-Double-clause-found : goal.returns-in-Double-clause-found
 returns-in-Double-clause-found c =
     let phase : c.args.self.phase ≡ Double = search rules in
-    found-unclosed-at c.args.self c.self.inside.line phase c.requires.fits (ap (λ (d : DraftText). d.line) c.self.view_is)
+    found-unclosed_at c.args.self c.self.inside.line phase c.requires.fits (ap (λ (d : DraftText). d.line) c.self.view_is)
 
 pub returns-in_default-clause-found : goal.returns-in_default-clause-found
 returns-in_default-clause-found c =

@@ -6,7 +6,7 @@ use Rattle.ascii_text.specs.WhiteSpace.{trimmed}
 use Rattle.dd_file.specs.LineEnds.{lines_at}
 use Rattle.dd_file.specs.ValuePlaces.{values_at}
 use Rattle.dd_file.specs.Words.{ArgumentText}
-use Rattle.dd_file.proofs.Commas.{start-at, first-start, next-start, line-at, length-lines_at, within-at}
+use Rattle.dd_file.proofs.DirectiveWords.ListedValues.{start-at, first-start, next-start, line-at, length-lines_at, within-at}
 use Rattle.dd_file.proofs.item.Argument.value.Goals as goal
 use Rattle.dd_file.proofs.item.Argument.value.Goals.{then-i-eq0, else-i-eq0}
 

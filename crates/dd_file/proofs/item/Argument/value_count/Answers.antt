@@ -3,7 +3,7 @@ use Rattle.std.proofs.lemmas.List.{length-map}
 use Rattle.ascii_text.specs.WhiteSpace.{trimmed}
 use Rattle.dd_file.specs.LineEnds.{lines_at}
 use Rattle.dd_file.specs.Words.{ArgumentText}
-use Rattle.dd_file.proofs.Commas.{length-lines_at}
+use Rattle.dd_file.proofs.DirectiveWords.ListedValues.{length-lines_at}
 use Rattle.dd_file.proofs.item.Argument.value_count.Goals as goal
 
 pub returns : goal.returns

@@ -3,8 +3,8 @@ use Rattle.ascii_text.specs.WhiteSpace.{trimmed, without_leading_space, without_
 use Rattle.ascii_text.specs.Lines.{text_of}
 use Rattle.dd_file.specs.DirectiveText.{DirectiveText}
 use Rattle.dd_file.specs.Words.{CommandText}
-use Rattle.dd_file.proofs.LineEnds.{text-parts}
-use Rattle.dd_file.proofs.TrimmedIn.{TrimmedIn, trimmed-in}
+use Rattle.dd_file.proofs.TextLines.EndPlaces.{text-parts}
+use Rattle.dd_file.proofs.DirectiveWords.TrimmedEnd.{TrimmedIn, trimmed-in}
 use Rattle.dd_file.proofs.item.Directive.new.Goals as goal
 
 -- the trimmed text of the lines behind a head lies in the text of all lines

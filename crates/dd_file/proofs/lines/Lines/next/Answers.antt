@@ -1,6 +1,6 @@
 use Rattle.std.proofs.Common.{◌≤◌, vec_items, rules}
 use Rattle.dd_file.specs.Place.{longest_input}
-use Rattle.dd_file.proofs.LineRead.{piece-reads, fault-reads}
+use Rattle.dd_file.proofs.LineReading.PieceGiven.{piece-reads, fault-reads}
 use Rattle.dd_file.proofs.lines.Lines.next.Goals as goal
 
 pub returns-in-Ok : goal.returns-in-Ok

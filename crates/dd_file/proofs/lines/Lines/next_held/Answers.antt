@@ -6,14 +6,14 @@ use Rattle.dd_file.specs.Reading.{next_line}
 use Rattle.dd_file.specs.ReaderState.{ReaderState}
 use Rattle.dd_file.specs.InHand.{passed}
 use Rattle.dd_file.specs.Answer.{ReadsOn, IsLineFault}
-use Rattle.dd_file.proofs.HeldItem.{held-line, held-no-line, same-piece}
+use Rattle.dd_file.proofs.ItemReading.HeldBytes.{held-line, held-no_line, same-piece}
 use Rattle.dd_file.proofs.lines.Lines.next_held.Goals as goal
 
 pub returns-then-not-is_whole : goal.returns-then-not-is_whole
 returns-then-not-is_whole g c =
     let state = c.args.self.now in
     let piece = same-piece _ _ c.piece_len-len.result c.held-held.ensures c.piece_len-len.ensures.count in
-    (refl, λ tells. held-no-line state (ap is_whole (sym piece) ∙ sym c.is_whole.ensures ∙ c.if-not-is_whole.true))
+    (refl, λ tells. held-no_line state (ap is_whole (sym piece) ∙ sym c.is_whole.ensures ∙ c.if-not-is_whole.true))
 
 pub returns-in-Ok : goal.returns-in-Ok
 returns-in-Ok g c =

@@ -3,7 +3,7 @@ use Rattle.std.proofs.lemmas.List.{length-drop}
 use Rattle.std.specs.Io.KnownBytes.{Consumes, IsAtEnd}
 use Rattle.ascii_text.specs.Lines.{first_len, is_whole}
 use Rattle.dd_file.specs.Place.{longest_input}
-use Rattle.dd_file.proofs.PieceParts.{part-moved, part-filled, no-bytes, some-bytes, length-moved, left-falls}
+use Rattle.dd_file.proofs.LineReading.PartsOfPiece.{part-moved, part-filled, no-bytes, some-bytes, length-moved, left-falls}
 use Rattle.ascii_text.proofs.Offered.{unfinished-rest}
 use Rattle.dd_file.proofs.lines.Lines.read_piece.Goals as goal
 use Rattle.dd_file.proofs.lines.Lines.read_piece.Goals.{then-self-via-then-self, then-self-via-else-self+then-is_whole}

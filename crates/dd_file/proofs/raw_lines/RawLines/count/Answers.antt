@@ -1,5 +1,5 @@
 use Rattle.std.proofs.Common.{length, ap, ◌∙◌}
-use Rattle.dd_file.proofs.LineEnds.{length-ends_of}
+use Rattle.dd_file.proofs.TextLines.EndPlaces.{length-ends_of}
 use Rattle.dd_file.proofs.raw_lines.RawLines.count.Goals as goal
 
 pub returns : goal.returns

@@ -1,5 +1,5 @@
 use Rattle.std.proofs.Common.{length, ap, arith}
-use Rattle.dd_file.proofs.LineEnds.{lie-fields, place-within, end-place, end-within}
+use Rattle.dd_file.proofs.TextLines.EndPlaces.{lie-fields, place-within, end-place, end-within}
 use Rattle.dd_file.proofs.raw_lines.RawLines.end.Goals as goal
 
 pub offset_bounds-ends-i : goal.offset_bounds-ends-i

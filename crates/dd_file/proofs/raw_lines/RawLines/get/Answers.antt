@@ -1,7 +1,7 @@
 use Rattle.std.proofs.Common.{◌≡◌, ◌<◌, ◌-◌, [], length, take, get_or, ap, sym, ◌∙◌, arith}
 use Rattle.std.specs.Prelude.{Some}
 use Rattle.std.proofs.lemmas.Option.{slice_get-get_or}
-use Rattle.dd_file.proofs.LineEnds.{first-behind}
+use Rattle.dd_file.proofs.TextLines.EndPlaces.{first-behind}
 use Rattle.dd_file.proofs.raw_lines.RawLines.get.Goals as goal
 
 pub returns : goal.returns

@@ -1,6 +1,6 @@
 use Rattle.std.proofs.Common.{◌≡◌, ◌+◌, ◌-◌, length, take, ap, ◌∙◌, arith}
 use Rattle.ascii_text.specs.Lines.{text_of}
-use Rattle.dd_file.proofs.LineEnds.{next-start}
+use Rattle.dd_file.proofs.TextLines.EndPlaces.{next-start}
 use Rattle.dd_file.proofs.raw_lines.RawLines.start.Goals as goal
 
 pub returns-clause-place : goal.returns-clause-place

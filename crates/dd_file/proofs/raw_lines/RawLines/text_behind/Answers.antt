@@ -1,5 +1,5 @@
 use Rattle.std.proofs.Common.{drop, ap, ◌∙◌}
-use Rattle.dd_file.proofs.LineEnds.{text-behind}
+use Rattle.dd_file.proofs.TextLines.EndPlaces.{text-behind}
 use Rattle.dd_file.proofs.raw_lines.RawLines.text_behind.Goals as goal
 
 pub returns : goal.returns

@@ -1,6 +1,6 @@
 use Rattle.std.proofs.Common.{take}
 use Rattle.dd_file.specs.LineEnds.{LieIn}
-use Rattle.dd_file.proofs.LineEnds.{lie-fields, found-lines, fill-text, lie-front}
+use Rattle.dd_file.proofs.TextLines.EndPlaces.{lie-fields, found-lines, fill-text, lie-front}
 use Rattle.dd_file.proofs.raw_lines.RawLines.truncate.Goals as goal
 use Rattle.dd_file.proofs.raw_lines.RawLines.truncate.Goals.{After-truncate-2}
 

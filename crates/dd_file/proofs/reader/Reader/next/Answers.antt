@@ -1,7 +1,7 @@
 use Rattle.std.proofs.Common.{◌≡◌, ◌≤◌, true, sym, ap, subst, ◌∙◌, rules}
 use Rattle.dd_file.specs.Place.{longest_input}
 use Rattle.dd_file.specs.ReaderState.{ReaderState}
-use Rattle.dd_file.proofs.ItemLoop.{over-reads-item}
+use Rattle.dd_file.proofs.ItemReading.UntilDone.{over-reads_item}
 use Rattle.dd_file.proofs.reader.Reader.next.Goals as goal
 
 pub returns-then-is_over : goal.returns-then-is_over
@@ -12,5 +12,5 @@ returns-then-is_over g c =
     let view = c.self.view_is in
     let limit : state.place.bytes ≤ longest_input = subst (λ (s : ReaderState). s.place.bytes ≤ longest_input) view over.limit in
     let counted : state.place.lines ≤ longest_input = subst (λ (s : ReaderState). s.place.lines ≤ longest_input) view over.counted in
-    over-reads-item g.R.Source.remaining g.R.Source.has_failed state c.args.reader.now (search rules) (ap (λ (s : ReaderState). s.is_ended) (sym view) ∙ ended)
+    over-reads_item g.R.Source.remaining g.R.Source.has_failed state c.args.reader.now (search rules) (ap (λ (s : ReaderState). s.is_ended) (sym view) ∙ ended)
     (ap (λ (s : ReaderState). s.held) (sym view) ∙ over.empty ended) limit counted

@@ -1,5 +1,5 @@
 use Rattle.std.proofs.Common.{◌∙◌}
-use Rattle.quorum_sets.proofs.IdLemmas.{lookup-from_entries}
+use Rattle.quorum_sets.proofs.IdSets.Members.{lookup-from_entries}
 use Rattle.quorum_sets.proofs.acknowledgement.BTreeMapU64U64AckSource.acked.Goals as goal
 
 pub returns : goal.returns

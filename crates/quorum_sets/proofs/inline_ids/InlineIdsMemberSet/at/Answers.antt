@@ -4,7 +4,7 @@ use Rattle.std.specs.Option.{option_copied}
 use Rattle.std.specs.Slice.{IsItemAt}
 use Rattle.std.proofs.lemmas.Option.{slice_get_past, slice_get-get_or}
 use Rattle.quorum_sets.specs.Ids.{ascending}
-use Rattle.quorum_sets.proofs.RisingLemmas.{ascending-rising}
+use Rattle.quorum_sets.proofs.KeptSets.RisingList.{ascending-rising}
 use Rattle.quorum_sets.proofs.inline_ids.InlineIdsMemberSet.at.Goals as goal
 
 copied_item : (xs : List ℕ) (i : ℕ) (r : Option (Bor ℕ)) → IsItemAt xs i r → option_copied r ≡ slice_get xs i

@@ -1,6 +1,6 @@
 use Rattle.std.proofs.Common.{ap, ◌∙◌}
 use Rattle.quorum_sets.specs.Ids.{has, ids_of}
-use Rattle.quorum_sets.proofs.RisingLemmas.{has-found}
+use Rattle.quorum_sets.proofs.KeptSets.RisingList.{has-found}
 use Rattle.quorum_sets.proofs.inline_ids.InlineIdsMemberSet.contains.Goals as goal
 
 pub returns : goal.returns

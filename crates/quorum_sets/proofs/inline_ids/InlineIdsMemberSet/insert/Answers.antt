@@ -1,7 +1,7 @@
 use Rattle.std.proofs.Common.{◌≡◌, ap, sym, subst, ◌∙◌, true, false, not, arith, length}
 use Rattle.quorum_sets.specs.Ids.{has, with_id, ids_of, size}
 use Rattle.quorum_sets.specs.Rising.{IsRising, GoesTo}
-use Rattle.quorum_sets.proofs.RisingLemmas.{has-stands, has-goes, ids_of-insert, rising-insert, with_id-there, ascending-rising}
+use Rattle.quorum_sets.proofs.KeptSets.RisingList.{has-stands, has-goes, ids_of-insert, rising-insert, with_id-there, ascending-rising}
 use Rattle.quorum_sets.proofs.inline_ids.InlineIdsMemberSet.insert.Goals as goal
 
 -- the set has it already

@@ -1,6 +1,6 @@
 use Rattle.std.proofs.Common.{ap, sym, ◌∙◌, length}
 use Rattle.quorum_sets.specs.Ids.{size}
-use Rattle.quorum_sets.proofs.RisingLemmas.{ascending-rising}
+use Rattle.quorum_sets.proofs.KeptSets.RisingList.{ascending-rising}
 use Rattle.quorum_sets.proofs.inline_ids.InlineIdsMemberSet.len.Goals as goal
 
 pub returns : goal.returns

@@ -1,7 +1,7 @@
 use Rattle.std.proofs.Common.{◌≡◌, ap, sym, subst, ◌∙◌, false, arith}
 use Rattle.quorum_sets.specs.Ids.{has, without_id, ids_of}
 use Rattle.quorum_sets.specs.Rising.{IsRising, StandsAt}
-use Rattle.quorum_sets.proofs.RisingLemmas.{has-stands, has-goes, ids_of-remove, rising-remove, without_id-absent}
+use Rattle.quorum_sets.proofs.KeptSets.RisingList.{has-stands, has-goes, ids_of-remove, rising-remove, without_id-absent}
 use Rattle.quorum_sets.proofs.inline_ids.InlineIdsMemberSet.remove.Goals as goal
 
 -- the set lacks it

@@ -1,6 +1,6 @@
 use Rattle.std.proofs.Common.{◌≡◌, ap, false, true, length, arith}
 use Rattle.quorum_sets.specs.Ids.{size}
-use Rattle.quorum_sets.proofs.RisingLemmas.{ascending-rising}
+use Rattle.quorum_sets.proofs.KeptSets.RisingList.{ascending-rising}
 use Rattle.quorum_sets.proofs.inline_ids.InlineIdsMemberSet.try_clone.Goals as goal
 
 pub returns-in_err-list-clause-few : goal.returns-in_err-list-clause-few

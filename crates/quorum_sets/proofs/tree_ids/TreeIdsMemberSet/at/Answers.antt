@@ -1,6 +1,6 @@
 use Rattle.std.proofs.Common.{ap, sym, ◌∙◌, slice_get}
 use Rattle.quorum_sets.specs.Ids.{ascending}
-use Rattle.quorum_sets.proofs.IdLemmas.{ascending-ids_of}
+use Rattle.quorum_sets.proofs.IdSets.Members.{ascending-ids_of}
 use Rattle.quorum_sets.proofs.tree_ids.TreeIdsMemberSet.at.Goals as goal
 
 pub returns : goal.returns

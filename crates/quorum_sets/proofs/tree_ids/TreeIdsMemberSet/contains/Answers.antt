@@ -1,6 +1,6 @@
 use Rattle.std.proofs.Common.{ap, sym, ◌∙◌}
 use Rattle.quorum_sets.specs.Ids.{has}
-use Rattle.quorum_sets.proofs.IdLemmas.{has_by_cmp-ids_of}
+use Rattle.quorum_sets.proofs.IdSets.Members.{has_by_cmp-ids_of}
 use Rattle.quorum_sets.proofs.tree_ids.TreeIdsMemberSet.contains.Goals as goal
 
 pub returns : goal.returns

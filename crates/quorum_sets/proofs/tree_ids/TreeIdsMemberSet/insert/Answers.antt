@@ -1,7 +1,7 @@
 use Rattle.std.proofs.Common.{ap, sym, ◌∙◌, not}
 use Rattle.quorum_sets.specs.Ids.{has, with_id}
-use Rattle.quorum_sets.proofs.IdLemmas.{has_by_cmp-ids_of}
-use Rattle.quorum_sets.proofs.TreeLemmas.{tree-with_id}
+use Rattle.quorum_sets.proofs.IdSets.Members.{has_by_cmp-ids_of}
+use Rattle.quorum_sets.proofs.KeptSets.Tree.{tree-with_id}
 use Rattle.quorum_sets.proofs.tree_ids.TreeIdsMemberSet.insert.Goals as goal
 
 pub returns-clause-changed : goal.returns-clause-changed

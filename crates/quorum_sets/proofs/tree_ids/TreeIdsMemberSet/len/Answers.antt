@@ -1,6 +1,6 @@
 use Rattle.std.proofs.Common.{ap, sym, ◌∙◌, length}
 use Rattle.quorum_sets.specs.Ids.{size}
-use Rattle.quorum_sets.proofs.IdLemmas.{ascending-ids_of}
+use Rattle.quorum_sets.proofs.IdSets.Members.{ascending-ids_of}
 use Rattle.quorum_sets.proofs.tree_ids.TreeIdsMemberSet.len.Goals as goal
 
 pub returns : goal.returns

@@ -1,7 +1,7 @@
 use Rattle.std.proofs.Common.{ap, sym, ◌∙◌}
 use Rattle.quorum_sets.specs.Ids.{has, without_id}
-use Rattle.quorum_sets.proofs.IdLemmas.{has_by_cmp-ids_of}
-use Rattle.quorum_sets.proofs.TreeLemmas.{tree-without_id}
+use Rattle.quorum_sets.proofs.IdSets.Members.{has_by_cmp-ids_of}
+use Rattle.quorum_sets.proofs.KeptSets.Tree.{tree-without_id}
 use Rattle.quorum_sets.proofs.tree_ids.TreeIdsMemberSet.remove.Goals as goal
 
 pub returns-clause-changed : goal.returns-clause-changed

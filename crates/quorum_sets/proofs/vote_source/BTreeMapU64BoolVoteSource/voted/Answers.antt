@@ -1,5 +1,5 @@
 use Rattle.std.proofs.Common.{◌∙◌}
-use Rattle.quorum_sets.proofs.IdLemmas.{lookup-from_entries}
+use Rattle.quorum_sets.proofs.IdSets.Members.{lookup-from_entries}
 use Rattle.quorum_sets.proofs.vote_source.BTreeMapU64BoolVoteSource.voted.Goals as goal
 
 pub returns : goal.returns

@@ -1,7 +1,7 @@
 use Rattle.std.proofs.Common.{◌∙◌, refl, []}
 use Rattle.std.proofs.lemmas.Result.{err_from_is_err_and}
-use Rattle.conf_tool.proofs.WrittenFront.{appends-nothing, part-nothing, wrote-end}
-use Rattle.conf_tool.proofs.Checking.{checked-end, checked-end-part}
+use Rattle.conf_tool.proofs.ModeOutput.FirstParts.{appends-nothing, part-nothing, wrote-end}
+use Rattle.conf_tool.proofs.Modes.Check.{checked-end, checked-end_part}
 use Rattle.conf_tool.proofs.run.check.CheckingPartByPart.end.Goals as goal
 
 pub returns-in-Some-clause-output : goal.returns-in-Some-clause-output
@@ -11,13 +11,13 @@ returns-in-Some-clause-output g c =
 pub returns-in_err-append_to-clause-output : goal.returns-in_err-append_to-clause-output
 returns-in_err-append_to-clause-output g c =
     let p = err_from_is_err_and c.from_residual.result c.from_residual.ensures.1 in
-    rw (p.1, p.2, c.in_default.is) (λ total parts before checked. checked-end-part _ _ _ total parts _ before _ _ checked refl (part-nothing _ _))
+    rw (p.1, p.2, c.in_default.is) (λ total parts before checked. checked-end_part _ _ _ total parts _ before _ _ checked refl (part-nothing _ _))
 
 pub returns-in_err-write_all-clause-output : goal.returns-in_err-write_all-clause-output
 returns-in_err-write_all-clause-output g c =
     let p = err_from_is_err_and c.from_residual-in_err-write_all.result c.from_residual-in_err-write_all.ensures.1 in
     let text = rw c.clear.ensures.items at c.in_ok-append_to.ensures in
-    rw (p.1, p.2, c.in_default.is) (λ total parts before checked. checked-end-part _ _ _ total parts _ before _ _ checked (c.as_slice.ensures.value ∙ text) c.in_err-write_all.ensures.err)
+    rw (p.1, p.2, c.in_default.is) (λ total parts before checked. checked-end_part _ _ _ total parts _ before _ _ checked (c.as_slice.ensures.value ∙ text) c.in_err-write_all.ensures.err)
 
 pub returns-clause-output : goal.returns-clause-output
 returns-clause-output g c =

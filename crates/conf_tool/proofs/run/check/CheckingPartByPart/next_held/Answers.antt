@@ -1,6 +1,6 @@
-use Rattle.conf_tool.proofs.Script.{items_from-next}
-use Rattle.conf_tool.proofs.WrittenFront.{wrote-front}
-use Rattle.conf_tool.proofs.WrittenOn.{kept-checked}
+use Rattle.conf_tool.proofs.ModeInput.NextAndRest.{items_from-next}
+use Rattle.conf_tool.proofs.ModeOutput.FirstParts.{wrote-front}
+use Rattle.conf_tool.proofs.ModeOutput.KeptAnswers.{kept-checked}
 use Rattle.conf_tool.proofs.run.check.CheckingPartByPart.next_held.Goals as goal
 
 pub returns-clause-in_turn : goal.returns-clause-in_turn

@@ -1,6 +1,6 @@
 use Rattle.std.proofs.Common.{◌∙◌}
 use Rattle.std.proofs.lemmas.Result.{err_from_is_err_and}
-use Rattle.conf_tool.proofs.WrittenFront.{wrote-front, lined-part, lined-broken}
+use Rattle.conf_tool.proofs.ModeOutput.FirstParts.{wrote-front, lined-part, lined-broken}
 use Rattle.conf_tool.proofs.run.lines.LineByLinePartByPart.answer.Goals as goal
 
 pub returns-in_err-answer_line-clause-part : goal.returns-in_err-answer_line-clause-part

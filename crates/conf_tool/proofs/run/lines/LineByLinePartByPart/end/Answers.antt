@@ -1,5 +1,5 @@
 use Rattle.std.proofs.Common.{refl, []}
-use Rattle.conf_tool.proofs.WrittenFront.{appends-nothing, wrote-end, clean-means}
+use Rattle.conf_tool.proofs.ModeOutput.FirstParts.{appends-nothing, wrote-end, clean-means}
 use Rattle.conf_tool.proofs.run.lines.LineByLinePartByPart.end.Goals as goal
 
 pub returns-clause-output : goal.returns-clause-output

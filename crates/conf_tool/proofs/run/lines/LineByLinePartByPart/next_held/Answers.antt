@@ -1,6 +1,6 @@
-use Rattle.conf_tool.proofs.Script.{lines_from-next}
-use Rattle.conf_tool.proofs.WrittenFront.{wrote-front}
-use Rattle.conf_tool.proofs.WrittenOn.{kept-front}
+use Rattle.conf_tool.proofs.ModeInput.NextAndRest.{lines_from-next}
+use Rattle.conf_tool.proofs.ModeOutput.FirstParts.{wrote-front}
+use Rattle.conf_tool.proofs.ModeOutput.KeptAnswers.{kept-front}
 use Rattle.conf_tool.proofs.run.lines.LineByLinePartByPart.next_held.Goals as goal
 
 pub returns-clause-in_turn : goal.returns-clause-in_turn

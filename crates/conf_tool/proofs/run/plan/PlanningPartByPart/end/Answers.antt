@@ -1,7 +1,7 @@
 use Rattle.std.proofs.Common.{◌≡◌, Bool, true, false, ◌||◌, refl, sym, ◌∙◌}
 use Rattle.std.proofs.lemmas.Result.{err_from_is_err_and}
-use Rattle.conf_tool.proofs.Faults.{or-false}
-use Rattle.conf_tool.proofs.Planning.{read-front, read-ends, read-ends-part}
+use Rattle.conf_tool.proofs.ModeInput.Faults.{or-false}
+use Rattle.conf_tool.proofs.Modes.Plan.{read-front, read-ends, read-ends_part}
 use Rattle.conf_tool.proofs.run.plan.PlanningPartByPart.end.Goals as goal
 
 or-true : (mark : Bool) → (mark || true) ≡ true
@@ -23,7 +23,7 @@ returns-in_err-write_all-clause-output g c =
     let p = err_from_is_err_and c.from_residual-in_err-write_all.result c.from_residual-in_err-write_all.ensures.1 in
     let ends = rw c.as_slice.ensures.value at c.in_ok-now.ensures.ends in
     rw (p.1, p.2, c.in_default.is) (λ total parts before read.
-    read-ends-part _ total parts before _ _ c.in_ok-now.now c.in_ok-now.target _ read ends (c.as_slice-2.ensures.value ∙ c.in_ok-text.ensures.text) c.in_err-write_all.ensures.err)
+    read-ends_part _ total parts before _ _ c.in_ok-now.now c.in_ok-now.target _ read ends (c.as_slice-2.ensures.value ∙ c.in_ok-text.ensures.text) c.in_err-write_all.ensures.err)
 
 pub returns-in_err-write_all-clause-write : goal.returns-in_err-write_all-clause-write
 returns-in_err-write_all-clause-write g c =

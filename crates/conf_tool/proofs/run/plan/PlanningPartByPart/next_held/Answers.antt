@@ -1,6 +1,6 @@
-use Rattle.conf_tool.proofs.Script.{lines_from-next}
-use Rattle.conf_tool.proofs.Planning.{read-front}
-use Rattle.conf_tool.proofs.WrittenOn.{kept-read}
+use Rattle.conf_tool.proofs.ModeInput.NextAndRest.{lines_from-next}
+use Rattle.conf_tool.proofs.Modes.Plan.{read-front}
+use Rattle.conf_tool.proofs.ModeOutput.KeptAnswers.{kept-read}
 use Rattle.conf_tool.proofs.run.plan.PlanningPartByPart.next_held.Goals as goal
 
 pub returns-clause-in_turn : goal.returns-clause-in_turn

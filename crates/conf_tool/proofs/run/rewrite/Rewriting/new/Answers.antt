@@ -1,4 +1,4 @@
-use Rattle.conf_tool.proofs.Rewriting.{rewritten-nothing}
+use Rattle.conf_tool.proofs.Modes.Rewrite.{rewritten-nothing}
 use Rattle.conf_tool.proofs.run.rewrite.Rewriting.new.Goals as goal
 
 pub returns-clause-unwritten : goal.returns-clause-unwritten

@@ -1,10 +1,10 @@
 use Rattle.std.proofs.Common.{refl}
-use Rattle.conf_tool.proofs.Rewriting.{ok-by-three, err-by, rewritten-part, rewritten-broken}
+use Rattle.conf_tool.proofs.Modes.Rewrite.{ok-by_three, err-by, rewritten-part, rewritten-broken}
 use Rattle.conf_tool.proofs.run.rewrite.RewritingPartByPart.answer.Goals as goal
 
 pub returns-clause-answered : goal.returns-clause-answered
 returns-clause-answered g c =
-    ok-by-three c.rewrite_item.result
+    ok-by_three c.rewrite_item.result
     (λ session ready written total parts before rewritten. rewritten-part _ _ _ _ _ _ total parts before _ _ rewritten session refl ready written)
     c.rewrite_item.ensures.session c.rewrite_item.ensures.stage c.rewrite_item.ensures.written
 

@@ -1,6 +1,6 @@
-use Rattle.conf_tool.proofs.Script.{items_from-next}
-use Rattle.conf_tool.proofs.Rewriting.{rewritten-front}
-use Rattle.conf_tool.proofs.WrittenOn.{kept-rewritten}
+use Rattle.conf_tool.proofs.ModeInput.NextAndRest.{items_from-next}
+use Rattle.conf_tool.proofs.Modes.Rewrite.{rewritten-front}
+use Rattle.conf_tool.proofs.ModeOutput.KeptAnswers.{kept-rewritten}
 use Rattle.conf_tool.proofs.run.rewrite.RewritingPartByPart.next_held.Goals as goal
 
 pub returns-clause-in_turn : goal.returns-clause-in_turn

@@ -1,4 +1,4 @@
-use Rattle.conf_tool.proofs.Undoing.{obeyed-nothing}
+use Rattle.conf_tool.proofs.Modes.Undo.{obeyed-nothing}
 use Rattle.conf_tool.proofs.run.undo.Undoing.new.Goals as goal
 
 pub returns-clause-unwritten : goal.returns-clause-unwritten

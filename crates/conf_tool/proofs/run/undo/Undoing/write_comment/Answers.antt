@@ -1,7 +1,7 @@
 use Rattle.std.proofs.Common.{[], ◌∷◌, subst}
 use Rattle.dd_file.specs.RewriterState.{BreaksOff}
 use Rattle.conf_tool.specs.Reports.{obeyed_text}
-use Rattle.conf_tool.proofs.Rewriting.{err-by}
+use Rattle.conf_tool.proofs.Modes.Rewrite.{err-by}
 use Rattle.conf_tool.proofs.run.undo.Undoing.write_comment.Goals as goal
 
 pub returns-clause-part : goal.returns-clause-part

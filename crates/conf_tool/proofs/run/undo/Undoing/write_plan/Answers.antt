@@ -1,11 +1,11 @@
 use Rattle.std.proofs.Common.{◌∙◌, sym, subst}
 use Rattle.std.proofs.lemmas.Result.{err_from_is_err_and}
-use Rattle.conf_plan.proofs.Offered.{not_past}
+use Rattle.conf_plan.proofs.Offered.{slice_get-not_past}
 use Rattle.dd_file.specs.RewriterState.{Continues, BreaksOff}
 use Rattle.conf_tool.specs.Reports.{obeyed_text}
-use Rattle.conf_tool.proofs.Faults.{or-false}
-use Rattle.conf_tool.proofs.Rewriting.{ok-by, err-by}
-use Rattle.conf_tool.proofs.Undoing.{no-steps, steps-more, steps-stopped, steps-broken, steps-over}
+use Rattle.conf_tool.proofs.ModeInput.Faults.{or-false}
+use Rattle.conf_tool.proofs.Modes.Rewrite.{ok-by, err-by}
+use Rattle.conf_tool.proofs.Modes.Undo.{no-steps, steps-more, steps-stopped, steps-broken, steps-over}
 use Rattle.conf_tool.proofs.run.undo.Undoing.write_plan.Goals as goal
 use Rattle.conf_tool.proofs.run.undo.Undoing.write_plan.Goals.{in-Some+in_ok-directive+in_ok-write_item, in_default}
 
@@ -33,7 +33,7 @@ loop-place-preserved g c = elim c.match-step.branch [
         ready = w.in_ok-write_item.ensures.stage;
         unfailed = w.in_ok-write_item.ensures.write ∙ or-false _ ∙ so_far.unfailed;
       })
-  | in_default w ↦ not_past c.args.plan.now c.loop-place.place c.len-place-end.result w.in_default.ensures c.len-place-end.ensures.len c.loop-place-test.true
+  | in_default w ↦ slice_get-not_past c.args.plan.now c.loop-place.place c.len-place-end.result w.in_default.ensures c.len-place-end.ensures.len c.loop-place-test.true
 ]
 
 pub returns-in_err-directive-clause-part : goal.returns-in_err-directive-clause-part

@@ -1,6 +1,6 @@
 use Rattle.std.proofs.Common.{◌≡◌}
 use Rattle.dd_file.specs.declared.stage.Stage.TheVariants.{Ready}
-use Rattle.conf_tool.proofs.Undoing.{ItemsWritten, directives}
+use Rattle.conf_tool.proofs.Modes.Undo.{ItemsWritten, directives}
 use Rattle.conf_tool.proofs.run.undo.Undoing.write_plan.Given as goal
 
 -- the steps so far were obeyed and written, and no device failed

@@ -1,4 +1,4 @@
-use Rattle.conf_tool.proofs.Undoing.{obeyed-part}
+use Rattle.conf_tool.proofs.Modes.Undo.{obeyed-part}
 use Rattle.conf_tool.proofs.run.undo.UndoingPartByPart.answer.Goals as goal
 
 pub returns-clause-answered : goal.returns-clause-answered

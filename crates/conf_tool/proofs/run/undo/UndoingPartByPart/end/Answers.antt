@@ -1,7 +1,7 @@
 use Rattle.std.proofs.lemmas.Result.{err_from_is_err_and}
 use Rattle.conf_tool.specs.Answered.{script}
-use Rattle.conf_tool.proofs.Faults.{answer-means}
-use Rattle.conf_tool.proofs.Undoing.{obeyed-fault, obeyed-broken, obeyed-end, obeyed-end-part}
+use Rattle.conf_tool.proofs.ModeInput.Faults.{answer-means}
+use Rattle.conf_tool.proofs.Modes.Undo.{obeyed-fault, obeyed-broken, obeyed-end, obeyed-end_part}
 use Rattle.conf_tool.proofs.run.undo.UndoingPartByPart.end.Goals as goal
 
 pub returns-in-Some-clause-output : goal.returns-in-Some-clause-output
@@ -18,7 +18,7 @@ pub returns-in_err-end-clause-output : goal.returns-in_err-end-clause-output
 returns-in_err-end-clause-output g c =
     let p = err_from_is_err_and c.from_residual-in_err-end.result c.from_residual-in_err-end.ensures.1 in
     rw (p.1, p.2, c.in_default.is) (λ total parts before obeyed.
-    obeyed-end-part _ _ _ _ total parts before _ _ _ obeyed c.in_ok-status.ensures.written c.in_err-end.ensures.part)
+    obeyed-end_part _ _ _ _ total parts before _ _ _ obeyed c.in_ok-status.ensures.written c.in_err-end.ensures.part)
 
 pub returns-clause-output : goal.returns-clause-output
 returns-clause-output g c =

@@ -1,6 +1,6 @@
-use Rattle.conf_tool.proofs.Script.{items_from-next}
-use Rattle.conf_tool.proofs.Undoing.{obeyed-front}
-use Rattle.conf_tool.proofs.WrittenOn.{kept-obeyed}
+use Rattle.conf_tool.proofs.ModeInput.NextAndRest.{items_from-next}
+use Rattle.conf_tool.proofs.Modes.Undo.{obeyed-front}
+use Rattle.conf_tool.proofs.ModeOutput.KeptAnswers.{kept-obeyed}
 use Rattle.conf_tool.proofs.run.undo.UndoingPartByPart.next_held.Goals as goal
 
 pub returns-clause-in_turn : goal.returns-clause-in_turn

@@ -1,0 +1,107 @@
+-- Lists of ids, and the configurations that they describe.
+use Rattle.std.proofs.Common.{◌≡◌, ℕ, Bool, true, false, cond, ◌&&◌, List, ◌++◌, length, refl, sym, ap, subst, ◌∙◌, eq-eqb, eqb-true}
+use Rattle.std.specs.Prelude.{Option, Some, None}
+use Rattle.std.proofs.lemmas.Bool.{and_parts, and_from}
+use Rattle.std.proofs.lemmas.List.{nil_from_length, append-nil}
+use Rattle.quorum_sets.specs.Ids.{Ids, ascending, size, ids_of}
+use Rattle.quorum_sets.proofs.Offered.{has-same_ids, has-ids_of, has-ascending}
+use Rattle.conf_change.specs.Configuration.{Configuration, is_restorable}
+use Rattle.conf_change.specs.ConfState.{ConfStateLists, Lists, Describes, lists_of, names_once, named_by, restored}
+
+-- ---- one more id of a list
+
+-- ---- lists that name a set
+pub ids_of-ascending : (s : Ids) → ids_of (ascending s) ≡ s
+ids_of-ascending s = has-same_ids _ _ (λ q. has-ids_of (ascending s) q ∙ sym (has-ascending s q))
+
+-- the ids of two sets are those of the one where the other has none
+pub union-nobody : (a b : Ids) → size b ≡ 0 → ids_of (ascending a ++ ascending b) ≡ a
+union-nobody a b nobody = ap (λ l. ids_of (ascending a ++ l)) (nil_from_length (ascending b) nobody) ∙ ap ids_of (append-nil (ascending a)) ∙ ids_of-ascending a
+
+pub nobody-union : (a b : Ids) → size a ≡ 0 → ids_of (ascending a ++ ascending b) ≡ b
+nobody-union a b nobody = ap (λ l. ids_of (l ++ ascending b)) (nil_from_length (ascending a) nobody) ∙ ids_of-ascending b
+
+pub Lists-ascending : (s : Ids) → Lists (ascending s) s
+Lists-ascending s = record { same = ids_of-ascending s; once = refl }
+
+pub names_once-from_Lists : (list : List ℕ) (s : Ids) → Lists list s → names_once list ≡ true
+names_once-from_Lists list s l = eq-eqb (length list) (size (ids_of list)) (l.once ∙ ap size (sym l.same))
+
+pub Lists-from_names_once : (list : List ℕ) → names_once list ≡ true → Lists list (ids_of list)
+Lists-from_names_once list e = record { same = refl; once = eqb-true (length list) (size (ids_of list)) e }
+
+-- ---- configurations that are described
+pub Describes-lists_of : (c : Configuration) → Describes (lists_of c) c
+Describes-lists_of c = record {
+  incoming = Lists-ascending c.incoming;
+  outgoing = Lists-ascending c.outgoing;
+  learners = Lists-ascending c.learners;
+  learners_next = Lists-ascending c.learners_next;
+  auto_leave = refl;
+}
+
+-- the one that is described is the one that is named
+pub named_by-from_Describes : (saved : ConfStateLists) (c : Configuration) → Describes saved c → named_by saved ≡ c
+named_by-from_Describes saved c d i = record {
+  incoming = d.incoming.same i;
+  outgoing = d.outgoing.same i;
+  learners = d.learners.same i;
+  learners_next = d.learners_next.same i;
+  auto_leave = d.auto_leave i;
+}
+
+pub Describes-same : (saved : ConfStateLists) (c d : Configuration) → Describes saved c → Describes saved d → c ≡ d
+Describes-same saved c d is_c is_d = sym (named_by-from_Describes saved c is_c) ∙ named_by-from_Describes saved d is_d
+
+-- ---- the configuration to which a saved form is restored
+abbrev all_once : ConfStateLists → Bool
+all_once saved = names_once saved.voters && names_once saved.voters_outgoing && names_once saved.learners && names_once saved.learners_next
+
+all_once-from_Describes : (saved : ConfStateLists) (c : Configuration) → Describes saved c → all_once saved ≡ true
+all_once-from_Describes saved c d =
+    and_from _ (names_once saved.learners_next)
+    (and_from _ (names_once saved.learners)
+    (and_from (names_once saved.voters) (names_once saved.voters_outgoing)
+    (names_once-from_Lists saved.voters c.incoming d.incoming) (names_once-from_Lists saved.voters_outgoing c.outgoing d.outgoing))
+    (names_once-from_Lists saved.learners c.learners d.learners)) (names_once-from_Lists saved.learners_next c.learners_next d.learners_next)
+
+Describes-from_all_once : (saved : ConfStateLists) → all_once saved ≡ true → Describes saved (named_by saved)
+Describes-from_all_once saved e =
+    let four = and_parts (names_once saved.voters && names_once saved.voters_outgoing && names_once saved.learners) (names_once saved.learners_next) e in
+    let three = and_parts (names_once saved.voters && names_once saved.voters_outgoing) (names_once saved.learners) four.0 in
+    let two = and_parts (names_once saved.voters) (names_once saved.voters_outgoing) three.0 in
+    record {
+      incoming = Lists-from_names_once saved.voters two.0;
+      outgoing = Lists-from_names_once saved.voters_outgoing two.1;
+      learners = Lists-from_names_once saved.learners three.1;
+      learners_next = Lists-from_names_once saved.learners_next four.1;
+      auto_leave = refl;
+    }
+
+pub restored-from_Describes : (saved : ConfStateLists) (c : Configuration) → Describes saved c → is_restorable c ≡ true → restored saved ≡ Some c
+restored-from_Describes saved c d ok =
+    (λ i. cond (passes i) (Some (named_by-from_Describes saved c d i)) None)
+  where
+    passes : (all_once saved && is_restorable (named_by saved)) ≡ true
+    passes = and_from _ _ (all_once-from_Describes saved c d) (ap is_restorable (named_by-from_Describes saved c d) ∙ ok)
+
+pub record IsDescribed (saved : ConfStateLists) (c : Configuration) : Type 0 where
+  pub describes : Describes saved c
+  pub restorable : is_restorable c ≡ true
+
+pub IsDescribed-from_restored : (saved : ConfStateLists) (c : Configuration) → restored saved ≡ Some c → IsDescribed saved c
+IsDescribed-from_restored saved c e = of_test (all_once saved && is_restorable (named_by saved)) refl e
+  where
+    of_test : (b : Bool) → (all_once saved && is_restorable (named_by saved)) ≡ b → cond b (Some (named_by saved)) None ≡ Some c → IsDescribed saved c
+    of_test true is e =
+        let parts = and_parts (all_once saved) (is_restorable (named_by saved)) is in
+        let same : named_by saved ≡ c = cc in
+        subst (IsDescribed saved) same (record { describes = Describes-from_all_once saved parts.0; restorable = parts.1 })
+    of_test false is e = cc
+
+pub restored-none : (saved : ConfStateLists) → ((c : Configuration) → Describes saved c → is_restorable c ≡ true → ⊥) → restored saved ≡ None
+restored-none saved none = of_option (restored saved) refl
+  where
+    of_option : (o : Option Configuration) → restored saved ≡ o → restored saved ≡ None
+    of_option None e = e
+    of_option (Some c) e = let is = IsDescribed-from_restored saved c e in absurd (none c is.describes is.restorable)

@@ -1,0 +1,268 @@
+-- A list of changes, made one after another: the configuration, and each id's progress.
+use Rattle.std.proofs.Common.{◌≡◌, ℕ, Bool, true, false, cond, not, ◌&&◌, ◌||◌, ◌==◌, List, [], ◌∷◌, ◌++◌, refl, sym, ap, subst, ◌∙◌, eqb-true, ◌+◌, ◌<◌, length, map, take, get_or}
+use Rattle.std.specs.Prelude.{Option, Some, None, IfSome, is_some}
+use Rattle.std.specs.Ordering.{nat_cmp}
+use Rattle.std.specs.FinMap as finite
+use Rattle.std.proofs.lemmas.Bool.{false≢true, and_parts, not-false}
+use Rattle.std.proofs.lemmas.List.{take_more}
+use Rattle.std.proofs.lemmas.List.Folds.{list_any-append}
+use Rattle.std.specs.Cmp.{nat_eq_equiv}
+use Rattle.quorum_sets.specs.Ids.{Ids, has, is_empty}
+use Rattle.quorum_sets.specs.Rising.{IsRising}
+use Rattle.conf_change.specs.Configuration.{Configuration, is_member, is_joint}
+use Rattle.conf_change.specs.Change.{is_update, is_removal, is_incoming_after, is_learner_after, result_of, removes}
+use Rattle.conf_change.specs.TrackerState.{TrackerState, ProgressMap}
+use Rattle.conf_change.specs.TrackerEdits.{beginning, entry_of, entry_in, left_by, left_by_word, Applies}
+use Rattle.conf_change.specs.Changer.{IsSound, tracker_of}
+use Rattle.conf_change.specs.declared.change.Change.{Change}
+use Rattle.conf_change.specs.declared.change.Kind.{Kind}
+use Rattle.conf_change.specs.declared.change.Kind.TheVariants.{Voter, Learner, Remove, Update}
+use Rattle.conf_change.specs.declared.progress.Progress.{Progress}
+use Rattle.conf_change.proofs.ListsOfChanges.ResultOfEach.{has-incoming_after, has-learners_after, result_of-push, last_word-one, result_of-none}
+use Rattle.conf_change.proofs.Configurations.Validity.{ValidByMember-from_is_valid, has-none_in_empty}
+
+-- ---- one id, by what is true of it
+-- an entry brought in line again is as if it had not been before
+entry_again : (next_index : ℕ) (m' l' m l : Bool) (had : Option Progress) → (is_some had ≡ true → m ≡ true) → entry_of next_index m' l' (entry_of next_index m l had) ≡ entry_of next_index m' l' had
+entry_again next_index false l' m l had h = refl
+entry_again next_index true l' true l None h = refl
+entry_again next_index true l' true l (Some p) h = refl
+entry_again next_index true l' false l None h = refl
+entry_again next_index true l' false l (Some p) h = absurd (false≢true (h refl))
+
+left_same : (removed out : Bool) (had : Option Progress) → left_by_word removed out had ≡ left_by_word (removed || false) out had
+left_same true out had = refl
+left_same false out had = refl
+
+left_nothing : (removed out : Bool) (had : Option Progress) → had ≡ None → left_by_word removed out had ≡ None
+left_nothing true true had e = e
+left_nothing true false had e = refl
+left_nothing false out had e = e
+
+left_out : (removed : Bool) (had : Option Progress) → left_by_word removed true had ≡ had
+left_out true had = refl
+left_out false had = refl
+
+left_removed : (removed : Bool) (had : Option Progress) → left_by_word (removed || true) false had ≡ None
+left_removed true had = refl
+left_removed false had = refl
+
+none_is_some : (o : Option Progress) → o ≡ None → is_some o ≡ true → ⊥
+none_is_some o none e = false≢true (sym (ap is_some none) ∙ e)
+
+or_not : (b : Bool) → (b || not b) ≡ true
+or_not true = refl
+or_not false = refl
+
+-- the last word of one change
+abbrev word_of : Kind → Bool → Bool → Option Kind
+word_of kind named zero = cond (named && not zero && not (is_update kind)) (Some kind) None
+
+abbrev member_after : Option Kind → Bool → Bool → Bool → Bool
+member_after word incoming out learner = is_incoming_after word incoming || out || is_learner_after word out learner
+
+-- one more change: the entry that is brought in line is what the longer list leaves, and who has one left is a member
+record StepAt (next_index : ℕ) (kind : Kind) (named zero incoming out learner removed : Bool) (had : Option Progress) : Type 0 where
+  entry_is :
+      let word = word_of kind named zero in
+      let before = entry_of next_index (incoming || out || learner) learner (left_by_word removed out had) in
+      cond named (entry_of next_index (member_after word incoming out learner) (is_learner_after word out learner) before) before
+      ≡ entry_of next_index (member_after word incoming out learner) (is_learner_after word out learner) (left_by_word (removed || (named && is_removal kind)) out had)
+  member_is : is_some (left_by_word (removed || (named && is_removal kind)) out had) ≡ true → member_after (word_of kind named zero) incoming out learner ≡ true
+
+step_at : (next_index : ℕ) (kind : Kind) (named zero incoming out learner removed : Bool) (had : Option Progress)
+    → (zero ≡ true → had ≡ None) → (is_some (left_by_word removed out had) ≡ true → (incoming || out || learner) ≡ true)
+    → StepAt next_index kind named zero incoming out learner removed had
+step_at next_index kind false zero incoming out learner removed had none here = record {
+  entry_is = ap (entry_of next_index (incoming || out || learner) learner) (left_same removed out had);
+  member_is = λ e. here (ap is_some (left_same removed out had) ∙ e);
+}
+step_at next_index kind true true incoming out learner removed had none here = record {
+  entry_is =
+      entry_again next_index (incoming || out || learner) learner (incoming || out || learner) learner (left_by_word removed out had) here
+      ∙ ap (entry_of next_index (incoming || out || learner) learner)
+      (left_nothing removed out had (none refl) ∙ sym (left_nothing (removed || is_removal kind) out had (none refl)));
+  member_is = λ e. absurd (none_is_some _ (left_nothing (removed || is_removal kind) out had (none refl)) e);
+}
+step_at next_index Voter true false incoming out learner removed had none here = record {
+  entry_is =
+      entry_again next_index true false (incoming || out || learner) learner (left_by_word removed out had) here ∙ ap (entry_of next_index true false) (left_same removed out had);
+  member_is = λ e. refl;
+}
+step_at next_index Learner true false incoming out learner removed had none here = record {
+  entry_is =
+      entry_again next_index (out || not out) (not out) (incoming || out || learner) learner (left_by_word removed out had) here
+      ∙ ap (entry_of next_index (out || not out) (not out)) (left_same removed out had);
+  member_is = λ e. or_not out;
+}
+step_at next_index Remove true false incoming true learner removed had none here = record {
+  entry_is =
+      entry_again next_index true false (incoming || true || learner) learner (left_by_word removed true had) here
+      ∙ ap (entry_of next_index true false) (left_out removed had ∙ sym (left_out (removed || true) had));
+  member_is = λ e. refl;
+}
+step_at next_index Remove true false incoming false learner removed had none here = record {
+  entry_is = refl;
+  member_is = λ e. absurd (none_is_some _ (left_removed removed had) e);
+}
+step_at next_index Update true false incoming out learner removed had none here = record {
+  entry_is =
+      entry_again next_index (incoming || out || learner) learner (incoming || out || learner) learner (left_by_word removed out had) here
+      ∙ ap (entry_of next_index (incoming || out || learner) learner) (left_same removed out had);
+  member_is = λ e. here (ap is_some (left_same removed out had) ∙ e);
+}
+
+-- ---- a tracker
+-- each id has what it is to have
+abbrev HasDueEntries : ℕ → TrackerState → Type 0
+HasDueEntries next_index t = (id : ℕ) → finite.get t.progress id ≡ entry_in next_index t.config (finite.get t.progress id) id
+
+-- the tracker after the changes so far
+pub record AppliedSoFar (next_index : ℕ) (changes : List Change) (before after : TrackerState) : Type 0 where
+  pub applied : Applies next_index changes before after
+  pub members : (q : ℕ) → is_some (left_by before changes q) ≡ true → is_member after.config q ≡ true
+
+or_false : (a b : Bool) → (a || (b || false)) ≡ (a || b)
+or_false true b = refl
+or_false false true = refl
+or_false false false = refl
+
+removes-push : (xs : List Change) (x : Change) (q : ℕ) → removes (xs ++ x ∷ []) q ≡ (removes xs q || ((x.id == q) && is_removal x.kind))
+removes-push xs x q =
+    list_any-append (λ change. (change.id == q) && is_removal change.kind) xs (x ∷ []) ∙ or_false (removes xs q) ((x.id == q) && is_removal x.kind)
+
+applied_none : (next_index : ℕ) (t : TrackerState) → HasDueEntries next_index t → AppliedSoFar next_index [] t t
+applied_none next_index t in_line = record {
+  applied = record { configuration = result_of-none t.config; floor = refl; entries = in_line };
+  members = λ q e. sym (is_some-entry (is_member t.config q) _) ∙ sym (ap is_some (in_line q)) ∙ e;
+}
+  where
+    is_some-entry : (b : Bool) (p : Progress) → is_some (cond b (Some p) None) ≡ b
+    is_some-entry true p = refl
+    is_some-entry false p = refl
+
+-- the id has what it is to have in a configuration, and no other entry is altered
+abbrev Follows : ℕ → ℕ → Configuration → ProgressMap → ProgressMap → Type 0
+Follows next_index id c before after =
+    (q : ℕ) → finite.get after q ≡ cond (q == id) (entry_in next_index c (finite.get before id) id) (finite.get before q)
+
+at_same : (f : ℕ → Option Progress) (q id : ℕ) (rest : Option Progress) (b : Bool) → (q == id) ≡ b → cond b (f id) rest ≡ cond b (f q) rest
+at_same f q id rest true e = ap f (sym (eqb-true q id e))
+at_same f q id rest false e = refl
+
+-- one more change, at one id of a tracker
+more_at : (next_index : ℕ) (xs : List Change) (x : Change) (before now after : TrackerState) (q : ℕ)
+    → finite.get before.progress 0 ≡ None → AppliedSoFar next_index xs before now
+    → after.config ≡ result_of now.config (x ∷ []) → Follows next_index x.id after.config now.progress after.progress
+    → (finite.get after.progress q ≡ entry_in next_index after.config (left_by before (xs ++ x ∷ []) q) q)
+    × (is_some (left_by before (xs ++ x ∷ []) q) ≡ true → is_member after.config q ≡ true)
+more_at next_index xs x before now after q none so_far made follows =
+    let incoming = has now.config.incoming q in
+    let out = has before.config.outgoing q in
+    let learner = has now.config.learners q in
+    let had = finite.get before.progress q in
+    let word = word_of x.kind (x.id == q) (q == 0) in
+    let goes_out : has now.config.outgoing q ≡ out = ap (λ c. has c.outgoing q) so_far.applied.configuration in
+    let member_now : is_member now.config q ≡ (incoming || out || learner) = ap (λ b. incoming || b || learner) goes_out in
+    let was : finite.get now.progress q ≡ entry_of next_index (incoming || out || learner) learner (left_by before xs q) =
+    so_far.applied.entries q ∙ ap (λ b. entry_of next_index b learner (left_by before xs q)) member_now in
+    let incoming_then : has (result_of now.config (x ∷ [])).incoming q ≡ is_incoming_after word incoming =
+    has-incoming_after now.config (x ∷ []) q ∙ ap (λ o. is_incoming_after o incoming) (last_word-one x q) in
+    let learner_made : has (result_of now.config (x ∷ [])).learners q ≡ is_learner_after word out learner =
+    has-learners_after now.config (x ∷ []) q ∙ (λ i. is_learner_after (last_word-one x q i) (goes_out i) learner) in
+    let learner_then : has after.config.learners q ≡ is_learner_after word out learner = ap (λ c. has c.learners q) made ∙ learner_made in
+    let member_then : is_member after.config q ≡ member_after word incoming out learner =
+    ap (λ c. is_member c q) made ∙ (λ i. incoming_then i || goes_out i || learner_made i) in
+    let removed = removes-push xs x q in
+    let step = step_at next_index x.kind (x.id == q) (q == 0) incoming out learner (removes xs q) had
+    (λ zero. ap (finite.get before.progress) (eqb-true q 0 zero) ∙ none) (λ e. sym member_now ∙ so_far.members q e) in (
+      follows q
+          ∙ at_same (λ y. entry_in next_index after.config (finite.get now.progress y) y) q x.id (finite.get now.progress q) (q == x.id) refl
+          ∙ (λ i. cond (nat_eq_equiv.symm q x.id i) (entry_of next_index (member_then i) (learner_then i) (was i)) (was i))
+          ∙ step.entry_is
+          ∙ sym (λ i. entry_of next_index (member_then i) (learner_then i) (left_by_word (removed i) out had)),
+      λ e. member_then ∙ step.member_is (sym (λ i. is_some (left_by_word (removed i) out had)) ∙ e),
+    )
+
+applied_more : (next_index : ℕ) (xs : List Change) (x : Change) (before now after : TrackerState)
+    → finite.get before.progress 0 ≡ None → AppliedSoFar next_index xs before now
+    → after.config ≡ result_of now.config (x ∷ []) → after.floor ≡ now.floor → Follows next_index x.id after.config now.progress after.progress
+    → AppliedSoFar next_index (xs ++ x ∷ []) before after
+applied_more next_index xs x before now after none so_far made floor follows = record {
+  applied = record {
+    configuration = made ∙ ap (λ c. result_of c (x ∷ [])) so_far.applied.configuration ∙ result_of-push before.config xs x;
+    floor = floor ∙ so_far.applied.floor;
+    entries = λ q. (more_at next_index xs x before now after q none so_far made follows).0;
+  };
+  members = λ q. (more_at next_index xs x before now after q none so_far made follows).1;
+}
+
+-- ---- from a tracker that is sound
+-- who is a member has progress with its mark, and nobody else any
+entry_in-due : (next_index : ℕ) (had : Option Progress) (member learner : Bool) → is_some had ≡ member → IfSome had (λ p. p.learner ≡ learner) → had ≡ entry_of next_index member learner had
+entry_in-due next_index None true learner e marked = absurd (false≢true e)
+entry_in-due next_index None false learner e marked = refl
+entry_in-due next_index (Some p) true learner e marked = λ i. Some (record { matched = p.matched; next = p.next; learner = marked i })
+entry_in-due next_index (Some p) false learner e marked = absurd (false≢true (sym e))
+
+-- with other outgoing voters the members are the same
+abbrev pub HasSameMembers : TrackerState → Ids → Bool → Type 0
+HasSameMembers t outgoing auto_leave = (q : ℕ) → is_member (beginning t outgoing auto_leave).config q ≡ is_member t.config q
+
+-- the incoming voters may be the outgoing ones too, where there are none
+pub HasSameMembers-entering : (t : TrackerState) (outgoing : Ids) (auto_leave : Bool) → outgoing ≡ t.config.incoming → is_joint t.config ≡ false → HasSameMembers t outgoing auto_leave
+HasSameMembers-entering t outgoing auto_leave same single q =
+    let none : has t.config.outgoing q ≡ false = has-none_in_empty t.config.outgoing (not-false (is_empty t.config.outgoing) single) q in
+    (λ i. has t.config.incoming q || has (same i) q || has t.config.learners q) ∙ twice (has t.config.incoming q) (has t.config.learners q)
+    ∙ sym (λ i. has t.config.incoming q || none i || has t.config.learners q)
+  where
+    twice : (a b : Bool) → (a || a || b) ≡ (a || false || b)
+    twice true b = refl
+    twice false b = refl
+
+HasDueEntries-beginning : (next_index : ℕ) (t : TrackerState) (outgoing : Ids) (auto_leave : Bool) → IsSound t → HasSameMembers t outgoing auto_leave → HasDueEntries next_index (beginning t outgoing auto_leave)
+HasDueEntries-beginning next_index t outgoing auto_leave sound members q =
+    entry_in-due next_index (finite.get t.progress q) _ (has t.config.learners q) (sound.of_members q ∙ sym (members q)) (sound.marked q)
+
+-- what is made of the first changes: the configuration, and the list of the members
+pub record MadeSoFar (next_index : ℕ) (t : TrackerState) (outgoing : Ids) (auto_leave : Bool) (changes : List Change) (c : Configuration) (members : List (ℕ × Progress)) : Type 0 where
+  pub rising : IsRising (map (λ m. m.0) members)
+  pub so_far : AppliedSoFar next_index changes (beginning t outgoing auto_leave) (tracker_of t.floor c (finite.from_entries {R = nat_cmp} members))
+
+pub MadeSoFar-none : (next_index : ℕ) (t : TrackerState) (outgoing : Ids) (auto_leave : Bool) (c : Configuration) (members : List (ℕ × Progress))
+    → IsSound t → HasSameMembers t outgoing auto_leave → IsRising (map (λ m. m.0) members)
+    → c ≡ (beginning t outgoing auto_leave).config → finite.from_entries {R = nat_cmp} members ≡ t.progress
+    → MadeSoFar next_index t outgoing auto_leave [] c members
+MadeSoFar-none next_index t outgoing auto_leave c members sound same rising same_config same_progress =
+    let start = beginning t outgoing auto_leave in
+    let P : TrackerState → Type 0 = AppliedSoFar next_index [] start in
+    record {
+      rising = rising;
+      so_far = subst P (λ i. tracker_of t.floor (sym same_config i) (sym same_progress i)) (applied_none next_index start (HasDueEntries-beginning next_index t outgoing auto_leave sound same));
+    }
+
+no_progress_of_zero : (t : TrackerState) → IsSound t → finite.get t.progress 0 ≡ None
+no_progress_of_zero t sound =
+    let valid = ValidByMember-from_is_valid t.config (and_parts _ _ sound.restorable).0 in
+    let none : is_member t.config 0 ≡ false = (λ i. valid.zero_incoming i || valid.zero_outgoing i || valid.zero_learners i) in
+    nothing (finite.get t.progress 0) (sound.of_members 0 ∙ none)
+  where
+    nothing : (o : Option Progress) → is_some o ≡ false → o ≡ None
+    nothing None e = refl
+    nothing (Some p) e = absurd (false≢true (sym e))
+
+-- one more change
+pub MadeSoFar-one_more : (next_index : ℕ) (t : TrackerState) (outgoing : Ids) (auto_leave : Bool) (changes : List Change) (k : ℕ) (d : Change)
+    (now after : Configuration) (members members' : List (ℕ × Progress))
+    → IsSound t → k < length changes → MadeSoFar next_index t outgoing auto_leave (take k changes) now members
+    → after ≡ result_of now (get_or changes k d ∷ []) → IsRising (map (λ m. m.0) members')
+    → Follows next_index (get_or changes k d).id after (finite.from_entries {R = nat_cmp} members) (finite.from_entries {R = nat_cmp} members')
+    → MadeSoFar next_index t outgoing auto_leave (take (k + 1) changes) after members'
+MadeSoFar-one_more next_index t outgoing auto_leave changes k d now after members members' sound within made_so_far is rising follows =
+    rw (take_more changes k d within) (record {
+      rising = rising;
+      so_far =
+          applied_more next_index (take k changes) (get_or changes k d) (beginning t outgoing auto_leave)
+          (tracker_of t.floor now (finite.from_entries {R = nat_cmp} members)) (tracker_of t.floor after (finite.from_entries {R = nat_cmp} members'))
+          (no_progress_of_zero t sound) made_so_far.so_far is refl follows;
+    })

@@ -1,0 +1,6 @@
+-- The members and their progress, as a map whose entries rise.
+
+pub mod Entries
+pub mod OfEachId
+pub mod Picked
+pub mod Acknowledged

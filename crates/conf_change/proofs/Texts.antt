@@ -1,0 +1,5 @@
+-- The texts of changes and of saved configurations, read and written.
+
+pub mod ChangeTokens
+pub mod ConfStateLine
+pub mod AppendedParts

@@ -1,0 +1,279 @@
+-- The function that reads the line of a saved configuration, against the relation.
+use Rattle.std.proofs.Common.{◌≡◌, ◌≢◌, ℕ, ◌+◌, ◌<◌, ◌≤◌, ◌^◌, Bool, true, false, eqb, List, [], ◌∷◌, ◌++◌, length, take, drop, get_or, map, Option, Some, None, refl, sym, ap, ◌∙◌, subst, arith}
+use Rattle.std.specs.Prelude.{codes, decimal, option_map, option_and_then, bytes_eq}
+use Rattle.std.specs.List.{All, AllZip, join_with_byte, slice_split, position_or_len}
+use Rattle.std.specs.Str.Parse.{AllDigits}
+use Rattle.std.proofs.lemmas.Bool.{ne_eqb, lt-ltb}
+use Rattle.std.proofs.lemmas.List.{append_assoc, take_at, drop_at, get_or_at, get_or_append_left, take-append-drop, length-append, take_all, length-drop, drop-drop}
+use Rattle.std.proofs.lemmas.List.Elements.{All-nil, All-append, All-cons, All-head, All-tail, All-from_get_or}
+use Rattle.std.proofs.lemmas.List.Splits.{slice_split_none, slice_split_at, slice_split_first, join_with_byte-slice_split}
+use Rattle.std.proofs.lemmas.List.Sums.{position_or_len_is, fails_before_first}
+use Rattle.std.proofs.lemmas.Option.{cond_some}
+use Rattle.std.proofs.lemmas.Fmt.{decimal_is_IsNumeral}
+use Rattle.std.proofs.lemmas.Str.Parse.{digit_at}
+use Rattle.std.proofs.lemmas.Slice.Eq.{bytes_eq-Decides}
+use Rattle.ascii_text.specs.WhiteSpace.{trimmed, without_leading_space}
+use Rattle.ascii_text.specs.Number.{SpellsNumber, number_in}
+use Rattle.conf_change.specs.Text.{spaced_numbers}
+use Rattle.conf_change.specs.ConfState.{ConfStateLists}
+use Rattle.conf_change.specs.ConfStateLine.{truth_text, line_text, conf_state_text, SpellsNumbers, StandsForConfState, after_prefix, numbers_in_pieces, is_space, numbers_in, is_close, field_in, flag_in, conf_state_in}
+use Rattle.ascii_text.proofs.Offered.{without_trailing_space-other, number_in-ok, SpellsNumber-from_some}
+
+-- a byte that is no digit stands in no number
+no_byte : (digits : List ℕ) (byte : ℕ) → AllDigits 10 digits → ((b : ℕ) → 48 ≤ b → b ≤ 57 → b ≢ byte) → All (λ b. eqb b byte ≡ false) digits
+no_byte digits byte h differs = All-from_get_or (λ b. eqb b byte ≡ false) digits 0 (λ i within. let range = digit_at digits i h within in ne_eqb (get_or digits i 0) byte (differs (get_or digits i 0) range.0 range.1))
+
+no_space : (piece : List ℕ) (number : ℕ) → SpellsNumber piece number → All (λ b. is_space b ≡ false) piece
+no_space piece number h = no_byte piece 32 h.numeral.1 (λ b low high same. omega arith)
+
+no_close : (piece : List ℕ) (number : ℕ) → SpellsNumber piece number → All (λ b. is_close b ≡ false) piece
+no_close piece number h = no_byte piece 93 h.numeral.1 (λ b low high same. omega arith)
+
+no_close-join : (pieces : List (List ℕ)) (numbers : List ℕ) → AllZip SpellsNumber pieces numbers → All (λ b. is_close b ≡ false) (join_with_byte 32 pieces)
+no_close-join [] numbers h = All-nil (λ b. is_close b ≡ false)
+no_close-join (piece ∷ pieces) [] h = absurd h
+no_close-join (piece ∷ []) (number ∷ numbers) h = no_close piece number h.0
+no_close-join (piece ∷ next ∷ pieces) (number ∷ numbers) h =
+    All-append (λ b. is_close b ≡ false) piece (32 ∷ join_with_byte 32 (next ∷ pieces)) (no_close piece number h.0)
+    (All-cons (λ b. is_close b ≡ false) 32 (join_with_byte 32 (next ∷ pieces)) refl (no_close-join (next ∷ pieces) numbers h.1))
+
+-- ---- numbers with one space between
+slice_split-join : (piece : List ℕ) (pieces : List (List ℕ)) (numbers : List ℕ) → AllZip SpellsNumber (piece ∷ pieces) numbers → slice_split is_space (join_with_byte 32 (piece ∷ pieces)) ≡ piece ∷ pieces
+slice_split-join piece pieces [] h = absurd h
+slice_split-join piece [] (number ∷ numbers) h = slice_split_none is_space piece (no_space piece number h.0)
+slice_split-join piece (next ∷ pieces) (number ∷ numbers) h =
+    slice_split_at is_space piece 32 (join_with_byte 32 (next ∷ pieces)) (no_space piece number h.0) refl ∙ ap (λ ps. piece ∷ ps) (slice_split-join next pieces numbers h.1)
+
+length-join : (piece : List ℕ) (pieces : List (List ℕ)) → 0 < length piece → 0 < length (join_with_byte 32 (piece ∷ pieces))
+length-join piece [] some = some
+length-join piece (next ∷ pieces) some = omega (arith, length-append piece (32 ∷ join_with_byte 32 (next ∷ pieces)))
+
+numbers_in_pieces-ok : (pieces : List (List ℕ)) (numbers : List ℕ) → AllZip SpellsNumber pieces numbers → numbers_in_pieces pieces ≡ Some numbers
+numbers_in_pieces-ok [] [] h = refl
+numbers_in_pieces-ok [] (number ∷ numbers) h = absurd h
+numbers_in_pieces-ok (piece ∷ pieces) [] h = absurd h
+numbers_in_pieces-ok (piece ∷ pieces) (number ∷ numbers) h = rw (number_in-ok piece number h.0, numbers_in_pieces-ok pieces numbers h.1) refl
+
+AllZip-from_some : (pieces : List (List ℕ)) (numbers : List ℕ) → numbers_in_pieces pieces ≡ Some numbers → AllZip SpellsNumber pieces numbers
+AllZip-from_some [] [] e = tt
+AllZip-from_some [] (number ∷ numbers) e = absurd cc
+AllZip-from_some (piece ∷ pieces) all e = go (number_in piece) (numbers_in_pieces pieces) refl refl (AllZip-from_some pieces) where
+  go : (first : Option ℕ) (more : Option (List ℕ)) → number_in piece ≡ first → numbers_in_pieces pieces ≡ more → ((numbers : List ℕ) → numbers_in_pieces pieces ≡ Some numbers → AllZip SpellsNumber pieces numbers) → AllZip SpellsNumber (piece ∷ pieces) all
+  go None more is_first is_more later = let f = rw is_first at e in absurd cc
+  go (Some number) None is_first is_more later = let f = rw (is_first, is_more) at e in absurd cc
+  go (Some number) (Some numbers) is_first is_more later =
+      let f = rw (is_first, is_more) at e in
+      let same : all ≡ number ∷ numbers = cc in
+      rw same (SpellsNumber-from_some piece number is_first, later numbers is_more)
+
+numbers_in-not_empty : (text : List ℕ) → 0 < length text → numbers_in text ≡ numbers_in_pieces (slice_split is_space text)
+numbers_in-not_empty text some = rw (lt-ltb 0 (length text) some) refl
+
+numbers_in-ok : (text : List ℕ) (numbers : List ℕ) → SpellsNumbers text numbers → numbers_in text ≡ Some numbers
+numbers_in-ok text numbers h = go h.pieces numbers h.spaced h.spelled where
+  go : (pieces : List (List ℕ)) (numbers : List ℕ) → text ≡ join_with_byte 32 pieces → AllZip SpellsNumber pieces numbers → numbers_in text ≡ Some numbers
+  go [] [] is spelled = ap numbers_in is
+  go [] (number ∷ numbers) is spelled = absurd spelled
+  go (piece ∷ pieces) [] is spelled = absurd spelled
+  go (piece ∷ pieces) (number ∷ numbers) is spelled =
+      ap numbers_in is ∙ numbers_in-not_empty (join_with_byte 32 (piece ∷ pieces)) (length-join piece pieces spelled.0.numeral.0)
+      ∙ ap numbers_in_pieces (slice_split-join piece pieces (number ∷ numbers) spelled) ∙ numbers_in_pieces-ok (piece ∷ pieces) (number ∷ numbers) spelled
+
+SpellsNumbers-from_some : (text : List ℕ) (numbers : List ℕ) → numbers_in text ≡ Some numbers → SpellsNumbers text numbers
+SpellsNumbers-from_some [] numbers e = let same : numbers ≡ [] = cc in rw same (record { pieces = []; spaced = refl; spelled = tt })
+SpellsNumbers-from_some (b ∷ bs) numbers e = record {
+  pieces = slice_split is_space (b ∷ bs);
+  spaced = sym (join_with_byte-slice_split 32 (b ∷ bs));
+  spelled = AllZip-from_some (slice_split is_space (b ∷ bs)) numbers (sym (numbers_in-not_empty (b ∷ bs) (omega arith)) ∙ e);
+}
+
+spelled-decimal : (numbers : List ℕ) → All (λ n. n < 2 ^ 64) numbers → AllZip SpellsNumber (map decimal numbers) numbers
+spelled-decimal [] h = tt
+spelled-decimal (n ∷ ns) h =
+    let small = All-head (λ m. m < 2 ^ 64) n ns h in
+    let printed = decimal_is_IsNumeral n small in
+    (record { numeral = printed.0; value = printed.1; in_range = small }, spelled-decimal ns (All-tail (λ m. m < 2 ^ 64) n ns h))
+
+pub SpellsNumbers-spaced : (numbers : List ℕ) → All (λ n. n < 2 ^ 64) numbers → SpellsNumbers (spaced_numbers numbers) numbers
+SpellsNumbers-spaced numbers h = record { pieces = map decimal numbers; spaced = refl; spelled = spelled-decimal numbers h }
+
+-- ---- one field
+after_prefix-append : (prefix body : List ℕ) → after_prefix prefix (prefix ++ body) ≡ Some body
+after_prefix-append prefix body =
+    rw (take_at prefix body (length prefix) refl, drop_at prefix body (length prefix) refl, (bytes_eq-Decides prefix prefix).1 refl) refl
+
+append-after_prefix : (prefix text body : List ℕ) → after_prefix prefix text ≡ Some body → text ≡ prefix ++ body
+append-after_prefix prefix text body e =
+    let n = length prefix in
+    let found = cond_some (bytes_eq (take n text) prefix) (drop n text) body e in
+    let front = (bytes_eq-Decides (take n text) prefix).0 found.0 in
+    sym (take-append-drop n text) ∙ rw (front, found.1) refl
+
+position_or_len-close : (inside rest : List ℕ) → All (λ b. is_close b ≡ false) inside → position_or_len is_close (inside ++ 93 ∷ rest) ≡ length inside
+position_or_len-close inside rest none =
+    position_or_len_is is_close (inside ++ 93 ∷ rest) (length inside) 0 (omega (arith, length-append inside (93 ∷ rest)))
+    (λ k within. ap is_close (get_or_append_left inside (93 ∷ rest) 0 k within) ∙ none k 0 within)
+    (λ _. ap is_close (get_or_at inside 93 rest 0 (length inside) refl))
+
+field_in-ok : (prefix inside rest : List ℕ) (numbers : List ℕ) → SpellsNumbers inside numbers → field_in prefix (prefix ++ (inside ++ 93 ∷ rest)) ≡ Some (numbers, 93 ∷ rest)
+field_in-ok prefix inside rest numbers h =
+    let none : All (λ b. is_close b ≡ false) inside = rw h.spaced (no_close-join h.pieces numbers h.spelled) in
+    rw (after_prefix-append prefix (inside ++ 93 ∷ rest))
+    (rw (position_or_len-close inside rest none, take_at inside (93 ∷ rest) (length inside) refl, drop_at inside (93 ∷ rest) (length inside) refl, numbers_in-ok inside numbers h) refl)
+
+-- the first step of two gave something
+some_from_then : {A B : Type 0} (found : Option A) (more : A → Option B) (y : B) → option_and_then more found ≡ Some y → (x : A) × (found ≡ Some x) × (more x ≡ Some y)
+some_from_then None more y e = absurd cc
+some_from_then (Some x) more y e = (x, refl, e)
+
+some_from_map : {A B : Type 0} (found : Option A) (f : A → B) (y : B) → option_map f found ≡ Some y → (x : A) × (found ≡ Some x) × (Some (f x) ≡ Some y)
+some_from_map None f y e = absurd cc
+some_from_map (Some x) f y e = (x, refl, e)
+
+some_injective : {A : Type 0} (x y : A) → Some x ≡ Some y → x ≡ y
+some_injective x y e = cc
+
+record Field (prefix text numbers rest : List ℕ) : Type 0 where
+  inside : List ℕ
+  whole : text ≡ prefix ++ (inside ++ rest)
+  spelled : SpellsNumbers inside numbers
+
+Field-from_some : (prefix text numbers rest : List ℕ) → field_in prefix text ≡ Some (numbers, rest) → Field prefix text numbers rest
+Field-from_some prefix text numbers rest e =
+    let n : List ℕ → ℕ = λ body. position_or_len is_close body in
+    let front = some_from_then (after_prefix prefix text) (λ body. option_map (λ (ns : List ℕ). (ns, drop (n body) body)) (numbers_in (take (n body) body))) (numbers, rest) e in
+    let body = front.0 in
+    let read = some_from_map (numbers_in (take (n body) body)) (λ (ns : List ℕ). (ns, drop (n body) body)) (numbers, rest) front.2 in
+    let pair = some_injective (read.0, drop (n body) body) (numbers, rest) read.2 in
+    let same_numbers : read.0 ≡ numbers = ap (λ (p : List ℕ × List ℕ). p.0) pair in
+    let same_rest : drop (n body) body ≡ rest = ap (λ (p : List ℕ × List ℕ). p.1) pair in
+    record {
+      inside = take (n body) body;
+      whole = append-after_prefix prefix text body front.1 ∙ ap (λ b. prefix ++ b) (sym (take-append-drop (n body) body) ∙ ap (λ r. take (n body) body ++ r) same_rest);
+      spelled = SpellsNumbers-from_some (take (n body) body) numbers (read.1 ∙ ap (λ ns. Some ns) same_numbers);
+    }
+
+-- ---- the flag
+flag_in-text : (flag : Bool) → flag_in (codes "] AutoLeave:" ++ truth_text flag) ≡ Some flag
+flag_in-text true = refl
+flag_in-text false = refl
+
+text-flag_in : (text : List ℕ) (flag : Bool) → flag_in text ≡ Some flag → text ≡ codes "] AutoLeave:" ++ truth_text flag
+text-flag_in text flag e = go (bytes_eq text (codes "] AutoLeave:true")) (bytes_eq text (codes "] AutoLeave:false")) refl refl where
+  go : (t u : Bool) → bytes_eq text (codes "] AutoLeave:true") ≡ t → bytes_eq text (codes "] AutoLeave:false") ≡ u → text ≡ codes "] AutoLeave:" ++ truth_text flag
+  go true u first second = let f = rw first at e in let same : flag ≡ true = cc in rw same ((bytes_eq-Decides text (codes "] AutoLeave:true")).0 first)
+  go false true first second = let f = rw (first, second) at e in let same : flag ≡ false = cc in rw same ((bytes_eq-Decides text (codes "] AutoLeave:false")).0 second)
+  go false false first second = let f = rw (first, second) at e in absurd cc
+
+-- ---- the line
+-- the line, part by part from its end
+abbrev line_of : List ℕ → List ℕ → List ℕ → List ℕ → Bool → List ℕ
+line_of a b c d flag =
+    codes "Voters:[" ++ (a ++ (codes "] VotersOutgoing:[" ++ (b ++ (codes "] Learners:[" ++ (c ++ (codes "] LearnersNext:[" ++ (d ++ (codes "] AutoLeave:" ++ truth_text flag))))))))
+
+line_text-parts : (a b c d : List ℕ) (flag : Bool) → line_text a b c d flag ≡ line_of a b c d flag
+line_text-parts a b c d flag = simp append_assoc
+
+pub conf_state_in-ok : (text : List ℕ) (saved : ConfStateLists) → StandsForConfState text saved → conf_state_in text ≡ Some saved
+conf_state_in-ok text saved h =
+    rw (h.line ∙ line_text-parts h.voters h.voters_outgoing h.learners h.learners_next saved.auto_leave)
+    (rw (field_in-ok (codes "Voters:[") h.voters _ saved.voters h.spells_voters)
+    (rw (field_in-ok (codes "] VotersOutgoing:[") h.voters_outgoing _ saved.voters_outgoing h.spells_voters_outgoing)
+    (rw (field_in-ok (codes "] Learners:[") h.learners _ saved.learners h.spells_learners)
+    (rw (field_in-ok (codes "] LearnersNext:[") h.learners_next _ saved.learners_next h.spells_learners_next)
+    (rw (flag_in-text saved.auto_leave) refl)))))
+
+joined : (text a after_a b after_b c after_c d after_d : List ℕ) (flag : Bool)
+    → text ≡ codes "Voters:[" ++ (a ++ after_a) → after_a ≡ codes "] VotersOutgoing:[" ++ (b ++ after_b) → after_b ≡ codes "] Learners:[" ++ (c ++ after_c)
+    → after_c ≡ codes "] LearnersNext:[" ++ (d ++ after_d) → after_d ≡ codes "] AutoLeave:" ++ truth_text flag → text ≡ line_text a b c d flag
+joined text a after_a b after_b c after_c d after_d flag is_text is_a is_b is_c is_d = is_text ∙ rw (is_a, is_b, is_c, is_d) (sym (line_text-parts a b c d flag))
+
+pub StandsForConfState-from_some : (text : List ℕ) (saved : ConfStateLists) → conf_state_in text ≡ Some saved → StandsForConfState text saved
+StandsForConfState-from_some text saved e =
+    let first = some_from_then (field_in (codes "Voters:[") (trimmed text)) _ saved e in
+    let second = some_from_then (field_in (codes "] VotersOutgoing:[") first.0.1) _ saved first.2 in
+    let third = some_from_then (field_in (codes "] Learners:[") second.0.1) _ saved second.2 in
+    let fourth = some_from_then (field_in (codes "] LearnersNext:[") third.0.1) _ saved third.2 in
+    let last = some_from_then (flag_in fourth.0.1) _ saved fourth.2 in
+    let voters = Field-from_some (codes "Voters:[") (trimmed text) first.0.0 first.0.1 first.1 in
+    let voters_outgoing = Field-from_some (codes "] VotersOutgoing:[") first.0.1 second.0.0 second.0.1 second.1 in
+    let learners = Field-from_some (codes "] Learners:[") second.0.1 third.0.0 third.0.1 third.1 in
+    let learners_next = Field-from_some (codes "] LearnersNext:[") third.0.1 fourth.0.0 fourth.0.1 fourth.1 in
+    let flag = text-flag_in fourth.0.1 last.0 last.1 in
+    let lists : ConfStateLists = record { voters = first.0.0; voters_outgoing = second.0.0; learners = third.0.0; learners_next = fourth.0.0; auto_leave = last.0 } in
+    let stands : StandsForConfState text lists = record {
+      voters = voters.inside;
+      voters_outgoing = voters_outgoing.inside;
+      learners = learners.inside;
+      learners_next = learners_next.inside;
+      line = joined (trimmed text) voters.inside first.0.1 voters_outgoing.inside second.0.1 learners.inside third.0.1 learners_next.inside fourth.0.1 last.0 voters.whole voters_outgoing.whole learners.whole learners_next.whole flag;
+      spells_voters = voters.spelled;
+      spells_voters_outgoing = voters_outgoing.spelled;
+      spells_learners = learners.spelled;
+      spells_learners_next = learners_next.spelled;
+    } in
+    subst (StandsForConfState text) (some_injective lists saved last.2) stands
+
+-- ---- the printed line
+trimmed-from_first : (text more front : List ℕ) → text ≡ 86 ∷ more → text ≡ front ++ 101 ∷ [] → trimmed text ≡ text
+trimmed-from_first text more front first last =
+    ap without_leading_space (sym (without_trailing_space-other 101 front text last refl) ∙ first) ∙ sym first
+
+-- the line but for the truth value
+abbrev line_start : List ℕ → List ℕ → List ℕ → List ℕ → List ℕ
+line_start a b c d = codes "Voters:[" ++ a ++ codes "] VotersOutgoing:[" ++ b ++ codes "] Learners:[" ++ c ++ codes "] LearnersNext:[" ++ d ++ codes "] AutoLeave:"
+
+trimmed-line_text : (a b c d : List ℕ) (flag : Bool) → trimmed (line_text a b c d flag) ≡ line_text a b c d flag
+trimmed-line_text a b c d true =
+    trimmed-from_first (line_text a b c d true) _ (line_start a b c d ++ codes "tru") (line_text-parts a b c d true) (sym (append_assoc (line_start a b c d) (codes "tru") (101 ∷ [])))
+trimmed-line_text a b c d false =
+    trimmed-from_first (line_text a b c d false) _ (line_start a b c d ++ codes "fals") (line_text-parts a b c d false) (sym (append_assoc (line_start a b c d) (codes "fals") (101 ∷ [])))
+
+pub StandsForConfState-printed : (saved : ConfStateLists) → SpellsNumbers (spaced_numbers saved.voters) saved.voters → SpellsNumbers (spaced_numbers saved.voters_outgoing) saved.voters_outgoing → SpellsNumbers (spaced_numbers saved.learners) saved.learners → SpellsNumbers (spaced_numbers saved.learners_next) saved.learners_next
+    → StandsForConfState (conf_state_text saved) saved
+StandsForConfState-printed saved voters voters_outgoing learners learners_next = record {
+  voters = spaced_numbers saved.voters;
+  voters_outgoing = spaced_numbers saved.voters_outgoing;
+  learners = spaced_numbers saved.learners;
+  learners_next = spaced_numbers saved.learners_next;
+  line = trimmed-line_text (spaced_numbers saved.voters) (spaced_numbers saved.voters_outgoing) (spaced_numbers saved.learners) (spaced_numbers saved.learners_next) saved.auto_leave;
+  spells_voters = voters;
+  spells_voters_outgoing = voters_outgoing;
+  spells_learners = learners;
+  spells_learners_next = learners_next;
+}
+
+line_grouped : (old p a q b r c s d t f : List ℕ) → old ++ (p ++ a) ++ (q ++ b) ++ (r ++ c) ++ (s ++ d) ++ t ++ f ≡ old ++ (p ++ a ++ q ++ b ++ r ++ c ++ s ++ d ++ t ++ f)
+line_grouped old p a q b r c s d t f = simp append_assoc
+
+pub conf_state_text-appended : (old t1 t2 t3 t4 t5 t6 voters voters_outgoing learners learners_next flag : List ℕ) (saved : ConfStateLists)
+    → voters ≡ saved.voters → voters_outgoing ≡ saved.voters_outgoing → learners ≡ saved.learners → learners_next ≡ saved.learners_next → flag ≡ truth_text saved.auto_leave
+    → t1 ≡ old ++ (codes "Voters:[" ++ spaced_numbers voters) → t2 ≡ t1 ++ (codes "] VotersOutgoing:[" ++ spaced_numbers voters_outgoing)
+    → t3 ≡ t2 ++ (codes "] Learners:[" ++ spaced_numbers learners) → t4 ≡ t3 ++ (codes "] LearnersNext:[" ++ spaced_numbers learners_next)
+    → t5 ≡ t4 ++ codes "] AutoLeave:" → t6 ≡ t5 ++ flag → t6 ≡ old ++ conf_state_text saved
+conf_state_text-appended old t1 t2 t3 t4 t5 t6 voters voters_outgoing learners learners_next flag saved a b c d f is1 is2 is3 is4 is5 is6 =
+    is6 ∙ rw (is5, is4, is3, is2, is1, a, b, c, d, f)
+    (line_grouped old (codes "Voters:[") (spaced_numbers saved.voters) (codes "] VotersOutgoing:[") (spaced_numbers saved.voters_outgoing) (codes "] Learners:[") (spaced_numbers saved.learners) (codes "] LearnersNext:[") (spaced_numbers saved.learners_next) (codes "] AutoLeave:") (truth_text saved.auto_leave))
+
+-- ---- the pieces, one by one
+-- numbers that were read, before those of the pieces that are left
+abbrev pub onto_numbers : List ℕ → Option (List ℕ) → Option (List ℕ)
+onto_numbers done (Some more) = Some (done ++ more)
+onto_numbers done None = None
+
+-- ---- the first piece
+pub slice_split-last : (text piece behind : List ℕ) (n : ℕ) → n ≡ position_or_len is_space text → piece ≡ take n text → behind ≡ drop n text → length behind ≡ 0 → slice_split is_space text ≡ piece ∷ []
+slice_split-last text piece behind n n_is piece_is behind_is none =
+    let past : length text ≤ n = omega (arith, ap length behind_is, length-drop n text) in
+    slice_split_none is_space text (λ k d h. fails_before_first is_space text k d (omega arith)) ∙ rw (piece_is, take_all n text past) refl
+
+pub slice_split-more : (text piece behind : List ℕ) (n : ℕ) → n ≡ position_or_len is_space text → piece ≡ take n text → behind ≡ drop n text → 0 < length behind → slice_split is_space text ≡ piece ∷ slice_split is_space (drop 1 behind)
+slice_split-more text piece behind n n_is piece_is behind_is some =
+    let within : n < length text = omega (arith, ap length behind_is, length-drop n text) in
+    let next : drop 1 behind ≡ drop (n + 1) text = ap (drop 1) behind_is ∙ drop-drop 1 n text in
+    rw (piece_is, next, n_is) (slice_split_first is_space text 0 (omega arith))
+
+pub StandsForConfState-none : (text : List ℕ) (saved : ConfStateLists) → conf_state_in text ≡ None → StandsForConfState text saved → ⊥
+StandsForConfState-none text saved none h = let some = conf_state_in-ok text saved h in cc
+
+pub ruleset line_laws = (conf_state_in-ok, StandsForConfState-from_some)

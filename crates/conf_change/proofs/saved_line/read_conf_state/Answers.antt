@@ -1,8 +1,0 @@
-use Rattle.std.proofs.Common.{sym, ap, ◌∙◌}
-use Rattle.conf_change.specs.ConfStateLine.{line_in}
-use Rattle.conf_change.proofs.LineLemmas.{stands_for_none}
-use Rattle.conf_change.proofs.saved_line.read_conf_state.Goals as goal
-
-pub returns-clause-bad : goal.returns-clause-bad
-returns-clause-bad c = λ is state h.
-    stands_for_none c.args.text.now state (sym (ap line_in c.trimmed.ensures) ∙ c.read_line.ensures.bad is) h

@@ -1,0 +1,171 @@
+//! The line of a saved configuration, written and read. The form of the line is own.
+ghost use Rattle.std.specs.Prelude.{◌≡◌, ◌<◌, ◌≤◌, [], ◌∷◌, ◌++◌, Some, None, Err, length, drop, IfOk, OnOk, OnErr};
+ghost use Rattle.std.specs.List.{slice_split};
+ghost use Rattle.conf_change.specs.Text.{Extends, spaced_numbers};
+ghost use Rattle.conf_change.specs.ConfState.{ConfStateLists};
+ghost use Rattle.conf_change.specs.ConfStateLine as line;
+ghost use Rattle.conf_change.specs.ConfStateLine.{SpellsNumbers, StandsForConfState, conf_state_text, conf_state_in, numbers_in, field_in, line_in, flag_in, is_space};
+
+use crate::append::{append, append_numbers, keep_whole};
+use crate::conf_state_form::{ConfState, ConfStateFault};
+use ascii_text::cut::place_of;
+use ascii_text::number::read_number;
+use ascii_text::white_space::trimmed;
+use quorum_sets::NoMemory;
+use std::alloc::{AllocError, AllocFailed, Global};
+
+impl From<AllocFailed<u64>> for ConfStateFault {
+    ghost use Rattle.conf_change.specs.declared.conf_state_form.ConfStateFault.TheVariants.{NoMemory};
+
+    ghost from_gives = { λ _ fault. fault ≡ NoMemory };
+
+    fn from(_error: AllocFailed<u64>) -> ConfStateFault {
+        ConfStateFault::NoMemory
+    }
+}
+
+impl From<AllocError> for ConfStateFault {
+    ghost use Rattle.conf_change.specs.declared.conf_state_form.ConfStateFault.TheVariants.{NoMemory};
+
+    ghost from_gives = { λ _ fault. fault ≡ NoMemory };
+
+    fn from(_error: AllocError) -> ConfStateFault {
+        ConfStateFault::NoMemory
+    }
+}
+
+/// Appends the line of a saved configuration, without a newline, its lists in the order in which they stand:
+/// `Voters:[1 2] VotersOutgoing:[] Learners:[3] LearnersNext:[] AutoLeave:false`. What is appended is read as the same
+/// value.
+#[tactic(auto, using(crate::proofs::Texts::ConfStateLine::line_laws))]
+pub fn write_conf_state(text: &mut Vec<u8>, state: &ConfState) -> Result<(), NoMemory>
+    ensures ok { OnOk result (text.new.items ≡ text.old.items ++ conf_state_text state.now) }
+    ensures stands { OnOk result (StandsForConfState (conf_state_text state.now) state.now) }
+    ensures reads_back { OnOk result (conf_state_in (conf_state_text state.now) ≡ Some state.now) }
+    ensures err { OnErr result (text.new.items ≡ text.old.items) }
+{
+    let len = text.len();
+    let appended = append_conf_state(text, state);
+    keep_whole(text, len, appended)
+}
+
+fn append_conf_state(text: &mut Vec<u8>, state: &ConfState) -> Result<(), NoMemory>
+    ensures ok { OnOk result (text.new.items ≡ text.old.items ++ conf_state_text state.now) }
+    ensures stands { OnOk result (StandsForConfState (conf_state_text state.now) state.now) }
+    ensures extends { Extends text.old.items text.new.items }
+{
+    append_field(text, b"Voters:[", &state.voters)?;
+    append_field(text, b"] VotersOutgoing:[", &state.voters_outgoing)?;
+    append_field(text, b"] Learners:[", &state.learners)?;
+    append_field(text, b"] LearnersNext:[", &state.learners_next)?;
+    append(text, b"] AutoLeave:")?;
+    append(text, truth_text(state.auto_leave))
+}
+
+fn truth_text(truth: bool) -> &'static [u8]
+    ensures { result.now ≡ line.truth_text truth }
+{
+    if truth { b"true" } else { b"false" }
+}
+
+// Appends what stands before the numbers of a field, and the numbers.
+fn append_field(text: &mut Vec<u8>, name: &[u8], numbers: &[u64]) -> Result<(), NoMemory>
+    ensures ok { OnOk result (text.new.items ≡ text.old.items ++ (name.now ++ spaced_numbers numbers.now)) }
+    ensures spells { OnOk result (SpellsNumbers (spaced_numbers numbers.now) numbers.now) }
+    ensures extends { Extends text.old.items text.new.items }
+{
+    append(text, name)?;
+    append_numbers(text, numbers)
+}
+
+/// Reads the line of a saved configuration: the form that `write_conf_state` appends, with any white space at its two
+/// ends and any zeros before its numbers, and nothing else. A list may have any order, which is kept.
+#[tactic(auto, using(crate::proofs::Texts::ConfStateLine::line_laws))]
+pub fn read_conf_state(alloc: Global, text: &[u8]) -> Result<ConfState, ConfStateFault>
+    ensures stands { IfOk result (StandsForConfState text.now) }
+    ensures bad { result ≡ Err ConfStateFault.BadConfState → (state : ConfStateLists) → ¬ (StandsForConfState text.now state) }
+
+    // The same by the function.
+    ensures value { IfOk result (λ state. conf_state_in text.now ≡ Some state) }
+    ensures fault { result ≡ Err ConfStateFault.BadConfState → conf_state_in text.now ≡ None }
+{
+    read_line(alloc, trimmed(text))
+}
+
+fn read_line(alloc: Global, text: &[u8]) -> Result<ConfState, ConfStateFault>
+    ensures ok { IfOk result (λ state. line_in text.now ≡ Some state) }
+    ensures bad { result ≡ Err ConfStateFault.BadConfState → line_in text.now ≡ None }
+{
+    let (voters, text) = read_field(alloc, b"Voters:[", text)?;
+    let (voters_outgoing, text) = read_field(alloc, b"] VotersOutgoing:[", text)?;
+    let (learners, text) = read_field(alloc, b"] Learners:[", text)?;
+    let (learners_next, text) = read_field(alloc, b"] LearnersNext:[", text)?;
+    let auto_leave = read_flag(text).ok_or(ConfStateFault::BadConfState)?;
+    Ok(ConfState {
+        voters,
+        voters_outgoing,
+        learners,
+        learners_next,
+        auto_leave,
+    })
+}
+
+// Reads the numbers between a prefix and the next closing bracket; the text goes on with that bracket.
+fn read_field<'a>(
+    alloc: Global,
+    prefix: &[u8],
+    text: &'a [u8],
+) -> Result<(Vec<u64>, &'a [u8]), ConfStateFault>
+    ensures ok { IfOk result (λ found. field_in prefix.now text.now ≡ Some (found.0.items, found.1.now)) }
+    ensures bad { result ≡ Err ConfStateFault.BadConfState → field_in prefix.now text.now ≡ None }
+{
+    let text = text
+        .strip_prefix(prefix)
+        .ok_or(ConfStateFault::BadConfState)?;
+    let (numbers, rest) = text.split_at(place_of(text, b']'));
+    Ok((read_numbers(alloc, numbers)?, rest))
+}
+
+// Reads numbers with one space between.
+fn read_numbers(alloc: Global, text: &[u8]) -> Result<Vec<u64>, ConfStateFault>
+    ensures ok { IfOk result (λ numbers. numbers_in text.now ≡ Some numbers.items) }
+    ensures bad { result ≡ Err ConfStateFault.BadConfState → numbers_in text.now ≡ None }
+{
+    if text.is_empty() {
+        return Ok(Vec::new(alloc));
+    }
+    // Room for a usual list at once: a number and the space behind it have two bytes at least.
+    let mut numbers = Vec::with_capacity(alloc, text.len().div_ceil(2).min(64))?;
+    let mut rest = text;
+    loop {
+        let (piece, behind) = first_piece(rest);
+        let number = read_number(piece).ok_or(ConfStateFault::BadConfState)?;
+        numbers.push(number)?;
+        let [_, next @ ..] = behind else {
+            return Ok(numbers);
+        };
+        rest = next;
+    }
+}
+
+// What stands before the first space, and the text from that space on.
+fn first_piece(text: &[u8]) -> (&[u8], &[u8])
+    ensures last { length result.1.now ≡ 0 → slice_split is_space text.now ≡ result.0.now ∷ [] }
+    ensures more { 0 < length result.1.now → slice_split is_space text.now ≡ result.0.now ∷ slice_split is_space (drop 1 result.1.now) }
+    ensures within { length result.1.now ≤ length text.now }
+{
+    text.split_at(place_of(text, b' '))
+}
+
+// Reads the last field.
+fn read_flag(text: &[u8]) -> Option<bool>
+    ensures { result ≡ flag_in text.now }
+{
+    if text == b"] AutoLeave:true".as_slice() {
+        Some(true)
+    } else if text == b"] AutoLeave:false".as_slice() {
+        Some(false)
+    } else {
+        None
+    }
+}

@@ -1,0 +1,245 @@
+-- The plan names each id no more often than any run.
+use Rattle.std.proofs.Common.{◌≡◌, ℕ, zero, suc, ◌+◌, ◌≤◌, Bool, true, false, cond, not, ◌&&◌, ◌||◌, ◌==◌, List, [], ◌∷◌, ◌++◌, refl, sym, ap, subst, ◌∙◌, arith, eqb-true}
+use Rattle.std.proofs.Math.Bool.{or-false, and-true}
+use Rattle.std.specs.Prelude.{Option, Some, None, option_map, filter_map, count_by, nat_le}
+use Rattle.std.specs.List.{cons_option}
+use Rattle.std.specs.List.Sorted.{IsStrictlySortedBy}
+use Rattle.std.specs.Ordering.{nat_cmp}
+use Rattle.std.specs.Cmp.{nat_eq_equiv}
+use Rattle.std.proofs.lemmas.Bool.{true≢false, false_from_ne_true, cond_both, and_right, or_from}
+use Rattle.std.proofs.lemmas.List.Sums.{sum_by-cons, sum_by-append}
+use Rattle.quorum_sets.specs.Ids.{Ids, has, difference_count}
+use Rattle.quorum_sets.proofs.Offered.{has-no_ids, ascending-is_sorted}
+use Rattle.conf_change.specs.Configuration.{Configuration, is_joint, is_member}
+use Rattle.conf_change.specs.Change.{names, is_update}
+use Rattle.conf_change.specs.Outcome.{after_leave}
+use Rattle.conf_change.specs.Step.{changes_of}
+use Rattle.conf_change.specs.declared.change.Change.{Change}
+use Rattle.conf_change.specs.declared.change.Kind.{Kind}
+use Rattle.conf_change.specs.declared.step.Step.{Step}
+use Rattle.conf_change.specs.declared.step.Step.TheVariants.{Simple, EnterJoint, LeaveJoint}
+use Rattle.conf_change.proofs.Offered.{outgoing-none, ValidByMember-from_is_valid}
+use Rattle.conf_plan.specs.Best.{times_named, is_any_learner}
+use Rattle.conf_plan.specs.Planned.{kind_by, kind_of_move, union_of, single_with, moves, single_steps, shared_members, entering_step, planned_from_single, planned}
+use Rattle.conf_plan.specs.Run.{IsValidWithVoter, IsRun}
+use Rattle.conf_plan.proofs.PlannedSteps.IntoJoint.{has-shared_members, at_outgoing-is_single}
+use Rattle.conf_plan.proofs.FindingMoves.ResultingConfiguration.{IsSingle, IsSingle-no_next}
+use Rattle.conf_plan.proofs.FindingMoves.OfEachId.{change_of, has-union_of}
+use Rattle.conf_plan.proofs.Runs.PartOfEachId.{run-same_part}
+use Rattle.conf_plan.proofs.PlannedSteps.RunToTarget.{single_with-own, after_leave-is_single}
+use Rattle.conf_plan.proofs.FindingMoves.RisingIds.{holds-above, holds}
+use Rattle.conf_plan.proofs.Runs.JointEnds.{LeavesFirst-from_IsRun, EntersLast-from_IsRun}
+use Rattle.conf_plan.proofs.Runs.Chains.{run-is_settled, IsRun-one}
+use Rattle.conf_plan.proofs.PlannedSteps.Shapes.{planned_from_single-of_shapes, planned-of_shapes}
+
+-- ---- how often steps name an id
+named_by : (q : ℕ) (step : Step) (steps : List Step) → times_named q (step ∷ steps) ≡ count_by (names q) (changes_of step) + times_named q steps
+named_by q step steps = sum_by-cons (λ s. count_by (names q) (changes_of s)) step steps
+
+named_by_both : (q : ℕ) (xs ys : List Step) → times_named q (xs ++ ys) ≡ times_named q xs + times_named q ys
+named_by_both q xs ys = sum_by-append (λ s. count_by (names q) (changes_of s)) xs ys
+
+-- once, where there is something to change
+abbrev once : Option Kind → ℕ
+once None = 0
+once (Some _) = 1
+
+-- the list of moves names an id once at most
+first_names : (kind_for : ℕ → Option Kind) (x q : ℕ) (rest : List Change) (later : Bool) (o : Option Kind) (same : Bool) → (x == q) ≡ same → kind_for x ≡ o
+    → (same ≡ true → later ≡ false) → count_by (names q) rest ≤ cond later (once (kind_for q)) 0
+    → count_by (names q) (cons_option (option_map (change_of x) o) rest) ≤ cond (same || later) (once (kind_for q)) 0
+first_names kind_for x q rest later None true here is apart fewer =
+    let none = subst (λ b. count_by (names q) rest ≤ cond b (once (kind_for q)) 0) (apart refl) fewer in omega arith
+first_names kind_for x q rest later None false here is apart fewer = fewer
+first_names kind_for x q rest later (Some kind) true here is apart fewer =
+    let none = subst (λ b. count_by (names q) rest ≤ cond b (once (kind_for q)) 0) (apart refl) fewer in
+    let one : once (kind_for q) ≡ 1 = ap (λ id. once (kind_for id)) (sym (eqb-true x q here)) ∙ ap once is in
+    let head = at_most_one (names q (change_of x kind)) in
+    let whole = sum_by-cons (λ y. cond (names q y) 1 0) (change_of x kind) rest in
+    omega arith
+  where
+    at_most_one : (b : Bool) → cond b 1 0 ≤ 1
+    at_most_one true = omega arith
+    at_most_one false = omega arith
+first_names kind_for x q rest later (Some kind) false here is apart fewer =
+    let whole = sum_by-cons (λ y. cond (names q y) 1 0) (change_of x kind) rest in
+    let silent : names q (change_of x kind) ≡ false = ap (λ b. b && not (q == 0) && not (is_update kind)) here in
+    let head : ◌≡◌ {A = ℕ} (cond (names q (change_of x kind)) 1 0) 0 = ap (λ b. cond b 1 0) silent in
+    omega arith
+
+each_named_once : (kind_for : ℕ → Option Kind) (ids : List ℕ) (q : ℕ) → IsStrictlySortedBy nat_cmp ids
+    → count_by (names q) (filter_map (λ id. option_map (change_of id) (kind_for id)) ids) ≤ cond (holds q ids) (once (kind_for q)) 0
+unfolding IsStrictlySortedBy
+each_named_once kind_for [] q up = omega arith
+each_named_once kind_for (x ∷ ids) q up =
+    subst (λ b. count_by (names q) (filter_map (λ id. option_map (change_of id) (kind_for id)) (x ∷ ids)) ≤ cond (b || holds q ids) (once (kind_for q)) 0)
+    (nat_eq_equiv.symm x q)
+    (first_names kind_for x q _ (holds q ids) (kind_for x) (x == q) refl refl
+    (λ same. false_from_ne_true (holds q ids) (λ later. let past = holds-above x q ids up.0 later in let is = eqb-true x q same in absurd (omega arith)))
+    (each_named_once kind_for ids q up.1))
+
+in_either : (b : Bool) (n m : ℕ) → n ≤ cond b m 0 → n ≤ m
+in_either true n m le = le
+in_either false n m le = omega arith
+
+moves-name_once : (c : Configuration) (voters learners : Ids) (q : ℕ)
+    → count_by (names q) (moves c voters learners) ≤ once (kind_by (has voters q) (has learners q) (has c.incoming q) (has c.learners q))
+moves-name_once c voters learners q =
+    in_either _ _ _ (each_named_once (kind_of_move c voters learners) _ q (ascending-is_sorted (union_of (union_of voters learners) (union_of c.incoming c.learners))))
+
+-- ---- an id whose part has to change is named
+-- once, if the id is an incoming voter, a learner of either kind or neither in the one configuration, and something else in the other
+abbrev differing : Configuration → Configuration → ℕ → ℕ
+differing c d q = once (kind_by (has d.incoming q) (is_any_learner d q) (has c.incoming q) (is_any_learner c q))
+
+nothing_to_change : (v m : Bool) → once (kind_by v m v m) ≡ 0
+nothing_to_change true m = refl
+nothing_to_change false true = refl
+nothing_to_change false false = refl
+
+once-le : (o : Option Kind) → once o ≤ 1
+once-le None = omega arith
+once-le (Some kind) = omega arith
+
+named_where_differing : (c d : Configuration) (steps : List Step) (q : ℕ) → IsRun c steps d → differing c d q ≤ times_named q steps
+named_where_differing c d steps q run = by (times_named q steps) refl
+  where
+    by : (n : ℕ) → times_named q steps ≡ n → differing c d q ≤ times_named q steps
+    by zero is =
+        let same = run-same_part c d steps q run is in
+        let none : differing c d q ≡ 0 =
+        (λ i. once (kind_by (same.voter i) (same.learner i) (has c.incoming q) (is_any_learner c q))) ∙ nothing_to_change (has c.incoming q) (is_any_learner c q) in
+        omega arith
+    by (suc n) is = let one = once-le (kind_by (has d.incoming q) (is_any_learner d q) (has c.incoming q) (is_any_learner c q)) in omega arith
+
+-- ---- what the steps of the plan name
+is_any_learner-single : (c : Configuration) (q : ℕ) → IsSingle c → is_any_learner c q ≡ has c.learners q
+is_any_learner-single c q single = ap (λ b. has c.learners q || b) (IsSingle-no_next c single q) ∙ or-false (has c.learners q)
+
+single_steps-name : (c : Configuration) (voters learners : Ids) (q : ℕ) → IsSingle c → times_named q (single_steps c voters learners) ≤ differing c (single_with voters learners) q
+single_steps-name c voters learners q single =
+    let changes = moves c voters learners in
+    let few = moves-name_once c voters learners q in
+    let is : differing c (single_with voters learners) q ≡ once (kind_by (has voters q) (has learners q) (has c.incoming q) (has c.learners q)) =
+    λ i. once (kind_by (has voters q) ((ap (λ b. has learners q || b) (has-no_ids q) ∙ or-false (has learners q)) i) (has c.incoming q) (is_any_learner-single c q single i)) in
+    cond_both (nat_le (difference_count c.incoming voters) 1) (Simple changes ∷ []) (EnterJoint false changes ∷ LeaveJoint ∷ []) (λ steps. times_named q steps ≤ differing c (single_with voters learners) q)
+    (λ one. let named = named_by q (Simple changes) [] in omega arith)
+    (λ two. let named = named_by q (EnterJoint false changes) (LeaveJoint ∷ []) in omega arith)
+
+entering_step-names : (c target : Configuration) (q : ℕ) → IsSingle c → times_named q (entering_step c target ∷ []) ≤ differing c target q
+entering_step-names c target q single =
+    let few = moves-name_once c target.incoming (union_of target.learners target.learners_next) q in
+    let is : differing c target q ≡ once (kind_by (has target.incoming q) (has (union_of target.learners target.learners_next) q) (has c.incoming q) (has c.learners q)) =
+    λ i. once (kind_by (has target.incoming q) (sym (has-union_of target.learners target.learners_next q) i) (has c.incoming q) (is_any_learner-single c q single i)) in
+    let named = named_by q (entering_step c target) [] in
+    omega arith
+
+-- ---- by way of the target's outgoing voters
+-- who is none of them is passed on as a learner, if it is a member of both, or else as nobody; and no other way is better
+as_learner_if_shared : (dl ci cl ti tl : Bool)
+    → once (kind_by false ((ti || tl) && (ci || cl)) ci cl) + once (kind_by ti tl false ((ti || tl) && (ci || cl)))
+    ≤ once (kind_by false dl ci cl) + once (kind_by ti tl false dl)
+as_learner_if_shared true true cl true tl = omega arith
+as_learner_if_shared true true cl false true = omega arith
+as_learner_if_shared true true cl false false = omega arith
+as_learner_if_shared true false true true tl = omega arith
+as_learner_if_shared true false true false true = omega arith
+as_learner_if_shared true false true false false = omega arith
+as_learner_if_shared true false false true tl = omega arith
+as_learner_if_shared true false false false true = omega arith
+as_learner_if_shared true false false false false = omega arith
+as_learner_if_shared false true true true tl = omega arith
+as_learner_if_shared false true false true tl = omega arith
+as_learner_if_shared false true true false true = omega arith
+as_learner_if_shared false true false false true = omega arith
+as_learner_if_shared false true cl false false = omega arith
+as_learner_if_shared false false true true tl = omega arith
+as_learner_if_shared false false true false true = omega arith
+as_learner_if_shared false false true false false = omega arith
+as_learner_if_shared false false false true tl = omega arith
+as_learner_if_shared false false false false true = omega arith
+as_learner_if_shared false false false false false = omega arith
+
+-- an outgoing voter of the target is passed on as a voter
+way_by_shared : (p s dl ci cl ti tl tn : Bool) → s ≡ ((ti || p || tl) && not p && (ci || cl)) → (p ≡ true → dl ≡ false) → (tn ≡ true → p ≡ true)
+    → once (kind_by p s ci cl) + once (kind_by ti (tl || tn) p s) ≤ once (kind_by p dl ci cl) + once (kind_by ti (tl || tn) p dl)
+way_by_shared true s dl ci cl ti tl tn is apart waits =
+    let same : s ≡ dl = is ∙ ap (λ b. b && (ci || cl)) (and_right (ti || true || tl) false refl) ∙ sym (apart refl) in
+    subst (λ b. once (kind_by true s ci cl) + once (kind_by ti (tl || tn) true s) ≤ once (kind_by true b ci cl) + once (kind_by ti (tl || tn) true b)) same (omega arith)
+way_by_shared false s dl ci cl ti tl true is apart waits = let no : false ≡ true = waits refl in cc
+way_by_shared false s dl ci cl ti tl false is apart waits =
+    let shared : s ≡ ((ti || tl) && (ci || cl)) = is ∙ ap (λ b. b && (ci || cl)) (and-true (ti || false || tl) ∙ ap (λ b. b || tl) (or-false ti)) in
+    subst (λ b. once (kind_by false b ci cl) + once (kind_by ti (tl || false) false b) ≤ once (kind_by false dl ci cl) + once (kind_by ti (tl || false) false dl)) (sym shared)
+    (subst (λ l. once (kind_by false ((ti || tl) && (ci || cl)) ci cl) + once (kind_by ti l false ((ti || tl) && (ci || cl))) ≤ once (kind_by false dl ci cl) + once (kind_by ti l false dl))
+    (sym (or-false tl)) (as_learner_if_shared dl ci cl ti tl))
+
+is_member-single : (c : Configuration) (q : ℕ) → IsSingle c → is_member c q ≡ (has c.incoming q || is_any_learner c q)
+is_member-single c q single =
+    ap (λ out. has c.incoming q || has out q || has c.learners q) (outgoing-none c single.single)
+    ∙ (λ i. has c.incoming q || has-no_ids q i || sym (is_any_learner-single c q single) i) ∙ ap (λ b. b || is_any_learner c q) (or-false (has c.incoming q))
+
+-- no way by another configuration with those voters has less to change
+shared-is_nearest : (c d target : Configuration) (q : ℕ) → IsSingle c → IsValidWithVoter d → IsValidWithVoter target → d.incoming ≡ target.outgoing
+    → differing c (single_with target.outgoing (shared_members c target)) q + differing (single_with target.outgoing (shared_members c target)) target q
+    ≤ differing c d q + differing d target q
+shared-is_nearest c d target q single between settled voters =
+    let reached = single_with target.outgoing (shared_members c target) in
+    let of_d = ValidByMember-from_is_valid d between.valid in
+    let waits = (ValidByMember-from_is_valid target settled.valid).next_outgoing q in
+    let here : has d.incoming q ≡ has target.outgoing q = ap (λ s. has s q) voters in
+    let shared : is_any_learner reached q ≡ (is_member target q && not (has target.outgoing q) && (has c.incoming q || is_any_learner c q)) =
+    ap (λ b. has (shared_members c target) q || b) (has-no_ids q) ∙ or-false _ ∙ has-shared_members c target q
+    ∙ ap (λ b. is_member target q && not (has target.outgoing q) && b) (is_member-single c q single) in
+    let apart : has target.outgoing q ≡ true → is_any_learner d q ≡ false =
+    λ goes. or_from _ _
+    (false_from_ne_true _ (λ learns. true≢false (sym (here ∙ goes) ∙ of_d.learner_incoming q learns)))
+    (false_from_ne_true _ (λ later. true≢false (sym (here ∙ goes) ∙ of_d.next_incoming q later))) in
+    subst (λ p. differing c reached q + differing reached target q
+    ≤ once (kind_by p (is_any_learner d q) (has c.incoming q) (is_any_learner c q)) + once (kind_by (has target.incoming q) (is_any_learner target q) p (is_any_learner d q)))
+    (sym here)
+    (way_by_shared (has target.outgoing q) (is_any_learner reached q) (is_any_learner d q) (has c.incoming q) (is_any_learner c q)
+    (has target.incoming q) (has target.learners q) (has target.learners_next q) shared apart waits)
+
+inserted-fewest : (c target : Configuration) (other : List Step) (q : ℕ) → IsSingle c → IsValidWithVoter target → is_joint target ≡ true → IsRun c other target
+    → times_named q (single_steps c target.outgoing (shared_members c target) ++ entering_step (single_with target.outgoing (shared_members c target)) target ∷ []) ≤ times_named q other
+inserted-fewest c target other q single settled joint run =
+    let reached = single_with target.outgoing (shared_members c target) in
+    let entering = entering_step reached target in
+    let last = EntersLast-from_IsRun c target other single.single joint run in
+    let middle = last.opened.middle in
+    let between = run-is_settled c middle last.opened.front single.settled last.opened.run in
+    let ours = named_by_both q (single_steps c target.outgoing (shared_members c target)) (entering ∷ []) in
+    let there = single_steps-name c target.outgoing (shared_members c target) q single in
+    let in_joint = entering_step-names reached target q (at_outgoing-is_single c target single settled joint) in
+    let theirs = ap (times_named q) last.opened.whole ∙ named_by_both q last.opened.front (last.opened.last ∷ []) in
+    let front = named_where_differing c middle last.opened.front q last.opened.run in
+    let end = named_where_differing middle target (last.opened.last ∷ []) q (IsRun-one middle target last.opened.last last.opened.reaches) in
+    let nearest = shared-is_nearest c middle target q single between settled last.voters in
+    omega arith
+
+-- ---- the plan
+planned_from_single-fewest : (c target : Configuration) (other : List Step) (q : ℕ) → IsSingle c → IsValidWithVoter target → IsRun c other target
+    → times_named q (planned_from_single c target) ≤ times_named q other
+planned_from_single-fewest c target other q single settled run =
+    let needed = named_where_differing c target other q run in
+    planned_from_single-of_shapes c target (λ steps. times_named q steps ≤ times_named q other) single settled (record {
+      nothing = λ same. omega arith;
+      apart = λ apart differs.
+          let named = single_steps-name c target.incoming target.learners q single in
+          let own = ap (λ d. differing c d q) (single_with-own target (record { settled = settled; single = apart })) in
+          omega arith;
+      at_once = λ joint same. let named = entering_step-names c target q single in omega arith;
+      inserted = λ joint differs. inserted-fewest c target other q single settled joint run;
+    })
+
+pub planned-fewest : (now target : Configuration) (other : List Step) (q : ℕ) → IsValidWithVoter now → IsValidWithVoter target → IsRun now other target
+    → times_named q (planned now target) ≤ times_named q other
+planned-fewest now target other q settled_now settled run =
+    planned-of_shapes now target (λ steps. times_named q steps ≤ times_named q other) (λ same. omega arith)
+    (λ joint differs.
+    let left = LeavesFirst-from_IsRun now target other joint differs run in
+    let ours = named_by q LeaveJoint (planned_from_single (after_leave now) target) in
+    let theirs = ap (times_named q) left.whole ∙ named_by q LeaveJoint left.rest in
+    let fewer = planned_from_single-fewest (after_leave now) target left.rest q (after_leave-is_single now settled_now joint) settled left.run in
+    omega arith)
+    (λ apart. planned_from_single-fewest now target other q (record { settled = settled_now; single = apart }) settled run)

@@ -1,0 +1,32 @@
+-- The plan is the best there is.
+use Rattle.std.proofs.Common.{List, [], ◌∷◌}
+use Rattle.quorum_sets.specs.Overlap.{Overlap}
+use Rattle.conf_change.specs.Configuration.{Configuration, voters_of}
+use Rattle.conf_change.specs.declared.step.Step.{Step}
+use Rattle.conf_change.proofs.Offered.{outcome-overlaps}
+use Rattle.conf_plan.specs.Best.{IsBest}
+use Rattle.conf_plan.specs.Planned.{planned}
+use Rattle.conf_plan.specs.Run.{IsValidWithVoter, IsRun, IsRunWith}
+use Rattle.conf_plan.proofs.BestPlan.FewestNames.{planned-fewest}
+use Rattle.conf_plan.proofs.BestPlan.PlainChanges.{planned-is_plain}
+use Rattle.conf_plan.proofs.PlannedSteps.RunToTarget.{planned-is_run}
+use Rattle.conf_plan.proofs.BestPlan.FewestSteps.{planned-shortest}
+use Rattle.conf_plan.proofs.BestPlan.SparedMembers.{planned-spared, planned-sparing}
+
+-- along any run the voters overlap
+run-overlaps : (before after : Configuration) (steps : List Step) → IsRun before steps after
+    → IsRunWith (λ at step next. Overlap (voters_of at) (voters_of next)) before steps after
+run-overlaps before after [] run = run
+run-overlaps before after (step ∷ steps) run =
+    (run.0, (run.1, outcome-overlaps before run.0 step run.1), run-overlaps run.0 after steps run.2)
+
+pub planned-is_best : (now target : Configuration) → IsValidWithVoter now → IsValidWithVoter target → IsBest now (planned now target) target
+planned-is_best now target settled_now settled = record {
+  run = planned-is_run now target settled_now settled;
+  shortest = λ other run. planned-shortest now target other settled_now settled run;
+  sparing = λ other id spares. planned-sparing now target other id settled_now settled spares;
+  spared = λ id. planned-spared now target id settled_now settled;
+  fewest = λ other id run. planned-fewest now target other id settled_now settled run;
+  plain = planned-is_plain now target settled_now settled;
+  overlap = run-overlaps now target (planned now target) (planned-is_run now target settled_now settled);
+}

@@ -1,0 +1,256 @@
+-- The function that reads the lines of a plan, against the relations.
+use Rattle.std.proofs.Common.{◌≡◌, ℕ, ◌+◌, ◌≤◌, Bool, true, false, ◌&&◌, eqb, ◌⊎◌, inl, inr, List, [], ◌∷◌, ◌++◌, length, Option, Some, None, Result, Ok, Err, cond, refl, sym, ap, ◌∙◌, subst, arith}
+use Rattle.std.specs.Prelude.{codes, bytes_eq, IfOk, IfErr}
+use Rattle.std.specs.List.{AllZip}
+use Rattle.std.proofs.lemmas.Bool.{ne_eqb, true≢false, and_parts}
+use Rattle.std.proofs.lemmas.Bool.Decides.{nat_tests}
+use Rattle.std.proofs.lemmas.List.{length-append}
+use Rattle.std.proofs.lemmas.Slice.Eq.{bytes_eq-Decides}
+use Rattle.ascii_text.specs.Words.{words}
+use Rattle.conf_change.specs.declared.step.Step.{Step}
+use Rattle.conf_plan.specs.PlanText.{lines_of, IsLineOf, SaysNothing, StandsForPlan, HasFault}
+use Rattle.conf_plan.specs.PlanCode.{step_in, and_steps, steps_in, is_nothing, plan_in_lines, plan_in}
+use Rattle.conf_plan.specs.declared.text.PlanTextFault.{PlanTextFault}
+use Rattle.conf_plan.specs.declared.text.PlanTextFault.TheVariants.{BadLine, TooManySteps, NoMemory}
+use Rattle.conf_plan.proofs.PlanText.LineByLine.{lines_of-some}
+use Rattle.conf_plan.proofs.PlanText.StepFromWords.{step_in-some, IsLineOf-from_some, IsLineOf-none, step_in-none}
+
+-- ---- from the relations to the function
+steps_in-ok : (before : ℕ) (lines : List (List ℕ)) (steps : List Step) → AllZip IsLineOf lines steps → before + length steps ≤ 4 → steps_in before lines ≡ Ok steps
+steps_in-ok before [] [] h few = refl
+steps_in-ok before [] (step ∷ steps) h few = absurd h
+steps_in-ok before (line ∷ lines) [] h few = absurd h
+steps_in-ok before (line ∷ lines) (step ∷ steps) h few =
+    rw (ne_eqb before 4 (λ same. omega arith), step_in-some line step h.0, steps_in-ok (before + 1) lines steps h.1 (omega arith)) refl
+
+steps_in-bad : (before number : ℕ) (lines : List (List ℕ)) (steps : List Step) (line : List ℕ) (after : List (List ℕ)) → AllZip IsLineOf lines steps → number ≡ before + length lines + 1 → number ≤ 4
+    → ((step : Step) → ¬ (IsLineOf line step)) → steps_in before (lines ++ line ∷ after) ≡ Err (BadLine number)
+steps_in-bad before number [] [] line after h is few bad = rw (ne_eqb before 4 (λ same. omega arith), step_in-none line bad) (ap (λ n. Err (BadLine n)) (omega arith))
+steps_in-bad before number [] (step ∷ steps) line after h is few bad = absurd h
+steps_in-bad before number (first ∷ lines) [] line after h is few bad = absurd h
+steps_in-bad before number (first ∷ lines) (step ∷ steps) line after h is few bad =
+    rw (ne_eqb before 4 (λ same. omega arith), step_in-some first step h.0, steps_in-bad (before + 1) number lines steps line after h.1 (omega arith) few bad) refl
+
+steps_in-long : (before : ℕ) (lines : List (List ℕ)) (steps : List Step) (fifth : List ℕ) (after : List (List ℕ)) → AllZip IsLineOf lines steps → before + length lines ≡ 4
+    → steps_in before (lines ++ fifth ∷ after) ≡ Err TooManySteps
+steps_in-long before [] [] fifth after h four = let here : before ≡ 4 = omega arith in rw here refl
+steps_in-long before [] (step ∷ steps) fifth after h four = absurd h
+steps_in-long before (first ∷ lines) [] fifth after h four = absurd h
+steps_in-long before (first ∷ lines) (step ∷ steps) fifth after h four =
+    rw (ne_eqb before 4 (λ same. omega arith), step_in-some first step h.0, steps_in-long (before + 1) lines steps fifth after h.1 (omega arith)) refl
+
+-- ---- from the function to the relations
+-- the first bad line, behind this many lines
+record IsBadAfter (count : ℕ) (lines : List (List ℕ)) (number : ℕ) : Type 0 where
+  before : List (List ℕ)
+  line : List ℕ
+  after : List (List ℕ)
+  steps : List Step
+  place : lines ≡ before ++ line ∷ after
+  counted : number ≡ count + length before + 1
+  in_first_four : number ≤ 4
+  stand : AllZip IsLineOf before steps
+  bad : (step : Step) → ¬ (IsLineOf line step)
+
+record IsLongAfter (count : ℕ) (lines : List (List ℕ)) : Type 0 where
+  before : List (List ℕ)
+  fifth : List ℕ
+  after : List (List ℕ)
+  steps : List Step
+  place : lines ≡ before ++ fifth ∷ after
+  four : count + length before ≡ 4
+  stand : AllZip IsLineOf before steps
+
+-- what an answer says of the lines that follow this many
+abbrev Tells : ℕ → List (List ℕ) → Result (List Step) PlanTextFault → Type 0
+Tells count lines (Ok steps) = (count + length steps ≤ 4) × AllZip IsLineOf lines steps
+Tells count lines (Err (BadLine number)) = IsBadAfter count lines number
+Tells count lines (Err TooManySteps) = IsLongAfter count lines
+Tells count lines (Err NoMemory) = ⊥
+
+Tells-step : (count : ℕ) (line : List ℕ) (lines : List (List ℕ)) (step : Step) (rest : Result (List Step) PlanTextFault) → IsLineOf line step → Tells (count + 1) lines rest
+    → Tells count (line ∷ lines) (and_steps (count + 1) (Some step) rest)
+Tells-step count line lines step (Ok steps) is h = (omega (arith, h.0), (is, h.1))
+Tells-step count line lines step (Err (BadLine number)) is h = record {
+  before = line ∷ h.before;
+  line = h.line;
+  after = h.after;
+  steps = step ∷ h.steps;
+  place = ap (λ ls. line ∷ ls) h.place;
+  counted = omega (arith, h.counted);
+  in_first_four = h.in_first_four;
+  stand = (is, h.stand);
+  bad = h.bad;
+}
+Tells-step count line lines step (Err TooManySteps) is h = record {
+  before = line ∷ h.before;
+  fifth = h.fifth;
+  after = h.after;
+  steps = step ∷ h.steps;
+  place = ap (λ ls. line ∷ ls) h.place;
+  four = omega (arith, h.four);
+  stand = (is, h.stand);
+}
+Tells-step count line lines step (Err NoMemory) is h = absurd h
+
+Tells-steps_in : (count : ℕ) (lines : List (List ℕ)) → count ≤ 4 → Tells count lines (steps_in count lines)
+Tells-steps_in count [] small = (omega arith, tt)
+Tells-steps_in count (line ∷ lines) small = go (eqb count 4) (step_in (words line)) refl refl (Tells-steps_in (count + 1) lines) where
+  go : (full : Bool) (found : Option Step) → eqb count 4 ≡ full → step_in (words line) ≡ found → (count + 1 ≤ 4 → Tells (count + 1) lines (steps_in (count + 1) lines))
+      → Tells count (line ∷ lines) (cond full (Err TooManySteps) (and_steps (count + 1) found (steps_in (count + 1) lines)))
+  go true found is_full is_found later = record { before = []; fifth = line; after = lines; steps = []; place = refl; four = grind (arith, nat_tests); stand = tt }
+  go false None is_full is_found later = record {
+    before = [];
+    line = line;
+    after = lines;
+    steps = [];
+    place = refl;
+    counted = omega arith;
+    in_first_four = grind (arith, nat_tests);
+    stand = tt;
+    bad = IsLineOf-none line is_found;
+  }
+  go false (Some step) is_full is_found later =
+      let room : count + 1 ≤ 4 = grind (arith, nat_tests) in
+      Tells-step count line lines step (steps_in (count + 1) lines) (IsLineOf-from_some line step is_found) (later room)
+
+-- ---- the line that says that there is nothing to do
+nothing_words-from_true : (tokens : List (List ℕ)) → is_nothing tokens ≡ true → tokens ≡ codes "nothing" ∷ codes "to" ∷ codes "do" ∷ []
+nothing_words-from_true [] e = absurd (true≢false (sym e))
+nothing_words-from_true (a ∷ []) e = absurd (true≢false (sym e))
+nothing_words-from_true (a ∷ b ∷ []) e = absurd (true≢false (sym e))
+nothing_words-from_true (a ∷ b ∷ c ∷ []) e =
+    let all = and_parts (bytes_eq a (codes "nothing") && bytes_eq b (codes "to")) (bytes_eq c (codes "do")) e in
+    let front = and_parts (bytes_eq a (codes "nothing")) (bytes_eq b (codes "to")) all.0 in
+    rw ((bytes_eq-Decides a (codes "nothing")).0 front.0, (bytes_eq-Decides b (codes "to")).0 front.1, (bytes_eq-Decides c (codes "do")).0 all.1) refl
+nothing_words-from_true (a ∷ b ∷ c ∷ d ∷ tokens) e = absurd (true≢false (sym e))
+
+plan_in-says_nothing : (text : List ℕ) → SaysNothing text → plan_in text ≡ Ok []
+plan_in-says_nothing text h = ap plan_in_lines h.alone ∙ rw h.line_words refl
+
+alone_same : (a b : List ℕ) → a ∷ [] ≡ b ∷ [] → a ≡ b
+alone_same a b e = cc
+
+-- a line that is all of such a text has its words
+is_nothing_alone : (text line : List ℕ) → lines_of text ≡ line ∷ [] → SaysNothing text → is_nothing (words line) ≡ true
+is_nothing_alone text line are h = ap is_nothing (ap words (alone_same line h.line (sym are ∙ h.alone)) ∙ h.line_words)
+
+pub something-other_words : (text line : List ℕ) → lines_of text ≡ line ∷ [] → is_nothing (words line) ≡ false → ¬ (SaysNothing text)
+something-other_words text line are says h = true≢false (sym (is_nothing_alone text line are h) ∙ says)
+
+pub something-more_lines : (text line rest : List ℕ) → lines_of text ≡ line ∷ lines_of rest → ¬ (SaysNothing text)
+something-more_lines text line rest are h = let none = sym (are ∙ ap (λ lines. line ∷ lines) (lines_of-some rest).are) ∙ h.alone in absurd cc
+
+-- whether it is said, by the lines of the text
+decided : (text : List ℕ) → SaysNothing text ⊎ (¬ (SaysNothing text) × (plan_in text ≡ steps_in 0 (lines_of text)))
+decided text = go (lines_of text) refl where
+  single : (line : List ℕ) (says : Bool) → lines_of text ≡ line ∷ [] → is_nothing (words line) ≡ says → SaysNothing text ⊎ (¬ (SaysNothing text) × (plan_in text ≡ steps_in 0 (lines_of text)))
+  single line true are says = inl (record { line = line; alone = are; line_words = nothing_words-from_true (words line) says })
+  single line false are says = inr (
+    something-other_words text line are says,
+    ap plan_in_lines are ∙ rw says (sym (ap (steps_in 0) are)),
+  )
+
+  go : (lines : List (List ℕ)) → lines_of text ≡ lines → SaysNothing text ⊎ (¬ (SaysNothing text) × (plan_in text ≡ steps_in 0 (lines_of text)))
+  go [] are = inr ((λ h. let none = sym are ∙ h.alone in absurd cc), ap plan_in_lines are ∙ sym (ap (steps_in 0) are))
+  go (line ∷ []) are = single line (is_nothing (words line)) are refl
+  go (line ∷ next ∷ lines) are = inr ((λ h. let none = sym are ∙ h.alone in absurd cc), ap plan_in_lines are ∙ sym (ap (steps_in 0) are))
+
+pub plan_in-steps : (text : List ℕ) → ¬ (SaysNothing text) → plan_in text ≡ steps_in 0 (lines_of text)
+plan_in-steps text none = elim (decided text) [
+  | inl says ↦ absurd (none says)
+  | inr other ↦ other.1
+]
+
+-- ---- the whole text
+steps_say_something : (text : List ℕ) (steps : List Step) → AllZip IsLineOf (lines_of text) steps → ¬ (SaysNothing text)
+steps_say_something text steps lines h = go steps (rw h.alone at lines) where
+  go : (steps : List Step) → AllZip IsLineOf (h.line ∷ []) steps → ⊥
+  go [] none = none
+  go (step ∷ steps) is = let some = sym (step_in-some h.line step is.0) ∙ ap step_in h.line_words in cc
+
+pub plan_in-ok : (text : List ℕ) (steps : List Step) → StandsForPlan text steps → plan_in text ≡ Ok steps
+plan_in-ok text steps h = elim h [
+  | inl nothing ↦ plan_in-says_nothing text nothing.1 ∙ ap (λ all. Ok all) (sym nothing.0)
+  | inr is ↦ plan_in-steps text (steps_say_something text steps is.lines) ∙ steps_in-ok 0 (lines_of text) steps is.lines (omega (arith, is.at_most_four))
+]
+
+pub plan_in-fault : (text : List ℕ) (fault : PlanTextFault) → HasFault text fault → plan_in text ≡ Err fault
+plan_in-fault text (BadLine number) h =
+    plan_in-steps text h.something ∙ ap (steps_in 0) h.place ∙ steps_in-bad 0 number h.before h.steps h.line h.after h.stand (omega (arith, h.counted)) h.in_first_four h.bad
+plan_in-fault text TooManySteps h =
+    let long : ¬ (SaysNothing text) = λ s. omega (arith, ap length (sym s.alone ∙ h.place), length-append h.before (h.fifth ∷ h.after), h.four) in
+    plan_in-steps text long ∙ ap (steps_in 0) h.place ∙ steps_in-long 0 h.before h.steps h.fifth h.after h.stand (omega (arith, h.four))
+plan_in-fault text NoMemory h = absurd h
+
+-- what an answer says of the text
+abbrev TellsOf : List ℕ → Result (List Step) PlanTextFault → Type 0
+TellsOf text (Ok steps) = StandsForPlan text steps
+TellsOf text (Err fault) = HasFault text fault
+
+TellsOf-lines : (text : List ℕ) → ¬ (SaysNothing text) → (answer : Result (List Step) PlanTextFault) → Tells 0 (lines_of text) answer → TellsOf text answer
+TellsOf-lines text something (Ok steps) h = inr (record { at_most_four = omega (arith, h.0); lines = h.1 })
+TellsOf-lines text something (Err (BadLine number)) h = record {
+  before = h.before;
+  line = h.line;
+  after = h.after;
+  steps = h.steps;
+  place = h.place;
+  counted = omega (arith, h.counted);
+  in_first_four = h.in_first_four;
+  stand = h.stand;
+  bad = h.bad;
+  something = something;
+}
+TellsOf-lines text something (Err TooManySteps) h = record { before = h.before; fifth = h.fifth; after = h.after; steps = h.steps; place = h.place; four = omega (arith, h.four); stand = h.stand }
+TellsOf-lines text something (Err NoMemory) h = absurd h
+
+TellsOf-plan_in : (text : List ℕ) → TellsOf text (plan_in text)
+TellsOf-plan_in text = elim (decided text) [
+  | inl says ↦ subst (TellsOf text) (sym (plan_in-says_nothing text says)) (inl (refl, says))
+  | inr other ↦ subst (TellsOf text) (sym other.1) (TellsOf-lines text other.0 (steps_in 0 (lines_of text)) (Tells-steps_in 0 (lines_of text) (omega arith)))
+]
+
+pub StandsForPlan-from_ok : (text : List ℕ) (steps : List Step) → plan_in text ≡ Ok steps → StandsForPlan text steps
+StandsForPlan-from_ok text steps e = subst (TellsOf text) e (TellsOf-plan_in text)
+
+pub HasFault-from_err : (text : List ℕ) (fault : PlanTextFault) → plan_in text ≡ Err fault → HasFault text fault
+HasFault-from_err text fault e = subst (TellsOf text) e (TellsOf-plan_in text)
+
+pub text-plan_or_fault : (text : List ℕ) → ((steps : List Step) × StandsForPlan text steps) ⊎ ((fault : PlanTextFault) × HasFault text fault)
+text-plan_or_fault text = go (plan_in text) (TellsOf-plan_in text) where
+  go : (answer : Result (List Step) PlanTextFault) → TellsOf text answer → ((steps : List Step) × StandsForPlan text steps) ⊎ ((fault : PlanTextFault) × HasFault text fault)
+  go (Ok steps) h = inl (steps, h)
+  go (Err fault) h = inr (fault, h)
+
+-- ---- an answer that is the function's, or want of memory
+abbrev IsAnswer : List ℕ → Result (List Step) PlanTextFault → Type 0
+IsAnswer text result = (result ≡ plan_in text) ⊎ (result ≡ Err NoMemory)
+
+pub IsAnswer-stands : (text : List ℕ) (result : Result (List Step) PlanTextFault) → IsAnswer text result → IfOk result (StandsForPlan text)
+IsAnswer-stands text (Ok steps) h = elim h [
+  | inl same ↦ StandsForPlan-from_ok text steps (sym same)
+  | inr none ↦ absurd cc
+]
+IsAnswer-stands text (Err fault) h = tt
+
+pub IsAnswer-told : (text : List ℕ) (result : Result (List Step) PlanTextFault) → IsAnswer text result → IfErr result (λ fault. (fault ≡ NoMemory) ⊎ HasFault text fault)
+IsAnswer-told text (Ok steps) h = tt
+IsAnswer-told text (Err fault) h = elim h [
+  | inl same ↦ inr (HasFault-from_err text fault (sym same))
+  | inr none ↦ inl cc
+]
+
+pub IsAnswer-read : (text : List ℕ) (result : Result (List Step) PlanTextFault) → IsAnswer text result → (steps : List Step) → StandsForPlan text steps → (result ≡ Ok steps) ⊎ (result ≡ Err NoMemory)
+IsAnswer-read text result h steps stands = elim h [
+  | inl same ↦ inl (same ∙ plan_in-ok text steps stands)
+  | inr none ↦ inr none
+]
+
+pub IsAnswer-refused : (text : List ℕ) (result : Result (List Step) PlanTextFault) → IsAnswer text result → (fault : PlanTextFault) → HasFault text fault → (result ≡ Err fault) ⊎ (result ≡ Err NoMemory)
+IsAnswer-refused text result h fault has = elim h [
+  | inl same ↦ inl (same ∙ plan_in-fault text fault has)
+  | inr none ↦ inr none
+]
+
+pub ruleset answer_laws = (IsAnswer-stands, IsAnswer-told)

@@ -1,0 +1,168 @@
+-- The printed lines of a plan stand for its steps.
+use Rattle.std.proofs.Common.{◌≡◌, ℕ, ◌<◌, ◌≤◌, ◌^◌, Bool, true, false, not, List, [], ◌∷◌, ◌++◌, length, get_or, map, Ok, refl, sym, ap, ◌∙◌, arith, inl, inr}
+use Rattle.std.specs.Prelude.{codes, decimal, flat_map}
+use Rattle.std.specs.List.{All, AllZip, list_all, join_with_byte}
+use Rattle.std.specs.Str.Parse.{AllDigits}
+use Rattle.std.proofs.lemmas.Bool.{lt-ltb}
+use Rattle.std.proofs.lemmas.Bool.Decides.{nat_tests}
+use Rattle.std.proofs.lemmas.Fmt.{decimal_is_IsNumeral}
+use Rattle.std.proofs.lemmas.List.{append_assoc, length-append, append-nil}
+use Rattle.std.proofs.lemmas.List.Elements.{All-nil, All-cons, All-append, All-head, All-tail, All-from_get_or, All-weaker}
+use Rattle.std.proofs.lemmas.List.Sums.{AllPass-from_list_all}
+use Rattle.std.proofs.lemmas.List.Splits.{slice_split_none, slice_split_at}
+use Rattle.std.proofs.lemmas.Str.Parse.{digit_at}
+use Rattle.ascii_text.specs.WhiteSpace.{is_space}
+use Rattle.ascii_text.specs.Words.{words}
+use Rattle.conf_change.specs.ChangeList.{letter_of, Spells}
+use Rattle.conf_change.specs.declared.change.Change.{Change}
+use Rattle.conf_change.specs.declared.change.Kind.{Kind}
+use Rattle.conf_change.specs.declared.change.Kind.TheVariants.{Voter, Learner, Remove, Update}
+use Rattle.conf_change.specs.declared.step.Step.{Step}
+use Rattle.conf_change.specs.declared.step.Step.TheVariants.{Simple, EnterJoint, LeaveJoint}
+use Rattle.conf_change.specs.Step.{changes_of}
+use Rattle.conf_plan.specs.PlanSteps.{HasWordIds, IsPlan}
+use Rattle.conf_plan.specs.PlanText.{flag_word, command_words, change_text, line_text, line_and_newline, plan_text, is_newline, lines_of, IsLineOf, StandsForPlan}
+use Rattle.conf_plan.specs.PlanCode.{plan_in}
+use Rattle.conf_plan.proofs.PlanText.LineByLine.{lines_of-on, lines_of-alone}
+use Rattle.conf_plan.proofs.PlanText.PlanFromLines.{plan_in-ok}
+
+-- ---- words
+-- it is no white space
+abbrev IsBlack : ℕ → Type 0
+IsBlack byte = is_space byte ≡ false
+
+-- a word has a byte and no white space
+record IsWord (word : List ℕ) : Type 0 where
+  some : 0 < length word
+  black : All IsBlack word
+
+-- the words of words with one space between
+words-join : (word : List ℕ) (more : List (List ℕ)) → All IsWord (word ∷ more) → words (join_with_byte 32 (word ∷ more)) ≡ word ∷ more
+words-join word [] h =
+    let is = All-head IsWord word [] h in
+    rw (slice_split_none is_space word is.black, lt-ltb 0 (length word) is.some) refl
+words-join word (next ∷ more) h =
+    let is = All-head IsWord word (next ∷ more) h in
+    rw (slice_split_at is_space word 32 (join_with_byte 32 (next ∷ more)) is.black refl, lt-ltb 0 (length word) is.some)
+    (ap (λ others. word ∷ others) (words-join next more (All-tail IsWord word (next ∷ more) h)))
+
+-- there is no newline among them
+abbrev IsNoNewline : ℕ → Type 0
+IsNoNewline byte = is_newline byte ≡ false
+
+IsNoNewline-black : (byte : ℕ) → IsBlack byte → IsNoNewline byte
+IsNoNewline-black byte black = grind (arith, nat_tests)
+
+IsNoNewline-join : (all : List (List ℕ)) → All IsWord all → All IsNoNewline (join_with_byte 32 all)
+IsNoNewline-join [] h = All-nil IsNoNewline
+IsNoNewline-join (word ∷ []) h = All-weaker IsBlack IsNoNewline IsNoNewline-black word (All-head IsWord word [] h).black
+IsNoNewline-join (word ∷ next ∷ more) h =
+    All-append IsNoNewline word (32 ∷ join_with_byte 32 (next ∷ more)) (All-weaker IsBlack IsNoNewline IsNoNewline-black word (All-head IsWord word (next ∷ more) h).black)
+    (All-cons IsNoNewline 32 (join_with_byte 32 (next ∷ more)) refl (IsNoNewline-join (next ∷ more) (All-tail IsWord word (next ∷ more) h)))
+
+-- ---- the words of a step
+IsBlack-digit : (byte : ℕ) → 48 ≤ byte → byte ≤ 57 → IsBlack byte
+IsBlack-digit byte low high = grind (arith, nat_tests)
+
+IsBlack-letter : (kind : Kind) → IsBlack (letter_of kind)
+IsBlack-letter Voter = refl
+IsBlack-letter Learner = refl
+IsBlack-letter Remove = refl
+IsBlack-letter Update = refl
+
+IsWord-change : (change : Change) → change.id < 2 ^ 64 → IsWord (change_text change)
+IsWord-change change small =
+    let digits = decimal change.id in
+    let all : AllDigits 10 digits = (decimal_is_IsNumeral change.id small).0.1 in
+    record {
+      some = omega arith;
+      black = All-cons IsBlack (letter_of change.kind) digits (IsBlack-letter change.kind)
+          (All-from_get_or IsBlack digits 0 (λ i within. let range = digit_at digits i all within in IsBlack-digit (get_or digits i 0) range.0 range.1));
+    }
+
+black_from_not : (white : Bool) → not white ≡ true → white ≡ false
+black_from_not true e = sym e
+black_from_not false e = refl
+
+-- a word that is written out
+IsWord-written : (word : List ℕ) → 0 < length word → list_all (λ byte. not (is_space byte)) word ≡ true → IsWord word
+IsWord-written word some black = record {
+  some = some;
+  black = All-weaker (λ byte. not (is_space byte) ≡ true) IsBlack (λ byte e. black_from_not (is_space byte) e) word (AllPass-from_list_all (λ byte. not (is_space byte)) word black);
+}
+
+commands_are_words : (step : Step) → All IsWord (command_words step)
+commands_are_words (Simple changes) = All-cons IsWord (codes "simple") [] (IsWord-written (codes "simple") (omega arith) refl) (All-nil IsWord)
+commands_are_words (EnterJoint true changes) =
+    All-cons IsWord (codes "enter-joint") (flag_word true ∷ []) (IsWord-written (codes "enter-joint") (omega arith) refl)
+    (All-cons IsWord (flag_word true) [] (IsWord-written (flag_word true) (omega arith) refl) (All-nil IsWord))
+commands_are_words (EnterJoint false changes) =
+    All-cons IsWord (codes "enter-joint") (flag_word false ∷ []) (IsWord-written (codes "enter-joint") (omega arith) refl)
+    (All-cons IsWord (flag_word false) [] (IsWord-written (flag_word false) (omega arith) refl) (All-nil IsWord))
+commands_are_words LeaveJoint = All-cons IsWord (codes "leave-joint") [] (IsWord-written (codes "leave-joint") (omega arith) refl) (All-nil IsWord)
+
+Spells-printed : (change : Change) → change.id < 2 ^ 64 → Spells (change_text change) change
+Spells-printed change small =
+    let printed = decimal_is_IsNumeral change.id small in
+    record { number = decimal change.id; letter_first = refl; id_behind = record { numeral = printed.0; value = printed.1; in_range = small } }
+
+changes_are_words : (changes : List Change) → All (λ change. change.id < 2 ^ 64) changes → All IsWord (map change_text changes)
+changes_are_words [] h = All-nil IsWord
+changes_are_words (change ∷ changes) h =
+    All-cons IsWord (change_text change) (map change_text changes) (IsWord-change change (All-head (λ c. c.id < 2 ^ 64) change changes h))
+    (changes_are_words changes (All-tail (λ c. c.id < 2 ^ 64) change changes h))
+
+spelled-printed : (changes : List Change) → All (λ change. change.id < 2 ^ 64) changes → AllZip Spells (map change_text changes) changes
+spelled-printed [] h = tt
+spelled-printed (change ∷ changes) h =
+    (Spells-printed change (All-head (λ c. c.id < 2 ^ 64) change changes h), spelled-printed changes (All-tail (λ c. c.id < 2 ^ 64) change changes h))
+
+-- the words of a line are its command and its changes
+abbrev all_words : Step → List (List ℕ)
+all_words step = command_words step ++ map change_text (changes_of step)
+
+all_are_words : (step : Step) → HasWordIds step → All IsWord (all_words step)
+all_are_words step h = All-append IsWord (command_words step) (map change_text (changes_of step)) (commands_are_words step) (changes_are_words (changes_of step) h)
+
+words-line_text : (step : Step) → HasWordIds step → words (line_text step) ≡ all_words step
+words-line_text (Simple changes) h = words-join (codes "simple") (map change_text changes) (all_are_words (Simple changes) h)
+words-line_text (EnterJoint auto_leave changes) h = words-join (codes "enter-joint") (flag_word auto_leave ∷ map change_text changes) (all_are_words (EnterJoint auto_leave changes) h)
+words-line_text LeaveJoint h = words-join (codes "leave-joint") [] (all_are_words LeaveJoint h)
+
+IsLineOf-printed : (step : Step) → HasWordIds step → IsLineOf (line_text step) step
+IsLineOf-printed step h = record { tokens = map change_text (changes_of step); line_words = words-line_text step h; spelled = spelled-printed (changes_of step) h }
+
+-- ---- the lines
+lines_of-end : (line : List ℕ) → All IsNoNewline line → lines_of (line ++ 10 ∷ []) ≡ line ∷ []
+lines_of-end line in_line = lines_of-alone (line ++ 10 ∷ []) line (omega (arith, length-append line (10 ∷ []))) (slice_split_at is_newline line 10 [] in_line refl)
+
+lines_of-next : (line rest : List ℕ) → All IsNoNewline line → 0 < length rest → lines_of (line ++ 10 ∷ rest) ≡ line ∷ lines_of rest
+lines_of-next line rest in_line more = lines_of-on (line ++ 10 ∷ rest) line rest (omega (arith, length-append line (10 ∷ rest))) more (slice_split_at is_newline line 10 rest in_line refl)
+
+IsNoNewline-line_text : (step : Step) → HasWordIds step → All IsNoNewline (line_text step)
+IsNoNewline-line_text step h = IsNoNewline-join (all_words step) (all_are_words step h)
+
+lines_of-printed : (step : Step) (steps : List Step) → All HasWordIds (step ∷ steps) → lines_of (flat_map line_and_newline (step ∷ steps)) ≡ map line_text (step ∷ steps)
+lines_of-printed step [] h =
+    ap lines_of (append-nil (line_and_newline step)) ∙ lines_of-end (line_text step) (IsNoNewline-line_text step (All-head HasWordIds step [] h))
+lines_of-printed step (next ∷ steps) h =
+    let rest = flat_map line_and_newline (next ∷ steps) in
+    let more : 0 < length rest = omega (arith, length-append (line_and_newline next) (flat_map line_and_newline steps), length-append (line_text next) (codes "\n")) in
+    ap lines_of (append_assoc (line_text step) (codes "\n") rest) ∙ lines_of-next (line_text step) rest (IsNoNewline-line_text step (All-head HasWordIds step (next ∷ steps) h)) more
+    ∙ ap (λ lines. line_text step ∷ lines) (lines_of-printed next steps (All-tail HasWordIds step (next ∷ steps) h))
+
+lines-printed : (steps : List Step) → All HasWordIds steps → AllZip IsLineOf (map line_text steps) steps
+lines-printed [] h = tt
+lines-printed (step ∷ steps) h = (IsLineOf-printed step (All-head HasWordIds step steps h), lines-printed steps (All-tail HasWordIds step steps h))
+
+pub StandsForPlan-printed : (steps : List Step) → IsPlan steps → StandsForPlan (plan_text steps) steps
+StandsForPlan-printed [] h = inl (refl, record { line = codes "nothing to do"; alone = refl; line_words = refl })
+StandsForPlan-printed (step ∷ steps) h = inr (record {
+  at_most_four = h.at_most_four;
+  lines = rw (lines_of-printed step steps h.word_ids) (lines-printed (step ∷ steps) h.word_ids);
+})
+
+pub plan_in-printed : (steps : List Step) → IsPlan steps → plan_in (plan_text steps) ≡ Ok steps
+plan_in-printed steps h = plan_in-ok (plan_text steps) steps (StandsForPlan-printed steps h)
+
+pub ruleset printed_laws = (StandsForPlan-printed, plan_in-printed)

@@ -1,0 +1,114 @@
+-- The function that reads a step from the words of a line, against the relation.
+use Rattle.std.proofs.Common.{◌≡◌, ℕ, ◌<◌, ◌^◌, Bool, true, false, List, [], ◌∷◌, ◌++◌, Option, Some, None, Result, Ok, Err, refl, ap, ◌∙◌}
+use Rattle.std.specs.Prelude.{codes, option_map, bytes_eq}
+use Rattle.std.specs.List.{All, AllZip}
+use Rattle.std.proofs.lemmas.List.Elements.{All-nil, All-cons}
+use Rattle.std.proofs.lemmas.Slice.Eq.{bytes_eq-Decides}
+use Rattle.ascii_text.specs.Words.{words}
+use Rattle.conf_change.specs.ChangeList.{Spells, BadToken, changes_in_words}
+use Rattle.conf_change.specs.declared.change.Change.{Change}
+use Rattle.conf_change.specs.declared.step.Step.{Step}
+use Rattle.conf_change.specs.declared.step.Step.TheVariants.{Simple, EnterJoint, LeaveJoint}
+use Rattle.conf_change.proofs.Offered.{changes_in_words-ok, AllZip-from_ok}
+use Rattle.conf_change.specs.Step.{changes_of}
+use Rattle.conf_plan.specs.PlanSteps.{HasWordIds}
+use Rattle.conf_plan.specs.PlanText.{flag_word, command_words, IsLineOf}
+use Rattle.conf_plan.specs.PlanCode.{list_in, flag_in, enter_with, enter_in, leave_in, step_in}
+
+step_in-words : (step : Step) (tokens : List (List ℕ)) → AllZip Spells tokens (changes_of step) → step_in (command_words step ++ tokens) ≡ Some step
+step_in-words (Simple changes) tokens h = rw (changes_in_words-ok tokens changes h) refl
+step_in-words (EnterJoint true changes) tokens h = rw (changes_in_words-ok tokens changes h) refl
+step_in-words (EnterJoint false changes) tokens h = rw (changes_in_words-ok tokens changes h) refl
+step_in-words LeaveJoint [] h = refl
+step_in-words LeaveJoint (token ∷ tokens) h = absurd h
+
+pub step_in-some : (line : List ℕ) (step : Step) → IsLineOf line step → step_in (words line) ≡ Some step
+step_in-some line step h = ap step_in h.line_words ∙ step_in-words step h.tokens h.spelled
+
+-- ---- what the words are, where a step was read from them
+-- the changes from which a step was made
+record IsMade (make : List Change → Step) (tokens : List (List ℕ)) (step : Step) : Type 0 where
+  changes : List Change
+  made : step ≡ make changes
+  spelled : AllZip Spells tokens changes
+
+IsMade-from_some : (make : List Change → Step) (tokens : List (List ℕ)) (step : Step) → option_map make (list_in tokens) ≡ Some step → IsMade make tokens step
+IsMade-from_some make tokens step e = go (changes_in_words tokens) refl where
+  go : (r : Result (List Change) BadToken) → changes_in_words tokens ≡ r → IsMade make tokens step
+  go (Ok changes) is = let f = rw is at e in record { changes = changes; made = cc; spelled = AllZip-from_ok tokens changes is }
+  go (Err bad) is = let f = rw is at e in absurd cc
+
+flag_word-from_some : (word : List ℕ) (flag : Bool) → flag_in word ≡ Some flag → word ≡ flag_word flag
+flag_word-from_some word flag e = go (bytes_eq word (flag_word true)) (bytes_eq word (flag_word false)) refl refl where
+  go : (t u : Bool) → bytes_eq word (flag_word true) ≡ t → bytes_eq word (flag_word false) ≡ u → word ≡ flag_word flag
+  go true u first second = let f = rw first at e in let same : flag ≡ true = cc in rw same ((bytes_eq-Decides word (flag_word true)).0 first)
+  go false true first second = let f = rw (first, second) at e in let same : flag ≡ false = cc in rw same ((bytes_eq-Decides word (flag_word false)).0 second)
+  go false false first second = let f = rw (first, second) at e in absurd cc
+
+-- the words are the step's command and then its changes
+record IsWordsOf (tokens : List (List ℕ)) (step : Step) : Type 0 where
+  changes : List (List ℕ)
+  are : tokens ≡ command_words step ++ changes
+  spelled : AllZip Spells changes (changes_of step)
+
+with_flag : (flag : List ℕ) (tokens : List (List ℕ)) (step : Step) → enter_with (flag_in flag) tokens ≡ Some step → IsWordsOf (codes "enter-joint" ∷ flag ∷ tokens) step
+with_flag flag tokens step e = go (flag_in flag) refl where
+  go : (found : Option Bool) → flag_in flag ≡ found → IsWordsOf (codes "enter-joint" ∷ flag ∷ tokens) step
+  go None is = let f = rw is at e in absurd cc
+  go (Some auto_leave) is =
+      let made = IsMade-from_some (EnterJoint auto_leave) tokens step (rw is at e) in
+      rw made.made (record { changes = tokens; are = ap (λ w. codes "enter-joint" ∷ w ∷ tokens) (flag_word-from_some flag auto_leave is); spelled = made.spelled })
+
+IsWordsOf-enter : (tokens : List (List ℕ)) (step : Step) → enter_in tokens ≡ Some step → IsWordsOf (codes "enter-joint" ∷ tokens) step
+IsWordsOf-enter [] step e = absurd cc
+IsWordsOf-enter (flag ∷ tokens) step e = with_flag flag tokens step e
+
+IsWordsOf-leave : (tokens : List (List ℕ)) (step : Step) → leave_in tokens ≡ Some step → IsWordsOf (codes "leave-joint" ∷ tokens) step
+IsWordsOf-leave [] step e = let same : step ≡ LeaveJoint = cc in rw same (record { changes = []; are = refl; spelled = tt })
+IsWordsOf-leave (token ∷ tokens) step e = absurd cc
+
+IsWordsOf-simple : (tokens : List (List ℕ)) (step : Step) → option_map Simple (list_in tokens) ≡ Some step → IsWordsOf (codes "simple" ∷ tokens) step
+IsWordsOf-simple tokens step e =
+    let made = IsMade-from_some Simple tokens step e in
+    rw made.made (record { changes = tokens; are = refl; spelled = made.spelled })
+
+-- the first word is the command
+IsWordsOf-first : (command word : List ℕ) (tokens : List (List ℕ)) (step : Step) → bytes_eq command word ≡ true → IsWordsOf (word ∷ tokens) step → IsWordsOf (command ∷ tokens) step
+IsWordsOf-first command word tokens step same h = rw ((bytes_eq-Decides command word).0 same) h
+
+IsWordsOf-from_some : (tokens : List (List ℕ)) (step : Step) → step_in tokens ≡ Some step → IsWordsOf tokens step
+IsWordsOf-from_some [] step e = absurd cc
+IsWordsOf-from_some (command ∷ tokens) step e =
+    go (bytes_eq command (codes "simple")) (bytes_eq command (codes "enter-joint")) (bytes_eq command (codes "leave-joint")) refl refl refl where
+      go : (a b c : Bool) → bytes_eq command (codes "simple") ≡ a → bytes_eq command (codes "enter-joint") ≡ b → bytes_eq command (codes "leave-joint") ≡ c → IsWordsOf (command ∷ tokens) step
+      go true b c simple enter leave = IsWordsOf-first command (codes "simple") tokens step simple (IsWordsOf-simple tokens step (rw simple at e))
+      go false true c simple enter leave = IsWordsOf-first command (codes "enter-joint") tokens step enter (IsWordsOf-enter tokens step (rw (simple, enter) at e))
+      go false false true simple enter leave = IsWordsOf-first command (codes "leave-joint") tokens step leave (IsWordsOf-leave tokens step (rw (simple, enter, leave) at e))
+      go false false false simple enter leave = let f = rw (simple, enter, leave) at e in absurd cc
+
+pub IsLineOf-from_some : (line : List ℕ) (step : Step) → step_in (words line) ≡ Some step → IsLineOf line step
+IsLineOf-from_some line step e =
+    let is = IsWordsOf-from_some (words line) step e in
+    record { tokens = is.changes; line_words = is.are; spelled = is.spelled }
+
+-- ---- lines of no step
+pub IsLineOf-none : (line : List ℕ) → step_in (words line) ≡ None → (step : Step) → ¬ (IsLineOf line step)
+IsLineOf-none line none step h = let some = step_in-some line step h in cc
+
+pub step_in-none : (line : List ℕ) → ((step : Step) → ¬ (IsLineOf line step)) → step_in (words line) ≡ None
+step_in-none line none =
+    elim (step_in (words line)) as (λ o. step_in (words line) ≡ o → o ≡ None) [
+      | None ↦ λ _. refl
+      | Some step ↦ λ e. absurd (none step (IsLineOf-from_some line step e))
+    ] refl
+
+-- ---- ids that were spelled are numbers of 64 bits
+word_ids-spelled : (tokens : List (List ℕ)) (changes : List Change) → AllZip Spells tokens changes → All (λ change. change.id < 2 ^ 64) changes
+word_ids-spelled [] [] h = All-nil (λ change. change.id < 2 ^ 64)
+word_ids-spelled [] (change ∷ changes) h = absurd h
+word_ids-spelled (token ∷ tokens) [] h = absurd h
+word_ids-spelled (token ∷ tokens) (change ∷ changes) h =
+    All-cons (λ change. change.id < 2 ^ 64) change changes h.0.id_behind.in_range (word_ids-spelled tokens changes h.1)
+
+pub HasWordIds-from_line : (line : List ℕ) (step : Step) → IsLineOf line step → HasWordIds step
+HasWordIds-from_line line step h = word_ids-spelled h.tokens (changes_of step) h.spelled

@@ -1,0 +1,8 @@
+-- The steps that are planned, case by case.
+
+pub mod Cases
+pub mod Shapes
+pub mod BetweenSingle
+pub mod IntoJoint
+pub mod RunToTarget
+pub mod Equality

@@ -1,0 +1,106 @@
+-- The plan is a run, of at most four steps.
+use Rattle.std.proofs.Common.{◌≡◌, ◌≤◌, true, false, not, ◌&&◌, List, [], ◌∷◌, length, refl, sym, ap, subst, ◌∙◌, inl, inr, arith}
+use Rattle.std.specs.Prelude.{Ok}
+use Rattle.std.proofs.lemmas.Bool.{cond_both, not-true, true≢false, false_from_ne_true, and_left, and_right}
+use Rattle.quorum_sets.specs.Ids.{is_empty}
+use Rattle.quorum_sets.proofs.Offered.{has-no_ids}
+use Rattle.conf_change.specs.Configuration.{Configuration, is_joint, is_same}
+use Rattle.conf_change.specs.Outcome.{outcome, after_leave}
+use Rattle.conf_change.specs.declared.step.Step.{Step}
+use Rattle.conf_change.specs.declared.step.Step.TheVariants.{LeaveJoint}
+use Rattle.conf_change.proofs.Offered.{outgoing-none, outcome-leave_accepted, configuration-by_members, outcome-are_neighbours, ValidByMember-from_is_valid, is_empty-no_ids, is_same-equal}
+use Rattle.conf_plan.specs.Run.{IsValidWithVoter, IsRun}
+use Rattle.conf_plan.specs.Planned.{single_with, single_steps, planned_from_single, planned}
+use Rattle.conf_plan.proofs.Runs.Chains.{run-is_settled, IsRun-one}
+use Rattle.conf_plan.proofs.FindingMoves.ResultingConfiguration.{IsSingle, AreWanted, IsSingle-no_next}
+use Rattle.conf_plan.proofs.PlannedSteps.BetweenSingle.{single_steps-is_run, single_steps-at_most_two}
+use Rattle.conf_plan.proofs.Runs.JointEnds.{is_joint-from_no_outgoing}
+use Rattle.conf_plan.proofs.PlannedSteps.IntoJoint.{joint_steps-is_run, joint_steps-at_most_three}
+
+-- ---- from a configuration that is not joint
+-- one that is not joint is told by its voters and learners
+pub single_with-own : (c : Configuration) → IsSingle c → single_with c.incoming c.learners ≡ c
+single_with-own c single =
+    configuration-by_members (single_with c.incoming c.learners) c (λ q. refl) (sym (outgoing-none c single.single)) (λ q. refl)
+    (λ q. has-no_ids q ∙ sym (IsSingle-no_next c single q)) (sym ((ValidByMember-from_is_valid c single.settled.valid).auto_leave single.single))
+
+pub own-are_wanted : (c : Configuration) → IsValidWithVoter c → AreWanted c.incoming c.learners
+own-are_wanted c settled =
+    let valid = ValidByMember-from_is_valid c settled.valid in
+    record {
+      voter = not-true (is_empty c.incoming) settled.voter;
+      zero_voters = valid.zero_incoming;
+      zero_learners = valid.zero_learners;
+      apart = λ q votes. false_from_ne_true _ (λ learns. true≢false (sym votes ∙ valid.learner_incoming q learns));
+    }
+
+planned_from_single-is_run : (c target : Configuration) → IsSingle c → IsValidWithVoter target → IsRun c (planned_from_single c target) target
+planned_from_single-is_run c target single settled =
+    let P : List Step → Type 0 = λ steps. IsRun c steps target in
+    let Q : Configuration → Type 0 = λ d. IsRun c (single_steps c target.incoming target.learners) d in
+    cond_both (is_same c target) _ _ P (is_same-equal c target) (λ _.
+    cond_both (is_joint target) _ _ P (joint_steps-is_run c target single settled) (λ apart.
+    subst Q (single_with-own target (record { settled = settled; single = apart }))
+    (single_steps-is_run c target.incoming target.learners single (own-are_wanted target settled))))
+
+planned_from_single-at_most_three : (c target : Configuration) → length (planned_from_single c target) ≤ 3
+planned_from_single-at_most_three c target =
+    let P : List Step → Type 0 = λ steps. length steps ≤ 3 in
+    cond_both (is_same c target) _ _ P (λ _. omega arith) (λ _.
+    cond_both (is_joint target) _ _ P (λ _. joint_steps-at_most_three c target) (λ _.
+    let few = single_steps-at_most_two c target.incoming target.learners in omega arith))
+
+planned_from_single-at_most_two : (c target : Configuration) → is_joint target ≡ false → length (planned_from_single c target) ≤ 2
+planned_from_single-at_most_two c target single =
+    let P : List Step → Type 0 = λ steps. length steps ≤ 2 in
+    cond_both (is_same c target) _ _ P (λ _. omega arith) (λ _.
+    cond_both (is_joint target) _ _ P (λ joint. absurd (true≢false (sym joint ∙ single))) (λ _. single_steps-at_most_two c target.incoming target.learners))
+
+-- ---- from any
+pub after_leave-is_single : (c : Configuration) → IsValidWithVoter c → is_joint c ≡ true → IsSingle (after_leave c)
+after_leave-is_single c settled joint = record {
+  settled = run-is_settled c (after_leave c) (LeaveJoint ∷ []) settled (IsRun-one c (after_leave c) LeaveJoint (outcome-leave_accepted c joint));
+  single = ap not is_empty-no_ids;
+}
+
+pub planned-is_run : (now target : Configuration) → IsValidWithVoter now → IsValidWithVoter target → IsRun now (planned now target) target
+planned-is_run now target settled_now settled =
+    let P : List Step → Type 0 = λ steps. IsRun now steps target in
+    cond_both (is_same now target) _ _ P (is_same-equal now target) (λ _.
+    cond_both (is_joint now) _ _ P
+    (λ joint. (after_leave now, outcome-leave_accepted now joint, planned_from_single-is_run (after_leave now) target (after_leave-is_single now settled_now joint) settled))
+    (λ single. planned_from_single-is_run now target (record { settled = settled_now; single = single }) settled))
+
+pub planned-at_most_four : (now target : Configuration) → length (planned now target) ≤ 4
+planned-at_most_four now target =
+    let P : List Step → Type 0 = λ steps. length steps ≤ 4 in
+    cond_both (is_same now target) _ _ P (λ _. omega arith) (λ _.
+    cond_both (is_joint now) _ _ P
+    (λ _. let few = planned_from_single-at_most_three (after_leave now) target in omega arith)
+    (λ _. let few = planned_from_single-at_most_three now target in omega arith))
+
+-- a fourth step is for going from one joint configuration to another
+planned-at_most_three : (now target : Configuration) → (is_joint now && is_joint target) ≡ false → length (planned now target) ≤ 3
+planned-at_most_three now target one =
+    let P : List Step → Type 0 = λ steps. length steps ≤ 3 in
+    cond_both (is_same now target) _ _ P (λ _. omega arith) (λ _.
+    cond_both (is_joint now) _ _ P
+    (λ joint.
+    let few = planned_from_single-at_most_two (after_leave now) target (sym (ap (λ b. b && is_joint target) joint) ∙ one) in omega arith)
+    (λ _. planned_from_single-at_most_three now target))
+
+-- ---- back over one step
+-- which does not lead from one joint configuration to another
+one_is_single : (before after : Configuration) (step : Step) → outcome before step ≡ Ok after → (is_joint after && is_joint before) ≡ false
+one_is_single before after step e =
+    elim (outcome-are_neighbours before after step e) [
+      | inl differ ↦ and_right (is_joint after) (is_joint before) (is_joint-from_no_outgoing before differ.before_single)
+      | inr (inl goes) ↦ and_right (is_joint after) (is_joint before) (is_joint-from_no_outgoing before goes.before_single)
+      | inr (inr leaves) ↦ and_left (is_joint after) (is_joint before) (is_joint-from_no_outgoing after leaves.after_single)
+    ]
+
+pub undo_of_one-at_most_three : (before after : Configuration) (steps : List Step) → IsRun before steps after → length steps ≡ 1 → length (planned after before) ≤ 3
+undo_of_one-at_most_three before after [] run one = cc
+undo_of_one-at_most_three before after (step ∷ []) run one =
+    planned-at_most_three after before (one_is_single before after step (run.1 ∙ ap Ok run.2))
+undo_of_one-at_most_three before after (step ∷ next ∷ steps) run one = absurd (omega arith)

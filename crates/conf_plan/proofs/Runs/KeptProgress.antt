@@ -1,0 +1,117 @@
+-- Who keeps its progress when a changer takes the steps of a plan.
+use Rattle.std.proofs.Common.{◌≡◌, ℕ, true, cond, not, ◌&&◌, ◌||◌, List, [], ◌∷◌, refl, sym, ap, subst, ◌∙◌, inl, inr, is_some}
+use Rattle.std.specs.Prelude.{Option, Some, None, unwrap_or}
+use Rattle.std.specs.FinMap as finite
+use Rattle.std.proofs.lemmas.Bool.{true≢false, and_parts, or_cases}
+use Rattle.quorum_sets.specs.Ids.{has, is_empty}
+use Rattle.conf_change.specs.Changer.{ChangerState, IsSound, Accepts}
+use Rattle.conf_change.specs.Configuration.{Configuration, is_member, is_valid, has_voter, is_restorable}
+use Rattle.conf_change.specs.Progress.{fresh_next_of, fresh_progress, with_mark, is_replaced, keeps_progress}
+use Rattle.conf_change.specs.declared.progress.Progress.{Progress}
+use Rattle.conf_change.specs.declared.step.Step.{Step}
+use Rattle.conf_change.proofs.Offered.{get-after, moved_to-is_sound, has-none_in_empty}
+use Rattle.conf_plan.specs.Best.{Spares}
+use Rattle.conf_plan.specs.Planned.{planned}
+use Rattle.conf_plan.specs.Run.{IsValidWithVoter, Takes, HasKeptProgress}
+use Rattle.conf_plan.proofs.Runs.Chains.{run-is_settled, IsRun-from_IsRunWith}
+use Rattle.conf_plan.proofs.BestPlan.SparedMembers.{keeps_progress-member, planned-sparing}
+use Rattle.conf_plan.proofs.Runs.TakenInOrder.{Ok-same}
+
+-- ---- over one step
+accepted-is_sound : (before after : ChangerState) (step : Step) → IsSound before.tracker → Accepts before step after → IsSound after.tracker
+accepted-is_sound before after step sound accepted =
+    let P : ChangerState → Type 0 = λ s. IsSound s.tracker in
+    subst P (sym accepted.whole) (moved_to-is_sound before step after.tracker.config sound accepted.configuration)
+
+accepted-keeps : (before after : ChangerState) (step : Step) (q : ℕ) → IsSound before.tracker → Accepts before step after
+    → keeps_progress before.tracker.config step after.tracker.config q ≡ true → HasKeptProgress before after q
+accepted-keeps before after step q sound accepted keeps = by (finite.get before.tracker.progress q) refl
+  where
+    next : ℕ
+    next = fresh_next_of before
+
+    was : is_member before.tracker.config q ≡ true
+    was = (and_parts _ (is_member after.tracker.config q) (and_parts _ (not (is_replaced step after.tracker.config q)) keeps).0).0
+
+    by : (o : Option Progress) → finite.get before.tracker.progress q ≡ o → HasKeptProgress before after q
+    by None e = absurd (true≢false (sym was ∙ sym (sound.of_members q) ∙ ap is_some e))
+    by (Some p) e =
+        let marked = has after.tracker.config.learners q in
+        let stays = keeps_progress-member q before.tracker.config step after.tracker.config keeps in
+        record {
+          had = p;
+          kept = with_mark marked p;
+          entry_before = e;
+          entry_after =
+              ap (λ s. finite.get s.tracker.progress q) accepted.whole ∙ get-after before step after.tracker.config q
+              ∙ (λ i. cond (stays i) (Some (cond (keeps i) (with_mark marked (unwrap_or (e i) (fresh_progress next marked))) (fresh_progress next marked))) None);
+          same_match = refl;
+          same_next = refl;
+        }
+
+-- ---- over all of them
+same_entry : (a b : Progress) → ◌≡◌ {A = Option Progress} (Some a) (Some b) → a ≡ b
+same_entry a b e = cc
+
+kept_on : (a b c : ChangerState) (q : ℕ) → HasKeptProgress a b q → HasKeptProgress b c q → HasKeptProgress a c q
+kept_on a b c q first rest =
+    let same = same_entry rest.had first.kept (sym rest.entry_before ∙ first.entry_after) in
+    record {
+      had = first.had;
+      kept = rest.kept;
+      entry_before = first.entry_before;
+      entry_after = rest.entry_after;
+      same_match = rest.same_match ∙ ap (λ (p : Progress). p.matched) same ∙ first.same_match;
+      same_next = rest.same_next ∙ ap (λ (p : Progress). p.next) same ∙ first.same_next;
+    }
+
+kept_at_once : (a : ChangerState) (q : ℕ) → IsSound a.tracker → is_member a.tracker.config q ≡ true → HasKeptProgress a a q
+kept_at_once a q sound member = by (finite.get a.tracker.progress q) refl
+  where
+    by : (o : Option Progress) → finite.get a.tracker.progress q ≡ o → HasKeptProgress a a q
+    by None e = absurd (true≢false (sym member ∙ sym (sound.of_members q) ∙ ap is_some e))
+    by (Some p) e = record { had = p; kept = p; entry_before = e; entry_after = e; same_match = refl; same_next = refl }
+
+pub takes-is_sound : (a b : ChangerState) (steps : List Step) → IsSound a.tracker → Takes a steps b → IsSound b.tracker
+takes-is_sound a b [] sound taken = let P : ChangerState → Type 0 = λ s. IsSound s.tracker in subst P taken sound
+takes-is_sound a b (step ∷ steps) sound taken = takes-is_sound taken.0 b steps (accepted-is_sound a taken.0 step sound taken.1) taken.2
+
+pub takes-keep : (a b : ChangerState) (steps : List Step) (target : Configuration) (q : ℕ) → IsSound a.tracker → Takes a steps b
+    → Spares a.tracker.config steps target q → HasKeptProgress a b q
+takes-keep a b [] target q sound taken spares =
+    let P : ChangerState → Type 0 = λ s. HasKeptProgress a s q in
+    subst P taken (kept_at_once a q sound spares.0)
+takes-keep a b (step ∷ steps) target q sound taken spares =
+    let same : spares.1.0 ≡ taken.0.tracker.config = Ok-same _ _ (sym spares.1.1.0 ∙ taken.1.configuration) in
+    let K : Configuration → Type 0 = λ c. keeps_progress a.tracker.config step c q ≡ true in
+    let P : Configuration → Type 0 = λ c. Spares c steps target q in
+    kept_on a taken.0 b q (accepted-keeps a taken.0 step q sound taken.1 (subst K same spares.1.1.1))
+    (takes-keep taken.0 b steps target q (accepted-is_sound a taken.0 step sound taken.1) taken.2
+    (subst P same (keeps_progress-member q a.tracker.config step spares.1.0 spares.1.1.1, spares.1.2)))
+
+-- ---- a plan that was made for the changer
+-- where there is a member there is a voter
+member-is_settled : (c : Configuration) (q : ℕ) → is_restorable c ≡ true → is_member c q ≡ true → IsValidWithVoter c
+member-is_settled c q ok member =
+    let both = and_parts (is_valid c) _ ok in
+    record {
+      valid = both.0;
+      voter = elim (or_cases (has_voter c) _ both.1) [
+        | inl voter ↦ voter
+        | inr nobody ↦
+            let three = and_parts (is_empty c.incoming && is_empty c.outgoing && is_empty c.learners) (is_empty c.learners_next) nobody in
+            let two = and_parts (is_empty c.incoming && is_empty c.outgoing) (is_empty c.learners) three.0 in
+            let one = and_parts (is_empty c.incoming) (is_empty c.outgoing) two.0 in
+            absurd (true≢false (sym member
+            ∙ (λ i. has-none_in_empty c.incoming one.0 q i || has-none_in_empty c.outgoing one.1 q i || has-none_in_empty c.learners two.1 q i)))
+      ];
+    }
+
+pub takes-keep_planned : (a b : ChangerState) (steps other : List Step) (target : Configuration) (q : ℕ) → IsSound a.tracker → Takes a steps b
+    → steps ≡ planned a.tracker.config target → Spares a.tracker.config other target q → HasKeptProgress a b q
+takes-keep_planned a b steps other target q sound taken made spares =
+    let now = a.tracker.config in
+    let settled_now = member-is_settled now q sound.restorable spares.0 in
+    let settled = run-is_settled now target other settled_now (IsRun-from_IsRunWith _ now target other spares.1) in
+    let P : List Step → Type 0 = λ xs. Spares now xs target q in
+    takes-keep a b steps target q sound taken (subst P (sym made) (planned-sparing now target other q settled_now settled spares))

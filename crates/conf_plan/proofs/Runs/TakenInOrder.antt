@@ -1,0 +1,73 @@
+-- What a changer that takes steps in order comes to.
+use Rattle.std.proofs.Common.{◌≡◌, ◌≢◌, ℕ, ◌+◌, ◌<◌, List, [], ◌∷◌, ◌++◌, take, drop, length, refl, sym, ap, subst, ◌∙◌, slice_get, drop-cons, add-one}
+use Rattle.std.specs.Prelude.{Some, None, Ok, Err}
+use Rattle.std.proofs.lemmas.List.{take_more, take-append-drop}
+use Rattle.std.proofs.lemmas.Option.{slice_get_within, get_or_from_slice_get, slice_get-get_or}
+use Rattle.conf_change.specs.Configuration.{Configuration}
+use Rattle.conf_change.specs.Outcome.{Outcome, outcome}
+use Rattle.conf_change.specs.Changer.{ChangerState, Accepts, Refuses}
+use Rattle.conf_change.specs.declared.refused.Refused.{Refused}
+use Rattle.conf_change.specs.declared.refused.Refused.TheVariants.{AlreadyJoint, ZeroVoterJoint, NotJoint, SimpleInJoint, RemovedAllVoters, MoreThanOneVoter, NoMemory}
+use Rattle.conf_change.specs.declared.step.Step.{Step}
+use Rattle.conf_change.specs.declared.step.Step.TheVariants.{LeaveJoint}
+use Rattle.conf_plan.specs.Run.{IsRun, Takes}
+use Rattle.conf_plan.proofs.Runs.Chains.{IsChain-append}
+
+pub Ok-same : (a b : Configuration) → ◌≡◌ {A = Outcome} (Ok a) (Ok b) → a ≡ b
+Ok-same a b e = ap (λ o. or_else o) e
+  where
+    or_else : Outcome → Configuration
+    or_else (Ok c) = c
+    or_else (Err _) = a
+
+ok_err : (a : Configuration) (why : Refused) → ◌≡◌ {A = Outcome} (Ok a) (Err why) → ⊥
+ok_err a why e = cc
+
+-- one more step
+pub Takes-push : (a b c : ChangerState) (xs : List Step) (x : Step) → Takes a xs b → Accepts b x c → Takes a (xs ++ x ∷ []) c
+Takes-push a b c xs x t accepts = IsChain-append Accepts a b c xs (x ∷ []) t (c, accepts, refl)
+
+-- what is taken along a run ends at its target
+pub Takes-to_target : (a b : ChangerState) (xs : List Step) (target : Configuration) → Takes a xs b → IsRun a.tracker.config xs target → b.tracker.config ≡ target
+Takes-to_target a b [] target t run = sym (ap (λ s. s.tracker.config) t) ∙ run
+Takes-to_target a b (x ∷ xs) target t run =
+    let same : run.0 ≡ t.0.tracker.config = Ok-same _ _ (sym run.1 ∙ t.1.configuration) in
+    let P : Configuration → Type 0 = λ c. IsRun c xs target in
+    Takes-to_target t.0 b xs target t.2 (subst P same run.2)
+
+decided : (why : Refused) → (why ≢ NoMemory → ⊥) → why ≡ NoMemory
+decided AlreadyJoint f = absurd (f (λ e. cc))
+decided ZeroVoterJoint f = absurd (f (λ e. cc))
+decided NotJoint f = absurd (f (λ e. cc))
+decided SimpleInJoint f = absurd (f (λ e. cc))
+decided RemovedAllVoters f = absurd (f (λ e. cc))
+decided MoreThanOneVoter f = absurd (f (λ e. cc))
+decided NoMemory f = refl
+
+-- along a run nothing is refused but for want of memory
+pub Refuses-for_memory : (a b : ChangerState) (xs ys : List Step) (x : Step) (why : Refused) (target : Configuration)
+    → Takes a xs b → Refuses b x why → IsRun a.tracker.config (xs ++ x ∷ ys) target → why ≡ NoMemory
+Refuses-for_memory a b [] ys x why target t refuses run =
+    decided why (λ other. ok_err run.0 why (sym run.1 ∙ ap (λ s. outcome s.tracker.config x) t ∙ refuses other))
+Refuses-for_memory a b (y ∷ xs) ys x why target t refuses run =
+    let same : run.0 ≡ t.0.tracker.config = Ok-same _ _ (sym run.1 ∙ t.1.configuration) in
+    let P : Configuration → Type 0 = λ c. IsRun c (xs ++ x ∷ ys) target in
+    Refuses-for_memory t.0 b xs ys x why target t.2 refuses (subst P same run.2)
+
+-- the steps up to a place, that step, and the rest
+pub slice_get-split : (xs : List Step) (k : ℕ) (x : Step) → slice_get xs k ≡ Some x → xs ≡ take k xs ++ x ∷ drop (k + 1) xs
+slice_get-split xs k x here =
+    let lt = slice_get_within xs k x here in
+    sym (take-append-drop k xs)
+    ∙ ap (λ ys. take k xs ++ ys) (drop-cons xs k x lt ∙ (λ i. get_or_from_slice_get xs k x x here i ∷ drop (sym (add-one k) i) xs))
+
+pub take-one_more : (xs : List Step) (k : ℕ) (x : Step) → slice_get xs k ≡ Some x → take (k + 1) xs ≡ take k xs ++ x ∷ []
+take-one_more xs k x here =
+    take_more xs k x (slice_get_within xs k x here) ∙ ap (λ y. take k xs ++ y ∷ []) (get_or_from_slice_get xs k x x here)
+
+none_some : (x : Step) → None ≡ Some x → ⊥
+none_some x e = cc
+
+-- a place below the length is not past the end
+pub slice_get-not_past : {P : Type 0} (xs : List Step) (k n : ℕ) → None ≡ slice_get xs k → n ≡ length xs → k < n → P
+slice_get-not_past xs k n none is lt = absurd (none_some _ (none ∙ slice_get-get_or xs k LeaveJoint (subst (λ m. k < m) is lt)))

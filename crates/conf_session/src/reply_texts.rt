@@ -1,0 +1,182 @@
+//! The texts that a session answers, each in lines.
+ghost use Rattle.std.specs.Prelude.{◌≡◌, ◌≢◌, ◌++◌, IfOk, OnOk, IsSomeAnd};
+ghost use Rattle.quorum_sets.specs.Voters.{pair};
+ghost use Rattle.conf_change.specs.ChangeList.{bad_token};
+ghost use Rattle.conf_change.specs.ConfState.{lists_of};
+ghost use Rattle.conf_change.specs.Text.{refused_text, progress_text, bad_token_text};
+ghost use Rattle.conf_change.specs.ConfStateLine.{conf_state_text};
+ghost use Rattle.conf_session.specs.Given.{given_in};
+ghost use Rattle.conf_session.specs.QuorumArguments.{index_text, committed_text};
+ghost use Rattle.conf_session.specs.ReplyTexts.{line, member_lines, tracker_text};
+ghost use Rattle.conf_session.specs.Undo as says;
+
+use crate::given::Given;
+use crate::session_ids::SessionIds;
+use crate::undo_fault::{UndoFault, undo_fault_text};
+use ascii_text::append::append_number;
+use conf_change::{
+    Config, Progress, Refused, TokenFault, Tracker, conf_state, write_conf_state, write_config,
+    write_progress, write_refused, write_token_fault,
+};
+use quorum_sets::{MemberSet, NoMemory, joint_chart, joint_committed};
+use std::alloc::Global;
+
+// Ends a text, so that it is whole lines.
+fn end_line(text: Vec<u8>) -> Result<Vec<u8>, NoMemory>
+    ensures { IfOk result (λ whole. whole.items ≡ line text.items) }
+{
+    let mut ended = text;
+    ended.push(b'\n')?;
+    Ok(ended)
+}
+
+/// Two texts, one behind the other, as a line.
+pub(crate) fn line_of(alloc: Global, front: &[u8], back: &[u8]) -> Result<Vec<u8>, NoMemory>
+    ensures { IfOk result (λ text. text.items ≡ line (front.now ++ back.now)) }
+{
+    let mut text = Vec::new(alloc);
+    text.extend_from_slice(front)?;
+    text.extend_from_slice(back)?;
+    end_line(text)
+}
+
+/// Which word spells no change.
+pub(crate) fn bad_token_line(alloc: Global, fault: TokenFault<'_>) -> Result<Vec<u8>, NoMemory>
+    ensures { IfOk result (λ text. IsSomeAnd (bad_token fault.entry) (λ bad. text.items ≡ line (bad_token_text bad))) }
+{
+    let mut text = Vec::new(alloc);
+    write_token_fault(&mut text, fault)?;
+    end_line(text)
+}
+
+/// Why a change was refused. Want of memory is no refusal of a change.
+pub(crate) fn refused_line(alloc: Global, refused: Refused) -> Result<Vec<u8>, NoMemory>
+    requires { refused ≢ Refused.NoMemory }
+    ensures { IfOk result (λ text. text.items ≡ line (refused_text refused)) }
+{
+    let mut text = Vec::new(alloc);
+    write_refused(&mut text, refused)?;
+    end_line(text)
+}
+
+/// The saved form of a configuration.
+pub(crate) fn conf_state_line(
+    alloc: Global,
+    config: &Config<SessionIds>,
+) -> Result<Vec<u8>, NoMemory>
+    ensures { IfOk result (λ text. text.items ≡ line (conf_state_text (lists_of config.now))) }
+{
+    let mut text = Vec::new(alloc);
+    let state = conf_state(alloc, config)?;
+    write_conf_state(&mut text, &state)?;
+    end_line(text)
+}
+
+/// Why there is no plan, as a line.
+pub(crate) fn undo_fault_line(alloc: Global, fault: UndoFault) -> Result<Vec<u8>, NoMemory>
+    ensures { IfOk result (λ text. text.items ≡ line (says.undo_fault_text fault)) }
+{
+    end_line(undo_fault_text(alloc, fault)?)
+}
+
+/// A committed index; the greatest is written as infinity.
+pub(crate) fn index_line(alloc: Global, index: u64) -> Result<Vec<u8>, NoMemory>
+    ensures { IfOk result (λ text. text.items ≡ line (index_text index)) }
+{
+    let mut text = Vec::new(alloc);
+    append_index(&mut text, index)?;
+    end_line(text)
+}
+
+/// The chart of the ids of both sets, and the index that the two commit.
+pub(crate) fn committed_lines(
+    alloc: Global,
+    incoming: &SessionIds,
+    outgoing: &SessionIds,
+    acks: &Given<u64>,
+) -> Result<Vec<u8>, NoMemory>
+    ensures { IfOk result (λ text. text.items ≡ line (committed_text (pair incoming.now outgoing.now) (given_in acks.now))) }
+{
+    let mut text = Vec::with_capacity(alloc, usual_chart_room(incoming, outgoing))?;
+    joint_chart(&mut text, incoming, outgoing, acks)?;
+    append_index(&mut text, joint_committed(alloc, incoming, outgoing, acks)?)?;
+    end_line(text)
+}
+
+// The room that a chart of few ids needs, so that it seldom grows while it is written.
+fn usual_chart_room(incoming: &SessionIds, outgoing: &SessionIds) -> usize {
+    let ids = incoming.len().saturating_add(outgoing.len());
+    ids.min(16).saturating_mul(48).saturating_add(64)
+}
+
+// Appends a committed index. After want of memory a part of it may be appended.
+fn append_index(text: &mut Vec<u8>, index: u64) -> Result<(), NoMemory>
+    ensures { OnOk result (text.new.items ≡ text.old.items ++ index_text index) }
+{
+    if index == u64::MAX {
+        text.extend_from_slice(b"\xe2\x88\x9e")?;
+    } else {
+        append_number(text, index)?;
+    }
+    Ok(())
+}
+
+/// A configuration, and behind it each member with its progress, in ascending order of the ids.
+pub(crate) fn tracker_lines(
+    alloc: Global,
+    tracker: &Tracker<SessionIds>,
+) -> Result<Vec<u8>, NoMemory>
+    ensures { IfOk result (λ text. text.items ≡ tracker_text tracker.now) }
+{
+    let mut text = Vec::new(alloc);
+    append_tracker(&mut text, tracker)?;
+    Ok(text)
+}
+
+/// Appends the same. After want of memory only a part may be appended.
+pub(crate) fn append_tracker(
+    text: &mut Vec<u8>,
+    tracker: &Tracker<SessionIds>,
+) -> Result<(), NoMemory>
+    ensures { OnOk result (text.new.items ≡ text.old.items ++ tracker_text tracker.now) }
+{
+    text.reserve(usual_room(tracker))?;
+    write_config(text, tracker.config())?;
+    text.push(b'\n')?;
+    append_members(tracker, text)
+}
+
+// The room that the text mostly needs, so that it seldom grows while it is written.
+fn usual_room(tracker: &Tracker<SessionIds>) -> usize {
+    tracker.member_count().saturating_mul(64).saturating_add(64)
+}
+
+// Appends each member with its progress. After want of memory only some may be appended.
+fn append_members(tracker: &Tracker<SessionIds>, text: &mut Vec<u8>) -> Result<(), NoMemory>
+    ensures { OnOk result (text.new.items ≡ text.old.items ++ member_lines tracker.now) }
+{
+    for place in 0..tracker.member_count() {
+        if let Some((id, progress)) = tracker.member_at(place) {
+            append_member(text, id, progress)?;
+        }
+    }
+    Ok(())
+}
+
+/// A member with its progress.
+pub(crate) fn member_line(alloc: Global, id: u64, progress: Progress) -> Result<Vec<u8>, NoMemory>
+    ensures { IfOk result (λ text. text.items ≡ line (progress_text id progress)) }
+{
+    let mut text = Vec::new(alloc);
+    append_member(&mut text, id, progress)?;
+    Ok(text)
+}
+
+// Appends a member with its progress, as a line.
+fn append_member(text: &mut Vec<u8>, id: u64, progress: Progress) -> Result<(), NoMemory>
+    ensures { OnOk result (text.new.items ≡ text.old.items ++ line (progress_text id progress)) }
+{
+    write_progress(text, id, progress)?;
+    text.push(b'\n')?;
+    Ok(())
+}

@@ -1,0 +1,73 @@
+-- Faults that end a run.
+use Rattle.std.proofs.Common.{◌≡◌, ℕ, Bool, true, false, ◌||◌, List, refl, sym, ◌∙◌, ap, subst, inl, inr}
+use Rattle.std.specs.Prelude.{Option, Err}
+use Rattle.dd_file.specs.Device.{AppendsPart}
+use Rattle.dd_file.specs.Answer.{IsCutShort}
+use Rattle.dd_file.specs.Answer as reader
+use Rattle.dd_file.specs.declared.fault.FileFault.{FileFault}
+use Rattle.dd_file.specs.declared.fault.FileFault.TheVariants.{Read, NoMemory, InputTooLong, BadDirective, AfterDouble, UnclosedDouble}
+use Rattle.conf_tool.specs.Outputs.{Output}
+use Rattle.conf_tool.specs.Run.{Means, IsAnswerFault, as_tool_fault, is_read_fault, is_write_fault}
+use Rattle.conf_tool.specs.declared.status.Status.{Status}
+use Rattle.conf_tool.specs.declared.tool_fault.ToolFault.{ToolFault}
+use Rattle.conf_tool.specs.declared.tool_fault.ToolFault.TheVariants.{Script, Configurations, Read as CannotRead, Write as CannotWrite, NoMemory as OutOfMemory}
+
+-- a fault of the reader as one of the run: of the input ..
+pub record IsOfInput (fault told : FileFault) : Type 0 where
+  pub same : fault ≡ told
+  pub not_read : fault ≡ Read → ⊥
+  pub not_memory : fault ≡ NoMemory → ⊥
+
+pub input-fault : (fault told : FileFault) → Script told ≡ as_tool_fault fault → IsOfInput fault told
+input-fault Read told is = let bad : ⊥ = cc in absurd bad
+input-fault NoMemory told is = let bad : ⊥ = cc in absurd bad
+input-fault (InputTooLong line) told is = record { same = cc; not_read = λ e. cc; not_memory = λ e. cc }
+input-fault (BadDirective line) told is = record { same = cc; not_read = λ e. cc; not_memory = λ e. cc }
+input-fault (AfterDouble line) told is = record { same = cc; not_read = λ e. cc; not_memory = λ e. cc }
+input-fault (UnclosedDouble line) told is = record { same = cc; not_read = λ e. cc; not_memory = λ e. cc }
+
+pub input-uncut : {X : Type 0} (fault told : FileFault) → IsOfInput fault told → IsCutShort {X = X} (Err fault) → ⊥
+input-uncut fault told is (inl e) = is.not_read cc
+input-uncut fault told is (inr e) = is.not_memory cc
+
+-- .. or one that cuts the run short
+pub data IsOfReader : FileFault → ToolFault → Type 0 where
+  CutByRead : IsOfReader Read CannotRead
+  CutByMemory : IsOfReader NoMemory OutOfMemory
+
+pub reader-fault : (fault : FileFault) (told : ToolFault) → told ≡ as_tool_fault fault → ((f : FileFault) → told ≡ Script f → ⊥) → IsOfReader fault told
+reader-fault Read told is other = subst (IsOfReader Read) (sym is) CutByRead
+reader-fault NoMemory told is other = subst (IsOfReader NoMemory) (sym is) CutByMemory
+reader-fault (InputTooLong line) told is other = absurd (other (InputTooLong line) is)
+reader-fault (BadDirective line) told is other = absurd (other (BadDirective line) is)
+reader-fault (AfterDouble line) told is other = absurd (other (AfterDouble line) is)
+reader-fault (UnclosedDouble line) told is other = absurd (other (UnclosedDouble line) is)
+
+pub reader-means : (fault : FileFault) (told : ToolFault) → IsOfReader fault told → (output : Output) (before after : Option (List ℕ)) → AppendsPart before after output.text → Means output (Err told) before after
+reader-means fault told CutByRead output before after part = part
+reader-means fault told CutByMemory output before after part = part
+
+pub reader-read : (fault : FileFault) (told : ToolFault) → IsOfReader fault told → is_read_fault {X = Status} (Err told) ≡ reader.is_read_fault {X = Status} (Err fault)
+reader-read fault told CutByRead = refl
+reader-read fault told CutByMemory = refl
+
+pub reader-unwritten : (fault : FileFault) (told : ToolFault) → IsOfReader fault told → is_write_fault {X = Status} (Err told) ≡ false
+reader-unwritten fault told CutByRead = refl
+reader-unwritten fault told CutByMemory = refl
+
+-- a fault of what answers an input
+pub answer-means : (told : ToolFault) → IsAnswerFault told → (output : Output) (before after : Option (List ℕ)) → AppendsPart before after output.text → Means output (Err told) before after
+answer-means (Script f) is output before after part = absurd is
+answer-means (Configurations f) is output before after part = absurd is
+answer-means CannotRead is output before after part = absurd is
+answer-means CannotWrite is output before after part = part
+answer-means OutOfMemory is output before after part = part
+
+-- marks of failure
+pub or-false : (mark : Bool) → (mark || false) ≡ mark
+or-false true = refl
+or-false false = refl
+
+-- a call that fails so, after none did
+pub or-fault : (start now later fault told : Bool) → later ≡ (now || fault) → told ≡ fault → now ≡ start → later ≡ (start || told)
+or-fault start now later fault told is same before = is ∙ ap (λ f. now || f) (sym same) ∙ ap (λ m. m || told) before

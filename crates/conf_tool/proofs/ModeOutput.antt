@@ -1,0 +1,5 @@
+-- The output of a mode while it is written.
+
+pub mod FirstParts
+pub mod KeptAnswers
+pub mod MarkedLines

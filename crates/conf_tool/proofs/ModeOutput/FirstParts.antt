@@ -1,0 +1,109 @@
+-- Outputs of which the first parts were answered.
+use Rattle.std.proofs.Common.{◌≡◌, ℕ, List, [], ◌∷◌, ◌++◌, refl, sym, ◌∙◌, ap, subst}
+use Rattle.std.specs.Prelude.{Option, Some, None, Result}
+use Rattle.std.specs.Io.KnownBytes.{Appends}
+use Rattle.std.proofs.lemmas.List.{append_assoc, append-nil}
+use Rattle.ascii_text.specs.Lines.{newline}
+use Rattle.dd_file.specs.Device.{AppendsPart}
+use Rattle.dd_file.specs.Reading.{Script}
+use Rattle.dd_file.specs.declared.fault.FileFault.{FileFault}
+use Rattle.dd_file.proofs.Offered.{appends-append, part-append, part-part, append-part}
+use Rattle.conf_tool.specs.Answered.{script, behind, with_front, WroteFront}
+use Rattle.conf_change.specs.Configuration.{Configuration}
+use Rattle.conf_tool.specs.LineReply.{line_reply}
+use Rattle.conf_tool.specs.Outputs.{Output, clean_unless, lined_from}
+use Rattle.conf_tool.specs.Run.{Wrote, Means}
+use Rattle.conf_tool.specs.declared.tool_fault.ToolFault.{ToolFault}
+use Rattle.conf_tool.specs.declared.status.Status.{Status}
+
+pub appends-nothing : (before : Option (List ℕ)) → Appends before before []
+appends-nothing None = tt
+appends-nothing (Some bytes) = sym (append-nil bytes)
+
+pub part-nothing : (before : Option (List ℕ)) (text : List ℕ) → AppendsPart before before text
+part-nothing None text = tt
+part-nothing (Some bytes) text = ([], text, refl, sym (append-nil bytes))
+
+-- one part more before what is left, and nothing left
+pub behind-part : {A : Type 0} (parts : List A) (part : A) (rest : Script A) → behind (parts ++ part ∷ []) rest ≡ behind parts (behind (part ∷ []) rest)
+behind-part parts part rest = ap (λ items. script items rest.fault) (append_assoc parts (part ∷ []) rest.items)
+
+pub behind-nothing : {A : Type 0} (parts : List A) (fault : Option FileFault) → script parts fault ≡ behind parts (script [] fault)
+behind-nothing parts fault = ap (λ items. script items fault) (sym (append-nil parts))
+
+pub with_front-append : (xs ys : List ℕ) (output : Output) → with_front xs (with_front ys output) ≡ with_front (xs ++ ys) output
+with_front-append xs ys output = ap (λ t. record { text = t; outcome = output.outcome }) (sym (append_assoc xs ys output.text))
+
+-- ---- a mode that writes what it answers at once
+
+-- a part was answered
+pub wrote-part : {A : Type 0} (total left next : Script A → Output) (parts : List A) (part : A) (text bytes : List ℕ) (before mid new : Option (List ℕ)) →
+    WroteFront total left parts before mid → ((rest : Script A) → left (behind (part ∷ []) rest) ≡ with_front text (next rest)) → bytes ≡ text → Appends mid new bytes →
+    WroteFront total next (parts ++ part ∷ []) before new
+wrote-part total left next parts part text bytes before mid new front gives same appends = record {
+  text = front.text ++ text;
+  wrote = appends-append before mid new front.text text front.wrote (subst (λ t. Appends mid new t) same appends);
+  is = λ rest.
+      ap total (behind-part parts part rest) ∙ front.is (behind (part ∷ []) rest)
+      ∙ ap (with_front front.text) (gives rest) ∙ with_front-append front.text text (next rest);
+}
+
+-- what was written is a front part of the output, whatever is left
+pub wrote-front : {A : Type 0} (total left : Script A → Output) (parts more : List A) (fault : Option FileFault) (before mid : Option (List ℕ)) →
+    WroteFront total left parts before mid → AppendsPart before mid (total (script (parts ++ more) fault)).text
+wrote-front total left parts more fault before mid front =
+    subst (λ (o : Output). AppendsPart before mid o.text) (sym (front.is (script more fault))) (part-append before mid front.text (left (script more fault)).text front.wrote)
+
+-- .. also where the answer to a part was broken off
+pub wrote-broken : {A : Type 0} (total left next : Script A → Output) (parts : List A) (part : A) (text bytes : List ℕ) (before mid new : Option (List ℕ)) →
+    WroteFront total left parts before mid → ((rest : Script A) → left (behind (part ∷ []) rest) ≡ with_front text (next rest)) → bytes ≡ text → AppendsPart mid new bytes →
+    (more : List A) (fault : Option FileFault) → AppendsPart before new (total (script (parts ++ part ∷ more) fault)).text
+wrote-broken total left next parts part text bytes before mid new front gives same cut more fault =
+    subst (λ (o : Output). AppendsPart before new o.text)
+    (sym (front.is (script (part ∷ more) fault) ∙ ap (with_front front.text) (gives (script more fault)) ∙ with_front-append front.text text (next (script more fault))))
+    (part-part before new (front.text ++ text) (next (script more fault)).text (append-part before mid new front.text text front.wrote (subst (λ t. AppendsPart mid new t) same cut)))
+
+-- the output of these parts
+whole : {A : Type 0} (total left : Script A → Output) (parts : List A) (fault : Option FileFault) (last : List ℕ) (outcome : Result Status ToolFault) (before mid : Option (List ℕ)) →
+    (front : WroteFront total left parts before mid) → left (script [] fault) ≡ record { text = last; outcome = outcome } → total (script parts fault) ≡ record { text = front.text ++ last; outcome = outcome }
+whole total left parts fault last outcome before mid front ends =
+    ap total (behind-nothing parts fault) ∙ front.is (script [] fault) ∙ ap (with_front front.text) ends
+
+-- what is written at the end is the rest of the output
+pub wrote-end : {A : Type 0} (total left : Script A → Output) (parts : List A) (fault : Option FileFault) (last bytes : List ℕ) (outcome : Result Status ToolFault) (before mid new : Option (List ℕ)) →
+    WroteFront total left parts before mid → left (script [] fault) ≡ record { text = last; outcome = outcome } → bytes ≡ last → Appends mid new bytes → Wrote (total (script parts fault)) outcome before new
+wrote-end total left parts fault last bytes outcome before mid new front ends same appends =
+    let is = whole total left parts fault last outcome before mid front ends in
+    (ap (λ o. o.outcome) is, subst (λ t. Appends before new t) (sym (ap (λ o. o.text) is)) (appends-append before mid new front.text last front.wrote (subst (λ t. Appends mid new t) same appends)))
+
+-- .. or a part of it
+pub wrote-end_part : {A : Type 0} (total left : Script A → Output) (parts : List A) (fault : Option FileFault) (last bytes : List ℕ) (outcome : Result Status ToolFault) (before mid new : Option (List ℕ)) →
+    WroteFront total left parts before mid → left (script [] fault) ≡ record { text = last; outcome = outcome } → bytes ≡ last → AppendsPart mid new bytes →
+    AppendsPart before new (total (script parts fault)).text
+wrote-end_part total left parts fault last bytes outcome before mid new front ends same cut =
+    subst (λ (o : Output). AppendsPart before new o.text) (sym (whole total left parts fault last outcome before mid front ends))
+    (append-part before mid new front.text last front.wrote (subst (λ t. AppendsPart mid new t) same cut))
+
+-- nothing is written at the end, and only a fault counts
+pub clean-means : (output : Output) (fault : Option FileFault) (before after : Option (List ℕ)) → Wrote output (clean_unless fault) before after → Means output (clean_unless fault) before after
+clean-means output None before after wrote = wrote
+clean-means output (Some fault) before after wrote = wrote
+
+-- ---- the mode `lines`
+-- what a line leaves
+lines-part : (c d : Configuration) (line : List ℕ) → d ≡ (line_reply c line).after → (rest : Script (List ℕ)) →
+    lined_from c (behind (line ∷ []) rest) ≡ with_front ((line_reply c line).text ++ newline) (lined_from d rest)
+lines-part c d line is rest = ap (λ e. with_front ((line_reply c line).text ++ newline) (lined_from e rest)) (sym is)
+
+pub lined-part : (c d : Configuration) (line : List ℕ) (total : Script (List ℕ) → Output) (parts : List (List ℕ)) (bytes : List ℕ) (before mid new : Option (List ℕ)) →
+    WroteFront total (lined_from c) parts before mid → d ≡ (line_reply c line).after → bytes ≡ (line_reply c line).text ++ newline → Appends mid new bytes →
+    WroteFront total (lined_from d) (parts ++ line ∷ []) before new
+lined-part c d line total parts bytes before mid new front is same appends =
+    wrote-part total (lined_from c) (lined_from d) parts line ((line_reply c line).text ++ newline) bytes before mid new front (lines-part c d line is) same appends
+
+pub lined-broken : (c : Configuration) (line : List ℕ) (total : Script (List ℕ) → Output) (parts more : List (List ℕ)) (fault : Option FileFault) (bytes : List ℕ) (before mid new : Option (List ℕ)) →
+    WroteFront total (lined_from c) parts before mid → bytes ≡ (line_reply c line).text ++ newline → AppendsPart mid new bytes →
+    AppendsPart before new (total (script (parts ++ line ∷ more) fault)).text
+lined-broken c line total parts more fault bytes before mid new front same cut =
+    wrote-broken total (lined_from c) (lined_from (line_reply c line).after) parts line ((line_reply c line).text ++ newline) bytes before mid new front
+    (lines-part c (line_reply c line).after line refl) same cut more fault

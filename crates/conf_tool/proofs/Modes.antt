@@ -1,0 +1,6 @@
+-- What a mode does with its input, part by part.
+
+pub mod Check
+pub mod Rewrite
+pub mod Undo
+pub mod Plan

@@ -1,0 +1,5 @@
+-- What holds of whole outputs.
+
+pub mod JoinedScript
+pub mod RewrittenScript
+pub mod BestPlan

@@ -1,0 +1,210 @@
+-- A script that checks clean and the script that undoes its last changes check clean when they are joined.
+use Rattle.std.proofs.Common.{◌≡◌, ℕ, ◌≤◌, Bool, true, false, not, ◌||◌, List, [], ◌∷◌, ◌++◌, map, length, refl, sym, ap, ◌∙◌, subst, arith}
+use Rattle.std.specs.Prelude.{Option, Some, None, Result, Ok, Err, option_map, bytes_eq, codes, decimal}
+use Rattle.std.specs.List.{list_all, list_any, join_with_byte}
+use Rattle.std.proofs.lemmas.List.{length-append}
+use Rattle.ascii_text.specs.Lines.{newline, lines_of}
+use Rattle.dd_file.specs.DirectiveText.{DirectiveText}
+use Rattle.dd_file.specs.Place.{longest_input}
+use Rattle.dd_file.specs.Reading.{script_of}
+use Rattle.dd_file.specs.Rewritten.{Entry, rewritten_text}
+use Rattle.dd_file.specs.Script.{is_separator}
+use Rattle.dd_file.specs.Laws.{is_line, IsGiven, AreGiven, DirectiveIsGiven, WrittenScript, ends_in_long_blank, item_has_keys, IsComplete, moved, directives_of, moved_fault, JoinedItems}
+use Rattle.dd_file.specs.declared.item.Item.{Item}
+use Rattle.dd_file.specs.declared.item.Item.TheVariants.{Comment, Blank, Directive}
+use Rattle.dd_file.specs.declared.fault.FileFault.{FileFault}
+use Rattle.conf_change.specs.declared.change.Change.{Change}
+use Rattle.conf_change.specs.declared.change.Kind.{Kind}
+use Rattle.conf_change.specs.declared.change.Kind.TheVariants.{Voter, Learner, Remove, Update}
+use Rattle.conf_change.specs.declared.step.Step.{Step}
+use Rattle.conf_change.specs.declared.step.Step.TheVariants.{Simple, EnterJoint, LeaveJoint}
+use Rattle.conf_change.specs.ChangeList.{letter_of}
+use Rattle.conf_plan.specs.PlanText.{change_text}
+use Rattle.conf_change.specs.declared.floor.Floor.{Floor}
+use Rattle.conf_session.specs.SessionState.{SessionState, new_session}
+use Rattle.conf_session.specs.Commands.{answer}
+use Rattle.conf_tool.specs.Reports.{entries_of, differs}
+use Rattle.conf_session.specs.Undo.{undo_plan_of, undo_fault_text}
+use Rattle.conf_tool.specs.UndoScript.{step_command, change_lines, step_directive, comment, undo_items}
+use Rattle.conf_tool.specs.Outputs.{checked, checked_entries, status_of, session_after_all, undone_unless}
+use Rattle.conf_session.specs.Told.{is_line_byte}
+use Rattle.conf_tool.specs.Laws.{JoinedClean}
+use Rattle.conf_tool.specs.declared.status.Status.{Status}
+use Rattle.conf_tool.specs.declared.tool_fault.ToolFault.{ToolFault}
+use Rattle.conf_tool.specs.declared.status.Status.TheVariants.{Clean}
+use Rattle.conf_session.specs.declared.undo_fault.UndoFault.{UndoFault}
+use Rattle.conf_session.proofs.Offered.{and-first, and-second, and-both, told-bytes, undo_fault-told, spaced-words, changes-words}
+use Rattle.conf_tool.proofs.Theorems.RewrittenScript.{FoundStands, found-outputs, items-of, clean-items}
+
+-- ---- whether a script is clean is told by its directives
+-- one of the directives in turn differs
+abbrev any_differs : SessionState → List DirectiveText → Bool
+any_differs session [] = false
+any_differs session (directive ∷ directives) = not (bytes_eq (answer session directive).found directive.expected) || any_differs (answer session directive).session directives
+
+-- the session that obeyed them
+abbrev session_left : SessionState → List DirectiveText → SessionState
+session_left session [] = session
+session_left session (directive ∷ directives) = session_left (answer session directive).session directives
+
+differs-by : (session : SessionState) (items : List Item) → list_any differs (entries_of session items) ≡ any_differs session (directives_of items)
+differs-by session [] = refl
+differs-by session (Comment lines ∷ items) = differs-by session items
+differs-by session (Blank lines ∷ items) = differs-by session items
+differs-by session (Directive directive ∷ items) = ap (λ more. not (bytes_eq (answer session directive).found directive.expected) || more) (differs-by (answer session directive).session items)
+
+left-by : (session : SessionState) (items : List Item) → session_after_all session items ≡ session_left session (directives_of items)
+left-by session [] = refl
+left-by session (Comment lines ∷ items) = left-by session items
+left-by session (Blank lines ∷ items) = left-by session items
+left-by session (Directive directive ∷ items) = left-by (answer session directive).session items
+
+-- wherever they stand
+differs-moved : (lines : ℕ) (session : SessionState) (directives : List DirectiveText) → any_differs session (map (moved lines) directives) ≡ any_differs session directives
+differs-moved lines session [] = refl
+differs-moved lines session (directive ∷ directives) =
+    ap (λ more. not (bytes_eq (answer session directive).found directive.expected) || more) (differs-moved lines (answer session directive).session directives)
+
+or-assoc : (a b c : Bool) → (a || (b || c)) ≡ ((a || b) || c)
+or-assoc true b c = refl
+or-assoc false b c = refl
+
+differs-append : (session : SessionState) (xs ys : List DirectiveText) → any_differs session (xs ++ ys) ≡ (any_differs session xs || any_differs (session_left session xs) ys)
+differs-append session [] ys = refl
+differs-append session (x ∷ xs) ys =
+    let this = not (bytes_eq (answer session x).found x.expected) in
+    let after = (answer session x).session in
+    ap (λ more. this || more) (differs-append after xs ys) ∙ or-assoc this (any_differs after xs) (any_differs (session_left after xs) ys)
+
+-- a script that is clean
+record IsCleanScript (entries : List Entry) (fault : Option FileFault) : Type 0 where
+  same : list_any differs entries ≡ false
+  whole : fault ≡ None
+
+abbrev ended : Status → Result Status ToolFault
+ended status = Ok status
+
+status-clean : (b : Bool) → ended (status_of b) ≡ ended Clean → b ≡ false
+status-clean true e = let bad : ⊥ = cc in absurd bad
+status-clean false e = refl
+
+clean-script : (entries : List Entry) (fault : Option FileFault) → (checked_entries entries fault).outcome ≡ Ok Clean → IsCleanScript entries fault
+clean-script entries None e = record { same = status-clean (list_any differs entries) e; whole = refl }
+clean-script entries (Some fault) e = let bad : ⊥ = cc in absurd bad
+
+-- ---- the items that undo changes are items that the grammar gives
+bytes-line : (text : List ℕ) → list_all is_line_byte text ≡ true → is_line text ≡ true
+bytes-line [] h = refl
+bytes-line (b ∷ text) h = and-both _ _ (and-first _ _ (and-first _ _ h)) (bytes-line text (and-second _ _ h))
+
+comment-given : (text : List ℕ) → list_all is_line_byte text ≡ true → IsGiven (comment text)
+comment-given text h = record {
+  number = 1;
+  lines = (codes "# " ++ text) ∷ [];
+  are_lines = and-both _ _ (bytes-line text h) refl;
+  count = 1;
+  is_ended = true;
+  first = refl;
+}
+
+-- a line of changes is no separator
+letter-apart : (kind : Kind) (rest : List ℕ) → is_separator (letter_of kind ∷ rest) ≡ false
+letter-apart Voter rest = refl
+letter-apart Learner rest = refl
+letter-apart Remove rest = refl
+letter-apart Update rest = refl
+
+lines-apart : (changes : List Change) → list_any is_separator (change_lines changes) ≡ false
+lines-apart [] = refl
+lines-apart (change ∷ []) = ap (λ b. b || false) (letter-apart change.kind (decimal change.id))
+lines-apart (change ∷ next ∷ changes) = ap (λ b. b || false) (letter-apart change.kind (decimal change.id ++ 32 ∷ join_with_byte 32 (map change_text (next ∷ changes))))
+
+lines-whole : (changes : List Change) → list_all is_line (change_lines changes) ≡ true
+lines-whole [] = refl
+lines-whole (change ∷ changes) = and-both _ _ (bytes-line (join_with_byte 32 (map change_text (change ∷ changes))) (spaced-words (map change_text (change ∷ changes)) (changes-words (change ∷ changes)))) refl
+
+step-given : DirectiveIsGiven → (step : Step) → IsGiven (step_directive step)
+step-given given (Simple changes) = given 1 (codes "simple") (change_lines changes) (step_command (Simple changes)) refl refl refl refl (lines-apart changes) (lines-whole changes)
+step-given given (EnterJoint true changes) =
+    given 1 (codes "enter-joint autoleave=true") (change_lines changes) (step_command (EnterJoint true changes)) refl refl refl refl (lines-apart changes) (lines-whole changes)
+step-given given (EnterJoint false changes) =
+    given 1 (codes "enter-joint autoleave=false") (change_lines changes) (step_command (EnterJoint false changes)) refl refl refl refl (lines-apart changes) (lines-whole changes)
+step-given given LeaveJoint = given 1 (codes "leave-joint") [] (step_command LeaveJoint) refl refl refl refl refl refl
+
+steps-given : DirectiveIsGiven → (steps : List Step) → AreGiven (map step_directive steps)
+steps-given given [] = tt
+steps-given given (step ∷ steps) = (step-given given step, steps-given given steps)
+
+undo-given : DirectiveIsGiven → (plan : Result (List Step) UndoFault) → AreGiven (undo_items plan)
+undo-given given (Ok []) = (comment-given (codes "nothing to do") refl, tt)
+undo-given given (Ok (step ∷ steps)) = steps-given given (step ∷ steps)
+undo-given given (Err fault) = (comment-given (undo_fault_text fault) (told-bytes (undo_fault_text fault) (undo_fault-told fault)), tt)
+
+-- their arguments have keys, and the last is no long blank
+step-keys : (step : Step) → item_has_keys (step_directive step) ≡ true
+step-keys (Simple changes) = refl
+step-keys (EnterJoint auto_leave changes) = refl
+step-keys LeaveJoint = refl
+
+steps-keys : (steps : List Step) → list_all item_has_keys (map step_directive steps) ≡ true
+steps-keys [] = refl
+steps-keys (step ∷ steps) = and-both _ _ (step-keys step) (steps-keys steps)
+
+undo-keys : (plan : Result (List Step) UndoFault) → list_all item_has_keys (undo_items plan) ≡ true
+undo-keys (Ok []) = refl
+undo-keys (Ok (step ∷ steps)) = steps-keys (step ∷ steps)
+undo-keys (Err fault) = refl
+
+steps-short : (steps : List Step) → ends_in_long_blank (map step_directive steps) ≡ false
+steps-short [] = refl
+steps-short (step ∷ []) = refl
+steps-short (step ∷ next ∷ steps) = steps-short (next ∷ steps)
+
+undo-short : (plan : Result (List Step) UndoFault) → ends_in_long_blank (undo_items plan) ≡ false
+undo-short (Ok []) = refl
+undo-short (Ok (step ∷ steps)) = steps-short (step ∷ steps)
+undo-short (Err fault) = refl
+
+-- ---- so what undoes changes is read again, and is clean
+undo-clean : WrittenScript → DirectiveIsGiven → FoundStands → (session : SessionState) (plan : Result (List Step) UndoFault) →
+    let again = script_of (rewritten_text (entries_of session (undo_items plan))) in
+    length (rewritten_text (entries_of session (undo_items plan))) ≤ longest_input → IsCleanScript (entries_of session again.items) again.fault
+undo-clean written given stands session plan fits =
+    let items = undo_items plan in
+    let entries = entries_of session items in
+    let same = items-of session items in
+    let read = written entries (subst AreGiven (sym same) (undo-given given plan)) (found-outputs stands session items (undo-keys plan)) (ap ends_in_long_blank same ∙ undo-short plan) fits in
+    record { same = clean-items session items entries (script_of (rewritten_text entries)).items refl read.1; whole = read.0 }
+
+joined-text : WrittenScript → DirectiveIsGiven → JoinedItems → FoundStands → (script : List ℕ) (history : ℕ) (floor : Floor) (count : ℕ) →
+    let session = session_after_all (new_session history floor) (script_of script).items in
+    let text = rewritten_text (entries_of session (undo_items (undo_plan_of session count))) in
+    IsComplete 1 (lines_of script) → IsCleanScript (entries_of (new_session history floor) (script_of script).items) (script_of script).fault →
+    length ((script ++ newline ++ newline) ++ text) ≤ longest_input → (checked ((script ++ newline ++ newline) ++ text) history floor).outcome ≡ Ok Clean
+joined-text written given joined_items stands script history floor count complete clean fits =
+    let begin = new_session history floor in
+    let items = (script_of script).items in
+    let session = session_after_all begin items in
+    let plan = undo_plan_of session count in
+    let text = rewritten_text (entries_of session (undo_items plan)) in
+    let front = script ++ newline ++ newline in
+    let before = length (lines_of front) in
+    let again = (script_of text).items in
+    let sum = length-append front text in
+    let read = undo-clean written given stands session plan (omega (arith, sum, fits)) in
+    let joined = joined_items script text complete fits in
+    let none : list_any differs (entries_of begin (script_of (front ++ text)).items) ≡ false =
+    differs-by begin (script_of (front ++ text)).items ∙ ap (any_differs begin) joined.0 ∙ differs-append begin (directives_of items) (map (moved before) (directives_of again))
+    ∙ ap (λ b. b || any_differs (session_left begin (directives_of items)) (map (moved before) (directives_of again))) (sym (differs-by begin items) ∙ clean.same)
+    ∙ differs-moved before (session_left begin (directives_of items)) (directives_of again)
+    ∙ ap (λ s. any_differs s (directives_of again)) (sym (left-by begin items)) ∙ sym (differs-by session again) ∙ read.same in
+    ap (λ fault. (checked_entries (entries_of begin (script_of (front ++ text)).items) fault).outcome) (joined.1 ∙ ap (option_map (moved_fault before)) read.whole)
+    ∙ ap (λ b. Ok (status_of b)) none
+
+pub joined-clean : WrittenScript → DirectiveIsGiven → JoinedItems → FoundStands → JoinedClean
+joined-clean written given joined_items stands script history floor count complete clean fits =
+    let session = session_after_all (new_session history floor) (script_of script).items in
+    let is_clean = clean-script (entries_of (new_session history floor) (script_of script).items) (script_of script).fault clean in
+    let same = ap (λ fault. (undone_unless session count fault).text) is_clean.whole in
+    subst (λ text. length ((script ++ newline ++ newline) ++ text) ≤ longest_input → (checked ((script ++ newline ++ newline) ++ text) history floor).outcome ≡ Ok Clean) (sym same)
+    (joined-text written given joined_items stands script history floor count complete is_clean) fits

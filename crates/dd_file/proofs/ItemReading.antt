@@ -1,0 +1,9 @@
+-- The next item of an input, from the lines that are read.
+
+pub mod OneMoreLine
+pub mod PhaseByPhase
+pub mod NoMoreLine
+pub mod LinesSoFar
+pub mod UntilDone
+pub mod HeldBytes
+pub mod BytesTaken

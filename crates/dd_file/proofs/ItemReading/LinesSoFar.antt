@@ -1,0 +1,123 @@
+-- What the lines that were read say of the next item.
+use Rattle.std.proofs.Common.{◌≡◌, ℕ, ◌+◌, Bool, true, false, not, ◌&&◌, List, [], ◌++◌, length, drop, take, map, refl, sym, ◌∙◌, ap, subst, inl, inr}
+use Rattle.std.specs.Prelude.{◌⊎◌, Option, Some, None, is_some, Result, Ok, Err}
+use Rattle.std.specs.List.{concat}
+use Rattle.ascii_text.specs.Lines.{pieces, line_of}
+use Rattle.dd_file.specs.Place.{Place}
+use Rattle.dd_file.specs.Words.{CommandText}
+use Rattle.dd_file.specs.Script.{Front, front, first_of, body, in_single, in_double, after_pair}
+use Rattle.dd_file.specs.Reading.{Next, Over, Found, Faulty, next_item, next_line, from_front, with_count, is_too_long, pieces_within}
+use Rattle.dd_file.specs.Draft.{DraftText, Fits, FitsIn, front_of, front_in, is_done, found_of, found_in_front, with_command, behind_separator, drafted}
+use Rattle.dd_file.specs.declared.item.Item.{Item}
+use Rattle.dd_file.specs.declared.phase.Phase.{Phase}
+use Rattle.dd_file.specs.declared.phase.Phase.TheVariants.{Begin, CommentLine, BlankLines, Head, NoCommand, Input, Separator, Single, Double, Pair, Complete, AfterPair}
+use Rattle.dd_file.specs.declared.fault.FileFault.{FileFault}
+use Rattle.dd_file.specs.declared.fault.FileFault.TheVariants.{InputTooLong}
+use Rattle.dd_file.proofs.LineReading.LineAfterLine.{LinesOn, line-over, line-long}
+use Rattle.dd_file.proofs.ItemReading.NoMoreLine.{Ends, draft-ends, done-same, first_of-continued}
+
+-- the answer as what comes next
+abbrev pub as_next : Result (Option Item) FileFault → Place → List ℕ → Next Item
+as_next (Ok None) now rest = Over
+as_next (Ok (Some item)) now rest = Found item now rest
+as_next (Err fault) now rest = Faulty fault
+
+-- the front of the lines so far and those behind them decides
+item-at : (limit : ℕ) (place now : Place) (bytes rest : List ℕ) (lines : List (List ℕ)) (draft : DraftText) → LinesOn limit place bytes lines now rest →
+    ((more : List (List ℕ)) → front_of draft more ≡ first_of (place.lines + 1) (lines ++ more)) →
+    next_item limit place bytes ≡ from_front (is_too_long limit now rest) (front_of draft (map line_of (pieces_within limit now rest))) place bytes
+item-at limit place now bytes rest lines draft on front =
+    ap (λ ls. from_front (is_too_long limit place bytes) (first_of (place.lines + 1) ls) place bytes) on.within
+    ∙ ap (λ f. from_front (is_too_long limit place bytes) f place bytes) (sym (front (map line_of (pieces_within limit now rest))))
+    ∙ ap (λ c. from_front c (front_of draft (map line_of (pieces_within limit now rest))) place bytes) on.long
+
+counted : (limit : ℕ) (place now : Place) (bytes rest : List ℕ) (lines : List (List ℕ)) (k : ℕ) (found : Result Item FileFault) → LinesOn limit place bytes lines now rest →
+    ((item : Item) → found ≡ Ok item → k ≡ length lines) → with_count k found place bytes ≡ as_next (found_in_front found) now rest
+counted limit place now bytes rest lines k (Err fault) on all = refl
+counted limit place now bytes rest lines k (Ok item) on all =
+    let taken : ℕ → ℕ = λ n. length (concat (take n (pieces bytes))) in
+    let at : ℕ → Next Item = λ n. Found item (record { lines = place.lines + n; bytes = place.bytes + taken n }) (drop (taken n) bytes) in
+    ap at (all item refl) ∙ ap (λ n. Found item (record { lines = n; bytes = place.bytes + taken (length lines) }) (drop (taken (length lines)) bytes)) (sym on.count)
+    ∙ ap (λ n. Found item (record { lines = now.lines; bytes = n }) (drop (taken (length lines)) bytes)) (sym on.passed) ∙ ap (Found item now) (sym on.left)
+
+-- the item is done
+done-front : (limit : ℕ) (place now : Place) (bytes rest : List ℕ) (lines : List (List ℕ)) (too_long : Bool) (count : ℕ) (found : Option Front) → LinesOn limit place bytes lines now rest →
+    Ends true count found → is_some found ≡ true → count ≡ length lines → from_front too_long found place bytes ≡ as_next (found_of found) now rest
+done-front limit place now bytes rest lines too_long count None on ends some is = cc
+done-front limit place now bytes rest lines too_long count (Some front) on ends some is =
+    rw (open_end too_long front.is_ended ends.ended) (counted limit place now bytes rest lines front.count front.found on (λ item e. ends.all item e ∙ is)) where
+      open_end : (c d : Bool) → d ≡ true → (c && not d) ≡ false
+      open_end true true e = refl
+      open_end true false e = cc
+      open_end false d e = refl
+
+some-command : (f : CommandText → Front) (command : Option CommandText) → is_some command ≡ true → is_some (with_command f command) ≡ true
+some-command f None some = cc
+some-command f (Some c) some = refl
+
+pub done-some : (phase : Phase) (draft : DraftText) → FitsIn phase draft → is_done phase ≡ true → is_some (front_in phase draft []) ≡ true
+done-some Begin draft fits done = cc
+done-some CommentLine draft fits done = refl
+done-some BlankLines draft fits done = refl
+done-some Head draft fits done = cc
+done-some NoCommand draft fits done = refl
+done-some Input draft fits done = cc
+done-some Separator draft fits done = cc
+done-some Single draft fits done = cc
+done-some Double draft fits done = cc
+done-some Pair draft fits done = cc
+done-some Complete draft fits done = some-command (λ command. front (Ok (drafted draft command)) draft.count true) draft.command fits
+done-some AfterPair draft fits done = refl
+
+-- a front comes of each line
+pub front_in-begun : (phase : Phase) (draft : DraftText) → FitsIn phase draft → (draft.count ≡ 0) ⊎ (is_some (front_in phase draft []) ≡ true)
+front_in-begun Begin draft fits = inl fits.3
+front_in-begun CommentLine draft fits = inr refl
+front_in-begun BlankLines draft fits = inr refl
+front_in-begun Head draft fits = inr (ap is_some (first_of-continued draft.line draft.head fits.0 fits.1))
+front_in-begun NoCommand draft fits = inr refl
+front_in-begun Input draft fits = inr (some-command (λ command. body draft.line command draft.head (draft.input ++ [])) draft.command fits.0)
+front_in-begun Separator draft fits = inr (some-command (behind_separator draft []) draft.command fits.0)
+front_in-begun Single draft fits = inr (some-command (λ command. in_single draft.line command draft.head draft.input (draft.expected ++ [])) draft.command fits.0)
+front_in-begun Double draft fits = inr (some-command (λ command. in_double draft.line command draft.head draft.input (draft.expected ++ [])) draft.command fits.0)
+front_in-begun Pair draft fits = inr (some-command (λ command. after_pair draft.line draft.count (drafted draft command) []) draft.command fits.0)
+front_in-begun Complete draft fits = inr (some-command (λ command. front (Ok (drafted draft command)) draft.count true) draft.command fits)
+front_in-begun AfterPair draft fits = inr refl
+
+pub item-done : (limit : ℕ) (place now : Place) (bytes rest : List ℕ) (lines : List (List ℕ)) (draft : DraftText) → LinesOn limit place bytes lines now rest →
+    ((more : List (List ℕ)) → front_of draft more ≡ first_of (place.lines + 1) (lines ++ more)) → Fits draft → is_done draft.phase ≡ true → draft.count ≡ length lines →
+    next_item limit place bytes ≡ as_next (found_of (front_of draft [])) now rest
+item-done limit place now bytes rest lines draft on front fits done count =
+    item-at limit place now bytes rest lines draft on front
+    ∙ ap (λ f. from_front (is_too_long limit now rest) f place bytes) (done-same draft.phase draft (map line_of (pieces_within limit now rest)) done)
+    ∙ done-front limit place now bytes rest lines (is_too_long limit now rest) draft.count (front_of draft []) on
+    (subst (λ c. Ends c draft.count (front_of draft [])) done (draft-ends draft.phase draft fits)) (done-some draft.phase draft fits done) count
+
+-- the end of the input
+end-front : (limit : ℕ) (place now : Place) (bytes rest : List ℕ) (lines : List (List ℕ)) (done : Bool) (count : ℕ) (found : Option Front) → LinesOn limit place bytes lines now rest →
+    Ends done count found → count ≡ length lines → from_front false found place bytes ≡ as_next (found_of found) now rest
+end-front limit place now bytes rest lines done count None on ends is = refl
+end-front limit place now bytes rest lines done count (Some front) on ends is = counted limit place now bytes rest lines front.count front.found on (λ item e. ends.all item e ∙ is)
+
+pub item-end : (limit : ℕ) (place now : Place) (bytes rest : List ℕ) (lines : List (List ℕ)) (draft : DraftText) → LinesOn limit place bytes lines now rest →
+    ((more : List (List ℕ)) → front_of draft more ≡ first_of (place.lines + 1) (lines ++ more)) → Fits draft → draft.count ≡ length lines → next_line limit now rest ≡ Over →
+    next_item limit place bytes ≡ as_next (found_of (front_of draft [])) now rest
+item-end limit place now bytes rest lines draft on front fits count over =
+    let last = line-over limit now rest over in
+    item-at limit place now bytes rest lines draft on front
+    ∙ ap (λ ls. from_front (is_too_long limit now rest) (front_of draft ls) place bytes) last.0 ∙ ap (λ c. from_front c (front_of draft []) place bytes) last.1
+    ∙ end-front limit place now bytes rest lines (is_done draft.phase) draft.count (front_of draft []) on (draft-ends draft.phase draft fits) count
+
+-- the limit was passed
+long-front : (place : Place) (bytes : List ℕ) (count : ℕ) (found : Option Front) → Ends false count found → from_front true found place bytes ≡ Faulty (InputTooLong (place.lines + 1))
+long-front place bytes count None ends = refl
+long-front place bytes count (Some front) ends = rw (ends.ended) refl
+
+pub item-long : (limit : ℕ) (place now : Place) (bytes rest : List ℕ) (lines : List (List ℕ)) (draft : DraftText) (fault : FileFault) → LinesOn limit place bytes lines now rest →
+    ((more : List (List ℕ)) → front_of draft more ≡ first_of (place.lines + 1) (lines ++ more)) → Fits draft → is_done draft.phase ≡ false → next_line limit now rest ≡ Faulty fault →
+    next_item limit place bytes ≡ Faulty (InputTooLong (place.lines + 1))
+item-long limit place now bytes rest lines draft fault on front fits open_end long =
+    let last = line-long limit now rest fault long in
+    item-at limit place now bytes rest lines draft on front
+    ∙ ap (λ ls. from_front (is_too_long limit now rest) (front_of draft ls) place bytes) last.0 ∙ ap (λ c. from_front c (front_of draft []) place bytes) last.1
+    ∙ long-front place bytes draft.count (front_of draft []) (subst (λ c. Ends c draft.count (front_of draft [])) open_end (draft-ends draft.phase draft fits))

@@ -1,0 +1,141 @@
+-- What an item takes in with one more line, phase by phase.
+use Rattle.std.proofs.Common.{◌≡◌, ℕ, zero, suc, ◌+◌, ◌-◌, Bool, true, false, cond, ◌&&◌, List, [], ◌∷◌, ◌++◌, length, take, get_or, ◌<◌, refl, sym, ◌∙◌, ap, arith}
+use Rattle.std.specs.Prelude.{Option, Some, None, Ok, Err, slice_get}
+use Rattle.std.specs.List.{list_all, list_any}
+use Rattle.std.proofs.lemmas.List.{append_assoc, length-append, take_all, take_more}
+use Rattle.std.proofs.lemmas.Option.{slice_get-get_or}
+use Rattle.ascii_text.specs.WhiteSpace.{is_blank}
+use Rattle.dd_file.specs.Words.{CommandText, command_of}
+use Rattle.dd_file.specs.Script.{front, first_of, joined, is_continued, is_separator, is_dashes, has_pair, in_double, body, directive, after_pair, at_command}
+use Rattle.dd_file.specs.Draft.{DraftText, AddsIn, FitsIn, drafted, begins_directive, ends_in_dashes, behind_head, with_parsed}
+use Rattle.dd_file.specs.declared.item.Item.TheVariants.{Blank}
+use Rattle.dd_file.specs.declared.fault.FileFault.TheVariants.{AfterDouble, BadDirective}
+use Rattle.dd_file.specs.declared.phase.Phase.TheVariants.{Head, BlankLines, Input, Separator, Single, Double, Pair, Complete, AfterPair}
+use Rattle.dd_file.proofs.ItemReading.OneMoreLine.{with_command-same, with_command-some, body-separator, single-blank, double-pair, has_pair-push, ends_in_dashes-push, first_of-head}
+
+pub adds-separator : (old new : DraftText) (line : List ℕ) → FitsIn Input old → is_separator line ≡ true → new ≡ record old { count = old.count + 1; phase = Separator } → AddsIn Input old new line
+adds-separator old new line fits is e = rw e (record {
+  fits = (fits.0, fits.2, let h = fits.3 in omega (arith, h));
+  front = λ more. with_command-same _ _ old.command (λ command. sym (body-separator old.line command old.head old.input line more fits.1 is));
+  count = refl;
+  first = refl;
+})
+
+pub adds-blank : (old new : DraftText) (line : List ℕ) → FitsIn Single old → is_blank line ≡ true → new ≡ record old { count = old.count + 1; phase = Complete } → AddsIn Single old new line
+adds-blank old new line fits is e = rw e (record {
+  fits = fits.0;
+  front = λ more. with_command-same _ _ old.command (λ command. at command ∙ sym (single-blank old.line command old.head old.input old.expected line more fits.1 is));
+  count = refl;
+  first = refl;
+}) where
+  at : (command : CommandText) → front (Ok (drafted old command)) (old.count + 1) true ≡ front (Ok (drafted old command)) (length old.head + length old.input + 1 + length old.expected + 1) true
+  at command = ap (λ n. front (Ok (drafted old command)) (n + 1) true) fits.2
+
+pub adds-pair : (old new : DraftText) (expected : List (List ℕ)) (x line : List ℕ) → FitsIn Double old → old.expected ≡ expected ++ x ∷ [] → ends_in_dashes old.expected ≡ true → is_dashes line ≡ true →
+    new ≡ record old { expected = expected; count = old.count + 1; phase = Pair } → AddsIn Double old new line
+adds-pair old new expected x line fits was ends is e = rw e (record {
+  fits = (fits.0, count);
+  front = λ more. with_command-same _ _ old.command (λ command.
+      ap (λ n. after_pair old.line n (directive old.line command old.head old.input expected) more) count
+      ∙ sym (ap (λ xs. in_double old.line command old.head old.input (xs ++ line ∷ more)) was ∙ double-pair old.line command old.head old.input expected x line more none hx is));
+  count = refl;
+  first = refl;
+}) where
+  len : length old.expected ≡ length expected + 1
+  len = ap length was ∙ length-append expected (x ∷ [])
+
+  count : old.count + 1 ≡ length old.head + length old.input + length expected + 4
+  count = let h = fits.2 in omega (arith, h, len)
+
+  none : has_pair (expected ++ x ∷ []) ≡ false
+  none = ap has_pair (sym was) ∙ fits.1
+
+  hx : is_dashes x ≡ true
+  hx = sym (ends_in_dashes-push expected x) ∙ ap ends_in_dashes (sym was) ∙ ends
+
+pub adds-expected : (old new : DraftText) (line : List ℕ) → FitsIn Double old → (ends_in_dashes old.expected && is_dashes line) ≡ false →
+    new ≡ record old { expected = old.expected ++ line ∷ []; count = old.count + 1; phase = Double } → AddsIn Double old new line
+adds-expected old new line fits other e = rw e (record {
+  fits = (fits.0, has_pair-push old.expected line fits.1 other, let h = fits.2 in let len = length-append old.expected (line ∷ []) in omega (arith, h, len));
+  front = λ more. with_command-same _ _ old.command (λ command. ap (in_double old.line command old.head old.input) (append_assoc old.expected (line ∷ []) more));
+  count = refl;
+  first = refl;
+})
+
+pub adds-behind : (old new : DraftText) (line : List ℕ) (is : Bool) → FitsIn Pair old → is_blank line ≡ is → new ≡ record old { count = old.count + 1; phase = cond is Complete AfterPair } → AddsIn Pair old new line
+adds-behind old new line true fits is e = rw e (record {
+  fits = fits.0;
+  front = λ more. with_command-same _ _ old.command (λ command. sym (rw is refl));
+  count = refl;
+  first = refl;
+})
+adds-behind old new line false fits is e = rw e (record {
+  fits = let h = fits.1 in omega (arith, h);
+  front = λ more. sym (with_command-some _ _ old.command fits.0 (λ command. rw is (ap (λ n. front (Err (AfterDouble (old.line + n))) (old.count + 1) true) minus)));
+  count = refl;
+  first = refl;
+}) where
+  minus : old.count ≡ old.count + 1 - 1
+  minus = omega arith
+
+-- the lines of a head and one more that is not continued
+head-front : (old : DraftText) (line : List ℕ) (more : List (List ℕ)) → begins_directive (old.head ++ line ∷ []) ≡ true → list_all is_continued old.head ≡ true → is_continued line ≡ false →
+    first_of old.line (old.head ++ line ∷ more) ≡ Some (cond (is_blank (joined (old.head ++ line ∷ []))) (front (Ok (Blank (old.head ++ line ∷ []))) (length (old.head ++ line ∷ [])) true)
+    (at_command old.line (command_of (joined (old.head ++ line ∷ []))) (old.head ++ line ∷ []) more))
+head-front old line more starts all last = ap (first_of old.line) (sym (append_assoc old.head (line ∷ []) more)) ∙ first_of-head old.line old.head line more starts all last
+
+-- the last line of a head
+pub adds-last : (old new : DraftText) (line : List ℕ) → begins_directive (old.head ++ line ∷ []) ≡ true → list_all is_continued old.head ≡ true → (old.input ≡ []) × (old.expected ≡ []) → old.count ≡ length old.head →
+    is_continued line ≡ false → new ≡ behind_head (record old { head = old.head ++ line ∷ [] }) (joined (old.head ++ line ∷ [])) → AddsIn Head old new line
+adds-last old new line starts all empty counted last e = rw e (at (is_blank text) refl (command_of text) refl) where
+  head : List (List ℕ)
+  head = old.head ++ line ∷ []
+
+  text : List ℕ
+  text = joined head
+
+  count : old.count + 1 ≡ length head
+  count = let len = length-append old.head (line ∷ []) in omega (arith, counted, len)
+
+  front-is : (more : List (List ℕ)) → first_of old.line (old.head ++ line ∷ more) ≡ Some (cond (is_blank text) (front (Ok (Blank head)) (length head) true) (at_command old.line (command_of text) head more))
+  front-is more = head-front old line more starts all last
+
+  at : (blank : Bool) → is_blank text ≡ blank → (command : Option CommandText) → command_of text ≡ command →
+      AddsIn Head old (cond blank (record old { head = head; count = old.count + 1; phase = BlankLines }) (with_parsed (record old { head = head }) command)) line
+  at true is command says = record {
+    fits = empty.0;
+    front = λ more. ap (λ n. Some (front (Ok (Blank head)) n true)) count ∙ sym (front-is more ∙ rw is refl);
+    count = refl;
+    first = refl;
+  }
+  at false is None says = record {
+    fits = tt;
+    front = λ more. ap (λ n. Some (front (Err (BadDirective old.line)) n true)) count ∙ sym (front-is more ∙ rw (is, says) refl);
+    count = refl;
+    first = refl;
+  }
+  at false is (Some command) says = record {
+    fits = (refl, ap (list_any is_separator) (empty.0), empty.1, let none = ap length (empty.0) in omega (arith, count, none));
+    front = λ more. ap (λ i. Some (body old.line command head (i ++ more))) (empty.0) ∙ sym (front-is more ∙ rw (is, says) refl);
+    count = refl;
+    first = refl;
+  }
+
+-- the last of some lines
+pub ends-last : (lines : List (List ℕ)) (i : ℕ) (line : List ℕ) → length lines ≡ suc i → slice_get lines i ≡ Some line → ends_in_dashes lines ≡ is_dashes line
+ends-last [] i line e is = absurd (omega (arith, e))
+ends-last (y ∷ []) zero line e is = let same : y ≡ line = cc in ap is_dashes same
+ends-last (y ∷ []) (suc i) line e is = absurd (omega (arith, e))
+ends-last (y ∷ z ∷ lines) zero line e is = absurd (omega (arith, e))
+ends-last (y ∷ z ∷ lines) (suc i) line e is = ends-last (z ∷ lines) i line (omega (arith, e)) is
+
+pub ends-none : (lines : List (List ℕ)) → None ≡ slice_get lines (length lines - 1) → false ≡ ends_in_dashes lines
+ends-none [] is = refl
+ends-none (line ∷ lines) is = let some = slice_get-get_or (line ∷ lines) (length (line ∷ lines) - 1) [] (omega arith) in cc
+
+pub dashes-some : (lines : List (List ℕ)) → ends_in_dashes lines ≡ true → 0 < length lines
+dashes-some [] ends = cc
+dashes-some (line ∷ lines) ends = omega arith
+
+pub last-split : (lines : List (List ℕ)) → 0 < length lines → lines ≡ take (length lines - 1) lines ++ get_or lines (length lines - 1) [] ∷ []
+last-split lines some = sym (take_all (length lines - 1 + 1) lines (omega arith)) ∙ take_more lines (length lines - 1) [] (omega (arith, some))

@@ -1,0 +1,91 @@
+-- A script that is written part by part.
+use Rattle.std.proofs.Common.{◌≡◌, ℕ, false, List, [], ◌∷◌, ◌++◌, length, sym, ◌∙◌, ap, subst}
+use Rattle.std.specs.Prelude.{◌==◌, Option, if◌then◌else◌}
+use Rattle.std.specs.Io.KnownBytes.{Appends}
+use Rattle.std.proofs.lemmas.List.{append_assoc, append-nil}
+use Rattle.ascii_text.specs.Lines.{newline, without_last}
+use Rattle.dd_file.specs.Device.{AppendsPart}
+use Rattle.dd_file.specs.Rewritten.{newlines_at_end, without_double_end}
+use Rattle.dd_file.specs.RewriterState.{HasBegun, HasWritten, Continues, BreaksOff, Finishes, FinishesPart}
+use Rattle.dd_file.proofs.Rewriting.KnownBytes.{appends-append, append-part, part-append, part-part}
+use Rattle.dd_file.proofs.TextLines.LastNewlines.{text-held, text-ended, without_last-front}
+use Rattle.ascii_text.proofs.Offered.{without_last-append}
+
+-- the newline that is held back behind so many
+abbrev pub held : ℕ → List ℕ
+held newlines = if newlines == 0 then [] else newline
+
+-- a part of the text without its last newline is a part of the script, whatever follows
+pub begun-part : (start now : Option (List ℕ)) (text : List ℕ) → AppendsPart start now (without_last 10 text) → HasBegun start now text
+begun-part start now text part rest =
+    let more = without_last-front text rest in
+    let end = if newlines_at_end (text ++ rest) == 1 then newline else [] in
+    let whole : (without_last 10 text ++ more.0) ++ end ≡ without_double_end (text ++ rest) = ap (λ t. t ++ end) (sym more.1) ∙ text-ended (text ++ rest) in
+    subst (λ t. AppendsPart start now t) whole (part-part start now _ end (part-part start now _ more.0 part))
+
+pub begun-more : (start now : Option (List ℕ)) (text more : List ℕ) → HasBegun start now text → HasBegun start now (text ++ more)
+begun-more start now text more begun rest = subst (λ t. AppendsPart start now (without_double_end t)) (sym (append_assoc text more rest)) (begun (more ++ rest))
+
+pub HasWritten-from_text : (newlines : ℕ) (start now : Option (List ℕ)) (text : List ℕ) → newlines ≡ newlines_at_end text → Appends start now (without_last 10 text) → HasWritten newlines start now text
+HasWritten-from_text newlines start now text count gained = record {
+  counted = count;
+  gained = gained;
+  begun = begun-part start now text (subst (λ t. AppendsPart start now t) (append-nil (without_last 10 text)) (part-append start now (without_last 10 text) [] gained));
+}
+
+-- the text so far and some bytes more
+text-more : (newlines : ℕ) (start now : Option (List ℕ)) (text more : List ℕ) → (length more == 0) ≡ false → HasWritten newlines start now text →
+    (without_last 10 text ++ held newlines) ++ without_last 10 more ≡ without_last 10 (text ++ more)
+text-more newlines start now text [] some is = cc
+text-more newlines start now text (x ∷ more) some is =
+    ap (λ t. t ++ without_last 10 (x ∷ more)) (ap (λ n. without_last 10 text ++ held n) is.counted ∙ text-held text) ∙ sym (without_last-append 10 text x more)
+
+-- bytes are written: what is held back, and then they without a newline at their end
+pub continues-bytes : (newlines count : ℕ) (old mid new : Option (List ℕ)) (more : List ℕ) → (length more == 0) ≡ false → Appends old mid (held newlines) →
+    Appends mid new (without_last 10 more) → ((text : List ℕ) → newlines ≡ newlines_at_end text → count ≡ newlines_at_end (text ++ more)) → Continues newlines count old new more
+continues-bytes newlines count old mid new more some front behind counts start text is =
+    HasWritten-from_text count start new (text ++ more) (counts text is.counted) (subst (λ t. Appends start new t) (text-more newlines start old text more some is)
+    (appends-append start mid new _ _ (appends-append start old mid _ _ is.gained front) behind))
+
+pub breaks-held : (newlines : ℕ) (old new : Option (List ℕ)) (more : List ℕ) → (length more == 0) ≡ false → AppendsPart old new (held newlines) → BreaksOff newlines old new more
+breaks-held newlines old new more some part start text is =
+    begun-part start new (text ++ more) (subst (λ t. AppendsPart start new t) (text-more newlines start old text more some is)
+    (part-part start new _ _ (append-part start old new _ _ is.gained part)))
+
+pub breaks-bytes : (newlines : ℕ) (old mid new : Option (List ℕ)) (more : List ℕ) → (length more == 0) ≡ false → Appends old mid (held newlines) →
+    AppendsPart mid new (without_last 10 more) → BreaksOff newlines old new more
+breaks-bytes newlines old mid new more some front part start text is =
+    begun-part start new (text ++ more) (subst (λ t. AppendsPart start new t) (text-more newlines start old text more some is)
+    (append-part start mid new _ _ (appends-append start old mid _ _ is.gained front) part))
+
+-- the end: the newline that is held back, where it is the only one
+abbrev pub last : ℕ → List ℕ
+last newlines = if newlines == 1 then newline else []
+
+script-ended : (newlines : ℕ) (start now : Option (List ℕ)) (text : List ℕ) → HasWritten newlines start now text → without_last 10 text ++ last newlines ≡ without_double_end text
+script-ended newlines start now text is = ap (λ n. without_last 10 text ++ last n) is.counted ∙ text-ended text
+
+pub Finishes-from_last : (newlines : ℕ) (old new : Option (List ℕ)) → Appends old new (last newlines) → Finishes newlines old new
+Finishes-from_last newlines old new a start text is =
+    subst (λ t. Appends start new t) (script-ended newlines start old text is) (appends-append start old new _ _ is.gained a)
+
+pub finishes-part : (newlines : ℕ) (old new : Option (List ℕ)) → AppendsPart old new (last newlines) → FinishesPart newlines old new
+finishes-part newlines old new a start text is =
+    subst (λ t. AppendsPart start new t) (script-ended newlines start old text is) (append-part start old new _ _ is.gained a)
+
+-- nothing is written
+pub finishes-none : (newlines : ℕ) (old : Option (List ℕ)) → FinishesPart newlines old old
+finishes-none newlines old start text is = subst (λ t. AppendsPart start old (without_double_end t)) (append-nil text) (is.begun [])
+
+-- one part and then another
+pub continues-append : (a b c : ℕ) (old mid new : Option (List ℕ)) (xs ys : List ℕ) → Continues a b old mid xs → Continues b c mid new ys → Continues a c old new (xs ++ ys)
+continues-append a b c old mid new xs ys first second start text is =
+    subst (λ t. HasWritten c start new t) (append_assoc text xs ys) (second start (text ++ xs) (first start text is))
+
+pub breaks-first : (a : ℕ) (old new : Option (List ℕ)) (xs ys : List ℕ) → BreaksOff a old new xs → BreaksOff a old new (xs ++ ys)
+breaks-first a old new xs ys first start text is =
+    subst (λ t. HasBegun start new t) (append_assoc text xs ys) (begun-more start new (text ++ xs) ys (first start text is))
+
+pub breaks-second : (a b : ℕ) (old mid new : Option (List ℕ)) (xs ys : List ℕ) → Continues a b old mid xs → BreaksOff b mid new ys → BreaksOff a old new (xs ++ ys)
+breaks-second a b old mid new xs ys first second start text is =
+    subst (λ t. HasBegun start new t) (append_assoc text xs ys) (second start (text ++ xs) (first start text is))

@@ -1,0 +1,198 @@
+-- The items of a complete script, two newlines and any text.
+use Rattle.std.proofs.Common.{◌≡◌, ℕ, ◌+◌, ◌≤◌, Bool, true, false, not, cond, ◌&&◌, List, [], ◌∷◌, ◌++◌, ◌⊎◌, inl, inr, length, drop, map, refl, sym, ◌∙◌, ap, subst, length-append, length-drop, arith, rules}
+use Rattle.std.specs.Prelude.{◌==◌, Some, option_map, Result, Ok, Err}
+use Rattle.std.specs.List.{list_all}
+use Rattle.std.proofs.Math.Seq.{drop-append-add}
+use Rattle.std.proofs.lemmas.List.{append_assoc, append-nil, map-append, drop-append-le, nil_from_length}
+use Rattle.std.proofs.lemmas.List.Folds.{list_all-append}
+use Rattle.ascii_text.specs.Lines.{newline, pieces, before_first_piece, line_of, lines_of, text_of, without_last}
+use Rattle.dd_file.specs.Script.{front, first_of}
+use Rattle.dd_file.specs.Place.{longest_input}
+use Rattle.dd_file.specs.Reading.{Script, script_of, with_first}
+use Rattle.dd_file.specs.Laws.{is_line, has_separator, IsComplete, Done, More, directive_in, directives_of, moved, moved_fault}
+use Rattle.dd_file.specs.declared.item.Item.{Item}
+use Rattle.dd_file.specs.declared.item.Item.TheVariants.{Comment, Blank, Directive}
+use Rattle.dd_file.specs.declared.fault.FileFault.{FileFault}
+use Rattle.dd_file.proofs.ScriptGrammar.EndedFront.{first_of-local, ended_front}
+use Rattle.dd_file.proofs.TextLines.CarriageReturns.{without_return}
+use Rattle.dd_file.proofs.TextLines.CutAgain.{and-both, ended, lines-lines, text_of-append}
+use Rattle.ascii_text.proofs.Offered.{without_last-push}
+use Rattle.dd_file.proofs.ScriptGrammar.FrontLength.{first_of-fits, moved_item}
+use Rattle.dd_file.proofs.ScriptGrammar.OpenFront.{open-front}
+use Rattle.dd_file.proofs.ScriptGrammar.AllItems.{no_items, items_of, items_of-first, items_at-moved, moved_script, script_of-lines}
+
+-- any text is lines, each with its newline, and one more line, which may be empty
+record Cut (text : List ℕ) : Type 0 where
+  lines : List (List ℕ)
+  last : List ℕ
+  is : text ≡ text_of lines ++ last
+  are_lines : list_all is_line lines ≡ true
+  is_last : is_line last ≡ true
+
+cut-byte : (c : Bool) (b : ℕ) (text : List ℕ) → (b == 10) ≡ c → Cut text → Cut (b ∷ text)
+cut-byte true b text e cut = let newline_is : b ≡ 10 = search rules in
+    record { lines = [] ∷ cut.lines; last = cut.last; is = ap (λ x. x ∷ text) newline_is ∙ ap (λ t. 10 ∷ t) cut.is; are_lines = cut.are_lines; is_last = cut.is_last }
+cut-byte false b text e cut = at cut.lines cut.is cut.are_lines where
+  at : (lines : List (List ℕ)) → text ≡ text_of lines ++ cut.last → list_all is_line lines ≡ true → Cut (b ∷ text)
+  at [] is are = record { lines = []; last = b ∷ cut.last; is = ap (λ t. b ∷ t) is; are_lines = refl; is_last = ap (λ c. not c && is_line cut.last) e ∙ cut.is_last }
+  at (line ∷ lines) is are =
+      record { lines = (b ∷ line) ∷ lines; last = cut.last; is = ap (λ t. b ∷ t) is; are_lines = ap (λ c. (not c && is_line line) && list_all is_line lines) e ∙ are; is_last = cut.is_last }
+
+cut_of : (text : List ℕ) → Cut text
+cut_of [] = record { lines = []; last = []; is = refl; are_lines = refl; is_last = refl }
+cut_of (b ∷ text) = cut-byte (b == 10) b text refl (cut_of text)
+
+-- a last line without its newline
+pieces-last : (b : ℕ) (line : List ℕ) → is_line (b ∷ line) ≡ true → pieces (b ∷ line) ≡ (b ∷ line) ∷ []
+pieces-last b [] h = at (b == 10) h where
+  at : (c : Bool) → (not c && true) ≡ true → cond c (newline ∷ []) ((b ∷ []) ∷ []) ≡ (b ∷ []) ∷ []
+  at true k = cc
+  at false k = refl
+pieces-last b (x ∷ line) h = at (b == 10) h (pieces-last x line) where
+  at : (c : Bool) → (not c && is_line (x ∷ line)) ≡ true → (is_line (x ∷ line) ≡ true → pieces (x ∷ line) ≡ (x ∷ line) ∷ []) →
+      cond c (newline ∷ pieces (x ∷ line)) (before_first_piece b (pieces (x ∷ line))) ≡ (b ∷ x ∷ line) ∷ []
+  at true k ih = cc
+  at false k ih = ap (before_first_piece b) (ih k)
+
+line_of-last : (b : ℕ) (line : List ℕ) → is_line (b ∷ line) ≡ true → line_of (b ∷ line) ≡ line_of ((b ∷ line) ++ newline)
+line_of-last b line h = ap without_return (none b line h ∙ sym (without_last-push 10 10 (b ∷ line))) where
+  single : (b : ℕ) (c : Bool) → (not c && true) ≡ true → cond c [] (b ∷ []) ≡ b ∷ []
+  single b true k = cc
+  single b false k = refl
+
+  none : (b : ℕ) (line : List ℕ) → is_line (b ∷ line) ≡ true → without_last 10 (b ∷ line) ≡ b ∷ line
+  none b [] k = single b (b == 10) k
+  none b (x ∷ line) k = ap (λ t. b ∷ t) (none x line (and-both (not (b == 10)) (is_line (x ∷ line)) k).1)
+
+-- the lines of a script and two newlines are its lines, an empty one, and perhaps another
+record IsFollowed (script : List ℕ) : Type 0 where
+  more : List (List ℕ)
+  is_more : (more ≡ []) ⊎ (more ≡ [] ∷ [])
+  lines : (text : List ℕ) → lines_of (((script ++ newline) ++ newline) ++ text) ≡ lines_of script ++ [] ∷ (more ++ lines_of text)
+
+followed_by : (script : List ℕ) → IsFollowed script
+followed_by script = at (cut_of script).last (cut_of script).is (cut_of script).is_last where
+  whole : (last : List ℕ) → script ≡ text_of (cut_of script).lines ++ last → is_line last ≡ true → (text : List ℕ) →
+      lines_of (((script ++ newline) ++ newline) ++ text) ≡ ended (cut_of script).lines ++ line_of (last ++ newline) ∷ [] ∷ lines_of text
+  whole last is h text =
+      let ls = (cut_of script).lines in
+      let all = ls ++ last ∷ [] ∷ [] in
+      let is_all : ((script ++ newline) ++ newline) ++ text ≡ text_of all ++ text =
+      ap (λ t. ((t ++ newline) ++ newline) ++ text) is ∙ ap (λ t. (t ++ newline) ++ text) (append_assoc (text_of ls) last newline)
+      ∙ ap (λ t. t ++ text) (append_assoc (text_of ls) (last ++ newline) newline) ∙ ap (λ t. t ++ text) (sym (text_of-append ls (last ∷ [] ∷ []))) in
+      let are : list_all is_line all ≡ true = list_all-append is_line ls (last ∷ [] ∷ []) ∙ ap (λ b. b && (is_line last && true)) (cut_of script).are_lines ∙ ap (λ b. b && true) h in
+      ap lines_of is_all ∙ lines-lines all text are ∙ ap (λ t. t ++ lines_of text) (ap (map line_of) (map-append (λ line. line ++ newline) ls (last ∷ [] ∷ [])) ∙ map-append line_of (map (λ line. line ++ newline) ls) _)
+      ∙ append_assoc (ended ls) (line_of (last ++ newline) ∷ [] ∷ []) (lines_of text)
+
+  at : (last : List ℕ) → script ≡ text_of (cut_of script).lines ++ last → is_line last ≡ true → IsFollowed script
+  at [] is h =
+      let ls = (cut_of script).lines in
+      let own : lines_of script ≡ ended ls = ap lines_of is ∙ lines-lines ls [] (cut_of script).are_lines ∙ append-nil (ended ls) in
+      record { more = [] ∷ []; is_more = inr refl; lines = λ text. whole [] is h text ∙ ap (λ t. t ++ [] ∷ [] ∷ lines_of text) (sym own) }
+  at (b ∷ last) is h =
+      let ls = (cut_of script).lines in
+      let own : lines_of script ≡ ended ls ++ line_of ((b ∷ last) ++ newline) ∷ [] =
+      ap lines_of is ∙ lines-lines ls (b ∷ last) (cut_of script).are_lines ∙ ap (λ ps. ended ls ++ map line_of ps) (pieces-last b last h) ∙ ap (λ l. ended ls ++ l ∷ []) (line_of-last b last h) in
+      record { more = []; is_more = inl refl; lines = λ text. whole (b ∷ last) is h text ∙ sym (ap (λ t. t ++ [] ∷ lines_of text) own ∙ append_assoc (ended ls) (line_of ((b ∷ last) ++ newline) ∷ []) ([] ∷ lines_of text)) }
+
+-- the directives of one script and then of another, and the fault of the other
+record AreJoined (joined before behind : Script Item) : Type 0 where
+  directives : directives_of joined.items ≡ directives_of before.items ++ directives_of behind.items
+  fault : joined.fault ≡ behind.fault
+
+-- an empty line is a blank item
+items_of-blank : (n : ℕ) (lines : List (List ℕ)) → AreJoined (items_of n ([] ∷ lines)) (items_of n []) (items_of (n + 1) lines)
+items_of-blank n lines =
+    let first = items_of-first n ([] ∷ lines) (front (Ok (Blank ([] ∷ []))) 1 true) (Blank ([] ∷ [])) refl refl in
+    record { directives = ap (λ (s : Script Item). directives_of s.items) first; fault = ap (λ (s : Script Item). s.fault) first }
+
+-- the item of a front with its separator
+item-of : (count : ℕ) (found : Result Item FileFault) → has_separator count found ≡ true → (item : Item) × (found ≡ Ok item)
+item-of count (Ok item) h = (item, refl)
+item-of count (Err fault) h = cc
+
+-- one item more in front
+joined-first : (joined before behind joined' before' : Script Item) (item : Item) → joined' ≡ with_first item joined → before' ≡ with_first item before →
+    AreJoined joined before behind → AreJoined joined' before' behind
+joined-first joined before behind joined' before' item ej eb are = record {
+  directives = ap (λ (s : Script Item). directives_of s.items) ej ∙ ap (λ ds. directive_in item ++ ds) are.directives
+      ∙ sym (append_assoc (directive_in item) (directives_of before.items) (directives_of behind.items)) ∙ ap (λ (s : Script Item). directives_of s.items ++ directives_of behind.items) (sym eb);
+  fault = ap (λ (s : Script Item). s.fault) ej ∙ are.fault;
+}
+
+-- the items of complete lines, an empty line and any lines
+items_of-joined : (n : ℕ) (lines more : List (List ℕ)) → IsComplete n lines → AreJoined (items_of n (lines ++ [] ∷ more)) (items_of n lines) (items_of (n + length lines + 1) more)
+items_of-joined n lines more (Done m) =
+    let sum : m + 1 ≡ m + 0 + 1 = omega arith in subst (λ (k : ℕ). AreJoined (items_of m ([] ∷ more)) (items_of m []) (items_of k more)) sum (items_of-blank m more)
+items_of-joined n lines more (More m ls f e sep rest) = at f.is_ended refl (items_of-joined (m + f.count) (drop f.count ls) more rest) where
+  at : (c : Bool) → f.is_ended ≡ c → AreJoined (items_of (m + f.count) (drop f.count ls ++ [] ∷ more)) (items_of (m + f.count) (drop f.count ls)) (items_of (m + f.count + length (drop f.count ls) + 1) more) →
+      AreJoined (items_of m (ls ++ [] ∷ more)) (items_of m ls) (items_of (m + length ls + 1) more)
+  at true ended ih =
+      let item = item-of f.count f.found sep in
+      let bound = (first_of-fits m ls f e).1 in
+      let left = length-drop f.count ls in
+      let still : first_of m (ls ++ [] ∷ more) ≡ Some f = first_of-local m ls ([] ∷ more) (ap ended_front e ∙ ended) ∙ e in
+      let whole : items_of m (ls ++ [] ∷ more) ≡ with_first item.0 (items_of (m + f.count) (drop f.count ls ++ [] ∷ more)) =
+      items_of-first m (ls ++ [] ∷ more) f item.0 still item.1 ∙ ap (λ (t : List (List ℕ)). with_first item.0 (items_of (m + f.count) t)) (drop-append-le f.count ls ([] ∷ more) bound) in
+      let sum : m + f.count + length (drop f.count ls) + 1 ≡ m + length ls + 1 = omega (arith, bound, left) in
+      subst (λ (k : ℕ). AreJoined (items_of m (ls ++ [] ∷ more)) (items_of m ls) (items_of k more)) sum
+      (joined-first _ _ _ _ _ item.0 whole (items_of-first m ls f item.0 e item.1) ih)
+  at false ended ih =
+      let item = item-of f.count f.found sep in
+      let open_end = open-front m ls f e ended sep in
+      let count = open_end.0 in
+      let left = length-drop f.count ls in
+      let none : drop f.count ls ≡ [] = nil_from_length (drop f.count ls) (omega (arith, count, left)) in
+      let behind : drop (f.count + 1) (ls ++ [] ∷ more) ≡ more = ap (λ (k : ℕ). drop (k + 1) (ls ++ [] ∷ more)) count ∙ drop-append-add ls ([] ∷ more) 1 in
+      let sum : m + (f.count + 1) ≡ m + length ls + 1 = omega (arith, count) in
+      let whole : items_of m (ls ++ [] ∷ more) ≡ with_first item.0 (items_of (m + length ls + 1) more) =
+      items_of-first m (ls ++ [] ∷ more) (front f.found (f.count + 1) true) item.0 (open_end.1 more) item.1
+      ∙ ap (λ (t : List (List ℕ)). with_first item.0 (items_of (m + (f.count + 1)) t)) behind ∙ ap (λ (k : ℕ). with_first item.0 (items_of k more)) sum in
+      let before : items_of m ls ≡ with_first item.0 (items_of (m + f.count) []) =
+      items_of-first m ls f item.0 e item.1 ∙ ap (λ (t : List (List ℕ)). with_first item.0 (items_of (m + f.count) t)) none in
+      joined-first (items_of (m + length ls + 1) more) (items_of (m + f.count) []) _ _ _ item.0 whole before (record { directives = refl; fault = refl })
+
+-- the directives of the same items further down
+directives_of-moved : (k : ℕ) (items : List Item) → directives_of (map (moved_item k) items) ≡ map (moved k) (directives_of items)
+directives_of-moved k [] = refl
+directives_of-moved k (Comment lines ∷ items) = directives_of-moved k items
+directives_of-moved k (Blank lines ∷ items) = directives_of-moved k items
+directives_of-moved k (Directive directive ∷ items) = ap (λ ds. moved k directive ∷ ds) (directives_of-moved k items)
+
+-- the second empty line, where there is one
+second-line : (n : ℕ) (more lines : List (List ℕ)) → (more ≡ []) ⊎ (more ≡ [] ∷ []) → AreJoined (items_of n (more ++ lines)) no_items (items_of (n + length more) lines)
+second-line n more lines (inl e) =
+    let sum : n + 0 ≡ n = omega arith in
+    rw (e, sum) (record { directives = refl; fault = refl })
+second-line n more lines (inr e) = rw e (items_of-blank n lines)
+
+-- all of it
+pub script-joined : (script text : List ℕ) → IsComplete 1 (lines_of script) → length (((script ++ newline) ++ newline) ++ text) ≤ longest_input →
+    (directives_of (script_of (((script ++ newline) ++ newline) ++ text)).items ≡
+    directives_of (script_of script).items ++ map (moved (length (lines_of ((script ++ newline) ++ newline)))) (directives_of (script_of text).items))
+    × ((script_of (((script ++ newline) ++ newline) ++ text)).fault ≡ option_map (moved_fault (length (lines_of ((script ++ newline) ++ newline)))) (script_of text).fault)
+script-joined script text complete fits =
+    let closed = (script ++ newline) ++ newline in
+    let is = followed_by script in
+    let L = lines_of script in
+    let T = lines_of text in
+    let k = length (lines_of closed) in
+    let count : k ≡ length L + 1 + length is.more =
+    ap (λ (t : List ℕ). length (lines_of t)) (sym (append-nil closed)) ∙ ap (λ (ls : List (List ℕ)). length ls) (is.lines [])
+    ∙ ap (λ (t : List (List ℕ)). length (L ++ [] ∷ t)) (append-nil is.more) ∙ length-append L ([] ∷ is.more) ∙ (let sum : length L + length ([] ∷ is.more) ≡ length L + 1 + length is.more = omega arith in sum) in
+    let all = length-append closed text in
+    let front = length-append script newline in
+    let two = length-append (script ++ newline) newline in
+    let first = items_of-joined 1 L (is.more ++ T) complete in
+    let second = second-line (1 + length L + 1) is.more T is.is_more in
+    let sum : 1 + length L + 1 + length is.more ≡ k + 1 = omega (arith, count) in
+    let joined_is : script_of (closed ++ text) ≡ items_of 1 (L ++ [] ∷ (is.more ++ T)) = script_of-lines (closed ++ text) fits ∙ ap (items_of 1) (is.lines text) in
+    let script_is : script_of script ≡ items_of 1 L = script_of-lines script (omega (arith, fits, all, front, two)) in
+    let text_is : script_of text ≡ items_of 1 T = script_of-lines text (omega (arith, fits, all)) in
+    let rest : items_of (1 + length L + 1 + length is.more) T ≡ moved_script k (script_of text) =
+    ap (λ (m : ℕ). items_of m T) sum ∙ items_at-moved (length T) k 1 T ∙ ap (moved_script k) (sym text_is) in (
+      ap (λ (s : Script Item). directives_of s.items) joined_is ∙ first.directives ∙ ap (λ ds. directives_of (items_of 1 L).items ++ ds) second.directives
+          ∙ ap (λ (s : Script Item). directives_of s.items ++ directives_of (items_of (1 + length L + 1 + length is.more) T).items) (sym script_is)
+          ∙ ap (λ (s : Script Item). directives_of (script_of script).items ++ directives_of s.items) rest ∙ ap (λ ds. directives_of (script_of script).items ++ ds) (directives_of-moved k (script_of text).items),
+      ap (λ (s : Script Item). s.fault) joined_is ∙ first.fault ∙ second.fault ∙ ap (λ (s : Script Item). s.fault) rest,
+    )

@@ -1,0 +1,137 @@
+-- Lines that are written and cut again, and the lines of an output.
+use Rattle.std.proofs.Common.{◌≡◌, ℕ, Bool, true, false, not, cond, ◌&&◌, ◌||◌, List, [], ◌∷◌, ◌++◌, inl, inr, length, map, refl, sym, ◌∙◌, ap, subst, rules}
+use Rattle.std.specs.Prelude.{◌==◌, nat_eq}
+use Rattle.std.specs.List.{list_all, list_any, ends_with}
+use Rattle.std.proofs.lemmas.List.{append_assoc, append-nil, map-append}
+use Rattle.ascii_text.specs.Lines.{newline, pieces, before_first_piece, line_of, lines_of, text_of, without_last}
+use Rattle.ascii_text.specs.WhiteSpace.{is_blank}
+use Rattle.dd_file.specs.Script.{is_dashes}
+use Rattle.dd_file.specs.Laws.{is_line}
+use Rattle.dd_file.specs.Rewritten.{is_output, is_output_line, has_blank_line}
+use Rattle.dd_file.proofs.TextLines.CarriageReturns.{without_return, without_returns}
+use Rattle.ascii_text.proofs.Offered.{list-by_last, without_last-push}
+use Rattle.dd_file.proofs.TextLines.LastNewlines.{ends_with-append}
+
+-- two tests that both pass
+pub and-both : (a b : Bool) → (a && b) ≡ true → (a ≡ true) × (b ≡ true)
+and-both true b h = (refl, h)
+and-both false b h = cc
+
+-- a line with its newline is a piece
+pub pieces-line : (line rest : List ℕ) → is_line line ≡ true → pieces ((line ++ newline) ++ rest) ≡ (line ++ newline) ∷ pieces rest
+pieces-line [] rest h = refl
+pieces-line (b ∷ line) rest h = at (b == 10) (pieces-line line rest) h where
+  at : (c : Bool) → (is_line line ≡ true → pieces ((line ++ newline) ++ rest) ≡ (line ++ newline) ∷ pieces rest) → (not c && is_line line) ≡ true →
+      cond c (newline ∷ pieces ((line ++ newline) ++ rest)) (before_first_piece b (pieces ((line ++ newline) ++ rest))) ≡ (b ∷ line ++ newline) ∷ pieces rest
+  at true ih k = cc
+  at false ih k = ap (before_first_piece b) (ih k)
+
+-- lines that are written, and what follows them
+pieces-lines : (lines : List (List ℕ)) (rest : List ℕ) → list_all is_line lines ≡ true → pieces (text_of lines ++ rest) ≡ map (λ line. line ++ newline) lines ++ pieces rest
+pieces-lines [] rest h = refl
+pieces-lines (line ∷ lines) rest h = let k = and-both (is_line line) (list_all is_line lines) h in
+    ap pieces (append_assoc (line ++ newline) (text_of lines) rest) ∙ pieces-line line (text_of lines ++ rest) k.0 ∙ ap (λ ps. (line ++ newline) ∷ ps) (pieces-lines lines rest k.1)
+
+-- the lines of those pieces
+abbrev pub ended : List (List ℕ) → List (List ℕ)
+ended lines = map line_of (map (λ line. line ++ newline) lines)
+
+pub lines-lines : (lines : List (List ℕ)) (rest : List ℕ) → list_all is_line lines ≡ true → lines_of (text_of lines ++ rest) ≡ ended lines ++ lines_of rest
+lines-lines lines rest h = ap (map line_of) (pieces-lines lines rest h) ∙ map-append line_of (map (λ line. line ++ newline) lines) (pieces rest)
+
+pub pieces-text_of : (lines : List (List ℕ)) → list_all is_line lines ≡ true → pieces (text_of lines) ≡ map (λ line. line ++ newline) lines
+pieces-text_of lines h = ap pieces (sym (append-nil (text_of lines))) ∙ pieces-lines lines [] h ∙ append-nil (map (λ line. line ++ newline) lines)
+
+without_last-newline : (line : List ℕ) → without_last 10 (line ++ newline) ≡ line
+without_last-newline line = without_last-push 10 10 line
+
+-- lines that are written are those lines again, but for a carriage return at each end
+pub lines_of-text_of : (lines : List (List ℕ)) → list_all is_line lines ≡ true → lines_of (text_of lines) ≡ without_returns lines
+lines_of-text_of lines h = ap (map line_of) (pieces-text_of lines h) ∙ each lines where
+  each : (ls : List (List ℕ)) → map line_of (map (λ line. line ++ newline) ls) ≡ without_returns ls
+  each [] = refl
+  each (line ∷ ls) = ap (λ t. without_last 13 t ∷ map line_of (map (λ l. l ++ newline) ls)) (without_last-newline line) ∙ ap (λ ts. without_return line ∷ ts) (each ls)
+
+pub text_of-append : (xs ys : List (List ℕ)) → text_of (xs ++ ys) ≡ text_of xs ++ text_of ys
+text_of-append [] ys = refl
+text_of-append (x ∷ xs) ys = ap (λ t. (x ++ newline) ++ t) (text_of-append xs ys) ∙ sym (append_assoc (x ++ newline) (text_of xs) (text_of ys))
+
+-- a text that ends in a newline is lines, each with its newline
+abbrev LinesOf : List ℕ → Type 0
+LinesOf text = (line : List ℕ) × (lines : List (List ℕ)) × (text ≡ text_of (line ∷ lines)) × (list_all is_line (line ∷ lines) ≡ true)
+
+lines-byte : (c : Bool) (b : ℕ) (text : List ℕ) → (b == 10) ≡ c → LinesOf text → LinesOf (b ∷ text)
+lines-byte true b text e is = let newline_is : b ≡ 10 = search rules in ([], is.0 ∷ is.1, ap (λ x. x ∷ text) newline_is ∙ ap (λ t. 10 ∷ t) is.2, is.3)
+lines-byte false b text e is = (b ∷ is.0, is.1, ap (λ t. b ∷ t) is.2, ap (λ c. (not c && is_line is.0) && list_all is_line is.1) e ∙ is.3)
+
+lines-text : (front : List ℕ) → LinesOf (front ++ newline)
+lines-text [] = ([], [], refl, refl)
+lines-text (b ∷ front) = lines-byte (b == 10) b (front ++ newline) refl (lines-text front)
+
+-- an output is lines
+pub record IsOutputOf (lines : List (List ℕ)) (found : List ℕ) : Type 0 where
+  pub text : found ≡ text_of lines
+  pub are_lines : list_all is_line lines ≡ true
+  pub are_output : list_all is_output_line lines ≡ true
+
+output-pieces : (lines : List (List ℕ)) → list_all is_line lines ≡ true → list_all (λ piece. is_output_line (without_last 10 piece)) (pieces (text_of lines)) ≡ true → list_all is_output_line lines ≡ true
+output-pieces lines h k = sym (ap (list_all (λ piece. is_output_line (without_last 10 piece))) (pieces-text_of lines h) ∙ each lines) ∙ k where
+  each : (ls : List (List ℕ)) → list_all (λ piece. is_output_line (without_last 10 piece)) (map (λ line. line ++ newline) ls) ≡ list_all is_output_line ls
+  each [] = refl
+  each (line ∷ ls) = ap (λ t. is_output_line t && list_all (λ piece. is_output_line (without_last 10 piece)) (map (λ l. l ++ newline) ls)) (without_last-newline line) ∙ ap (λ b. is_output_line line && b) (each ls)
+
+pub output-lines : (found : List ℕ) → is_output found ≡ true → (lines : List (List ℕ)) × IsOutputOf lines found
+output-lines found h = elim (list-by_last found) [
+  | inl none ↦ ([], record { text = none; are_lines = refl; are_output = refl })
+  | inr p ↦
+      let k = and-both (length found == 0 || ends_with nat_eq found newline) _ h in
+      let ended : ((length found == 0) || (nat_eq 10 p.1 && true)) ≡ true =
+      ap (λ b. (length found == 0) || b) (sym (ap (λ t. ends_with nat_eq t newline) p.2 ∙ ends_with-append p.0 (p.1 ∷ []) newline refl)) ∙ k.0 in
+      let whole : found ≡ p.0 ++ newline = p.2 ∙ ap (λ b. p.0 ++ b ∷ []) (is_newline p.0 p.1 found p.2 ended) in
+      let ls = lines-text p.0 in
+      let text : found ≡ text_of (ls.0 ∷ ls.1) = whole ∙ ls.2 in (
+        ls.0 ∷ ls.1,
+        record {
+          text = text;
+          are_lines = ls.3;
+          are_output = output-pieces (ls.0 ∷ ls.1) ls.3 (subst (λ t. list_all (λ piece. is_output_line (without_last 10 piece)) (pieces t) ≡ true) text k.1);
+        },
+      )
+] where
+  some : (front : List ℕ) (b : ℕ) → (length (front ++ b ∷ []) == 0) ≡ false
+  some [] b = refl
+  some (x ∷ front) b = search rules
+
+  newline_is : (b : ℕ) (q : Bool) → nat_eq 10 b ≡ q → (q && true) ≡ true → b ≡ 10
+  newline_is b true e k = search rules
+  newline_is b false e k = cc
+
+  is_newline : (front : List ℕ) (b : ℕ) (text : List ℕ) → text ≡ front ++ b ∷ [] → ((length text == 0) || (nat_eq 10 b && true)) ≡ true → b ≡ 10
+  is_newline front b text e k =
+      newline_is b (nat_eq 10 b) refl (ap (λ z. z || (nat_eq 10 b && true)) (sym (ap (λ t. length t == 0) e ∙ some front b)) ∙ k)
+
+-- no carriage return ends a line of an output
+output_line-return : (line : List ℕ) → is_output_line line ≡ true → without_return line ≡ line
+output_line-return line h = elim (list-by_last line) [
+  | inl none ↦ rw none refl
+  | inr p ↦
+      let last : ends_with nat_eq line (13 ∷ []) ≡ (nat_eq 13 p.1 && true) = ap (λ t. ends_with nat_eq t (13 ∷ [])) p.2 ∙ ends_with-append p.0 (p.1 ∷ []) (13 ∷ []) refl in
+      let k : not (is_dashes line || (nat_eq 13 p.1 && true)) ≡ true = ap (λ b. not (is_dashes line || b)) (sym last) ∙ h in
+      ap without_return p.2 ∙ without_last-push 13 p.1 p.0 ∙ ap (λ c. cond c p.0 (p.0 ++ p.1 ∷ [])) (other p.1 (is_dashes line) k) ∙ sym p.2
+] where
+  not_return : (b : ℕ) (q : Bool) → nat_eq 13 b ≡ q → not (q && true) ≡ true → (b == 13) ≡ false
+  not_return b true e k = cc
+  not_return b false e k = search rules
+
+  other : (b : ℕ) (d : Bool) → not (d || (nat_eq 13 b && true)) ≡ true → (b == 13) ≡ false
+  other b true k = cc
+  other b false k = not_return b (nat_eq 13 b) refl k
+
+pub output-returns : (lines : List (List ℕ)) → list_all is_output_line lines ≡ true → without_returns lines ≡ lines
+output-returns [] h = refl
+output-returns (line ∷ lines) h = let k = and-both (is_output_line line) (list_all is_output_line lines) h in
+    ap (λ t. t ∷ without_returns lines) (output_line-return line k.0) ∙ ap (λ ts. line ∷ ts) (output-returns lines k.1)
+
+-- whether an output has a blank line
+pub has_blank_line-lines : (lines : List (List ℕ)) (found : List ℕ) → IsOutputOf lines found → has_blank_line found ≡ list_any is_blank lines
+has_blank_line-lines lines found is = ap (list_any is_blank) (ap lines_of is.text ∙ lines_of-text_of lines is.are_lines ∙ output-returns lines is.are_output)

@@ -1,0 +1,117 @@
+-- The newlines at the end of a text, and what is left without the last.
+use Rattle.std.proofs.Common.{◌≡◌, ℕ, ◌-◌, Bool, true, false, not, cond, ◌&&◌, inl, inr, List, [], ◌∷◌, ◌++◌, length, drop, refl, sym, ◌∙◌, ap, length-append, arith, rules}
+use Rattle.std.specs.Prelude.{◌==◌, nat_eq, if◌then◌else◌}
+use Rattle.std.specs.List.{ends_with}
+use Rattle.std.proofs.Math.Seq.{drop-append_seam}
+use Rattle.std.proofs.lemmas.List.{append_assoc, append-nil}
+use lib.Pointwise.{pointwise}
+use Rattle.ascii_text.specs.Lines.{newline, without_last}
+use Rattle.dd_file.specs.Rewritten.{newlines_at_end, without_double_end}
+use Rattle.ascii_text.proofs.Offered.{list-by_last, without_last-append, without_last-push}
+
+-- what a text ends in is told by its last bytes
+pub ends_with-append : (xs ys needle : List ℕ) → length ys ≡ length needle → ends_with nat_eq (xs ++ ys) needle ≡ pointwise nat_eq needle ys
+ends_with-append xs ys needle e =
+    let k : length (xs ++ ys) - length needle ≡ length xs = rw (length-append xs ys) (omega arith) in
+    ap (λ n. pointwise nat_eq needle (drop n (xs ++ ys))) k ∙ ap (pointwise nat_eq needle) (drop-append_seam xs ys)
+
+-- the count where the last byte is a newline or not, and the one before it
+abbrev counted : Bool → Bool → ℕ
+counted false before = 0
+counted true false = 1
+counted true true = 2
+
+newlines_at_end-one : (b : ℕ) → newlines_at_end (b ∷ []) ≡ counted (nat_eq 10 b) false
+newlines_at_end-one b = at (nat_eq 10 b) where
+  at : (q : Bool) → (if q && false then 2 else (if q && true then 1 else 0)) ≡ counted q false
+  at true = refl
+  at false = refl
+
+-- the last two bytes tell whether a text ends in two newlines
+ends_with-two : (xs : List ℕ) (a b : ℕ) → ends_with nat_eq ((xs ++ a ∷ []) ++ b ∷ []) (newline ++ newline) ≡ (nat_eq 10 a && (nat_eq 10 b && true))
+ends_with-two xs a b =
+    ap (λ t. ends_with nat_eq t (newline ++ newline)) (append_assoc xs (a ∷ []) (b ∷ [])) ∙ ends_with-append xs (a ∷ b ∷ []) (newline ++ newline) refl
+
+newlines_at_end-two : (xs : List ℕ) (a b : ℕ) → newlines_at_end ((xs ++ a ∷ []) ++ b ∷ []) ≡ counted (nat_eq 10 b) (nat_eq 10 a)
+newlines_at_end-two xs a b =
+    let two = ends_with-two xs a b in
+    let one : ends_with nat_eq ((xs ++ a ∷ []) ++ b ∷ []) newline ≡ (nat_eq 10 b && true) = ends_with-append (xs ++ a ∷ []) (b ∷ []) newline refl in
+    ap (λ p. if p then 2 else (if ends_with nat_eq ((xs ++ a ∷ []) ++ b ∷ []) newline then 1 else 0)) two
+    ∙ ap (λ q. if nat_eq 10 a && (nat_eq 10 b && true) then 2 else (if q then 1 else 0)) one ∙ at (nat_eq 10 a) (nat_eq 10 b) where
+      at : (p q : Bool) → (if p && (q && true) then 2 else (if q && true then 1 else 0)) ≡ counted q p
+      at true true = refl
+      at true false = refl
+      at false true = refl
+      at false false = refl
+
+-- .. and no byte before them
+pub newlines_at_end-last : (xs : List ℕ) (a b : ℕ) → newlines_at_end ((xs ++ a ∷ []) ++ b ∷ []) ≡ newlines_at_end (a ∷ b ∷ [])
+newlines_at_end-last xs a b = newlines_at_end-two xs a b ∙ sym (newlines_at_end-two [] a b)
+
+counted-zero : (q p : Bool) → (counted q p == 0) ≡ not q
+counted-zero false p = refl
+counted-zero true false = refl
+counted-zero true true = refl
+
+-- the last byte tells whether a newline ends the text
+newlines_at_end-zero : (text : List ℕ) (b : ℕ) → (newlines_at_end (text ++ b ∷ []) == 0) ≡ not (nat_eq 10 b)
+newlines_at_end-zero text b = elim (list-by_last text) [
+  | inl e ↦ ap (λ t. newlines_at_end (t ++ b ∷ []) == 0) e ∙ ap (λ n. n == 0) (newlines_at_end-one b) ∙ counted-zero (nat_eq 10 b) false
+  | inr p ↦ ap (λ t. newlines_at_end (t ++ b ∷ []) == 0) p.2 ∙ ap (λ n. n == 0) (newlines_at_end-two p.0 p.1 b) ∙ counted-zero (nat_eq 10 b) (nat_eq 10 p.1)
+]
+
+-- one byte more
+pub newlines_at_end-push : (text : List ℕ) (b : ℕ) → newlines_at_end (text ++ b ∷ []) ≡ counted (nat_eq 10 b) (not (newlines_at_end text == 0))
+newlines_at_end-push text b = elim (list-by_last text) [
+  | inl e ↦ ap (λ t. newlines_at_end (t ++ b ∷ [])) e ∙ newlines_at_end-one b ∙ ap (λ t. counted (nat_eq 10 b) (not (newlines_at_end t == 0))) (sym e)
+  | inr p ↦ ap (λ t. newlines_at_end (t ++ b ∷ [])) p.2 ∙ newlines_at_end-two p.0 p.1 b ∙ ap (counted (nat_eq 10 b)) (sym (not_not (nat_eq 10 p.1)))
+      ∙ ap (λ z. counted (nat_eq 10 b) (not z)) (sym (newlines_at_end-zero p.0 p.1)) ∙ ap (λ t. counted (nat_eq 10 b) (not (newlines_at_end t == 0))) (sym p.2)
+] where
+  not_not : (q : Bool) → not (not q) ≡ q
+  not_not true = refl
+  not_not false = refl
+
+pub newlines_at_end-second : (b n : ℕ) (text : List ℕ) → b ≡ 10 → (n ≡ 0 → ⊥) → n ≡ newlines_at_end text → 2 ≡ newlines_at_end (text ++ b ∷ [])
+newlines_at_end-second b n text newline some e =
+    let more : (n == 0) ≡ false = search rules in
+    sym (newlines_at_end-push text b ∙ ap (λ x. counted (nat_eq 10 x) (not (newlines_at_end text == 0))) newline ∙ ap (λ m. counted true (not (m == 0))) (sym e) ∙ ap (λ z. counted true (not z)) more)
+
+-- a text is what is left without a newline at its end, and that newline
+pub text-held : (text : List ℕ) → without_last 10 text ++ (if newlines_at_end text == 0 then [] else newline) ≡ text
+text-held text = elim (list-by_last text) [
+  | inl e ↦ rw e refl
+  | inr p ↦ let whole = λ (t : List ℕ). without_last 10 t ++ (if newlines_at_end t == 0 then [] else newline) in
+      ap whole p.2 ∙ ap (λ z. without_last 10 (p.0 ++ p.1 ∷ []) ++ (if z then [] else newline)) (newlines_at_end-zero p.0 p.1)
+      ∙ ap (λ t. t ++ (if not (nat_eq 10 p.1) then [] else newline)) (without_last-push 10 p.1 p.0) ∙ at p.0 p.1 (nat_eq 10 p.1) (p.1 == 10) refl refl ∙ sym p.2
+] where
+  at : (xs : List ℕ) (b : ℕ) (p q : Bool) → nat_eq 10 b ≡ p → (b == 10) ≡ q → cond q xs (xs ++ b ∷ []) ++ (if not p then [] else newline) ≡ xs ++ b ∷ []
+  at xs b true true h k = let is : b ≡ 10 = search rules in ap (λ y. xs ++ y ∷ []) (sym is)
+  at xs b false false h k = append-nil (xs ++ b ∷ [])
+  at xs b true false h k = absurd (search rules)
+  at xs b false true h k = absurd (search rules)
+
+-- the script that ends here is what is left without a newline at its end, and that newline where it is the only one
+pub text-ended : (text : List ℕ) → without_last 10 text ++ (if newlines_at_end text == 1 then newline else []) ≡ without_double_end text
+text-ended text = at (ends_with nat_eq text (newline ++ newline)) (ends_with nat_eq text newline) (without_last 10 text) (text-held text) where
+  at : (p q : Bool) (front : List ℕ) → front ++ (if (if p then 2 else (if q then 1 else 0)) == 0 then [] else newline) ≡ text →
+      front ++ (if (if p then 2 else (if q then 1 else 0)) == 1 then newline else []) ≡ (if p then front else text)
+  at true q front h = append-nil front
+  at false true front h = h
+  at false false front h = h
+
+-- without its last newline the text is a front part of itself with more behind it
+pub without_last-front : (xs ys : List ℕ) → (part : List ℕ) × (without_last 10 (xs ++ ys) ≡ without_last 10 xs ++ part)
+without_last-front xs [] = ([], ap (without_last 10) (append-nil xs) ∙ sym (append-nil (without_last 10 xs)))
+without_last-front xs (y ∷ ys) = let held = if newlines_at_end xs == 0 then [] else newline in (
+  held ++ without_last 10 (y ∷ ys),
+  without_last-append 10 xs y ys ∙ ap (λ t. t ++ without_last 10 (y ∷ ys)) (sym (text-held xs)) ∙ append_assoc (without_last 10 xs) held (without_last 10 (y ∷ ys)),
+)
+
+-- a text behind whose last byte a newline is put
+pub double_end-pushed : (xs : List ℕ) (a : ℕ) → without_double_end ((xs ++ a ∷ []) ++ newline) ≡ cond (nat_eq 10 a) (xs ++ a ∷ []) ((xs ++ a ∷ []) ++ newline)
+double_end-pushed xs a =
+    let text = (xs ++ a ∷ []) ++ newline in
+    ap (λ p. if p then without_last 10 text else text) (ends_with-two xs a 10) ∙ ap (λ t. if nat_eq 10 a && true then t else text) (without_last-push 10 10 (xs ++ a ∷ [])) ∙ at (nat_eq 10 a) (xs ++ a ∷ []) text where
+      at : (p : Bool) (front whole : List ℕ) → (if p && true then front else whole) ≡ cond p front whole
+      at true front whole = refl
+      at false front whole = refl

@@ -1,0 +1,5 @@
+-- Worked examples.
+
+pub mod Words
+pub mod Scripts
+pub mod Rewrites

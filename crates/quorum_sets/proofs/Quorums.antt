@@ -1,0 +1,8 @@
+-- Majorities: what they have reached, what they vote, and that they meet.
+
+pub mod Counts
+pub mod MajorityPlace
+pub mod CommittedIndex
+pub mod ChartBars
+pub mod VoteResults
+pub mod Overlap

@@ -1,0 +1,137 @@
+-- A bar's width, by the order of the ids by index and then by id.
+use Rattle.std.proofs.Common.{◌≡◌, ℕ, zero, suc, ◌+◌, ◌<◌, ◌≤◌, Bool, true, false, cond, ◌&&◌, ◌||◌, List, [], ◌∷◌, map, length, get_or, refl, sym, ap, ◌∙◌, arith, inl, inr, ◌==◌}
+use Rattle.std.specs.Prelude.{nat_lt, nat_eq, count_by}
+use Rattle.std.specs.declared.cmp.Ordering.TheVariants.{Less, Equal, Greater}
+use Rattle.std.specs.Ordering.{nat_cmp, ordering_then, is_lt}
+use Rattle.std.specs.List.{list_any, Contains}
+use Rattle.std.specs.List.Sorted.{IsSorted, IsPartitionPoint, IsPartitionedBy}
+use Rattle.std.proofs.lemmas.Bool.{lt-ltb, ltb-true, ltb-false, eqb-true, eq-eqb, and_parts, and_from, cases_lt, false_from_ne_true, cond-true, cond-false}
+use Rattle.std.proofs.lemmas.Cmp.{nat_cmp_total, on_total, then_total}
+use Rattle.std.proofs.lemmas.List.{length-map, get_or-map, get_or_default}
+use Rattle.std.proofs.lemmas.List.Folds.{fold-map, list_any_at, Any-from_list_any}
+use Rattle.std.proofs.lemmas.List.Sums.{sum_by-cons}
+use Rattle.std.proofs.lemmas.List.Sorted.{ranks_by, sorted_far, length_permutation, Contains-permutation, list_any-IsPermutation, sum_by-IsPermutation, IsPartitionedBy-ltb}
+use Rattle.quorum_sets.specs.Committed.{Acks, acked_index}
+use Rattle.quorum_sets.specs.Chart.{IsRanking, ranked, is_tied, bar_width}
+
+-- ---- the order by index and then by id
+not_less_by : (less same less_id same_id : Bool) → is_lt (ordering_then (cond less Less (cond same Equal Greater)) (cond less_id Less (cond same_id Equal Greater))) ≡ false → (less ≡ false) × (same ≡ true → less_id ≡ false)
+not_less_by true same less_id same_id h = cc
+not_less_by false true true same_id h = cc
+not_less_by false true false same_id h = (refl, λ _. refl)
+not_less_by false false less_id same_id h = (refl, λ no. cc)
+
+not_less : (i x j y : ℕ) → is_lt (ordering_then (nat_cmp i j) (nat_cmp x y)) ≡ false → (j ≤ i) × (j ≡ i → y ≤ x)
+not_less i x j y h =
+    let parts = not_less_by (nat_lt i j) (i == j) (nat_lt x y) (x == y) h in
+    (ltb-false i j parts.0, λ same. ltb-false x y (parts.1 (eq-eqb i j (sym same))))
+
+row_order : (rows : List (ℕ × ℕ)) → IsSorted (λ x y. ordering_then (nat_cmp x.0 y.0) (nat_cmp x.1 y.1)) rows → (j k : ℕ) (d : ℕ × ℕ) → j ≤ k → k < length rows → ((get_or rows j d).0 ≤ (get_or rows k d).0) × ((get_or rows j d).0 ≡ (get_or rows k d).0 → (get_or rows j d).1 ≤ (get_or rows k d).1)
+row_order rows rises j k d before within =
+    let total = then_total (on_total (λ (r : ℕ × ℕ). r.0) nat_cmp_total) (on_total (λ (r : ℕ × ℕ). r.1) nat_cmp_total) in
+    not_less _ _ _ _ (sorted_far _ (ranks_by total (λ r. r)) rows rises j k d before within)
+
+pub ranking-partitioned : (ids : List ℕ) (acks : Acks) (rows : List (ℕ × ℕ)) (index : ℕ) → IsRanking ids acks rows → IsPartitionedBy (λ r. nat_lt r.0 index) rows
+ranking-partitioned ids acks rows index ranking =
+    IsPartitionedBy-ltb (λ r. r.0) rows index (λ j k d before within. (row_order rows ranking.rises j k d before within).0)
+
+-- ---- the rows against the ids
+pub IsRanking-len : (ids : List ℕ) (acks : Acks) (rows : List (ℕ × ℕ)) → IsRanking ids acks rows → length rows ≡ length ids
+IsRanking-len ids acks rows ranking = length_permutation (map (ranked acks) ids) rows ranking.same ∙ length-map ids (ranked acks)
+
+count-rows : (p : ℕ × ℕ → Bool) (ids : List ℕ) (acks : Acks) (rows : List (ℕ × ℕ)) → IsRanking ids acks rows → count_by p rows ≡ count_by (λ id. p (ranked acks id)) ids
+count-rows p ids acks rows ranking =
+    sum_by-IsPermutation (λ r. cond (p r) 1 0) (map (ranked acks) ids) rows ranking.same ∙ fold-map (λ a r. a + cond (p r) 1 0) (ranked acks) 0 ids
+
+any-map : {X Y : Type 0} (p : Y → Bool) (f : X → Y) (xs : List X) → list_any p (map f xs) ≡ list_any (λ x. p (f x)) xs
+any-map p f [] = refl
+any-map p f (x ∷ xs) = ap (λ b. p (f x) || b) (any-map p f xs)
+
+any-rows : (p : ℕ × ℕ → Bool) (ids : List ℕ) (acks : Acks) (rows : List (ℕ × ℕ)) → IsRanking ids acks rows → list_any p rows ≡ list_any (λ id. p (ranked acks id)) ids
+any-rows p ids acks rows ranking = sym (list_any-IsPermutation p (map (ranked acks) ids) rows ranking.same) ∙ any-map p (ranked acks) ids
+
+has_row : (ids : List ℕ) (acks : Acks) (rows : List (ℕ × ℕ)) (id : ℕ) → IsRanking ids acks rows → Contains ids id → Contains rows (ranked acks id)
+has_row ids acks rows id ranking among =
+    let same = length-map ids (ranked acks) in
+    let here = get_or-map (ranked acks) ids among.0 id (ranked acks id) among.1 ∙ ap (ranked acks) among.2 in
+    Contains-permutation (map (ranked acks) ids) rows (ranked acks id) ranking.same (among.0, omega arith, here)
+
+-- ---- a partition point counts what is before it
+count_by-partition : {X : Type 0} (p : X → Bool) (xs : List X) (k : ℕ) → k ≤ length xs → IsPartitionPoint (λ x. p x ≡ true) (λ x. p x ≡ false) xs k → count_by p xs ≡ k
+count_by-partition p [] k within parted = omega arith
+count_by-partition p (x ∷ xs) zero within parted =
+    let here : p x ≡ false = parted.1 0 x (omega arith) (omega arith) in
+    let rest = count_by-partition p xs zero (omega arith) ((λ j d low high. absurd (omega arith)), (λ j d low high. parted.1 (suc j) d (omega arith) (omega arith))) in
+    sum_by-cons (λ y. cond (p y) 1 0) x xs ∙ (λ i. cond (here i) 1 0 + rest i)
+count_by-partition p (x ∷ xs) (suc k) within parted =
+    let here : p x ≡ true = parted.0 0 x (omega arith) (omega arith) in
+    let rest = count_by-partition p xs k (omega arith) ((λ j d low high. parted.0 (suc j) d (omega arith) (omega arith)), (λ j d low high. parted.1 (suc j) d (omega arith) (omega arith))) in
+    sum_by-cons (λ y. cond (p y) 1 0) x xs ∙ (λ i. cond (here i) 1 0 + rest i) ∙ omega arith
+
+-- ---- the first row that has an index
+-- the place parts the rows with a smaller index from the others
+abbrev pub Parts : ℕ → List (ℕ × ℕ) → ℕ → Type 0
+Parts index rows place = IsPartitionPoint (λ r. nat_lt r.0 index ≡ true) (λ r. nat_lt r.0 index ≡ false) rows place
+
+-- what is not before the place has no smaller index
+from_place : (index : ℕ) (rows : List (ℕ × ℕ)) (place j : ℕ) (d : ℕ × ℕ) → Parts index rows place → j < length rows → index ≤ (get_or rows j d).0 → place ≤ j
+from_place index rows place j d parted within enough = elim (cases_lt j place) [
+  | inl before ↦ let less = ltb-true _ index (parted.0 j d (omega arith) before) in absurd (omega arith)
+  | inr after ↦ after
+]
+
+-- the row at the place has the index of the id, and no greater id
+pub record IsFirst (index id place : ℕ) (rows : List (ℕ × ℕ)) (first : ℕ × ℕ) : Type 0 where
+  pub within : place < length rows
+  pub index_is : first.0 ≡ index
+  pub id_below : first.1 ≤ id
+
+pub IsFirst-at_place : (ids : List ℕ) (acks : Acks) (rows : List (ℕ × ℕ)) (id place : ℕ) → IsRanking ids acks rows → Contains ids id → Parts (acked_index acks id) rows place → IsFirst (acked_index acks id) id place rows (get_or rows place (ranked acks id))
+IsFirst-at_place ids acks rows id place ranking among parted =
+    let index : ℕ = acked_index acks id in
+    let d : ℕ × ℕ = ranked acks id in
+    let there = has_row ids acks rows id ranking among in
+    let index_there : (get_or rows there.0 d).0 ≡ index = ap (λ r. r.0) there.2 in
+    let id_there : (get_or rows there.0 d).1 ≡ id = ap (λ r. r.1) there.2 in
+    let before = from_place index rows place there.0 d parted there.1 (omega arith) in
+    let order = row_order rows ranking.rises place there.0 d before there.1 in
+    let not_less = ltb-false _ index (parted.1 place d (omega arith) (omega arith)) in
+    let same : (get_or rows place d).0 ≡ index = omega arith in
+    record {
+      within = omega arith;
+      index_is = same;
+      id_below = (let low = order.1 (same ∙ sym index_there) in omega arith);
+    }
+
+abbrev ties : ℕ → ℕ → ℕ × ℕ → Bool
+ties index id row = nat_lt row.1 id && nat_eq row.0 index
+
+pub width-first : (ids : List ℕ) (acks : Acks) (rows : List (ℕ × ℕ)) (id place : ℕ) → IsRanking ids acks rows → Contains ids id → place ≤ length rows → Parts (acked_index acks id) rows place → (get_or rows place (ranked acks id)).1 ≡ id → place ≡ bar_width ids acks id
+width-first ids acks rows id place ranking among within parted leads =
+    let index : ℕ = acked_index acks id in
+    let first = IsFirst-at_place ids acks rows id place ranking among parted in
+    let alone : is_tied ids acks id ≡ false = false_from_ne_true _ (λ tied.
+    let other = Any-from_list_any (ties index id) rows (any-rows (ties index id) ids acks rows ranking ∙ tied) in
+    let parts = and_parts _ _ other.4 in
+    let less = ltb-true other.1.1 id parts.0 in
+    let index_is : other.1.0 ≡ index = eqb-true other.1.0 index parts.1 in
+    let here : get_or rows other.0 (ranked acks id) ≡ other.1 = get_or_default rows other.0 (ranked acks id) other.1 other.2 ∙ other.3 in
+    let there : (get_or rows other.0 (ranked acks id)).0 ≡ index = ap (λ r. r.0) here ∙ index_is in
+    let id_there : (get_or rows other.0 (ranked acks id)).1 ≡ other.1.1 = ap (λ r. r.1) here in
+    let after = from_place index rows place other.0 (ranked acks id) parted other.2 (omega arith) in
+    let order = row_order rows ranking.rises place other.0 (ranked acks id) after other.2 in
+    let low = order.1 (first.index_is ∙ sym there) in
+    absurd (omega arith)) in
+    sym (count_by-partition (λ r. nat_lt r.0 index) rows place within parted)
+    ∙ count-rows (λ r. nat_lt r.0 index) ids acks rows ranking
+    ∙ sym (cond-false (is_tied ids acks id) 0 _ alone)
+
+pub width-later : (ids : List ℕ) (acks : Acks) (rows : List (ℕ × ℕ)) (id place : ℕ) → IsRanking ids acks rows → Contains ids id → Parts (acked_index acks id) rows place → ((get_or rows place (ranked acks id)).1 ≡ id → ⊥) → 0 ≡ bar_width ids acks id
+width-later ids acks rows id place ranking among parted follows =
+    let index : ℕ = acked_index acks id in
+    let first = IsFirst-at_place ids acks rows id place ranking among parted in
+    let below : (get_or rows place (ranked acks id)).1 < id = omega (arith, follows) in
+    let tied : is_tied ids acks id ≡ true =
+    sym (any-rows (ties index id) ids acks rows ranking)
+    ∙ list_any_at (ties index id) rows place (ranked acks id) first.within (and_from _ _ (lt-ltb _ _ below) (eq-eqb _ _ first.index_is)) in
+    sym (cond-true (is_tied ids acks id) 0 _ tied)

@@ -1,0 +1,156 @@
+-- The committed index by counting, and as the greatest reached one.
+use Rattle.std.proofs.Common.{◌≡◌, ℕ, zero, suc, add-zero, ◌+◌, ◌*◌, ◌<◌, ◌≤◌, Bool, true, false, cond, ◌==◌, List, [], ◌∷◌, length, max, fold, refl, sym, ap, subst, ◌∙◌, arith, inl, inr}
+use Rattle.std.specs.Prelude.{nat_lt, nat_le, count_by, filter, sum}
+use Rattle.std.specs.List.{list_any}
+use Rattle.std.proofs.lemmas.Bool.{cases_Bool, cases_lt, cond_both, ltb-true, lt-ltb, leb-true, le-leb, or_parts, or_cases, eqb-true, eqb-false, le-ltb, both_ways, cases_order, false_from_ne_true, cond-true, cond-false}
+use Rattle.std.proofs.lemmas.Bool.Decides.{nat_tests}
+use Rattle.std.proofs.lemmas.List.{length-map}
+use Rattle.std.proofs.lemmas.List.Folds.{fold-map}
+use Rattle.std.proofs.lemmas.List.Sums.{sum_by-cons}
+use Rattle.quorum_sets.specs.Ids.{Ids, ascending, on_most, is_empty, size}
+use Rattle.quorum_sets.specs.Committed.{Acks, acked_index, acked_indexes, greatest_index, is_reached, is_passed, IsCommitted, committed_index}
+use Rattle.quorum_sets.proofs.Quorums.Counts.{count_by-mono}
+
+-- more than half of a list pass
+abbrev pub most : (ℕ → Bool) → List ℕ → Bool
+most p xs = nat_lt (length xs) (2 * count_by p xs)
+
+-- a count over ids is one over their indexes
+pub on_most-acked : (p : ℕ → Bool) (ids : Ids) (acks : Acks) → on_most (λ id. p (acked_index acks id)) ids ≡ most p (acked_indexes ids acks)
+on_most-acked p ids acks = λ i. nat_lt (sym (length-map (ascending ids) (acked_index acks)) i) (2 * sym (fold-map (λ a x. a + cond (p x) 1 0) (acked_index acks) 0 (ascending ids)) i)
+
+-- ---- the greatest item that passes
+fold_max-le : (a : ℕ) (xs : List ℕ) → a ≤ fold max a xs
+fold_max-le a [] = omega arith
+fold_max-le a (x ∷ xs) = let rest = fold_max-le (max a x) xs in omega arith
+
+passes_max : (p : ℕ → Bool) (a x : ℕ) → p a ≡ true → p x ≡ true → p (max a x) ≡ true
+passes_max p a x first second = elim (cases_lt a x) [
+  | inl less ↦ let e : max a x ≡ x = omega arith in ap p e ∙ second
+  | inr more ↦ let e : max a x ≡ a = omega arith in ap p e ∙ first
+]
+
+pub fold_max_filter-passes : (p : ℕ → Bool) (a : ℕ) (xs : List ℕ) → p a ≡ true → p (fold max a (filter p xs)) ≡ true
+fold_max_filter-passes p a [] here = here
+fold_max_filter-passes p a (x ∷ xs) here =
+    cond_both (p x) (x ∷ filter p xs) (filter p xs) (λ ys. p (fold max a ys) ≡ true)
+    (λ passes. fold_max_filter-passes p (max a x) xs (passes_max p a x here passes))
+    (λ fails. fold_max_filter-passes p a xs here)
+
+pub fold_max_filter-bound : (p : ℕ → Bool) (a x : ℕ) (xs : List ℕ) → p x ≡ true → list_any (λ y. x == y) xs ≡ true → x ≤ fold max a (filter p xs)
+fold_max_filter-bound p a x [] here among = let no : false ≡ true = among in cc
+fold_max_filter-bound p a x (y ∷ xs) here among =
+    cond_both (p y) (y ∷ filter p xs) (filter p xs) (λ ys. x ≤ fold max a ys)
+    (λ passes. elim (or_cases (x == y) (list_any (λ z. x == z) xs) among) [
+      | inl same ↦ let rest = fold_max-le (max a y) (filter p xs) in let e : x ≡ y = eqb-true x y same in omega arith
+      | inr later ↦ fold_max_filter-bound p (max a y) x xs here later
+    ])
+    (λ fails. elim (or_cases (x == y) (list_any (λ z. x == z) xs) among) [
+      | inl same ↦ let e : x ≡ y = eqb-true x y same in let no : true ≡ false = sym here ∙ ap p e ∙ fails in cc
+      | inr later ↦ fold_max_filter-bound p a x xs here later
+    ])
+
+-- ---- counts of what is above k
+count_above-next : (k : ℕ) (xs : List ℕ) → list_any (λ y. (k + 1) == y) xs ≡ false → count_by (nat_lt k) xs ≡ count_by (nat_lt (k + 1)) xs
+count_above-next k [] none = refl
+count_above-next k (x ∷ xs) none =
+    let parts = or_parts ((k + 1) == x) (list_any (λ y. (k + 1) == y) xs) none in
+    let rest = count_above-next k xs parts.1 in
+    let here : nat_lt k x ≡ nat_lt (k + 1) x = (let other = parts.0 in grind (arith, nat_tests)) in
+    sum_by-cons (λ y. cond (nat_lt k y) 1 0) x xs ∙ (λ i. cond (here i) 1 0 + rest i) ∙ sym (sum_by-cons (λ y. cond (nat_lt (k + 1) y) 1 0) x xs)
+
+count_above-sum : (k : ℕ) (xs : List ℕ) → sum xs ≤ k → count_by (nat_lt k) xs ≡ 0
+count_above-sum k [] small = refl
+count_above-sum k (x ∷ xs) small =
+    let added = sum_by-cons (λ y. y) x xs in
+    let rest = count_above-sum k xs (omega arith) in
+    let here : nat_lt k x ≡ false = grind (arith, nat_tests) in
+    sum_by-cons (λ y. cond (nat_lt k y) 1 0) x xs ∙ (λ i. cond (here i) 1 0 + rest i)
+
+-- ---- where no index of the list is above m and reached, nothing above m is
+abbrev IsTop : ℕ → List ℕ → Type 0
+IsTop m xs = (x : ℕ) → list_any (λ y. x == y) xs ≡ true → most (nat_le x) xs ≡ true → x ≤ m
+
+above_is_at_least : (k : ℕ) (xs : List ℕ) → most (nat_lt k) xs ≡ most (nat_le (k + 1)) xs
+above_is_at_least k xs =
+    let here : (x : ℕ) → nat_lt k x ≡ nat_le (k + 1) x = λ x. grind (arith, nat_tests) in
+    λ i. most (λ x. here x i) xs
+
+climb : (m d : ℕ) (xs : List ℕ) → IsTop m xs → most (nat_lt m) xs ≡ true → most (nat_lt (m + d)) xs ≡ true
+climb m zero xs top start = rw add-zero start
+climb m (suc d) xs top start =
+    let before = climb m d xs top start in
+    let here : most (nat_le (m + d + 1)) xs ≡ true = sym (above_is_at_least (m + d) xs) ∙ before in
+    let none : list_any (λ y. (m + d + 1) == y) xs ≡ false = false_from_ne_true _ (λ among. let low = top (m + d + 1) among here in absurd (omega arith)) in
+    let e : m + suc d ≡ m + d + 1 = omega arith in
+    rw e ((λ i. nat_lt (length xs) (2 * sym (count_above-next (m + d) xs none) i)) ∙ before)
+
+pub most-above_top : (m : ℕ) (xs : List ℕ) → IsTop m xs → most (nat_lt m) xs ≡ false
+most-above_top m xs top = false_from_ne_true _ (λ start.
+    let far = climb m (sum xs) xs top start in
+    let nobody = count_above-sum (m + sum xs) xs (omega arith) in
+    let less = ltb-true (length xs) (2 * count_by (nat_lt (m + sum xs)) xs) far in
+    absurd (omega arith))
+
+-- ---- the law
+is_reached-acked : (ids : Ids) (acks : Acks) (k : ℕ) → is_reached ids acks k ≡ most (nat_le k) (acked_indexes ids acks)
+is_reached-acked ids acks k = on_most-acked (nat_le k) ids acks
+
+is_passed-acked : (ids : Ids) (acks : Acks) (k : ℕ) → is_passed ids acks k ≡ most (nat_lt k) (acked_indexes ids acks)
+is_passed-acked ids acks k = on_most-acked (nat_lt k) ids acks
+
+length-acked_indexes : (ids : Ids) (acks : Acks) → length (acked_indexes ids acks) ≡ size ids
+length-acked_indexes ids acks = length-map (ascending ids) (acked_index acks)
+
+count_at_least-zero : (xs : List ℕ) → count_by (nat_le 0) xs ≡ length xs
+count_at_least-zero [] = refl
+count_at_least-zero (x ∷ xs) =
+    let rest = count_at_least-zero xs in
+    let here : nat_le 0 x ≡ true = le-leb 0 x (omega arith) in
+    sum_by-cons (λ y. cond (nat_le 0 y) 1 0) x xs ∙ (λ i. cond (here i) 1 0 + rest i) ∙ omega arith
+
+zero_is_reached : (ids : Ids) (acks : Acks) → is_empty ids ≡ false → is_reached ids acks 0 ≡ true
+zero_is_reached ids acks somebody =
+    let some = eqb-false (size ids) 0 somebody in
+    let same = length-acked_indexes ids acks in
+    let all = count_at_least-zero (acked_indexes ids acks) in
+    is_reached-acked ids acks 0 ∙ lt-ltb _ _ (omega arith)
+
+pub IsCommitted-committed_index : (ids : Ids) (acks : Acks) → IsCommitted ids acks (committed_index ids acks)
+IsCommitted-committed_index ids acks =
+    let xs = acked_indexes ids acks in
+    let top : ℕ = fold max 0 (filter (is_reached ids acks) xs) in
+    let top_is : is_empty ids ≡ false → top ≡ committed_index ids acks = λ somebody. sym (cond-false (is_empty ids) greatest_index top somebody) in
+    record {
+      of_nobody = λ nobody. cond-true _ _ _ nobody;
+      reached = λ somebody. ap (is_reached ids acks) (sym (top_is somebody)) ∙ fold_max_filter-passes (is_reached ids acks) 0 xs (zero_is_reached ids acks somebody);
+      not_passed = λ somebody.
+          ap (is_passed ids acks) (sym (top_is somebody)) ∙ is_passed-acked ids acks top
+          ∙ most-above_top top xs (λ x among here. fold_max_filter-bound (is_reached ids acks) 0 x xs (is_reached-acked ids acks x ∙ here) among);
+    }
+
+passed_below : (ids : Ids) (acks : Acks) (j k : ℕ) → j < k → is_reached ids acks k ≡ true → is_passed ids acks j ≡ true
+passed_below ids acks j k below reached =
+    let more = count_by-mono (λ id. nat_le k (acked_index acks id)) (λ id. nat_lt j (acked_index acks id)) (λ id enough. lt-ltb _ _ (let at_least = leb-true _ _ enough in omega arith)) (ascending ids) in
+    let most_of_all = ltb-true _ _ reached in
+    lt-ltb _ _ (omega arith)
+
+pub IsCommitted-alone : (ids : Ids) (acks : Acks) (j k : ℕ) → IsCommitted ids acks j → IsCommitted ids acks k → j ≡ k
+IsCommitted-alone ids acks j k first second = elim (cases_Bool (is_empty ids)) [
+  | inl nobody ↦ first.of_nobody nobody ∙ sym (second.of_nobody nobody)
+  | inr somebody ↦ elim (cases_order j k) [
+    | inl same ↦ same
+    | inr (inl below) ↦ absurd (both_ways _ (first.not_passed somebody) (passed_below ids acks j k below (second.reached somebody)))
+    | inr (inr above) ↦ absurd (both_ways _ (second.not_passed somebody) (passed_below ids acks k j above (first.reached somebody)))
+  ]
+]
+
+-- what the acknowledged indexes say
+pub IsCommitted-from_indexes : (ids : Ids) (acks : Acks) (k : ℕ) (xs : List ℕ) → xs ≡ acked_indexes ids acks → (length xs ≡ 0 → k ≡ greatest_index) → (0 < length xs → length xs < 2 * count_by (nat_le k) xs) → (0 < length xs → 2 * count_by (nat_lt k) xs ≤ length xs) → IsCommitted ids acks k
+IsCommitted-from_indexes ids acks k xs e of_none reached not_passed =
+    let same : length xs ≡ size ids = ap length e ∙ length-acked_indexes ids acks in
+    record {
+      of_nobody = λ nobody. of_none (same ∙ eqb-true (size ids) 0 nobody);
+      reached = λ somebody. is_reached-acked ids acks k ∙ subst (λ ys. most (nat_le k) ys ≡ true) e (lt-ltb _ _ (reached (let some = eqb-false (size ids) 0 somebody in omega arith)));
+      not_passed = λ somebody. is_passed-acked ids acks k ∙ subst (λ ys. most (nat_lt k) ys ≡ false) e (le-ltb _ _ (not_passed (let some = eqb-false (size ids) 0 somebody in omega arith)));
+    }

@@ -1,0 +1,38 @@
+-- Counting the ids of a list, one more at a time.
+use Rattle.std.proofs.Common.{◌≡◌, ℕ, ◌+◌, ◌<◌, ◌≤◌, Bool, true, false, cond, List, [], ◌∷◌, refl, arith, take, length, sym, ap, subst, ◌∙◌, get_or, slice_get}
+use Rattle.std.specs.Prelude.{Some, None, count_by}
+use Rattle.std.proofs.lemmas.Option.{slice_get_within, get_or_from_slice_get, slice_get-get_or}
+use Rattle.std.proofs.lemmas.List.Sums.{count_by_more_yes, count_by_more_no, sum_by-cons}
+
+at : (test : ℕ → Bool) (xs : List ℕ) (k x : ℕ) (b : Bool) → slice_get xs k ≡ Some x → test x ≡ b → test (get_or xs k 0) ≡ b
+at test xs k x b here is = ap test (get_or_from_slice_get xs k x 0 here) ∙ is
+
+-- the item at k passes
+pub count_by-one_more : (test : ℕ → Bool) (xs : List ℕ) (k x n : ℕ) → slice_get xs k ≡ Some x → test x ≡ true → n ≡ count_by test (take k xs) → n + 1 ≡ count_by test (take (k + 1) xs)
+count_by-one_more test xs k x n here passes so_far =
+    ap (λ m. m + 1) so_far ∙ sym (count_by_more_yes test xs k 0 (slice_get_within xs k x here) (at test xs k x true here passes))
+
+-- the item at k does not pass
+pub count_by-no_more : (test : ℕ → Bool) (xs : List ℕ) (k x n : ℕ) → slice_get xs k ≡ Some x → test x ≡ false → n ≡ count_by test (take k xs) → n ≡ count_by test (take (k + 1) xs)
+count_by-no_more test xs k x n here fails so_far =
+    so_far ∙ sym (count_by_more_no test xs k 0 (slice_get_within xs k x here) (at test xs k x false here fails))
+
+none-some : (x : ℕ) → None ≡ Some x → ⊥
+none-some x e = cc
+
+-- a place below the length is not past the end
+pub slice_get-not_past : {P : Type 0} (xs : List ℕ) (k n : ℕ) → None ≡ slice_get xs k → n ≡ length xs → k < n → P
+slice_get-not_past xs k n none is lt = let here = slice_get-get_or xs k 0 (subst (λ m. k < m) is lt) in absurd (none-some _ (none ∙ here))
+
+one_or_none : (a b : Bool) → (a ≡ true → b ≡ true) → cond a 1 0 ≤ cond b 1 0
+one_or_none false b passes = omega arith
+one_or_none true false passes = let no : false ≡ true = passes refl in cc
+one_or_none true true passes = omega arith
+
+-- what passes the one test passes the other, so the other counts no less
+pub count_by-mono : {X : Type 0} (p q : X → Bool) → ((x : X) → p x ≡ true → q x ≡ true) → (xs : List X) → count_by p xs ≤ count_by q xs
+count_by-mono p q passes [] = omega arith
+count_by-mono p q passes (x ∷ xs) =
+    let rest = count_by-mono p q passes xs in
+    let head = one_or_none (p x) (q x) (passes x) in
+    rw (sum_by-cons (λ y. cond (p y) 1 0) x xs, sum_by-cons (λ y. cond (q y) 1 0) x xs) (omega arith)
