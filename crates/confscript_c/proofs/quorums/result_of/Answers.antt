@@ -6,4 +6,4 @@ use Rattle.confscript_c.proofs.quorums.result_of.Goals as goal
 pub returns : goal.returns
 returns c =
     c.joint_vote.ensures
-    ∙ (λ j. joint_vote_result (pair (c.in_ok-incoming.ensures j) (c.in_ok-outgoing.ensures j)) (c.in_ok-votes.ensures j))
+    ∙ (λ j. joint_vote_result (pair (c.in_ok-incoming.ensures.set j) (c.in_ok-outgoing.ensures.set j)) (c.in_ok-votes.ensures j))
