@@ -28,7 +28,7 @@ abbrev pub reply_to_changes : Configuration → Result (List Change) BadToken �
 reply_to_changes c (Ok changes) = reply_to_outcome c (outcome c (Simple changes))
 reply_to_changes c (Err bad) = told c (bad_token_text bad)
 
--- the change that a word spells, or what is wrong with it
+-- the answer to a word, which spells a change or none
 abbrev pub reply_to_word : Configuration → List ℕ → LineReply
 reply_to_word c word = reply_to_changes c (changes_in_words (word ∷ []))
 

@@ -45,16 +45,7 @@ slice_bounds-trimmed-count c =
     ordered
 
 pub slice_bounds-trimmed-start : goal.slice_bounds-trimmed-start
-slice_bounds-trimmed-start c =
-    let ends = c.self.inside.places.ends.items in
-    let seen = c.as_slice-ends.ensures in
-    let start : c.if-i-eq0.start ≡ start-at c.self.inside.places.start ends c.args.i = elim c.if-i-eq0.branch [
-      | then-i-eq0 w ↦ w.start-is ∙ first-start _ _ _ w.if-i-eq0.true
-      | else-i-eq0 w ↦ w.start-is ∙ next-start _ _ _ _ w.if-i-eq0.false c.as_slice-ends.ensures
-    ] in
-    let le = (within-at _ c.self.inside.places.start ends c.args.i c.self.invariant.1 (omega (arith, ap length seen))).0 in
-    let ordered : c.if-i-eq0.start ≤ get_or c.as_slice-ends.result.now c.args.i 0 = omega (arith, le, start, ap (λ es. get_or es c.args.i 0) seen) in
-    ordered
+slice_bounds-trimmed-start c = slice_bounds-trimmed-count c
 
 pub slice_bounds-trimmed-end : goal.slice_bounds-trimmed-end
 slice_bounds-trimmed-end c =
