@@ -6,7 +6,7 @@ use Rattle.std.specs.Cmp.{nat_cmp_total}
 use Rattle.std.specs.FinMap as finite
 use Rattle.std.specs.FinMap.{put, find}
 use Rattle.quorum_sets.specs.Ids.{Ids, has, ids_of, no_ids}
-use Rattle.quorum_sets.proofs.Offered.{has-ids_of, entries-no_ids}
+use Rattle.quorum_sets.proofs.Offered.{has-ids_of, written_out}
 use Rattle.conf_change.specs.Configuration.{Configuration, first_broken}
 use Rattle.conf_change.specs.Change.{result_of, last_word, is_learner_after, is_next_after}
 use Rattle.conf_change.specs.Outcome.{simple_outcome, enter_outcome, leave_outcome}
@@ -92,59 +92,49 @@ refuses_saved : (conf_state_in (codes "Voters: [1] VotersOutgoing:[] Learners:[]
     × (conf_state_in (codes "Voters:[1 ] VotersOutgoing:[] Learners:[] LearnersNext:[] AutoLeave:false") ≡ None)
 refuses_saved = (refl, refl, refl)
 
--- ---- sets written out
-entries_with : (s : Ids) (id : ℕ) → finite.entries (finite.insert s id tt) ≡ put nat_cmp id tt (finite.entries s)
-entries_with s id = finite.entries-insert nat_cmp_total s id tt
-
-entries_none : finite.entries (finite.empty {K = ℕ} {X = Unit {0}} {R = nat_cmp}) ≡ []
-entries_none = entries-no_ids
-
-get_at : (s : Ids) (q : ℕ) → finite.get s q ≡ find nat_cmp q (finite.entries s)
-get_at s q = finite.get-entries s q
-
 abbrev config : List ℕ → List ℕ → List ℕ → List ℕ → Configuration
 config incoming outgoing learners next = record { incoming = ids_of incoming; outgoing = ids_of outgoing; learners = ids_of learners; learners_next = ids_of next; auto_leave = false }
 
 -- ---- the first invariant that is broken
 next_not_outgoing : first_broken (config (1 ∷ []) (2 ∷ []) [] (1 ∷ [])) ≡ Some NextNotOutgoing
-next_not_outgoing = simp (get_at, entries_with, entries_none) refl
+next_not_outgoing = simp written_out refl
 
 next_and_incoming : first_broken (config (1 ∷ []) (1 ∷ []) [] (1 ∷ [])) ≡ Some NextAndIncoming
-next_and_incoming = simp (get_at, entries_with, entries_none) refl
+next_and_incoming = simp written_out refl
 
 zero_id : first_broken (config (0 ∷ []) [] (0 ∷ []) []) ≡ Some ZeroId
-zero_id = simp (get_at, entries_with, entries_none) refl
+zero_id = simp written_out refl
 
 none_broken : first_broken (config (3 ∷ []) (1 ∷ []) (2 ∷ []) (1 ∷ [])) ≡ None
-none_broken = simp (get_at, entries_with, entries_none) refl
+none_broken = simp written_out refl
 
 -- ---- refusals
 all_voters : simple_outcome (config [] [] [] []) (change Learner 1 ∷ []) ≡ Err RemovedAllVoters
-all_voters = simp (get_at, entries_with, entries_none) refl
+all_voters = simp written_out refl
 
 simple_in_joint : simple_outcome (config (1 ∷ []) (1 ∷ []) [] []) (change Voter 2 ∷ []) ≡ Err SimpleInJoint
-simple_in_joint = simp (get_at, entries_with, entries_none) refl
+simple_in_joint = simp written_out refl
 
 no_voter_yet : enter_outcome (config [] [] [] []) false (change Voter 1 ∷ []) ≡ Err ZeroVoterJoint
-no_voter_yet = simp (get_at, entries_with, entries_none) refl
+no_voter_yet = simp written_out refl
 
 not_joint : leave_outcome (config (1 ∷ []) [] [] []) ≡ Err NotJoint
-not_joint = simp (entries_with, entries_none) refl
+not_joint = simp written_out refl
 
 -- a member that goes and returns in one list is fresh; a definition that asks for the last word alone has true here
 returned_is_fresh : keeps_progress (config (1 ∷ 2 ∷ []) [] [] []) (Simple (change Remove 2 ∷ change Voter 2 ∷ [])) (config (1 ∷ 2 ∷ []) [] [] []) 2 ≡ false
-returned_is_fresh = simp (get_at, entries_with, entries_none) refl
+returned_is_fresh = simp written_out refl
 
 -- as an outgoing voter it keeps its progress
 outgoing_is_kept : keeps_progress (config (1 ∷ 2 ∷ []) [] [] []) (EnterJoint false (change Remove 2 ∷ [])) (config (1 ∷ []) (1 ∷ 2 ∷ []) [] []) 2 ≡ true
-outgoing_is_kept = simp (get_at, entries_with, entries_none) refl
+outgoing_is_kept = simp written_out refl
 
 -- ---- saved configurations
 named_twice : restored (record { voters = 1 ∷ 1 ∷ []; voters_outgoing = []; learners = []; learners_next = []; auto_leave = false }) ≡ None
-named_twice = simp (get_at, entries_with, entries_none) refl
+named_twice = simp written_out refl
 
 stranger_next : restored (record { voters = 1 ∷ 2 ∷ 3 ∷ []; voters_outgoing = 1 ∷ 2 ∷ 4 ∷ 6 ∷ []; learners = 5 ∷ []; learners_next = 7 ∷ []; auto_leave = false }) ≡ None
-stranger_next = simp (get_at, entries_with, entries_none) refl
+stranger_next = simp written_out refl
 
 learner_alone : restored (record { voters = []; voters_outgoing = []; learners = 1 ∷ []; learners_next = []; auto_leave = false }) ≡ None
-learner_alone = simp (get_at, entries_with, entries_none) refl
+learner_alone = simp written_out refl

@@ -1,4 +1,3 @@
-pub mod Offered
 mod Runs
 mod FindingMoves
 mod PlannedSteps

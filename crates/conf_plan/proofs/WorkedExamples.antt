@@ -1,13 +1,9 @@
 -- Small cases, worked out by hand.
 use Rattle.std.proofs.Common.{◌≡◌, ℕ, Bool, true, false, List, [], ◌∷◌, ◌++◌, refl, ap, ◌∙◌}
 use Rattle.std.specs.Prelude.{filter}
-use Rattle.std.specs.Ordering.{nat_cmp}
-use Rattle.std.specs.Cmp.{nat_cmp_total}
-use Rattle.std.specs.FinMap as finite
-use Rattle.std.specs.FinMap.{put, find}
 use Rattle.std.proofs.lemmas.Bool.{cond-true, cond-false}
 use Rattle.quorum_sets.specs.Ids.{Ids, ids_of, ids_where}
-use Rattle.quorum_sets.proofs.Offered.{entries-no_ids}
+use Rattle.quorum_sets.proofs.Offered.{written_out}
 use Rattle.conf_change.specs.Configuration.{Configuration, is_joint, members, is_same_set, is_same}
 use Rattle.conf_change.specs.declared.change.Change.{Change}
 use Rattle.conf_change.specs.declared.change.Kind.{Kind}
@@ -27,30 +23,20 @@ change kind id = record { kind = kind; id = id }
 abbrev config : List ℕ → List ℕ → List ℕ → List ℕ → Configuration
 config incoming outgoing learners next = record { incoming = ids_of incoming; outgoing = ids_of outgoing; learners = ids_of learners; learners_next = ids_of next; auto_leave = false }
 
--- ---- sets written out
-entries_with : (s : Ids) (id : ℕ) → finite.entries (finite.insert s id tt) ≡ put nat_cmp id tt (finite.entries s)
-entries_with s id = finite.entries-insert nat_cmp_total s id tt
-
-entries_none : finite.entries (finite.empty {K = ℕ} {X = Unit {0}} {R = nat_cmp}) ≡ []
-entries_none = entries-no_ids
-
-get_at : (s : Ids) (q : ℕ) → finite.get s q ≡ find nat_cmp q (finite.entries s)
-get_at s q = finite.get-entries s q
-
 -- ---- one step, or none
 -- nothing is to be done
 back_at_once : planned (config (1 ∷ []) [] [] []) (config (1 ∷ []) [] [] []) ≡ []
-back_at_once = simp (get_at, entries_with, entries_none) refl
+back_at_once = simp written_out refl
 
 -- from voters=(1 2) learners=(3) back to voters=(1)
 back_in_one : planned (config (1 ∷ 2 ∷ []) [] (3 ∷ []) []) (config (1 ∷ []) [] [] []) ≡ Simple (change Remove 2 ∷ change Remove 3 ∷ []) ∷ []
-back_in_one = simp (get_at, entries_with, entries_none) refl
+back_in_one = simp written_out refl
 
 -- ---- through a joint configuration
 -- from voters=(3)&&(1) learners=(2) learners_next=(1) back to voters=(1)
 back_from_joint : planned (config (3 ∷ []) (1 ∷ []) (2 ∷ []) (1 ∷ [])) (config (1 ∷ []) [] [] [])
     ≡ LeaveJoint ∷ EnterJoint false (change Voter 1 ∷ change Remove 2 ∷ change Remove 3 ∷ []) ∷ LeaveJoint ∷ []
-back_from_joint = simp (get_at, entries_with, entries_none) refl
+back_from_joint = simp written_out refl
 
 -- ---- back into a joint configuration
 -- by the members that are shared, written out
@@ -74,28 +60,28 @@ shared_row : shared_members three three_and_one ≡ ids_of (3 ∷ 2 ∷ [])
 shared_row = ap (ids_where (is_shared three_and_one)) all ∙ ap ids_of (filtered (is_shared three_and_one) of_3 of_1 of_2)
   where
     all : members three ≡ 3 ∷ 1 ∷ 2 ∷ []
-    all = simp (entries_with, entries_none) refl
+    all = simp written_out refl
 
     of_3 : is_shared three_and_one 3 ≡ true
-    of_3 = simp (get_at, entries_with, entries_none) refl
+    of_3 = simp written_out refl
 
     of_1 : is_shared three_and_one 1 ≡ false
-    of_1 = simp (get_at, entries_with, entries_none) refl
+    of_1 = simp written_out refl
 
     of_2 : is_shared three_and_one 2 ≡ true
-    of_2 = simp (get_at, entries_with, entries_none) refl
+    of_2 = simp written_out refl
 
     filtered : (test : ℕ → Bool) → test 3 ≡ true → test 1 ≡ false → test 2 ≡ true → filter test (3 ∷ 1 ∷ 2 ∷ []) ≡ 3 ∷ 2 ∷ []
     filtered test of_3 of_1 of_2 = rw (of_3, of_1, of_2) refl
 
 three-is_single : IsSingle three
 three-is_single = record {
-  settled = record { valid = simp (get_at, entries_with, entries_none) refl; voter = simp (entries_with, entries_none) refl };
-  single = simp entries_none refl;
+  settled = record { valid = simp written_out refl; voter = simp written_out refl };
+  single = simp written_out refl;
 }
 
 three_and_one-is_settled : IsValidWithVoter three_and_one
-three_and_one-is_settled = record { valid = simp (get_at, entries_with, entries_none) refl; voter = simp (entries_with, entries_none) refl }
+three_and_one-is_settled = record { valid = simp written_out refl; voter = simp written_out refl }
 
 -- 3 learns while 1 votes, and they change places when the joint configuration is entered
 abbrev into_row : List Step
@@ -103,13 +89,13 @@ into_row = EnterJoint false (change Voter 1 ∷ change Learner 3 ∷ []) ∷ Lea
 
 from_three : planned_from_single three three_and_one ≡ into_row
 from_three =
-    into_joint three three_and_one (ids_of (3 ∷ 2 ∷ [])) three-is_single three_and_one-is_settled (simp (entries_with, entries_none) refl)
-    (simp (get_at, entries_with, entries_none) refl) (simp (get_at, entries_with, entries_none) refl) shared_row
-    ∙ simp (get_at, entries_with, entries_none) refl
+    into_joint three three_and_one (ids_of (3 ∷ 2 ∷ [])) three-is_single three_and_one-is_settled (simp written_out refl)
+    (simp written_out refl) (simp written_out refl) shared_row
+    ∙ simp written_out refl
 
 back_into_joint : planned three three_and_one ≡ into_row
 back_into_joint =
-    cond-false (is_same three three_and_one) _ _ (simp (get_at, entries_with, entries_none) refl) ∙ cond-false (is_joint three) _ _ (simp entries_none refl)
+    cond-false (is_same three three_and_one) _ _ (simp written_out refl) ∙ cond-false (is_joint three) _ _ (simp written_out refl)
     ∙ from_three
 
 -- 1 and 3 are named in two changes each, and 2 in none, which stays a learner all the while
@@ -122,17 +108,17 @@ named_by_none = (refl, refl)
 
 -- 1, which goes out and waits, is any learner, and 3 is none
 any_learner_row : (is_any_learner three_and_one 1 ≡ true) × (is_any_learner three_and_one 3 ≡ false)
-any_learner_row = (simp (get_at, entries_with, entries_none) refl, simp (get_at, entries_with, entries_none) refl)
+any_learner_row = (simp written_out refl, simp written_out refl)
 
 -- four steps, from voters=(3)&&(4) learners=(1 2) to the same
 back_from_joint_to_joint : planned (config (3 ∷ []) (4 ∷ []) (1 ∷ 2 ∷ []) []) three_and_one ≡ LeaveJoint ∷ into_row
 back_from_joint_to_joint =
-    cond-false (is_same (config (3 ∷ []) (4 ∷ []) (1 ∷ 2 ∷ []) []) three_and_one) _ _ (simp (get_at, entries_with, entries_none) refl)
-    ∙ cond-true (is_joint (config (3 ∷ []) (4 ∷ []) (1 ∷ 2 ∷ []) [])) _ _ (simp (entries_with, entries_none) refl)
+    cond-false (is_same (config (3 ∷ []) (4 ∷ []) (1 ∷ 2 ∷ []) []) three_and_one) _ _ (simp written_out refl)
+    ∙ cond-true (is_joint (config (3 ∷ []) (4 ∷ []) (1 ∷ 2 ∷ []) [])) _ _ (simp written_out refl)
     ∙ ap (λ c. LeaveJoint ∷ planned_from_single c three_and_one) left ∙ ap (λ steps. LeaveJoint ∷ steps) from_three
   where
     left : after_leave (config (3 ∷ []) (4 ∷ []) (1 ∷ 2 ∷ []) []) ≡ three
-    left = simp (entries_with, entries_none) refl
+    left = simp written_out refl
 
 -- from voters=(1) learners=(2) to voters=(1)&&(1 2) learners_next=(2), by one voter more
 abbrev one : Configuration
@@ -145,34 +131,34 @@ none_shared : shared_members one one_and_two ≡ ids_of []
 none_shared = ap (ids_where (is_shared one_and_two)) all ∙ ap ids_of (filtered (is_shared one_and_two) of_1 of_2)
   where
     all : members one ≡ 1 ∷ 2 ∷ []
-    all = simp (entries_with, entries_none) refl
+    all = simp written_out refl
 
     of_1 : is_shared one_and_two 1 ≡ false
-    of_1 = simp (get_at, entries_with, entries_none) refl
+    of_1 = simp written_out refl
 
     of_2 : is_shared one_and_two 2 ≡ false
-    of_2 = simp (get_at, entries_with, entries_none) refl
+    of_2 = simp written_out refl
 
     filtered : (test : ℕ → Bool) → test 1 ≡ false → test 2 ≡ false → filter test (1 ∷ 2 ∷ []) ≡ []
     filtered test of_1 of_2 = rw (of_1, of_2) refl
 
 one-is_single : IsSingle one
 one-is_single = record {
-  settled = record { valid = simp (get_at, entries_with, entries_none) refl; voter = simp (entries_with, entries_none) refl };
-  single = simp entries_none refl;
+  settled = record { valid = simp written_out refl; voter = simp written_out refl };
+  single = simp written_out refl;
 }
 
 one_and_two-is_settled : IsValidWithVoter one_and_two
-one_and_two-is_settled = record { valid = simp (get_at, entries_with, entries_none) refl; voter = simp (entries_with, entries_none) refl }
+one_and_two-is_settled = record { valid = simp written_out refl; voter = simp written_out refl }
 
 back_by_one_voter : planned one one_and_two ≡ Simple (change Voter 2 ∷ []) ∷ EnterJoint false (change Learner 2 ∷ []) ∷ []
 back_by_one_voter =
-    cond-false (is_same one one_and_two) _ _ (simp (get_at, entries_with, entries_none) refl) ∙ cond-false (is_joint one) _ _ (simp entries_none refl)
-    ∙ into_joint one one_and_two (ids_of []) one-is_single one_and_two-is_settled (simp (entries_with, entries_none) refl)
-    (simp (get_at, entries_with, entries_none) refl) (simp (get_at, entries_with, entries_none) refl) none_shared
-    ∙ simp (get_at, entries_with, entries_none) refl
+    cond-false (is_same one one_and_two) _ _ (simp written_out refl) ∙ cond-false (is_joint one) _ _ (simp written_out refl)
+    ∙ into_joint one one_and_two (ids_of []) one-is_single one_and_two-is_settled (simp written_out refl)
+    (simp written_out refl) (simp written_out refl) none_shared
+    ∙ simp written_out refl
 
 -- the outgoing voter 4 is gone when the joint configuration is left, and 1 is not
 outlasts_row : (outlasts_leave (config (3 ∷ []) (4 ∷ []) (1 ∷ 2 ∷ []) []) (LeaveJoint ∷ into_row) 4 ≡ false)
     × (outlasts_leave (config (3 ∷ []) (4 ∷ []) (1 ∷ 2 ∷ []) []) (LeaveJoint ∷ into_row) 1 ≡ true) × (outlasts_leave three into_row 4 ≡ true)
-outlasts_row = (simp (get_at, entries_with, entries_none) refl, simp (get_at, entries_with, entries_none) refl, refl)
+outlasts_row = (simp written_out refl, simp written_out refl, refl)

@@ -40,7 +40,7 @@ use Rattle.conf_session.specs.declared.parameter.Parameter.{Parameter}
 use Rattle.conf_session.specs.declared.parameter.Parameter.TheVariants.{Steps, Id, Index, Indexes, Votes}
 use Rattle.conf_session.specs.declared.commands.Command.{Command}
 use Rattle.conf_session.specs.declared.commands.Command.TheVariants.{Simple, EnterJoint, LeaveJoint, ConfChange, ConfState, Restore, Undo, Ack, CommitIndex, Committed, Vote, Unknown}
-use Rattle.conf_session.proofs.ToldLines.{and-first, and-second}
+use Rattle.conf_session.proofs.ToldLines.{and-first}
 
 -- ---- what the crates below say
 -- laws of conf_change

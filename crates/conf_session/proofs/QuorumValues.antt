@@ -7,22 +7,19 @@ use Rattle.std.specs.Cmp.{nat_cmp_total, unsigned_tied, eq_by_cmp_equiv, nat_eq_
 use Rattle.std.specs.Ordering.{eq_by_cmp}
 use Rattle.std.specs.BTreeSet.{BTreeSet, Updates, contains}
 use Rattle.std.specs.FinMap as finite
-use Rattle.std.proofs.lemmas.List.{append-nil, take_all, take_more, drop_more, drop_all}
+use Rattle.std.proofs.lemmas.List.{append-nil, take_all, drop_more, drop_all}
 use Rattle.std.proofs.lemmas.Option.{slice_get_within, slice_get_cases, get_or_from_slice_get}
 use Rattle.std.proofs.lemmas.Bool.{eqb-true}
 use Rattle.std.proofs.lemmas.List.Elements.{filter-append, filter_map-append}
 use Rattle.std.proofs.lemmas.List.Folds.{list_all_at}
+use Rattle.quorum_sets.proofs.Offered.{take-one_more}
 use Rattle.conf_session.proofs.ToldLines.{and-both, all-append}
 use Rattle.conf_session.specs.QuorumArguments.{each_once, with_given, map_given}
 
 tied : (id q : ℕ) → eq_by_cmp nat_cmp id q ≡ (q == id)
 tied id q = (eq_by_cmp_equiv nat_cmp_total).symm id q ∙ unsigned_tied q id
 
--- ---- the items in front of a place, and one more
-pub take-one_more : {X : Type 0} (xs : List X) (i : ℕ) (x : X) → slice_get xs i ≡ Some x → take (i + 1) xs ≡ take i xs ++ x ∷ []
-take-one_more xs i x e =
-    take_more xs i x (slice_get_within xs i x e) ∙ ap (λ y. take i xs ++ y ∷ []) (get_or_from_slice_get xs i x x e)
-
+-- ---- the values of the items in front of a place, and of one more
 one-known : {X Y : Type 0} (h : X → Option Y) (x : X) → filter_map h (x ∷ []) ≡ option_to_list (h x)
 one-known {Y = Y} h x = at (h x) refl where
   at : (o : Option Y) → h x ≡ o → filter_map h (x ∷ []) ≡ option_to_list o

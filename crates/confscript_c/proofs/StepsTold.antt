@@ -11,7 +11,7 @@ use Rattle.conf_change.specs.declared.refused.Refused.{Refused}
 use Rattle.conf_change.specs.declared.refused.Refused.TheVariants.{AlreadyJoint, ZeroVoterJoint, NotJoint, SimpleInJoint, RemovedAllVoters, MoreThanOneVoter, NoMemory}
 use Rattle.conf_change.specs.declared.step.Step.{Step}
 use Rattle.conf_plan.specs.Run.{Takes, StopsAt}
-use Rattle.conf_plan.proofs.Offered.{slice_get-split}
+use Rattle.quorum_sets.proofs.Offered.{slice_get-split}
 use Rattle.confscript_c.specs.Answer.{no_memory}
 use Rattle.confscript_c.specs.Applied.{steps_told, then_told, refusal_told}
 

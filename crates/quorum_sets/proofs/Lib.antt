@@ -1,5 +1,6 @@
 pub mod Offered
 mod IdSets
 mod KeptSets
+mod ListPlaces
 mod Quorums
 mod WorkedExamples

@@ -5,35 +5,23 @@ use Rattle.std.specs.Ordering.{nat_cmp, eq_by_cmp}
 use Rattle.std.specs.Cmp.{nat_cmp_total}
 use Rattle.std.specs.Fmt.{digits}
 use Rattle.std.specs.FinMap as finite
-use Rattle.std.specs.FinMap.{put, find}
 use Rattle.quorum_sets.specs.Ids.{Ids, ids_of, difference_count}
 use Rattle.quorum_sets.specs.Voters.{pair, is_quorum, majority}
 use Rattle.quorum_sets.specs.Committed.{Acks, IsCommitted, IsJointCommitted, committed_index, joint_committed_index}
 use Rattle.quorum_sets.specs.Chart.{chart_text}
 use Rattle.quorum_sets.specs.Votes.{Votes, vote_result, joint_vote_result}
 use Rattle.quorum_sets.specs.declared.voting.VoteResult.TheVariants.{VotePending, VoteLost, VoteWon}
-use Rattle.quorum_sets.proofs.IdSets.Members.{entries-no_ids}
+use Rattle.quorum_sets.proofs.IdSets.WrittenOut.{entries-insert_id, entries-empty, written_out}
 
 -- ---- what lets a finite map of written numbers compute
-entries_with : (s : Ids) (id : ℕ) → finite.entries (finite.insert s id tt) ≡ put nat_cmp id tt (finite.entries s)
-entries_with s id = finite.entries-insert nat_cmp_total s id tt
-
-entries_none : finite.entries (finite.empty {K = ℕ} {X = Unit {0}} {R = nat_cmp}) ≡ []
-entries_none = entries-no_ids
-
-get_at : (s : Ids) (q : ℕ) → finite.get s q ≡ find nat_cmp q (finite.entries s)
-get_at s q = finite.get-entries s q
-
 get_in : {X : Type 0} (map : finite.FinMap nat_cmp X) (k : ℕ) (v : X) (q : ℕ) → finite.get (finite.insert map k v) q ≡ cond (eq_by_cmp nat_cmp q k) (Some v) (finite.get map q)
 get_in map k v q = finite.get-insert nat_cmp_total map k v q
 
 get_unknown : {X : Type 0} (q : ℕ) → finite.get (finite.empty {K = ℕ} {X = X} {R = nat_cmp}) q ≡ None
 get_unknown q = finite.get-empty nat_cmp q
 
-ruleset of_ids = (get_at, entries_with, entries_none)
-
--- also for acknowledged indexes and votes
-ruleset of_maps = (entries_with, entries_none, get_in, get_unknown)
+-- for acknowledged indexes and votes too
+ruleset of_maps = (entries-insert_id, entries-empty, get_in, get_unknown)
 
 abbrev acks_of : List (ℕ × ℕ) → Acks
 acks_of entries = finite.from_entries entries
@@ -56,21 +44,21 @@ majorities = (refl, refl, refl, refl, refl)
 
 -- the pair without voters has no quorum
 no_quorum_of_nobody : is_quorum (pair nobody nobody) three ≡ false
-no_quorum_of_nobody = simp of_ids refl
+no_quorum_of_nobody = simp written_out refl
 
 -- half of an even set is no quorum of it
 half_is_no_quorum : is_quorum (pair four nobody) (ids_of (1 ∷ 2 ∷ [])) ≡ false
-half_is_no_quorum = simp of_ids refl
+half_is_no_quorum = simp written_out refl
 
 -- a quorum of the incoming voters alone is none of the pair
 quorum_of_one_set : is_quorum (pair three (ids_of (4 ∷ []))) three ≡ false
-quorum_of_one_set = simp of_ids refl
+quorum_of_one_set = simp written_out refl
 
 quorum_of_both_sets : is_quorum (pair three (ids_of (4 ∷ []))) (ids_of (1 ∷ 2 ∷ 4 ∷ [])) ≡ true
-quorum_of_both_sets = simp of_ids refl
+quorum_of_both_sets = simp written_out refl
 
 two_differ : difference_count three (ids_of (2 ∷ 3 ∷ 4 ∷ [])) ≡ 2
-two_differ = simp of_ids refl
+two_differ = simp written_out refl
 
 -- ---- committed indexes
 -- 1 at 5 and 3 at 7 of three

@@ -1,10 +1,11 @@
 -- A test of the ids of a list, one more at a time.
-use Rattle.std.proofs.Common.{◌≡◌, ℕ, ◌+◌, ◌<◌, ◌≤◌, Bool, true, false, ◌&&◌, List, [], ◌∷◌, ◌++◌, take, length, refl, sym, ap, subst, ◌∙◌, slice_get, take_all}
-use Rattle.std.specs.Prelude.{Some, None}
+use Rattle.std.proofs.Common.{◌≡◌, ℕ, ◌+◌, ◌≤◌, Bool, true, false, ◌&&◌, List, [], ◌∷◌, ◌++◌, take, length, refl, sym, ap, subst, ◌∙◌, slice_get, take_all}
+use Rattle.std.specs.Prelude.{Some}
 use Rattle.std.specs.List.{list_all}
-use Rattle.std.proofs.lemmas.List.{take_more, append_assoc}
-use Rattle.std.proofs.lemmas.Option.{slice_get_within, get_or_from_slice_get, slice_get-get_or}
+use Rattle.std.proofs.lemmas.List.{append_assoc}
+use Rattle.std.proofs.lemmas.Option.{slice_get_within, get_or_from_slice_get}
 use Rattle.std.proofs.lemmas.List.Folds.{list_all_more, list_all_at}
+use Rattle.quorum_sets.proofs.Offered.{take-one_more}
 
 -- the item at k passes
 pub list_all-one_more : (test : ℕ → Bool) (xs : List ℕ) (k x : ℕ) (so_far : Bool) → slice_get xs k ≡ Some x → test x ≡ true → so_far ≡ list_all test (take k xs)
@@ -36,22 +37,10 @@ list_all-but_one test xs k x here fails =
 pub list_all-walked : (test : ℕ → Bool) (xs : List ℕ) (k n : ℕ) → n ≡ length xs → n ≤ k → (so_far : Bool) → so_far ≡ list_all test (take k xs) → so_far ≡ list_all test xs
 list_all-walked test xs k n is past so_far e = e ∙ ap (list_all test) (take_all k xs (subst (λ m. m ≤ k) is past))
 
--- the item at k is taken too
-pub take-one_more : (xs ys : List ℕ) (k x : ℕ) → slice_get xs k ≡ Some x → ys ≡ take k xs → ys ++ x ∷ [] ≡ take (k + 1) xs
-take-one_more xs ys k x here e =
-    (λ i. e i ++ sym (get_or_from_slice_get xs k x 0 here) i ∷ []) ∙ sym (take_more xs k 0 (slice_get_within xs k x here))
-
--- a place below the length has an item
-pub slice_get-not_past : {P : Type 0} (xs : List ℕ) (k n : ℕ) → None ≡ slice_get xs k → n ≡ length xs → k < n → P
-slice_get-not_past xs k n none is lt = let here = slice_get-get_or xs k 0 (subst (λ m. k < m) is lt) in absurd (none-some _ (none ∙ here))
-  where
-    none-some : (x : ℕ) → None ≡ Some x → ⊥
-    none-some x e = cc
-
 -- the ids of a set that are appended to a list
 pub append-one_more : (xs old now after : List ℕ) (k x : ℕ) → slice_get xs k ≡ Some x → now ≡ old ++ take k xs → after ≡ now ++ x ∷ [] → after ≡ old ++ take (k + 1) xs
 append-one_more xs old now after k x here so_far is =
-    is ∙ ap (λ l. l ++ x ∷ []) so_far ∙ append_assoc old (take k xs) (x ∷ []) ∙ ap (λ l. old ++ l) (take-one_more xs (take k xs) k x here refl)
+    is ∙ ap (λ l. l ++ x ∷ []) so_far ∙ append_assoc old (take k xs) (x ∷ []) ∙ ap (λ l. old ++ l) (sym (take-one_more xs k x here))
 
 pub append-all : (xs old now : List ℕ) (k n : ℕ) → n ≡ length xs → n ≤ k → now ≡ old ++ take k xs → now ≡ old ++ xs
 append-all xs old now k n is past so_far = so_far ∙ ap (λ l. old ++ l) (take_all k xs (subst (λ m. m ≤ k) is past))

@@ -1,15 +1,12 @@
 -- What a changer that takes steps in order comes to.
-use Rattle.std.proofs.Common.{◌≡◌, ◌≢◌, ℕ, ◌+◌, ◌<◌, List, [], ◌∷◌, ◌++◌, take, drop, length, refl, sym, ap, subst, ◌∙◌, slice_get, drop-cons, add-one}
-use Rattle.std.specs.Prelude.{Some, None, Ok, Err}
-use Rattle.std.proofs.lemmas.List.{take_more, take-append-drop}
-use Rattle.std.proofs.lemmas.Option.{slice_get_within, get_or_from_slice_get, slice_get-get_or}
+use Rattle.std.proofs.Common.{◌≡◌, ◌≢◌, List, [], ◌∷◌, ◌++◌, refl, sym, ap, subst, ◌∙◌}
+use Rattle.std.specs.Prelude.{Ok, Err}
 use Rattle.conf_change.specs.Configuration.{Configuration}
 use Rattle.conf_change.specs.Outcome.{Outcome, outcome}
 use Rattle.conf_change.specs.Changer.{ChangerState, Accepts, Refuses}
 use Rattle.conf_change.specs.declared.refused.Refused.{Refused}
 use Rattle.conf_change.specs.declared.refused.Refused.TheVariants.{AlreadyJoint, ZeroVoterJoint, NotJoint, SimpleInJoint, RemovedAllVoters, MoreThanOneVoter, NoMemory}
 use Rattle.conf_change.specs.declared.step.Step.{Step}
-use Rattle.conf_change.specs.declared.step.Step.TheVariants.{LeaveJoint}
 use Rattle.conf_plan.specs.Run.{IsRun, Takes}
 use Rattle.conf_plan.proofs.Runs.Chains.{IsChain-append}
 
@@ -54,20 +51,3 @@ Refuses-for_memory a b (y ∷ xs) ys x why target t refuses run =
     let P : Configuration → Type 0 = λ c. IsRun c (xs ++ x ∷ ys) target in
     Refuses-for_memory t.0 b xs ys x why target t.2 refuses (subst P same run.2)
 
--- the steps up to a place, that step, and the rest
-pub slice_get-split : (xs : List Step) (k : ℕ) (x : Step) → slice_get xs k ≡ Some x → xs ≡ take k xs ++ x ∷ drop (k + 1) xs
-slice_get-split xs k x here =
-    let lt = slice_get_within xs k x here in
-    sym (take-append-drop k xs)
-    ∙ ap (λ ys. take k xs ++ ys) (drop-cons xs k x lt ∙ (λ i. get_or_from_slice_get xs k x x here i ∷ drop (sym (add-one k) i) xs))
-
-pub take-one_more : (xs : List Step) (k : ℕ) (x : Step) → slice_get xs k ≡ Some x → take (k + 1) xs ≡ take k xs ++ x ∷ []
-take-one_more xs k x here =
-    take_more xs k x (slice_get_within xs k x here) ∙ ap (λ y. take k xs ++ y ∷ []) (get_or_from_slice_get xs k x x here)
-
-none_some : (x : Step) → None ≡ Some x → ⊥
-none_some x e = cc
-
--- a place below the length is not past the end
-pub slice_get-not_past : {P : Type 0} (xs : List Step) (k n : ℕ) → None ≡ slice_get xs k → n ≡ length xs → k < n → P
-slice_get-not_past xs k n none is lt = absurd (none_some _ (none ∙ slice_get-get_or xs k LeaveJoint (subst (λ m. k < m) is lt)))

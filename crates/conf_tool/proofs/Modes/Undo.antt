@@ -12,7 +12,7 @@ use Rattle.dd_file.specs.declared.fault.FileFault.{FileFault}
 use Rattle.dd_file.specs.declared.stage.Stage.TheVariants.{Ready}
 use Rattle.dd_file.proofs.Offered.{continues-append, breaks-first, breaks-second}
 use Rattle.conf_change.specs.declared.step.Step.{Step}
-use Rattle.conf_plan.proofs.Offered.{take-one_more}
+use Rattle.quorum_sets.proofs.Offered.{take-one_more}
 use Rattle.conf_change.specs.declared.floor.Floor.{Floor}
 use Rattle.conf_session.specs.SessionState.{SessionState, new_session}
 use Rattle.conf_tool.specs.Reports.{found_for, session_after, obeyed_text}

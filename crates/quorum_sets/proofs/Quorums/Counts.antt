@@ -1,7 +1,7 @@
 -- Counting the ids of a list, one more at a time.
-use Rattle.std.proofs.Common.{◌≡◌, ℕ, ◌+◌, ◌<◌, ◌≤◌, Bool, true, false, cond, List, [], ◌∷◌, refl, arith, take, length, sym, ap, subst, ◌∙◌, get_or, slice_get}
-use Rattle.std.specs.Prelude.{Some, None, count_by}
-use Rattle.std.proofs.lemmas.Option.{slice_get_within, get_or_from_slice_get, slice_get-get_or}
+use Rattle.std.proofs.Common.{◌≡◌, ℕ, ◌+◌, ◌≤◌, Bool, true, false, cond, List, [], ◌∷◌, refl, arith, take, sym, ap, ◌∙◌, get_or, slice_get}
+use Rattle.std.specs.Prelude.{Some, count_by}
+use Rattle.std.proofs.lemmas.Option.{slice_get_within, get_or_from_slice_get}
 use Rattle.std.proofs.lemmas.List.Sums.{count_by_more_yes, count_by_more_no, sum_by-cons}
 
 at : (test : ℕ → Bool) (xs : List ℕ) (k x : ℕ) (b : Bool) → slice_get xs k ≡ Some x → test x ≡ b → test (get_or xs k 0) ≡ b
@@ -16,13 +16,6 @@ count_by-one_more test xs k x n here passes so_far =
 pub count_by-no_more : (test : ℕ → Bool) (xs : List ℕ) (k x n : ℕ) → slice_get xs k ≡ Some x → test x ≡ false → n ≡ count_by test (take k xs) → n ≡ count_by test (take (k + 1) xs)
 count_by-no_more test xs k x n here fails so_far =
     so_far ∙ sym (count_by_more_no test xs k 0 (slice_get_within xs k x here) (at test xs k x false here fails))
-
-none-some : (x : ℕ) → None ≡ Some x → ⊥
-none-some x e = cc
-
--- a place below the length is not past the end
-pub slice_get-not_past : {P : Type 0} (xs : List ℕ) (k n : ℕ) → None ≡ slice_get xs k → n ≡ length xs → k < n → P
-slice_get-not_past xs k n none is lt = let here = slice_get-get_or xs k 0 (subst (λ m. k < m) is lt) in absurd (none-some _ (none ∙ here))
 
 one_or_none : (a b : Bool) → (a ≡ true → b ≡ true) → cond a 1 0 ≤ cond b 1 0
 one_or_none false b passes = omega arith

@@ -1,10 +1,10 @@
-use Rattle.std.proofs.Common.{sym, ap, ◌∙◌}
-use Rattle.conf_change.proofs.SetWalks.TestOfEachId.{slice_get-not_past, take-one_more}
+use Rattle.std.proofs.Common.{[], ◌∷◌, ◌++◌, sym, ap, ◌∙◌}
+use Rattle.quorum_sets.proofs.Offered.{slice_get-not_past, take-one_more}
 use Rattle.conf_change.proofs.conf_state_form.list_of.Goals as goal
 use Rattle.conf_change.proofs.conf_state_form.list_of.Goals.{in-Some+in_ok-push, in_default}
 
 pub loop-place-preserved : goal.loop-place-preserved
 loop-place-preserved g c = elim c.match-at.branch [
-  | in-Some+in_ok-push w ↦ ap (λ list. list.items) w.list-is ∙ w.in_ok-push.ensures.items ∙ take-one_more _ c.loop-place.list.items c.loop-place.place w.in-Some.id (sym w.in-Some.ensures) c.loop-place.invariant
+  | in-Some+in_ok-push w ↦ ap (λ list. list.items) w.list-is ∙ w.in_ok-push.ensures.items ∙ ap (λ ids. ids ++ w.in-Some.id ∷ []) c.loop-place.invariant ∙ sym (take-one_more _ c.loop-place.place w.in-Some.id (sym w.in-Some.ensures))
   | in_default w ↦ slice_get-not_past _ _ _ (sym w.in_default.is ∙ c.at.ensures) c.len-place-end.ensures c.loop-place-test.true
 ]

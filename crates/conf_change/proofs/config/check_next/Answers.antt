@@ -1,7 +1,8 @@
 use Rattle.std.proofs.Common.{sym, ap, ◌∙◌, not, true, cond}
 use Rattle.std.proofs.lemmas.Bool.{and_left}
 use Rattle.conf_change.specs.declared.config.Invariant.TheVariants.{NextNotOutgoing, NextAndIncoming}
-use Rattle.conf_change.proofs.SetWalks.TestOfEachId.{list_all-one_more, list_all-no_more, list_all-but_one, slice_get-not_past}
+use Rattle.quorum_sets.proofs.Offered.{slice_get-not_past}
+use Rattle.conf_change.proofs.SetWalks.TestOfEachId.{list_all-one_more, list_all-no_more, list_all-but_one}
 use Rattle.conf_change.proofs.config.check_next.Goals as goal
 use Rattle.conf_change.proofs.config.check_next.Goals.{in-Some+else-not-has_next+then-has_next, in-Some+else-not-has_next+else-has_next, in_default}
 

@@ -1,6 +1,7 @@
 use Rattle.std.proofs.Common.{sym, ap, ◌∙◌, not, true}
 use Rattle.std.proofs.lemmas.Bool.{and_from, and_left, and_right}
-use Rattle.conf_change.proofs.SetWalks.TestOfEachId.{list_all-one_more, list_all-but_one, list_all-walked, slice_get-not_past}
+use Rattle.quorum_sets.proofs.Offered.{slice_get-not_past}
+use Rattle.conf_change.proofs.SetWalks.TestOfEachId.{list_all-one_more, list_all-but_one, list_all-walked}
 use Rattle.conf_change.proofs.config.is_apart_from_both.Goals as goal
 use Rattle.conf_change.proofs.config.is_apart_from_both.Goals.{then-has_next-via-then-has_next, then-has_next-via-else-has_next+then-has_next-2, in-Some+else-has_next+else-has_next-2, in_default}
 

@@ -1,6 +1,7 @@
 use Rattle.std.proofs.Common.{sym, ap, ◌∙◌, ◌++◌}
 use Rattle.quorum_sets.specs.Ids.{ascending}
-use Rattle.conf_change.proofs.SetWalks.TestOfEachId.{append-one_more, append-all, slice_get-not_past}
+use Rattle.quorum_sets.proofs.Offered.{slice_get-not_past}
+use Rattle.conf_change.proofs.SetWalks.TestOfEachId.{append-one_more, append-all}
 use Rattle.conf_change.proofs.edits.append_ids.Goals as goal
 use Rattle.conf_change.proofs.edits.append_ids.Goals.{in-Some+in_ok-push, in_default}
 

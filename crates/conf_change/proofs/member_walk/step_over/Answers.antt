@@ -1,7 +1,7 @@
 use Rattle.std.proofs.Common.{◌≡◌, ℕ, sym, ap, ◌∙◌}
 use Rattle.std.specs.Prelude.{Some}
 use Rattle.conf_change.proofs.SetWalks.SideBySide.{passes-there, passes-apart}
-use Rattle.conf_change.proofs.SetWalks.TestOfEachId.{slice_get-not_past}
+use Rattle.quorum_sets.proofs.Offered.{slice_get-not_past}
 use Rattle.conf_change.proofs.member_walk.step_over.Goals as goal
 
 some_injective : (x y : ℕ) → Some x ≡ Some y → x ≡ y

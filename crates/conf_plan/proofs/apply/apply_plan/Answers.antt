@@ -3,8 +3,9 @@ use Rattle.std.proofs.lemmas.List.{take_all}
 use Rattle.conf_change.specs.Changer.{ChangerState}
 use Rattle.conf_change.specs.declared.step.Step.{Step}
 use Rattle.conf_plan.specs.Run.{IsRun, Takes}
+use Rattle.quorum_sets.proofs.Offered.{slice_get-not_past, slice_get-split, take-one_more}
 use Rattle.conf_plan.proofs.Runs.KeptProgress.{takes-is_sound, takes-keep, takes-keep_planned}
-use Rattle.conf_plan.proofs.Runs.TakenInOrder.{Takes-push, Takes-to_target, Refuses-for_memory, slice_get-split, take-one_more, slice_get-not_past}
+use Rattle.conf_plan.proofs.Runs.TakenInOrder.{Takes-push, Takes-to_target, Refuses-for_memory}
 use Rattle.conf_plan.proofs.apply.apply_plan.Goals as goal
 use Rattle.conf_plan.proofs.apply.apply_plan.Goals.{in-Some+in-Ok, in_default}
 

@@ -1,7 +1,7 @@
 use Rattle.std.proofs.Common.{sym, ap, ◌∙◌, arith, length, length-append}
 use Rattle.std.specs.Prelude.{unwrap_or}
 use Rattle.quorum_sets.specs.Committed.{acked_index}
-use Rattle.quorum_sets.proofs.Quorums.Counts.{slice_get-not_past}
+use Rattle.quorum_sets.proofs.ListPlaces.{slice_get-not_past}
 use Rattle.quorum_sets.proofs.Quorums.MajorityPlace.{map_more-item}
 use Rattle.quorum_sets.proofs.commit.gathered.Goals as goal
 use Rattle.quorum_sets.proofs.commit.gathered.Goals.{in-Some, in_default}

@@ -1,5 +1,6 @@
 use Rattle.std.proofs.Common.{sym, ◌∙◌, arith}
-use Rattle.quorum_sets.proofs.Quorums.Counts.{count_by-one_more, count_by-no_more, slice_get-not_past}
+use Rattle.quorum_sets.proofs.ListPlaces.{slice_get-not_past}
+use Rattle.quorum_sets.proofs.Quorums.Counts.{count_by-one_more, count_by-no_more}
 use Rattle.quorum_sets.proofs.counting.count_where.Goals as goal
 use Rattle.quorum_sets.proofs.counting.count_where.Goals.{in-Some+then-test, in-Some+else-test, in_default}
 

@@ -1,7 +1,8 @@
 use Rattle.std.proofs.Common.{sym, ap, ◌∙◌, arith, take_all}
 use Rattle.std.specs.Prelude.{count_by}
 use Rattle.quorum_sets.specs.Ids.{has, ascending}
-use Rattle.quorum_sets.proofs.Quorums.Counts.{count_by-one_more, count_by-no_more, slice_get-not_past}
+use Rattle.quorum_sets.proofs.ListPlaces.{slice_get-not_past}
+use Rattle.quorum_sets.proofs.Quorums.Counts.{count_by-one_more, count_by-no_more}
 use Rattle.quorum_sets.proofs.IdSets.Difference.{count_of-within}
 use Rattle.quorum_sets.proofs.difference.common_count.Goals as goal
 use Rattle.quorum_sets.proofs.difference.common_count.Goals.{in-Some+then-has_next, in-Some+else-has_next, in_default}

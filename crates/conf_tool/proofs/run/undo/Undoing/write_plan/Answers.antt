@@ -1,6 +1,6 @@
 use Rattle.std.proofs.Common.{◌∙◌, sym, subst}
 use Rattle.std.proofs.lemmas.Result.{err_from_is_err_and}
-use Rattle.conf_plan.proofs.Offered.{slice_get-not_past}
+use Rattle.quorum_sets.proofs.Offered.{slice_get-not_past}
 use Rattle.dd_file.specs.RewriterState.{Continues, BreaksOff}
 use Rattle.conf_tool.specs.Reports.{obeyed_text}
 use Rattle.conf_tool.proofs.ModeInput.Faults.{or-false}
