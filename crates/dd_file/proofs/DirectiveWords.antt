@@ -4,4 +4,5 @@ pub mod FirstWord
 pub mod TrimmedEnd
 pub mod LoneKey
 pub mod ListedValues
+pub mod ClosedLists
 pub mod Keys

@@ -1,12 +1,12 @@
 //! The arguments of a directive: a key with values, by a grammar that is own.
-ghost use Rattle.std.specs.Prelude.{◌≡◌, ◌==◌, ◌+◌, ◌++◌, ◌<◌, ◌≤◌, ◌^◌, ℕ, List, length, option_map, true, false, IfOk, IfSome, MatchOption};
-ghost use Rattle.std.specs.List.{list_all, list_any, prefix_len};
-ghost use Rattle.dd_file.specs.Parts.{up_to, behind};
+ghost use Rattle.std.specs.Prelude.{◌≡◌, ◌+◌, ◌++◌, ◌<◌, ◌≤◌, ◌^◌, ℕ, List, length, option_map, IfOk, IfSome};
+ghost use Rattle.std.specs.List.{list_all, prefix_len};
 ghost use Rattle.dd_file.specs.ValuePlaces.{values_at, listed_ends, EndWithin};
 ghost use Rattle.dd_file.specs.Words.{is_key_byte, is_key, is_plain, values_of, argument_of};
 
 use crate::item::Argument;
 use crate::value_places::{Ends, ValuePlaces};
+use ascii_text::cut::place_of;
 use ascii_text::white_space::{is_blank, is_space};
 use std::alloc::{AllocError, Global};
 
@@ -48,21 +48,6 @@ fn is_plain(bytes: &[u8]) -> bool
         .all(|b| !(is_space(*b) || *b == b'(' || *b == b')'))
 }
 
-/// What stands before the first of these marks, and what stands behind it.
-fn split_once(bytes: &[u8], mark: u8) -> Option<(&[u8], &[u8])>
-    ensures { MatchOption result (list_any (λ b. b == mark) bytes.now ≡ false)
-        (λ parts. (list_any (λ b. b == mark) bytes.now ≡ true)
-        × (parts.0.now ≡ up_to (λ b. b == mark) bytes.now)
-        × (parts.1.now ≡ behind (λ b. b == mark) bytes.now)) }
-{
-    for (i, b) in bytes.iter().enumerate() {
-        if *b == mark {
-            return Some((&bytes[..i], &bytes[i + 1..]));
-        }
-    }
-    None
-}
-
 /// Where the values between parentheses end, of which the first begins at a place: before commas, and at the end. White
 /// space alone has none.
 fn listed(alloc: Global, start: usize, list: &[u8]) -> Result<Ends, AllocError>
@@ -91,13 +76,14 @@ fn values_of(alloc: Global, at: usize, text: &[u8]) -> Result<Option<ValuePlaces
     ensures within { IfOk result (λ found. IfSome found (λ places. EndWithin (at + length text.now) places.start places.ends.items)) }
 {
     if let Some((b'(', inside)) = text.split_first() {
-        return match split_once(inside, b')') {
-            Some((list, [])) => Ok(Some(ValuePlaces {
-                start: at + 1,
-                ends: listed(alloc, at + 1, list)?,
-            })),
-            _ => Ok(None),
-        };
+        let len = place_of(inside, b')');
+        if len + 1 != inside.len() {
+            return Ok(None);
+        }
+        return Ok(Some(ValuePlaces {
+            start: at + 1,
+            ends: listed(alloc, at + 1, &inside[..len])?,
+        }));
     }
     if !is_plain(text) {
         return Ok(None);

@@ -2,7 +2,6 @@
 use Rattle.std.proofs.Common.{◌≡◌, ℕ, ◌≤◌, ◌<◌, ◌+◌, ◌-◌, zero, suc, Bool, true, false, not, cond, ◌&&◌, ◌||◌, List, [], ◌∷◌, ◌++◌, length, take, drop, get_or, refl, sym, ◌∙◌, ap, arith}
 use Rattle.std.proofs.lemmas.List.{append_assoc, length-append, take_at, drop_at}
 use Rattle.ascii_text.specs.WhiteSpace.{is_space, is_blank, trimmed, without_leading_space, without_trailing_space}
-use Rattle.dd_file.specs.Parts.{up_to}
 use Rattle.dd_file.specs.LineEnds.{lines_at, ends_of}
 use Rattle.dd_file.specs.ValuePlaces.{EndWithin}
 use Rattle.dd_file.specs.Words.{is_comma, is_opening, is_closing, is_plain, placed, cut_at_commas}
@@ -103,14 +102,6 @@ within-at len start [] i h lt = absurd (omega (arith, lt))
 within-at len start (end ∷ ends) zero h lt = (h.0, h.1)
 within-at len start (end ∷ ends) (suc zero) h lt = within-at len (end + 1) ends zero h.2 (omega (arith, lt))
 within-at len start (end ∷ ends) (suc (suc i)) h lt = within-at len (end + 1) ends (suc i) h.2 (omega (arith, lt))
-
--- what stands before the first that passes is a front part
-pub up_to-front : {X : Type 0} (test : X → Bool) (xs : List X) → (rest : List X) × (xs ≡ up_to test xs ++ rest)
-up_to-front test [] = ([], refl)
-up_to-front test (x ∷ xs) = at (test x) (up_to-front test xs) where
-  at : (c : Bool) → (rest : List _) × (xs ≡ up_to test xs ++ rest) → (rest : List _) × (x ∷ xs ≡ cond c [] (x ∷ up_to test xs) ++ rest)
-  at true h = (x ∷ xs, refl)
-  at false h = (h.0, ap (λ t. x ∷ t) h.1)
 
 -- a plain value has no white space at its ends
 pub trimmed-plain : (bytes : List ℕ) → is_plain bytes ≡ true → trimmed bytes ≡ bytes

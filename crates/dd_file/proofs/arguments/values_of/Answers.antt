@@ -1,15 +1,16 @@
-use Rattle.std.proofs.Common.{◌≡◌, ◌<◌, ◌≤◌, ◌+◌, ◌++◌, ◌∷◌, [], List, ℕ, Bool, cond, true, false, not, ◌&&◌, ◌||◌, length, map, refl, sym, ap, ◌∙◌, subst, arith, rules}
+use Rattle.std.proofs.Common.{◌≡◌, ◌≤◌, ◌+◌, ◌++◌, ◌∷◌, [], List, ℕ, Bool, cond, true, false, not, ◌&&◌, ◌||◌, length, map, take, drop, refl, sym, ap, ◌∙◌, subst, arith, rules}
 use Rattle.std.specs.Prelude.{◌==◌, Option, Some, None}
 use Rattle.std.specs.List.{list_any}
 use Rattle.std.proofs.Math.Bool.{or-true}
 use Rattle.std.proofs.lemmas.Bool.{true≢false}
-use Rattle.std.proofs.lemmas.List.{append-nil, append_assoc, length-append}
+use Rattle.std.proofs.lemmas.List.{append-nil, append_assoc, length-append, take-append-drop}
 use Rattle.ascii_text.specs.WhiteSpace.{is_space, is_blank, trimmed}
 use Rattle.dd_file.specs.Parts.{up_to, behind}
 use Rattle.dd_file.specs.LineEnds.{ends_of}
 use Rattle.dd_file.specs.ValuePlaces.{values_at, listed_ends, EndWithin}
 use Rattle.dd_file.specs.Words.{is_opening, is_closing, is_plain, cut_at_commas, listed, values_of}
-use Rattle.dd_file.proofs.DirectiveWords.ListedValues.{begins-cut, lines_at-begins, end-within, up_to-front, trimmed-plain}
+use Rattle.dd_file.proofs.DirectiveWords.ListedValues.{begins-cut, lines_at-begins, end-within, trimmed-plain}
+use Rattle.dd_file.proofs.DirectiveWords.ClosedLists.{ends_at_closing, ends_at_closing-last, ends_at_closing-not, up_to-first}
 use Rattle.dd_file.proofs.arguments.values_of.Goals as goal
 
 -- the values between parentheses are found where they end
@@ -26,46 +27,44 @@ list-within list after len start le = each (is_blank list) where
   each false = end-within len (list ++ after) start (cut_at_commas list) le (begins-cut list after)
 
 -- a list that its parentheses end
-text-list : (text inside list : List ℕ) → text ≡ 40 ∷ inside → list ≡ up_to is_closing inside → (rest : List ℕ) × (text ≡ 40 ∷ (list ++ rest))
-text-list text inside list begins is = let front = up_to-front is_closing inside in (front.0, begins ∙ ap (λ t. 40 ∷ t) (front.1 ∙ ap (λ t. t ++ front.0) (sym is)))
+values_of-inside : (text inside : List ℕ) (closed : Bool) → text ≡ 40 ∷ inside → ends_at_closing inside ≡ closed → values_of text ≡ cond closed (Some (listed (up_to is_closing inside))) None
+values_of-inside text inside closed begins is = ap values_of begins ∙ ap (λ c. cond c (Some (listed (up_to is_closing inside))) None) is
 
-pub listed-requires : goal.listed-requires
-listed-requires c =
-    let parts = text-list c.args.text.now c.in-Some-eq40-default.inside.now c.in-Some-default-empty.list.now (c.in-Some-eq40-default.ensures.cases.0 ∙ ap (λ b. b ∷ c.in-Some-eq40-default.inside.now) c.in-Some-eq40-default.field-0-0-test) c.in-Some-default-empty.ensures.1 in
-    omega (arith, c.requires, ap length parts.1, length-append c.in-Some-default-empty.list.now parts.0)
+pub returns-then-len-inside-clause-values : goal.returns-then-len-inside-clause-values
+returns-then-len-inside-clause-values c = λ before at.
+    let inside = c.in-Some-eq40-default.inside.now in
+    let begins : c.args.text.now ≡ 40 ∷ inside = c.in-Some-eq40-default.ensures.cases.0 ∙ ap (λ b. b ∷ inside) c.in-Some-eq40-default.field-0-0-test in
+    sym (values_of-inside c.args.text.now inside false begins (ends_at_closing-not inside (λ end. c.if-len-inside.true (ap (λ n. n + 1) c.place_of-len.ensures.place ∙ end))))
 
--- what a list says
-values_of-list : (text inside list after : List ℕ) → text ≡ 40 ∷ inside → list_any is_closing inside ≡ true → list ≡ up_to is_closing inside → after ≡ behind is_closing inside → length after < 1 →
-    values_of text ≡ Some (listed list)
-values_of-list text inside list after begins closed is rest none =
-    let end : (length (behind is_closing inside) == 0) ≡ true = let empty : length (behind is_closing inside) ≡ 0 = omega (arith, none, ap length rest) in ap (λ n. n == 0) empty in
-    ap values_of begins
-    ∙ ap (λ c. cond (c && (length (behind is_closing inside) == 0)) (Some (listed (up_to is_closing inside))) None) closed
-    ∙ ap (λ c. cond c (Some (listed (up_to is_closing inside))) None) end
-    ∙ ap (λ t. Some (listed t)) (sym is)
-
-pub returns-in_ok-listed-in-Some-default-empty-clause-values :
-    goal.returns-in_ok-listed-in-Some-default-empty-clause-values
-returns-in_ok-listed-in-Some-default-empty-clause-values c = λ before at.
+pub returns-in-Some-eq40-default-clause-values : goal.returns-in-Some-eq40-default-clause-values
+returns-in-Some-eq40-default-clause-values c = λ before at.
     let text = c.args.text.now in
     let inside = c.in-Some-eq40-default.inside.now in
-    let list = c.in-Some-default-empty.list.now in
+    let list = take c.place_of-len.result inside in
+    let rest = drop c.place_of-len.result inside in
     let start = c.args.at + 1 in
-    let parts = text-list text inside list (c.in-Some-eq40-default.ensures.cases.0 ∙ ap (λ b. b ∷ c.in-Some-eq40-default.inside.now) c.in-Some-eq40-default.field-0-0-test) c.in-Some-default-empty.ensures.1 in
-    let whole : before ++ text ≡ (before ++ 40 ∷ []) ++ (list ++ parts.0) = ap (λ t. before ++ t) parts.1 ∙ sym (append_assoc before (40 ∷ []) (list ++ parts.0)) in
+    let begins : text ≡ 40 ∷ inside = c.in-Some-eq40-default.ensures.cases.0 ∙ ap (λ b. b ∷ inside) c.in-Some-eq40-default.field-0-0-test in
+    let whole : before ++ text ≡ (before ++ 40 ∷ []) ++ (list ++ rest) =
+        ap (λ t. before ++ t) (begins ∙ ap (λ t. 40 ∷ t) (sym (take-append-drop c.place_of-len.result inside))) ∙ sym (append_assoc before (40 ∷ []) (list ++ rest))
+    in
     let len : length (before ++ 40 ∷ []) ≡ start = omega (arith, at, length-append before (40 ∷ [])) in
-    ap (λ es. Some (values_at (before ++ text) start es)) c.in_ok-listed-in-Some-default-empty.ensures
+    let front : list ≡ up_to is_closing inside = ap (λ n. take n inside) c.place_of-len.ensures.place ∙ up_to-first is_closing inside in
+    let closed : ends_at_closing inside ≡ true = ends_at_closing-last inside (sym (ap (λ n. n + 1) c.place_of-len.ensures.place) ∙ c.if-len-inside.false) in
+    ap (λ es. Some (values_at (before ++ text) start es)) c.in_ok-listed.ensures
     ∙ ap (λ t. Some (values_at t start (listed_ends start list))) whole
-    ∙ ap Some (list-values (before ++ 40 ∷ []) list parts.0 start len)
-    ∙ sym (values_of-list text inside list c.in-Some-default-empty.field-0-1.now (c.in-Some-eq40-default.ensures.cases.0 ∙ ap (λ b. b ∷ c.in-Some-eq40-default.inside.now) c.in-Some-eq40-default.field-0-0-test) c.in-Some-default-empty.ensures.0 c.in-Some-default-empty.ensures.1 c.in-Some-default-empty.ensures.2 c.in-Some-default-empty.len_below)
+    ∙ ap Some (list-values (before ++ 40 ∷ []) list rest start len)
+    ∙ ap (λ t. Some (listed t)) front
+    ∙ sym (values_of-inside text inside true begins closed)
 
-pub returns-in_ok-listed-in-Some-default-empty-clause-within :
-    goal.returns-in_ok-listed-in-Some-default-empty-clause-within
-returns-in_ok-listed-in-Some-default-empty-clause-within c =
-    let list = c.in-Some-default-empty.list.now in
-    let parts = text-list c.args.text.now c.in-Some-eq40-default.inside.now list (c.in-Some-eq40-default.ensures.cases.0 ∙ ap (λ b. b ∷ c.in-Some-eq40-default.inside.now) c.in-Some-eq40-default.field-0-0-test) c.in-Some-default-empty.ensures.1 in
-    subst (λ es. EndWithin (c.args.at + length c.args.text.now) (c.args.at + 1) es) (sym c.in_ok-listed-in-Some-default-empty.ensures)
-    (list-within list parts.0 (c.args.at + length c.args.text.now) (c.args.at + 1) (omega (arith, ap length parts.1)))
+pub returns-in-Some-eq40-default-clause-within : goal.returns-in-Some-eq40-default-clause-within
+returns-in-Some-eq40-default-clause-within c =
+    let inside = c.in-Some-eq40-default.inside.now in
+    let list = take c.place_of-len.result inside in
+    let rest = drop c.place_of-len.result inside in
+    let begins : c.args.text.now ≡ 40 ∷ inside = c.in-Some-eq40-default.ensures.cases.0 ∙ ap (λ b. b ∷ inside) c.in-Some-eq40-default.field-0-0-test in
+    let parts : inside ≡ list ++ rest = sym (take-append-drop c.place_of-len.result inside) in
+    subst (λ es. EndWithin (c.args.at + length c.args.text.now) (c.args.at + 1) es) (sym c.in_ok-listed.ensures)
+    (list-within list rest (c.args.at + length c.args.text.now) (c.args.at + 1) (omega (arith, ap length begins, ap length parts)))
 
 -- a plain value is found
 plain-value : (before text : List ℕ) (at : ℕ) → length before ≡ at → is_plain text ≡ true → values_at (before ++ text) at ((at + length text) ∷ []) ≡ text ∷ []
