@@ -16,7 +16,7 @@ use Rattle.dd_file.specs.declared.item.Item.{Item}
 use Rattle.dd_file.specs.declared.item.Item.TheVariants.{Comment, Blank}
 use Rattle.dd_file.proofs.TextLines.CarriageReturns.{without_return, without_returns, trimmed-without_return, ends-without_returns, any_separator-without_returns, all_continued-without_returns, joined-without_returns}
 use Rattle.ascii_text.proofs.Offered.{is_blank-without_last}
-use Rattle.dd_file.proofs.TextLines.CutAgain.{and-both, lines_of-text_of, text_of-append, IsOutputOf, output-lines, output-returns, has_blank_line-lines}
+use Rattle.dd_file.proofs.TextLines.CutAgain.{and-parts, lines_of-text_of, text_of-append, IsOutputOf, output-lines, output-returns, has_blank_line-lines}
 use Rattle.dd_file.proofs.ScriptGrammar.EndedFront.{output_at}
 use Rattle.dd_file.proofs.ScriptGrammar.FoundInLines.{up_to-seam, behind-seam, any-seam, first_of-head, begins_with_dashes-output, output_line-dashes, dashes_line, has_pair-output, before_pair-output}
 use Rattle.dd_file.proofs.ScriptGrammar.OpenFront.{up_to-all}
@@ -100,7 +100,7 @@ pair-again m command head input lines more output =
 -- no line of an output is four dashes, so the first is not
 no-dashes : (lines : List (List ℕ)) → list_all is_output_line lines ≡ true → begins_with_dashes lines ≡ false
 no-dashes [] h = refl
-no-dashes (line ∷ lines) h = output_line-dashes line (and-both (is_output_line line) _ h).0
+no-dashes (line ∷ lines) h = output_line-dashes line (and-parts (is_output_line line) _ h).0
 
 -- an output behind a separator, read again
 output-again : (is_ended double : Bool) (m : ℕ) (command : CommandText) (head input lines more : List (List ℕ)) → list_all is_output_line lines ≡ true → list_any is_blank lines ≡ double →

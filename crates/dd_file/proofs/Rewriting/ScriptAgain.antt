@@ -17,7 +17,7 @@ use Rattle.dd_file.specs.declared.item.Item.{Item}
 use Rattle.dd_file.specs.declared.item.Item.TheVariants.{Comment, Blank, Directive}
 use Rattle.ascii_text.proofs.Offered.{list-by_last}
 use Rattle.dd_file.proofs.TextLines.LastNewlines.{double_end-pushed}
-use Rattle.dd_file.proofs.TextLines.CutAgain.{and-both, lines-lines, pieces-text_of, text_of-append, output-lines}
+use Rattle.dd_file.proofs.TextLines.CutAgain.{and-parts, lines-lines, pieces-text_of, text_of-append, output-lines}
 use Rattle.dd_file.proofs.ScriptGrammar.FoundInLines.{dashes_line}
 use Rattle.dd_file.proofs.ScriptGrammar.LinesOfItem.{IsHead, ReadItem, ReadComment, ReadBlank, ReadBlankHead, ReadDirective, given-read}
 use Rattle.dd_file.proofs.ScriptGrammar.AllItems.{items_of, items_of-first, script_of-lines}
@@ -35,7 +35,7 @@ AreWritten (e ∷ entries) = ReadItem e.item × (is_output e.found ≡ true) × 
 are-written : (entries : List Entry) → AreGiven (map (λ e. e.item) entries) → list_all (λ e. is_output e.found) entries ≡ true → AreWritten entries
 are-written [] given output = tt
 are-written (e ∷ entries) given output =
-    let k = and-both (is_output e.found) (list_all (λ e. is_output e.found) entries) output in (given-read e.item given.0, k.0, are-written entries given.1 k.1)
+    let k = and-parts (is_output e.found) (list_all (λ e. is_output e.found) entries) output in (given-read e.item given.0, k.0, are-written entries given.1 k.1)
 
 -- a text of whole lines
 abbrev HasLines : List ℕ → Type 0
@@ -108,7 +108,7 @@ line-kept before line are some = elim (list-by_last line) [
   | inr p ↦
       let whole : before ++ (line ++ newline) ≡ ((before ++ p.0) ++ p.1 ∷ []) ++ newline =
       ap (λ t. before ++ (t ++ newline)) p.2 ∙ sym (append_assoc before (p.0 ++ p.1 ∷ []) newline) ∙ ap (λ t. t ++ newline) (sym (append_assoc before p.0 (p.1 ∷ []))) in
-      let other : (not (p.1 == 10) && true) ≡ true = (and-both (is_line p.0) _ (sym (list_all-append (λ b. not (b == 10)) p.0 (p.1 ∷ [])) ∙ ap is_line (sym p.2) ∙ are)).1 in
+      let other : (not (p.1 == 10) && true) ≡ true = (and-parts (is_line p.0) _ (sym (list_all-append (λ b. not (b == 10)) p.0 (p.1 ∷ [])) ∙ ap is_line (sym p.2) ∙ are)).1 in
       ap without_double_end whole ∙ double_end-pushed (before ++ p.0) p.1 ∙ ap (λ c. cond c ((before ++ p.0) ++ p.1 ∷ []) (((before ++ p.0) ++ p.1 ∷ []) ++ newline)) (no-newline p.1 other) ∙ sym whole
 ] where
   no-newline : (b : ℕ) → (not (b == 10) && true) ≡ true → nat_eq 10 b ≡ false
@@ -171,7 +171,7 @@ last-left before lines item found is (ReadComment line are comment) output short
     line-left before line (entry (Comment (line ∷ [])) found) (ReadComment line are comment) output (one-line line) are (λ e. let bad : false ≡ true = ap is_comment (sym e) ∙ comment in cc)
 last-left before lines item found is (ReadBlank line are comment blank) output short = blank-left before line lines found is output are comment blank
 last-left before lines item found is (ReadBlankHead line [] head are blank) output short =
-    line-left before line (entry (Blank (line ∷ [])) found) (ReadBlankHead line [] head are blank) output (one-line line) (and-both (is_line line) true are).0 (λ e. let bad : true ≡ false = ap is_blank (sym e) ∙ head.blank in cc)
+    line-left before line (entry (Blank (line ∷ [])) found) (ReadBlankHead line [] head are blank) output (one-line line) (and-parts (is_line line) true are).0 (λ e. let bad : true ≡ false = ap is_blank (sym e) ∙ head.blank in cc)
 last-left before lines item found is (ReadBlankHead line (next ∷ rest) head are blank) output short = absurd (search (rules, arith))
 last-left before lines item found is (ReadDirective n command line rest input expected head says command_is none are) output short =
     directive-left before n command line rest input expected found output head says command_is none are

@@ -9,7 +9,7 @@ use Rattle.ascii_text.specs.Lines.{without_last}
 use Rattle.dd_file.specs.Script.{first_of, head_of, at_head, is_comment, is_continued, is_dashes, begins_with_dashes, before_pair, has_pair}
 use Rattle.dd_file.specs.Rewritten.{is_output_line}
 use Rattle.dd_file.proofs.TextLines.CarriageReturns.{without_return, without_returns, trimmed-without_return}
-use Rattle.dd_file.proofs.TextLines.CutAgain.{and-both}
+use Rattle.dd_file.proofs.TextLines.CutAgain.{and-parts}
 
 -- no element passes, and then one does
 pub up_to-seam : {X : Type 0} (test : X → Bool) (xs : List X) (x : X) (ys : List X) → list_any test xs ≡ false → test x ≡ true → up_to test (xs ++ x ∷ ys) ≡ xs
@@ -45,25 +45,25 @@ up_to-none test (x ∷ xs) = at (test x) refl (up_to-none test xs) where
 pub all-drop : {X : Type 0} (test : X → Bool) (n : ℕ) (xs : List X) → list_all test xs ≡ true → list_all test (drop n xs) ≡ true
 all-drop test zero xs h = h
 all-drop test (suc n) [] h = refl
-all-drop test (suc n) (x ∷ xs) h = all-drop test n xs (and-both (test x) _ h).1
+all-drop test (suc n) (x ∷ xs) h = all-drop test n xs (and-parts (test x) _ h).1
 
 pub all-up_to : {X : Type 0} (test other : X → Bool) (xs : List X) → list_all test xs ≡ true → list_all test (up_to other xs) ≡ true
 all-up_to test other [] h = refl
-all-up_to test other (x ∷ xs) h = let k = and-both (test x) (list_all test xs) h in at (other x) k.0 (all-up_to test other xs k.1) where
+all-up_to test other (x ∷ xs) h = let k = and-parts (test x) (list_all test xs) h in at (other x) k.0 (all-up_to test other xs k.1) where
   at : (c : Bool) → test x ≡ true → list_all test (up_to other xs) ≡ true → list_all test (cond c [] (x ∷ up_to other xs)) ≡ true
   at true here ih = refl
   at false here ih = ap (λ b. b && list_all test (up_to other xs)) here ∙ ih
 
 pub all-head : (test : List ℕ → Bool) (lines : List (List ℕ)) → list_all test lines ≡ true → list_all test (head_of lines) ≡ true
 all-head test [] h = refl
-all-head test (line ∷ lines) h = let k = and-both (test line) (list_all test lines) h in at (is_continued line) k.0 (all-head test lines k.1) where
+all-head test (line ∷ lines) h = let k = and-parts (test line) (list_all test lines) h in at (is_continued line) k.0 (all-head test lines k.1) where
   at : (c : Bool) → test line ≡ true → list_all test (head_of lines) ≡ true → list_all test (cond c (line ∷ head_of lines) (line ∷ [])) ≡ true
   at true here ih = ap (λ b. b && list_all test (head_of lines)) here ∙ ih
   at false here ih = ap (λ b. b && true) here
 
 pub all-filter : {X : Type 0} (test kept : X → Bool) (xs : List X) → list_all test xs ≡ true → list_all test (filter kept xs) ≡ true
 all-filter test kept [] h = refl
-all-filter test kept (x ∷ xs) h = let k = and-both (test x) (list_all test xs) h in at (kept x) k.0 (all-filter test kept xs k.1) where
+all-filter test kept (x ∷ xs) h = let k = and-parts (test x) (list_all test xs) h in at (kept x) k.0 (all-filter test kept xs k.1) where
   at : (c : Bool) → test x ≡ true → list_all test (filter kept xs) ≡ true → list_all test (cond c (x ∷ filter kept xs) (filter kept xs)) ≡ true
   at true here ih = ap (λ b. b && list_all test (filter kept xs)) here ∙ ih
   at false here ih = ih
@@ -74,7 +74,7 @@ all-without_last test b (x ∷ []) h = at (x == b) where
   at : (c : Bool) → list_all test (cond c [] (x ∷ [])) ≡ true
   at true = refl
   at false = h
-all-without_last test b (x ∷ y ∷ xs) h = let k = and-both (test x) (list_all test (y ∷ xs)) h in ap (λ c. c && list_all test (without_last b (y ∷ xs))) k.0 ∙ all-without_last test b (y ∷ xs) k.1
+all-without_last test b (x ∷ y ∷ xs) h = let k = and-parts (test x) (list_all test (y ∷ xs)) h in ap (λ c. c && list_all test (without_last b (y ∷ xs))) k.0 ∙ all-without_last test b (y ∷ xs) k.1
 
 -- a head that has its last line, written and read again
 pub head_of-again : (lines more : List (List ℕ)) → list_all is_continued (head_of lines) ≡ false → head_of (without_returns (head_of lines) ++ more) ≡ without_returns (head_of lines)
@@ -111,7 +111,7 @@ output_line-dashes line h = at (is_dashes line) _ h where
 
 pub begins_with_dashes-output : (lines more : List (List ℕ)) → list_all is_output_line lines ≡ true → begins_with_dashes (lines ++ [] ∷ more) ≡ false
 begins_with_dashes-output [] more h = refl
-begins_with_dashes-output (line ∷ lines) more h = output_line-dashes line (and-both (is_output_line line) _ h).0
+begins_with_dashes-output (line ∷ lines) more h = output_line-dashes line (and-parts (is_output_line line) _ h).0
 
 -- an output before a pair of dashes
 abbrev pub dashes_line : List ℕ
@@ -130,7 +130,7 @@ has_pair-output (line ∷ next ∷ lines) more = at (is_dashes line && is_dashes
 
 pub before_pair-output : (lines more : List (List ℕ)) → list_all is_output_line lines ≡ true → before_pair (lines ++ dashes_line ∷ dashes_line ∷ more) ≡ lines
 before_pair-output [] more h = refl
-before_pair-output (line ∷ []) more h = let none = output_line-dashes line (and-both (is_output_line line) true h).0 in rw none refl
+before_pair-output (line ∷ []) more h = let none = output_line-dashes line (and-parts (is_output_line line) true h).0 in rw none refl
 before_pair-output (line ∷ next ∷ lines) more h =
-    let k = and-both (is_output_line line) (list_all is_output_line (next ∷ lines)) h in
+    let k = and-parts (is_output_line line) (list_all is_output_line (next ∷ lines)) h in
     let none = output_line-dashes line k.0 in rw none (ap (λ t. line ∷ t) (before_pair-output (next ∷ lines) more k.1))

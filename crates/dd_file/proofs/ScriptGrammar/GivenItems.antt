@@ -9,7 +9,7 @@ use Rattle.dd_file.specs.Reading.{followed, first_items, at_end, with_count, fro
 use Rattle.dd_file.specs.Laws.{is_line, AreGiven}
 use Rattle.dd_file.specs.declared.item.Item.{Item}
 use Rattle.dd_file.specs.declared.fault.FileFault.{FileFault}
-use Rattle.dd_file.proofs.TextLines.CutAgain.{and-both}
+use Rattle.dd_file.proofs.TextLines.CutAgain.{and-parts}
 use Rattle.dd_file.proofs.ScriptGrammar.FoundInLines.{all-filter, all-without_last}
 
 -- a piece has no newline but at its end
@@ -26,13 +26,13 @@ pieces-are (b ∷ bytes) = at (b == 10) refl (pieces bytes) (pieces-are bytes) w
   at : (c : Bool) → (b == 10) ≡ c → (ps : List (List ℕ)) → list_all is_piece ps ≡ true → list_all is_piece (cond c (newline ∷ ps) (before_first_piece b ps)) ≡ true
   at true e ps h = h
   at false e [] h = ap (λ c. c && true) (more e [] refl)
-  at false e (piece ∷ ps) h = let k = and-both (is_piece piece) (list_all is_piece ps) h in ap (λ c. c && list_all is_piece ps) (more e piece k.0) ∙ k.1
+  at false e (piece ∷ ps) h = let k = and-parts (is_piece piece) (list_all is_piece ps) h in ap (λ c. c && list_all is_piece ps) (more e piece k.0) ∙ k.1
 
 -- the lines of some pieces have no newline
 lines-are : (ps : List (List ℕ)) → list_all is_piece ps ≡ true → list_all is_line (map line_of ps) ≡ true
 lines-are [] h = refl
 lines-are (piece ∷ ps) h =
-    let k = and-both (is_piece piece) (list_all is_piece ps) h in
+    let k = and-parts (is_piece piece) (list_all is_piece ps) h in
     ap (λ c. c && list_all is_line (map line_of ps)) (all-without_last (λ b. not (b == 10)) 13 (without_last 10 piece) k.0) ∙ lines-are ps k.1
 
 pieces_within-are : (limit : ℕ) (place : Place) (bytes : List ℕ) → list_all is_line (map line_of (pieces_within limit place bytes)) ≡ true

@@ -15,7 +15,7 @@ use Rattle.dd_file.specs.declared.item.Item.TheVariants.{Comment, Blank, Directi
 use Rattle.dd_file.specs.declared.fault.FileFault.{FileFault}
 use Rattle.dd_file.proofs.ScriptGrammar.EndedFront.{first_of-local, ended_front}
 use Rattle.dd_file.proofs.TextLines.CarriageReturns.{without_return}
-use Rattle.dd_file.proofs.TextLines.CutAgain.{and-both, ended, lines-lines, text_of-append}
+use Rattle.dd_file.proofs.TextLines.CutAgain.{and-parts, ended, lines-lines, text_of-append}
 use Rattle.ascii_text.proofs.Offered.{without_last-push}
 use Rattle.dd_file.proofs.ScriptGrammar.FrontLength.{first_of-fits, moved_item}
 use Rattle.dd_file.proofs.ScriptGrammar.OpenFront.{open-front}
@@ -62,7 +62,7 @@ line_of-last b line h = ap without_return (none b line h ∙ sym (without_last-p
 
   none : (b : ℕ) (line : List ℕ) → is_line (b ∷ line) ≡ true → without_last 10 (b ∷ line) ≡ b ∷ line
   none b [] k = single b (b == 10) k
-  none b (x ∷ line) k = ap (λ t. b ∷ t) (none x line (and-both (not (b == 10)) (is_line (x ∷ line)) k).1)
+  none b (x ∷ line) k = ap (λ t. b ∷ t) (none x line (and-parts (not (b == 10)) (is_line (x ∷ line)) k).1)
 
 -- the lines of a script and two newlines are its lines, an empty one, and perhaps another
 record IsFollowed (script : List ℕ) : Type 0 where

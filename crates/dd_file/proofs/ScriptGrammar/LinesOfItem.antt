@@ -13,7 +13,7 @@ use Rattle.dd_file.specs.declared.item.Item.TheVariants.{Comment, Blank}
 use Rattle.dd_file.specs.declared.fault.FileFault.{FileFault}
 use Rattle.dd_file.specs.declared.fault.FileFault.TheVariants.{BadDirective, AfterDouble, UnclosedDouble}
 use Rattle.dd_file.proofs.TextLines.CarriageReturns.{without_returns}
-use Rattle.dd_file.proofs.TextLines.CutAgain.{and-both}
+use Rattle.dd_file.proofs.TextLines.CutAgain.{and-parts}
 use Rattle.dd_file.proofs.ScriptGrammar.EndedFront.{output_at}
 use Rattle.dd_file.proofs.ScriptGrammar.FoundInLines.{up_to-none, all-drop, all-up_to, all-head, head_of-again, head_of-first}
 
@@ -135,7 +135,7 @@ headed-item n line lines item are comment blank is =
 -- lines that begin with an item
 pub first_of-item : (n count : ℕ) (is_ended : Bool) (lines : List (List ℕ)) (item : Item) → list_all is_line lines ≡ true → first_of n lines ≡ Some (front (Ok item) count is_ended) → ReadItem item
 first_of-item n count is_ended [] item are is = cc
-first_of-item n count is_ended (line ∷ lines) item are is = at (is_comment line) (is_blank line) refl refl (and-both (is_line line) _ are).0 is where
+first_of-item n count is_ended (line ∷ lines) item are is = at (is_comment line) (is_blank line) refl refl (and-parts (is_line line) _ are).0 is where
   at : (c d : Bool) → is_comment line ≡ c → is_blank line ≡ d → is_line line ≡ true →
       cond c (Some (front (Ok (Comment (line ∷ []))) 1 true)) (cond d (Some (front (Ok (Blank (line ∷ []))) 1 true)) (Some (at_head n (head_of (line ∷ lines)) (drop (length (head_of (line ∷ lines))) (line ∷ lines))))) ≡ Some (front (Ok item) count is_ended) →
       ReadItem item

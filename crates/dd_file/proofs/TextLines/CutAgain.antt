@@ -13,9 +13,9 @@ use Rattle.ascii_text.proofs.Offered.{list-by_last, without_last-push}
 use Rattle.dd_file.proofs.TextLines.LastNewlines.{ends_with-append}
 
 -- two tests that both pass
-pub and-both : (a b : Bool) → (a && b) ≡ true → (a ≡ true) × (b ≡ true)
-and-both true b h = (refl, h)
-and-both false b h = cc
+pub and-parts : (a b : Bool) → (a && b) ≡ true → (a ≡ true) × (b ≡ true)
+and-parts true b h = (refl, h)
+and-parts false b h = cc
 
 -- a line with its newline is a piece
 pub pieces-line : (line rest : List ℕ) → is_line line ≡ true → pieces ((line ++ newline) ++ rest) ≡ (line ++ newline) ∷ pieces rest
@@ -29,7 +29,7 @@ pieces-line (b ∷ line) rest h = at (b == 10) (pieces-line line rest) h where
 -- lines that are written, and what follows them
 pieces-lines : (lines : List (List ℕ)) (rest : List ℕ) → list_all is_line lines ≡ true → pieces (text_of lines ++ rest) ≡ map (λ line. line ++ newline) lines ++ pieces rest
 pieces-lines [] rest h = refl
-pieces-lines (line ∷ lines) rest h = let k = and-both (is_line line) (list_all is_line lines) h in
+pieces-lines (line ∷ lines) rest h = let k = and-parts (is_line line) (list_all is_line lines) h in
     ap pieces (append_assoc (line ++ newline) (text_of lines) rest) ∙ pieces-line line (text_of lines ++ rest) k.0 ∙ ap (λ ps. (line ++ newline) ∷ ps) (pieces-lines lines rest k.1)
 
 -- the lines of those pieces
@@ -84,7 +84,7 @@ pub output-lines : (found : List ℕ) → is_output found ≡ true → (lines : 
 output-lines found h = elim (list-by_last found) [
   | inl none ↦ ([], record { text = none; are_lines = refl; are_output = refl })
   | inr p ↦
-      let k = and-both (length found == 0 || ends_with nat_eq found newline) _ h in
+      let k = and-parts (length found == 0 || ends_with nat_eq found newline) _ h in
       let ended : ((length found == 0) || (nat_eq 10 p.1 && true)) ≡ true =
       ap (λ b. (length found == 0) || b) (sym (ap (λ t. ends_with nat_eq t newline) p.2 ∙ ends_with-append p.0 (p.1 ∷ []) newline refl)) ∙ k.0 in
       let whole : found ≡ p.0 ++ newline = p.2 ∙ ap (λ b. p.0 ++ b ∷ []) (is_newline p.0 p.1 found p.2 ended) in
@@ -129,7 +129,7 @@ output_line-return line h = elim (list-by_last line) [
 
 pub output-returns : (lines : List (List ℕ)) → list_all is_output_line lines ≡ true → without_returns lines ≡ lines
 output-returns [] h = refl
-output-returns (line ∷ lines) h = let k = and-both (is_output_line line) (list_all is_output_line lines) h in
+output-returns (line ∷ lines) h = let k = and-parts (is_output_line line) (list_all is_output_line lines) h in
     ap (λ t. t ∷ without_returns lines) (output_line-return line k.0) ∙ ap (λ ts. line ∷ ts) (output-returns lines k.1)
 
 -- whether an output has a blank line
