@@ -50,4 +50,3 @@ Refuses-for_memory a b (y ∷ xs) ys x why target t refuses run =
     let same : run.0 ≡ t.0.tracker.config = Ok-same _ _ (sym run.1 ∙ t.1.configuration) in
     let P : Configuration → Type 0 = λ c. IsRun c (xs ++ x ∷ ys) target in
     Refuses-for_memory t.0 b xs ys x why target t.2 refuses (subst P same run.2)
-

@@ -45,7 +45,7 @@ returns-in-Some-eq40-default-clause-values c = λ before at.
     let start = c.args.at + 1 in
     let begins : text ≡ 40 ∷ inside = c.in-Some-eq40-default.ensures.cases.0 ∙ ap (λ b. b ∷ inside) c.in-Some-eq40-default.field-0-0-test in
     let whole : before ++ text ≡ (before ++ 40 ∷ []) ++ (list ++ rest) =
-        ap (λ t. before ++ t) (begins ∙ ap (λ t. 40 ∷ t) (sym (take-append-drop c.place_of-len.result inside))) ∙ sym (append_assoc before (40 ∷ []) (list ++ rest))
+    ap (λ t. before ++ t) (begins ∙ ap (λ t. 40 ∷ t) (sym (take-append-drop c.place_of-len.result inside))) ∙ sym (append_assoc before (40 ∷ []) (list ++ rest))
     in
     let len : length (before ++ 40 ∷ []) ≡ start = omega (arith, at, length-append before (40 ∷ [])) in
     let front : list ≡ up_to is_closing inside = ap (λ n. take n inside) c.place_of-len.ensures.place ∙ up_to-first is_closing inside in
