@@ -1,6 +1,5 @@
-use Rattle.std.proofs.Common.{◌≡◌, true, cond, ap, ◌∙◌, rules}
+use Rattle.std.proofs.Common.{cond, ap, ◌∙◌, rules}
 use Rattle.std.specs.Prelude.{Ok, Err}
-use Rattle.conf_change.specs.Configuration.{is_valid}
 use Rattle.confscript_c.specs.Answer.{answer}
 use Rattle.confscript_c.specs.Applied.{restored_one}
 use Rattle.confscript_c.specs.Reading.{valid_one}
