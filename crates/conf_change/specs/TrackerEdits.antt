@@ -22,12 +22,12 @@ abbrev pub entry_in : ℕ → Configuration → Option Progress → ℕ → Opti
 entry_in next_index c had id = entry_of next_index (is_member c id) (has c.learners id) had
 
 -- what is left of what an id had, unless it is removed and does not go out
-abbrev pub left_by_word : Bool → Bool → Option Progress → Option Progress
-left_by_word removed goes_out had = if removed && not goes_out then None else had
+abbrev pub progress_left_by_word : Bool → Bool → Option Progress → Option Progress
+progress_left_by_word removed goes_out had = if removed && not goes_out then None else had
 
 -- what the changes leave to an id
-abbrev pub left_by : TrackerState → List Change → ℕ → Option Progress
-left_by t changes id = left_by_word (removes changes id) (has t.config.outgoing id) (finite.get t.progress id)
+abbrev pub progress_left : TrackerState → List Change → ℕ → Option Progress
+progress_left t changes id = progress_left_by_word (removes changes id) (has t.config.outgoing id) (finite.get t.progress id)
 
 -- an id with its progress, where it has any
 abbrev pub entries_of : ℕ → Option Progress → List (ℕ × Progress)
@@ -38,14 +38,14 @@ entries_of id (Some p) = (id, p) ∷ []
 pub record Applies (next_index : ℕ) (changes : List Change) (before after : TrackerState) : Type 0 where
   pub configuration : after.config ≡ result_of before.config changes
   pub floor : after.floor ≡ before.floor
-  pub entries : (q : ℕ) → finite.get after.progress q ≡ entry_in next_index after.config (left_by before changes q) q
+  pub entries : (q : ℕ) → finite.get after.progress q ≡ entry_in next_index after.config (progress_left before changes q) q
 
 -- what somebody keeps who has progress: a member all, with its mark, and nobody else any
-abbrev pub kept_by : Bool → Bool → Option Progress → Option Progress
-kept_by member learner had = if member then option_map (with_mark learner) had else None
+abbrev pub progress_kept : Bool → Bool → Option Progress → Option Progress
+progress_kept member learner had = if member then option_map (with_mark learner) had else None
 
 -- the tracker with this configuration, where the members keep their progress
 pub record Keeps (c : Configuration) (before after : TrackerState) : Type 0 where
   pub configuration : after.config ≡ c
   pub floor : after.floor ≡ before.floor
-  pub entries : (q : ℕ) → finite.get after.progress q ≡ kept_by (is_member c q) (has c.learners q) (finite.get before.progress q)
+  pub entries : (q : ℕ) → finite.get after.progress q ≡ progress_kept (is_member c q) (has c.learners q) (finite.get before.progress q)

@@ -7,7 +7,7 @@ ghost use Rattle.quorum_sets.specs.Rising.{IsRising};
 ghost use Rattle.conf_change.specs.Configuration.{is_member, is_joint, has_voter};
 ghost use Rattle.conf_change.specs.Outcome.{with_outgoing, after_leave};
 ghost use Rattle.conf_change.specs.Seat.{seat_in, is_member_seat};
-ghost use Rattle.conf_change.specs.TrackerEdits.{Applies, Keeps, beginning, entry_of, left_by_word, entries_of, kept_by};
+ghost use Rattle.conf_change.specs.TrackerEdits.{Applies, Keeps, beginning, entry_of, progress_left_by_word, entries_of, progress_kept};
 ghost use Rattle.conf_change.specs.Changer.{IsSound, nobody, tracker_of};
 ghost use Rattle.conf_change.specs.Acknowledgement.{with_progress};
 
@@ -320,7 +320,7 @@ impl<S: MemberSet> Tracker<S> {
         next_index: u64,
         place: &mut usize,
     ) -> Option<Progress>
-        ensures { result ≡ entry_of next_index (is_member_seat seat) seat.learner (left_by_word word.removes seat.outgoing (finite.get self.now.progress word.id)) }
+        ensures { result ≡ entry_of next_index (is_member_seat seat) seat.learner (progress_left_by_word word.removes seat.outgoing (finite.get self.now.progress word.id)) }
     {
         if !seat.is_member() {
             return None;
@@ -360,7 +360,7 @@ impl<S: MemberSet> Tracker<S> {
     // The members that are still in a configuration, with the progress that they have and their marks.
     fn keeping(&self, config: &Config<S>) -> Result<SmallVec<(u64, Progress), 1>, NoMemory>
         ensures rising { IfOk result (λ members. IsRising (map (λ m. m.0) members.items)) }
-        ensures kept { IfOk result (λ members. (q : ℕ) → finite.get (finite.from_entries {R = nat_cmp} members.items) q ≡ kept_by (is_member config.now q) (has config.now.learners q) (finite.get self.now.progress q)) }
+        ensures kept { IfOk result (λ members. (q : ℕ) → finite.get (finite.from_entries {R = nat_cmp} members.items) q ≡ progress_kept (is_member config.now q) (has config.now.learners q) (finite.get self.now.progress q)) }
     {
         let mut members = SmallVec::with_capacity(self.alloc, self.members.len())?;
         let mut places = Places::default();
@@ -379,7 +379,7 @@ fn kept<S: MemberSet>(
     progress: Progress,
     places: &mut Places,
 ) -> Option<Progress>
-    ensures { result ≡ kept_by (is_member config.now id) (has config.now.learners id) (Some progress) }
+    ensures { result ≡ progress_kept (is_member config.now id) (has config.now.learners id) (Some progress) }
 {
     let learner = has_next(&config.learners, &mut places.learners, id);
     let incoming = has_next(&config.incoming, &mut places.incoming, id);

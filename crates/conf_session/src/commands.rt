@@ -91,7 +91,7 @@ fn parameters_of(command: Command) -> &'static [Parameter]
 }
 
 /// Carries out a directive.
-pub(crate) fn obey(
+pub(crate) fn run_directive(
     alloc: Global,
     session: &Session,
     directive: &Directive,
@@ -101,7 +101,7 @@ pub(crate) fn obey(
 {
     found_text_stands();
     let command = command_in(directive.command());
-    carry_out(
+    run_command(
         alloc,
         session,
         command,
@@ -110,7 +110,7 @@ pub(crate) fn obey(
     )
 }
 
-fn carry_out(
+fn run_command(
     alloc: Global,
     session: &Session,
     command: Command,
@@ -121,17 +121,17 @@ fn carry_out(
 {
     let changer = session.changer();
     match command {
-        Command::Simple => simple::obey(alloc, changer, input),
-        Command::EnterJoint => enter_joint::obey(alloc, changer, input, arguments),
-        Command::LeaveJoint => leave_joint::obey(alloc, changer, input),
-        Command::ConfChange => change::obey(alloc, changer, input, arguments),
-        Command::ConfState => conf_state::obey(alloc, changer, input, arguments),
-        Command::Restore => restore::obey(alloc, changer, input, arguments),
-        Command::Undo => undo::obey(alloc, session, input, arguments),
-        Command::Ack => ack::obey(alloc, changer, input, arguments),
-        Command::CommitIndex => commit_index::obey(alloc, changer, input, arguments),
-        Command::Committed => committed::obey(alloc, input, arguments),
-        Command::Vote => vote::obey(alloc, input, arguments),
-        Command::Unknown => unknown::obey(alloc, input),
+        Command::Simple => simple::run(alloc, changer, input),
+        Command::EnterJoint => enter_joint::run(alloc, changer, input, arguments),
+        Command::LeaveJoint => leave_joint::run(alloc, changer, input),
+        Command::ConfChange => change::run(alloc, changer, input, arguments),
+        Command::ConfState => conf_state::run(alloc, changer, input, arguments),
+        Command::Restore => restore::run(alloc, changer, input, arguments),
+        Command::Undo => undo::run(alloc, session, input, arguments),
+        Command::Ack => ack::run(alloc, changer, input, arguments),
+        Command::CommitIndex => commit_index::run(alloc, changer, input, arguments),
+        Command::Committed => committed::run(alloc, input, arguments),
+        Command::Vote => vote::run(alloc, input, arguments),
+        Command::Unknown => unknown::run(alloc, input),
     }
 }

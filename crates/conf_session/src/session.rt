@@ -9,7 +9,7 @@ ghost use Rattle.conf_session.specs.Told.{CanStand};
 ghost use Rattle.conf_session.specs.declared.undo_fault.UndoFault.{UndoFault as WhyNot};
 
 use crate::boxed_changer::BoxedChanger;
-use crate::commands::obey;
+use crate::commands::run_directive;
 use crate::effect::Effect;
 use crate::history::History;
 use crate::laws::{answer_keeps_session, kept_lead_to_now};
@@ -122,7 +122,7 @@ impl Session {
         ensures unchanged { OnErr result (self.new ≡ self.old) }
     {
         answer_keeps_session();
-        let (found, effect) = obey(self.alloc, self, directive)?.into_parts();
+        let (found, effect) = run_directive(self.alloc, self, directive)?.into_parts();
         self.take_on(effect);
         Ok(found)
     }

@@ -21,7 +21,7 @@ const NO_DEVICE: u8 = 3;
 
 fn main(rt: HostRuntime) -> ExitCode {
     match words(&rt) {
-        Ok(words) => obey(&rt, words.as_slice()),
+        Ok(words) => run_words(&rt, words.as_slice()),
         Err(error) => tell_of_words(&rt, &error),
     }
 }
@@ -42,7 +42,7 @@ fn tell_of_words(rt: &HostRuntime, error: &io::Error) -> ExitCode {
 }
 
 // Does what the words ask for.
-fn obey(rt: &HostRuntime, words: &[String]) -> ExitCode {
+fn run_words(rt: &HostRuntime, words: &[String]) -> ExitCode {
     match command_line(rt.alloc(), words) {
         Ok(invocation) => open(rt, invocation),
         Err(error) => explain(rt, &error),

@@ -12,7 +12,7 @@ use Rattle.quorum_sets.specs.Rising.{IsRising}
 use Rattle.conf_change.specs.Configuration.{Configuration, is_member, is_joint}
 use Rattle.conf_change.specs.Change.{is_update, is_removal, is_incoming_after, is_learner_after, result_of, removes}
 use Rattle.conf_change.specs.TrackerState.{TrackerState, ProgressMap}
-use Rattle.conf_change.specs.TrackerEdits.{beginning, entry_of, entry_in, left_by, left_by_word, Applies}
+use Rattle.conf_change.specs.TrackerEdits.{beginning, entry_of, entry_in, progress_left, progress_left_by_word, Applies}
 use Rattle.conf_change.specs.Changer.{IsSound, tracker_of}
 use Rattle.conf_change.specs.declared.change.Change.{Change}
 use Rattle.conf_change.specs.declared.change.Kind.{Kind}
@@ -30,20 +30,20 @@ entry_again next_index true l' true l (Some p) h = refl
 entry_again next_index true l' false l None h = refl
 entry_again next_index true l' false l (Some p) h = absurd (false≢true (h refl))
 
-left_same : (removed out : Bool) (had : Option Progress) → left_by_word removed out had ≡ left_by_word (removed || false) out had
+left_same : (removed out : Bool) (had : Option Progress) → progress_left_by_word removed out had ≡ progress_left_by_word (removed || false) out had
 left_same true out had = refl
 left_same false out had = refl
 
-left_nothing : (removed out : Bool) (had : Option Progress) → had ≡ None → left_by_word removed out had ≡ None
+left_nothing : (removed out : Bool) (had : Option Progress) → had ≡ None → progress_left_by_word removed out had ≡ None
 left_nothing true true had e = e
 left_nothing true false had e = refl
 left_nothing false out had e = e
 
-left_out : (removed : Bool) (had : Option Progress) → left_by_word removed true had ≡ had
+left_out : (removed : Bool) (had : Option Progress) → progress_left_by_word removed true had ≡ had
 left_out true had = refl
 left_out false had = refl
 
-left_removed : (removed : Bool) (had : Option Progress) → left_by_word (removed || true) false had ≡ None
+left_removed : (removed : Bool) (had : Option Progress) → progress_left_by_word (removed || true) false had ≡ None
 left_removed true had = refl
 left_removed false had = refl
 
@@ -65,13 +65,13 @@ member_after word incoming out learner = is_incoming_after word incoming || out 
 record StepAt (next_index : ℕ) (kind : Kind) (named zero incoming out learner removed : Bool) (had : Option Progress) : Type 0 where
   entry_is :
       let word = word_of kind named zero in
-      let before = entry_of next_index (incoming || out || learner) learner (left_by_word removed out had) in
+      let before = entry_of next_index (incoming || out || learner) learner (progress_left_by_word removed out had) in
       cond named (entry_of next_index (member_after word incoming out learner) (is_learner_after word out learner) before) before
-      ≡ entry_of next_index (member_after word incoming out learner) (is_learner_after word out learner) (left_by_word (removed || (named && is_removal kind)) out had)
-  member_is : is_some (left_by_word (removed || (named && is_removal kind)) out had) ≡ true → member_after (word_of kind named zero) incoming out learner ≡ true
+      ≡ entry_of next_index (member_after word incoming out learner) (is_learner_after word out learner) (progress_left_by_word (removed || (named && is_removal kind)) out had)
+  member_is : is_some (progress_left_by_word (removed || (named && is_removal kind)) out had) ≡ true → member_after (word_of kind named zero) incoming out learner ≡ true
 
 step_at : (next_index : ℕ) (kind : Kind) (named zero incoming out learner removed : Bool) (had : Option Progress)
-    → (zero ≡ true → had ≡ None) → (is_some (left_by_word removed out had) ≡ true → (incoming || out || learner) ≡ true)
+    → (zero ≡ true → had ≡ None) → (is_some (progress_left_by_word removed out had) ≡ true → (incoming || out || learner) ≡ true)
     → StepAt next_index kind named zero incoming out learner removed had
 step_at next_index kind false zero incoming out learner removed had none here = record {
   entry_is = ap (entry_of next_index (incoming || out || learner) learner) (left_same removed out had);
@@ -79,25 +79,25 @@ step_at next_index kind false zero incoming out learner removed had none here = 
 }
 step_at next_index kind true true incoming out learner removed had none here = record {
   entry_is =
-      entry_again next_index (incoming || out || learner) learner (incoming || out || learner) learner (left_by_word removed out had) here
+      entry_again next_index (incoming || out || learner) learner (incoming || out || learner) learner (progress_left_by_word removed out had) here
       ∙ ap (entry_of next_index (incoming || out || learner) learner)
       (left_nothing removed out had (none refl) ∙ sym (left_nothing (removed || is_removal kind) out had (none refl)));
   member_is = λ e. absurd (none_is_some _ (left_nothing (removed || is_removal kind) out had (none refl)) e);
 }
 step_at next_index Voter true false incoming out learner removed had none here = record {
   entry_is =
-      entry_again next_index true false (incoming || out || learner) learner (left_by_word removed out had) here ∙ ap (entry_of next_index true false) (left_same removed out had);
+      entry_again next_index true false (incoming || out || learner) learner (progress_left_by_word removed out had) here ∙ ap (entry_of next_index true false) (left_same removed out had);
   member_is = λ e. refl;
 }
 step_at next_index Learner true false incoming out learner removed had none here = record {
   entry_is =
-      entry_again next_index (out || not out) (not out) (incoming || out || learner) learner (left_by_word removed out had) here
+      entry_again next_index (out || not out) (not out) (incoming || out || learner) learner (progress_left_by_word removed out had) here
       ∙ ap (entry_of next_index (out || not out) (not out)) (left_same removed out had);
   member_is = λ e. or_not out;
 }
 step_at next_index Remove true false incoming true learner removed had none here = record {
   entry_is =
-      entry_again next_index true false (incoming || true || learner) learner (left_by_word removed true had) here
+      entry_again next_index true false (incoming || true || learner) learner (progress_left_by_word removed true had) here
       ∙ ap (entry_of next_index true false) (left_out removed had ∙ sym (left_out (removed || true) had));
   member_is = λ e. refl;
 }
@@ -107,7 +107,7 @@ step_at next_index Remove true false incoming false learner removed had none her
 }
 step_at next_index Update true false incoming out learner removed had none here = record {
   entry_is =
-      entry_again next_index (incoming || out || learner) learner (incoming || out || learner) learner (left_by_word removed out had) here
+      entry_again next_index (incoming || out || learner) learner (incoming || out || learner) learner (progress_left_by_word removed out had) here
       ∙ ap (entry_of next_index (incoming || out || learner) learner) (left_same removed out had);
   member_is = λ e. here (ap is_some (left_same removed out had) ∙ e);
 }
@@ -120,7 +120,7 @@ HasDueEntries next_index t = (id : ℕ) → finite.get t.progress id ≡ entry_i
 -- the tracker after the changes so far
 pub record AppliedSoFar (next_index : ℕ) (changes : List Change) (before after : TrackerState) : Type 0 where
   pub applied : Applies next_index changes before after
-  pub members : (q : ℕ) → is_some (left_by before changes q) ≡ true → is_member after.config q ≡ true
+  pub members : (q : ℕ) → is_some (progress_left before changes q) ≡ true → is_member after.config q ≡ true
 
 or_false : (a b : Bool) → (a || (b || false)) ≡ (a || b)
 or_false true b = refl
@@ -154,8 +154,8 @@ at_same f q id rest false e = refl
 more_at : (next_index : ℕ) (xs : List Change) (x : Change) (before now after : TrackerState) (q : ℕ)
     → finite.get before.progress 0 ≡ None → AppliedSoFar next_index xs before now
     → after.config ≡ result_of now.config (x ∷ []) → Follows next_index x.id after.config now.progress after.progress
-    → (finite.get after.progress q ≡ entry_in next_index after.config (left_by before (xs ++ x ∷ []) q) q)
-    × (is_some (left_by before (xs ++ x ∷ []) q) ≡ true → is_member after.config q ≡ true)
+    → (finite.get after.progress q ≡ entry_in next_index after.config (progress_left before (xs ++ x ∷ []) q) q)
+    × (is_some (progress_left before (xs ++ x ∷ []) q) ≡ true → is_member after.config q ≡ true)
 more_at next_index xs x before now after q none so_far made follows =
     let incoming = has now.config.incoming q in
     let out = has before.config.outgoing q in
@@ -164,8 +164,8 @@ more_at next_index xs x before now after q none so_far made follows =
     let word = word_of x.kind (x.id == q) (q == 0) in
     let goes_out : has now.config.outgoing q ≡ out = ap (λ c. has c.outgoing q) so_far.applied.configuration in
     let member_now : is_member now.config q ≡ (incoming || out || learner) = ap (λ b. incoming || b || learner) goes_out in
-    let was : finite.get now.progress q ≡ entry_of next_index (incoming || out || learner) learner (left_by before xs q) =
-    so_far.applied.entries q ∙ ap (λ b. entry_of next_index b learner (left_by before xs q)) member_now in
+    let was : finite.get now.progress q ≡ entry_of next_index (incoming || out || learner) learner (progress_left before xs q) =
+    so_far.applied.entries q ∙ ap (λ b. entry_of next_index b learner (progress_left before xs q)) member_now in
     let incoming_then : has (result_of now.config (x ∷ [])).incoming q ≡ is_incoming_after word incoming =
     has-incoming_after now.config (x ∷ []) q ∙ ap (λ o. is_incoming_after o incoming) (last_word-one x q) in
     let learner_made : has (result_of now.config (x ∷ [])).learners q ≡ is_learner_after word out learner =
@@ -180,8 +180,8 @@ more_at next_index xs x before now after q none so_far made follows =
           ∙ at_same (λ y. entry_in next_index after.config (finite.get now.progress y) y) q x.id (finite.get now.progress q) (q == x.id) refl
           ∙ (λ i. cond (nat_eq_equiv.symm q x.id i) (entry_of next_index (member_then i) (learner_then i) (was i)) (was i))
           ∙ step.entry_is
-          ∙ sym (λ i. entry_of next_index (member_then i) (learner_then i) (left_by_word (removed i) out had)),
-      λ e. member_then ∙ step.member_is (sym (λ i. is_some (left_by_word (removed i) out had)) ∙ e),
+          ∙ sym (λ i. entry_of next_index (member_then i) (learner_then i) (progress_left_by_word (removed i) out had)),
+      λ e. member_then ∙ step.member_is (sym (λ i. is_some (progress_left_by_word (removed i) out had)) ∙ e),
     )
 
 applied_more : (next_index : ℕ) (xs : List Change) (x : Change) (before now after : TrackerState)

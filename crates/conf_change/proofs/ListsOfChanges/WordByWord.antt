@@ -15,7 +15,7 @@ use Rattle.conf_change.specs.Change.{last_word, is_incoming_after, is_learner_af
 use Rattle.conf_change.specs.LastWords.{has_entry, SaysOf, ListsLastWords}
 use Rattle.conf_change.specs.Seat.{seat_in, seat_after, is_member_seat}
 use Rattle.conf_change.specs.TrackerState.{TrackerState}
-use Rattle.conf_change.specs.TrackerEdits.{beginning, entry_of, left_by, left_by_word, entries_of, Applies}
+use Rattle.conf_change.specs.TrackerEdits.{beginning, entry_of, progress_left, progress_left_by_word, entries_of, Applies}
 use Rattle.conf_change.specs.Changer.{IsSound, tracker_of}
 use Rattle.conf_change.specs.declared.change.Change.{Change}
 use Rattle.conf_change.specs.declared.change.Kind.{Kind}
@@ -42,7 +42,7 @@ abbrev pub member_then : TrackerState → List Change → ℕ → Bool
 member_then t xs q = incoming_then t xs q || has t.config.outgoing q || learner_then t xs q
 
 abbrev pub entry_then : ℕ → TrackerState → List Change → ℕ → Option Progress
-entry_then next_index t xs q = entry_of next_index (member_then t xs q) (learner_then t xs q) (left_by t xs q)
+entry_then next_index t xs q = entry_of next_index (member_then t xs q) (learner_then t xs q) (progress_left t xs q)
 
 -- ---- the walk
 -- what is made of the ids that are passed
@@ -106,7 +106,7 @@ pub walked-one_more : (next_index : ℕ) (t : TrackerState) (xs : List Change) (
     → incoming' ≡ cond seat.incoming (with_id incoming w.id) incoming
     → learners' ≡ cond seat.learner (with_id learners w.id) learners
     → next' ≡ cond seat.next (with_id next w.id) next
-    → entry ≡ entry_of next_index (is_member_seat seat) seat.learner (left_by_word w.removes seat.outgoing (finite.get t.progress w.id))
+    → entry ≡ entry_of next_index (is_member_seat seat) seat.learner (progress_left_by_word w.removes seat.outgoing (finite.get t.progress w.id))
     → members' ≡ members ++ entries_of w.id entry
     → WalkedSoFar next_index t xs (take (k + 1) (ids words)) incoming' learners' next' members')
 walked-one_more next_index t xs words k d incoming learners next incoming' learners' next' members members' sat seat entry within says so_far sat_is seat_is i l n entry_is m =
@@ -114,7 +114,7 @@ walked-one_more next_index t xs words k d incoming learners next incoming' learn
     let passed = take k (ids words) in
     let s : seat ≡ seat_after (seat_in t.config w.id) (last_word xs w.id) = seat_is ∙ (λ j. seat_after (sat_is j) (says.last j)) in
     let e : entry ≡ entry_then next_index t xs w.id =
-    entry_is ∙ (λ j. entry_of next_index (is_member_seat (s j)) (s j).learner (left_by_word (says.removal j) (s j).outgoing (finite.get t.progress w.id))) in
+    entry_is ∙ (λ j. entry_of next_index (is_member_seat (s j)) (s j).learner (progress_left_by_word (says.removal j) (s j).outgoing (finite.get t.progress w.id))) in
     let long : length (ids words) ≡ length words = length-map words (λ v. v.id) in
     let more : take (k + 1) (ids words) ≡ passed ++ w.id ∷ [] = take_more (ids words) k 0 (subst (λ z. k < z) (sym long) within) ∙ ap (λ x. passed ++ x ∷ []) (ids-at words k d within) in
     subst (λ p. WalkedSoFar next_index t xs p incoming' learners' next' members') (sym more) (record {
@@ -206,7 +206,7 @@ walked-applies next_index before floor outgoing auto_leave es xs words k incomin
           ap (λ m. finite.get (finite.from_entries {R = nat_cmp} m) q) walked.members_are
           ∙ get-picked (entry_then next_index t xs) (ids words) q
           ∙ settled (list_any (λ x. q == x) (ids words)) (member_then t xs q) _ (λ m. any-ids words q ∙ member_covered q m)
-          ∙ sym (λ i. entry_of next_index (in_is q i || has outgoing q || learner_is q i) (learner_is q i) (left_by t xs q));
+          ∙ sym (λ i. entry_of next_index (in_is q i || has outgoing q || learner_is q i) (learner_is q i) (progress_left t xs q));
     }
 
 pub walked-rises : (next_index : ℕ) (t : TrackerState) (xs : List Change) (words : List LastWord) (k : ℕ) (incoming learners next : Ids) (members : List (ℕ × Progress))

@@ -11,7 +11,7 @@ use Rattle.std.specs.List.Sorted.{IsStrictlySortedBy}
 use Rattle.std.proofs.lemmas.List.{map-id, flat_map_more, take_more}
 use Rattle.quorum_sets.specs.Rising.{IsRising}
 use Rattle.quorum_sets.proofs.Offered.{rising-sorted, sorted-rising}
-use Rattle.conf_change.specs.TrackerEdits.{entries_of, kept_by}
+use Rattle.conf_change.specs.TrackerEdits.{entries_of, progress_kept}
 use Rattle.conf_change.specs.declared.progress.Progress.{Progress}
 
 -- those that have progress, by their ids
@@ -91,35 +91,35 @@ keys-get es q = ap is_some (finite.get-from_entries nat_cmp_total es q) ∙ keys
 
 -- ---- members that keep theirs
 abbrev pub kept_entry : (ℕ → Bool) → (ℕ → Bool) → ℕ × Progress → Option Progress
-kept_entry member learner m = kept_by (member m.0) (learner m.0) (Some m.1)
+kept_entry member learner m = progress_kept (member m.0) (learner m.0) (Some m.1)
 
-stays_or_goes : (m l : Bool) (p : Progress) (had : Option Progress) → or_rest (kept_by m l (Some p)) (kept_by m l had) ≡ kept_by m l (Some p)
+stays_or_goes : (m l : Bool) (p : Progress) (had : Option Progress) → or_rest (progress_kept m l (Some p)) (progress_kept m l had) ≡ progress_kept m l (Some p)
 stays_or_goes true l p had = refl
 stays_or_goes false l p had = refl
 
 kept_at : (member learner : ℕ → Bool) (q x : ℕ) (p : Progress) (had : Option Progress) (b : Bool) → (q == x) ≡ b
-    → cond b (or_rest (kept_by (member x) (learner x) (Some p)) (kept_by (member q) (learner q) had)) (kept_by (member q) (learner q) had) ≡ kept_by (member q) (learner q) (cond b (Some p) had)
+    → cond b (or_rest (progress_kept (member x) (learner x) (Some p)) (progress_kept (member q) (learner q) had)) (progress_kept (member q) (learner q) had) ≡ progress_kept (member q) (learner q) (cond b (Some p) had)
 kept_at member learner q x p had true e =
-    ap (λ n. or_rest (kept_by (member n) (learner n) (Some p)) (kept_by (member q) (learner q) had)) (sym (eqb-true q x e)) ∙ stays_or_goes (member q) (learner q) p had
+    ap (λ n. or_rest (progress_kept (member n) (learner n) (Some p)) (progress_kept (member q) (learner q) had)) (sym (eqb-true q x e)) ∙ stays_or_goes (member q) (learner q) p had
 kept_at member learner q x p had false e = refl
 
-kept_none : (m l : Bool) → None ≡ kept_by m l None
+kept_none : (m l : Bool) → None ≡ progress_kept m l None
 kept_none true l = refl
 kept_none false l = refl
 
-find-kept : (member learner : ℕ → Bool) (es : List (ℕ × Progress)) (q : ℕ) → find nat_cmp q (picked (λ m. m.0) (kept_entry member learner) es) ≡ kept_by (member q) (learner q) (find nat_cmp q es)
+find-kept : (member learner : ℕ → Bool) (es : List (ℕ × Progress)) (q : ℕ) → find nat_cmp q (picked (λ m. m.0) (kept_entry member learner) es) ≡ progress_kept (member q) (learner q) (find nat_cmp q es)
 find-kept member learner [] q = kept_none (member q) (learner q)
 find-kept member learner (e ∷ es) q =
     find_one q e.0 (kept_entry member learner e) (picked (λ m. m.0) (kept_entry member learner) es)
     ∙ ap (λ o. cond (q == e.0) (or_rest (kept_entry member learner e) o) o) (find-kept member learner es q)
     ∙ kept_at member learner q e.0 e.1 (find nat_cmp q es) (q == e.0) refl
-    ∙ ap (λ b. kept_by (member q) (learner q) (cond b (Some e.1) (find nat_cmp q es))) (sym (unsigned_tied q e.0))
+    ∙ ap (λ b. progress_kept (member q) (learner q) (cond b (Some e.1) (find nat_cmp q es))) (sym (unsigned_tied q e.0))
 
 pub get-kept : (member learner : ℕ → Bool) (es : List (ℕ × Progress)) (q : ℕ)
-    → finite.get (finite.from_entries {R = nat_cmp} (picked (λ m. m.0) (kept_entry member learner) es)) q ≡ kept_by (member q) (learner q) (finite.get (finite.from_entries {R = nat_cmp} es) q)
+    → finite.get (finite.from_entries {R = nat_cmp} (picked (λ m. m.0) (kept_entry member learner) es)) q ≡ progress_kept (member q) (learner q) (finite.get (finite.from_entries {R = nat_cmp} es) q)
 get-kept member learner es q =
     finite.get-from_entries nat_cmp_total (picked (λ m. m.0) (kept_entry member learner) es) q ∙ find-kept member learner es q
-    ∙ ap (kept_by (member q) (learner q)) (sym (finite.get-from_entries nat_cmp_total es q))
+    ∙ ap (progress_kept (member q) (learner q)) (sym (finite.get-from_entries nat_cmp_total es q))
 
 pub kept-one_more : (member learner : ℕ → Bool) (es : List (ℕ × Progress)) (k : ℕ) (d : ℕ × Progress) (now after : List (ℕ × Progress)) (entry : Option Progress)
     → k < length es → now ≡ picked (λ m. m.0) (kept_entry member learner) (take k es) → entry ≡ kept_entry member learner (get_or es k d) → after ≡ now ++ entries_of (get_or es k d).0 entry

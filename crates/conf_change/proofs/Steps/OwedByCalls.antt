@@ -11,7 +11,7 @@ use Rattle.conf_change.specs.Configuration.{Configuration, is_member, is_joint, 
 use Rattle.conf_change.specs.Change.{result_of, removes}
 use Rattle.conf_change.specs.Outcome.{outcome, with_outgoing, after_leave}
 use Rattle.conf_change.specs.Progress.{fresh_next_of, fresh_progress, with_mark, progress_after, is_replaced}
-use Rattle.conf_change.specs.TrackerEdits.{entry_of, entry_in, kept_by, Applies, Keeps}
+use Rattle.conf_change.specs.TrackerEdits.{entry_of, entry_in, progress_kept, Applies, Keeps}
 use Rattle.conf_change.specs.Changer.{TrackerState, ChangerState, IsSound, GivesNext, tracker_of}
 use Rattle.conf_change.specs.declared.change.Change.{Change}
 use Rattle.conf_change.specs.declared.progress.Progress.{Progress}
@@ -124,7 +124,7 @@ was_member c q valid true out m = or_left (has c.incoming q || has c.outgoing q)
 was_member c q valid false out m = (stays c q valid out).member ∙ m
 
 -- who has progress and keeps it needs none afresh
-kept_entry : (next : ℕ) (member learner : Bool) (had : Option Progress) → (member ≡ true → is_some had ≡ true) → kept_by member learner had ≡ entry_of next member learner had
+kept_entry : (next : ℕ) (member learner : Bool) (had : Option Progress) → (member ≡ true → is_some had ≡ true) → progress_kept member learner had ≡ entry_of next member learner had
 kept_entry next false learner had some = refl
 kept_entry next true learner None some = absurd (true≢false (sym (some refl)))
 kept_entry next true learner (Some p) some = refl

@@ -19,7 +19,7 @@ use quorum_sets::NoMemory;
 use std::alloc::Global;
 
 /// Takes the acknowledgement on a copy, where there is no input, and prints the member's progress.
-pub(super) fn obey(
+pub(super) fn run(
     alloc: Global,
     changer: &Changer<SessionIds>,
     input: &[u8],

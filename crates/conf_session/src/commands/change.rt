@@ -14,7 +14,7 @@ use quorum_sets::NoMemory;
 use std::alloc::Global;
 
 /// Makes the change that the changes of the input take.
-pub(super) fn obey(
+pub(super) fn run(
     alloc: Global,
     changer: &Changer<SessionIds>,
     input: &[u8],

@@ -13,7 +13,7 @@ use quorum_sets::NoMemory;
 use std::alloc::Global;
 
 /// Prints them, where there is no input and each id has an index.
-pub(super) fn obey(alloc: Global, input: &[u8], arguments: &[Argument]) -> Result<Reply, NoMemory>
+pub(super) fn run(alloc: Global, input: &[u8], arguments: &[Argument]) -> Result<Reply, NoMemory>
     ensures { IfOk result (λ reply. reply ≡ on_committed input.now arguments.now) }
 {
     if let Some(fault) = tell_fault(alloc, Command::Committed, input, arguments)? {

@@ -13,7 +13,7 @@ use quorum_sets::NoMemory;
 use std::alloc::Global;
 
 /// Prints it, where there is no input.
-pub(super) fn obey(
+pub(super) fn run(
     alloc: Global,
     changer: &Changer<SessionIds>,
     input: &[u8],

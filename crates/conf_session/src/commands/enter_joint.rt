@@ -14,7 +14,7 @@ use quorum_sets::NoMemory;
 use std::alloc::Global;
 
 /// Enters with the changes of the input.
-pub(super) fn obey(
+pub(super) fn run(
     alloc: Global,
     changer: &Changer<SessionIds>,
     input: &[u8],

@@ -10,7 +10,7 @@ use quorum_sets::NoMemory;
 use std::alloc::Global;
 
 /// Leaves, where the input spells no change. It is read as a list of changes all the same.
-pub(super) fn obey(
+pub(super) fn run(
     alloc: Global,
     changer: &Changer<SessionIds>,
     input: &[u8],

@@ -16,7 +16,7 @@ use quorum_sets::NoMemory;
 use std::alloc::Global;
 
 /// Begins with the saved form that is the input.
-pub(super) fn obey(
+pub(super) fn run(
     alloc: Global,
     changer: &Changer<SessionIds>,
     input: &[u8],

@@ -21,7 +21,7 @@ use quorum_sets::NoMemory;
 use std::alloc::Global;
 
 /// Undoes as many as `steps` says, where there is no input.
-pub(super) fn obey(
+pub(super) fn run(
     alloc: Global,
     session: &Session,
     input: &[u8],

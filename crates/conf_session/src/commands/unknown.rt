@@ -9,7 +9,7 @@ use quorum_sets::NoMemory;
 use std::alloc::Global;
 
 /// Tells that it is unknown, unless the input spells no list.
-pub(super) fn obey(alloc: Global, input: &[u8]) -> Result<Reply, NoMemory>
+pub(super) fn run(alloc: Global, input: &[u8]) -> Result<Reply, NoMemory>
     ensures { IfOk result (λ reply. reply ≡ on_unknown input.now) }
 {
     if let Err(fault) = read_changes(alloc, input) {

@@ -13,7 +13,7 @@ use quorum_sets::{NoMemory, VoteResult, joint_vote};
 use std::alloc::Global;
 
 /// Prints it, where there is no input and each id has a vote or `_`.
-pub(super) fn obey(alloc: Global, input: &[u8], arguments: &[Argument]) -> Result<Reply, NoMemory>
+pub(super) fn run(alloc: Global, input: &[u8], arguments: &[Argument]) -> Result<Reply, NoMemory>
     ensures { IfOk result (λ reply. reply ≡ on_vote input.now arguments.now) }
 {
     if let Some(fault) = tell_fault(alloc, Command::Vote, input, arguments)? {

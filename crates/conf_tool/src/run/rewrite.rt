@@ -25,7 +25,11 @@ use std::alloc::Global;
 
 /// Obeys an item that is a directive, and answers what was found: nothing for another item. After want of memory the
 /// session is as it was.
-pub(super) fn obey(alloc: Global, session: &mut Session, item: &Item) -> Result<Vec<u8>, NoMemory>
+pub(super) fn run_item(
+    alloc: Global,
+    session: &mut Session,
+    item: &Item,
+) -> Result<Vec<u8>, NoMemory>
     ensures found { IfOk result (λ found. found.items ≡ found_for session.old item.now) }
     ensures output { IfOk result (λ found. is_output found.items ≡ true) }
     ensures session { OnOk result (session.new ≡ session_after session.old item.now) }
@@ -76,7 +80,7 @@ pub(super) fn rewrite_item<W: Sink>(
     ensures write { W.has_failed writer.new ≡ (W.has_failed writer.old || is_write_fault result) }
     ensures kinds { IfErr result IsAnswerFault }
 {
-    let found = obey(alloc, session, &item)?;
+    let found = run_item(alloc, session, &item)?;
     write_entry(rewriter, writer, item, found.as_slice())?;
     Ok(())
 }

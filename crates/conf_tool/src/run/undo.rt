@@ -11,7 +11,7 @@ ghost use Rattle.conf_tool.specs.UndoScript.{undo_items};
 ghost use Rattle.conf_tool.specs.declared.tool_fault.ToolFault.TheVariants.{NoMemory as OutOfMemory};
 
 use super::part_by_part::PartByPart;
-use super::rewrite::{obey, rewrite_item};
+use super::rewrite::{rewrite_item, run_item};
 use crate::status::Status;
 use crate::tool_fault::ToolFault;
 use crate::undo_script::{comment, step_directive};
@@ -190,7 +190,7 @@ impl PartByPart for Undoing {
     // What a directive expects is not looked at, and nothing is written yet.
     fn answer<W: Sink>(&mut self, item: Item, writer: &mut W) -> Result<(), ToolFault> {
         let _ = &*writer;
-        let _found = obey(self.alloc, &mut self.session, &item)?;
+        let _found = run_item(self.alloc, &mut self.session, &item)?;
         Ok(())
     }
 

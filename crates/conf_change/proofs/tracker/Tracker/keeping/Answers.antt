@@ -4,7 +4,7 @@ use Rattle.std.specs.FinMap as finite
 use Rattle.quorum_sets.specs.Ids.{has}
 use Rattle.quorum_sets.specs.Rising.{IsRising}
 use Rattle.conf_change.specs.Configuration.{is_member}
-use Rattle.conf_change.specs.TrackerEdits.{kept_by}
+use Rattle.conf_change.specs.TrackerEdits.{progress_kept}
 use Rattle.conf_change.specs.declared.progress.Progress.{Progress}
 use Rattle.conf_change.proofs.MemberProgress.Picked.{picked, kept_entry, kept-one_more, rising-picked, get-kept}
 use Rattle.conf_change.proofs.tracker.Tracker.keeping.Goals as goal
@@ -31,4 +31,4 @@ returns-clause-kept g c = λ q.
     let all = c.loop-member.invariant ∙ ap (picked (λ m. m.0) entry) (take_all _ _ c.loop-member-test.false ∙ c.as_slice-member-items.ensures) in
     ap (λ ms. finite.get (finite.from_entries {R = nat_cmp} ms) q) all
     ∙ get-kept (is_member d) (has d.learners) es q
-    ∙ ap (λ t. kept_by (is_member d q) (has d.learners q) (finite.get t.progress q)) c.self.view_is
+    ∙ ap (λ t. progress_kept (is_member d q) (has d.learners q) (finite.get t.progress q)) c.self.view_is

@@ -9,7 +9,7 @@ use Rattle.conf_session.specs.Commands.{on_vote, with_one_each}
 use Rattle.conf_session.specs.QuorumArguments.{voters_given, votes_given, is_one_each, vote_text}
 use Rattle.conf_session.specs.declared.parameter.Parameter.TheVariants.{Votes}
 use Rattle.conf_session.proofs.CommandReplies.{no-fault, same-reply}
-use Rattle.conf_session.proofs.commands.vote.obey.Goals as goal
+use Rattle.conf_session.proofs.commands.vote.run.Goals as goal
 
 pub returns : goal.returns
 returns c =

@@ -1,5 +1,5 @@
 use Rattle.std.proofs.lemmas.Result.{IfOk-weaker}
-use Rattle.conf_tool.proofs.run.rewrite.obey.Goals as goal
+use Rattle.conf_tool.proofs.run.rewrite.run_item.Goals as goal
 
 pub returns-in-Directive-clause-output : goal.returns-in-Directive-clause-output
 returns-in-Directive-clause-output c = IfOk-weaker c.step.result _ _ (λ found stands. stands.output) c.step.ensures.told

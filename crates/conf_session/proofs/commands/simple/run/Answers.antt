@@ -4,7 +4,7 @@ use Rattle.conf_change.specs.declared.step.Step.TheVariants.{Simple}
 use Rattle.conf_session.specs.Reply.{Reply}
 use Rattle.conf_session.specs.Commands.{with_changes, on_step, on_simple}
 use Rattle.conf_session.proofs.CommandReplies.{same-step}
-use Rattle.conf_session.proofs.commands.simple.obey.Goals as goal
+use Rattle.conf_session.proofs.commands.simple.run.Goals as goal
 
 pub returns-in-Ok : goal.returns-in-Ok
 returns-in-Ok c =

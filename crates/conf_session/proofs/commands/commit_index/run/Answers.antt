@@ -8,7 +8,7 @@ use Rattle.conf_session.specs.QuorumArguments.{index_text}
 use Rattle.conf_session.specs.ReplyTexts.{line}
 use Rattle.conf_session.specs.declared.effect.Effect.TheVariants.{Nothing}
 use Rattle.conf_session.proofs.CommandReplies.{no-fault}
-use Rattle.conf_session.proofs.commands.commit_index.obey.Goals as goal
+use Rattle.conf_session.proofs.commands.commit_index.run.Goals as goal
 
 pub returns : goal.returns
 returns c =
