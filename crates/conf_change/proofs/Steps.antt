@@ -5,3 +5,4 @@ pub mod OwedByCalls
 pub mod ChangerAfter
 pub mod Soundness
 pub mod NobodyTracked
+pub mod OneChange

@@ -1,11 +1,7 @@
 -- Small cases, worked out by hand.
 use Rattle.std.proofs.Common.{◌≡◌, ℕ, true, false, List, [], ◌∷◌, refl, ap, ◌∙◌}
 use Rattle.std.specs.Prelude.{Some, None, codes, Ok, Err}
-use Rattle.std.specs.Ordering.{nat_cmp}
-use Rattle.std.specs.Cmp.{nat_cmp_total}
-use Rattle.std.specs.FinMap as finite
-use Rattle.std.specs.FinMap.{put, find}
-use Rattle.quorum_sets.specs.Ids.{Ids, has, ids_of, no_ids}
+use Rattle.quorum_sets.specs.Ids.{has, ids_of, no_ids}
 use Rattle.quorum_sets.proofs.Offered.{has-ids_of, written_out}
 use Rattle.conf_change.specs.Configuration.{Configuration, first_broken}
 use Rattle.conf_change.specs.Change.{result_of, last_word, is_learner_after, is_next_after}

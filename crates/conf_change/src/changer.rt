@@ -1,5 +1,6 @@
 //! The changer: a tracker, and the three changes of its configuration. Each change makes the next changer out of one copy,
-//! and the calls that change in place assign it; so a refused change leaves nothing altered.
+//! and the calls that change in place assign it; so a refused change leaves nothing altered. Only `simple_one` asks first,
+//! and makes its change without a copy.
 ghost use Rattle.std.specs.Prelude.{◌≡◌, ◌-◌, ◌^◌, ◌↔◌, [], ◌∷◌, true, false, Some, Err, IfOk, OnErr};
 ghost use Rattle.std.specs.FinMap as finite;
 ghost use Rattle.conf_change.specs.Configuration.{is_member};
@@ -230,11 +231,19 @@ impl<S: MemberSet> Changer<S> {
         }
     }
 
-    /// Makes one change, as `simple` does a list of one.
+    /// Makes one change in place, as `simple` does a list of one, which changes one voter at most.
     pub fn simple_one(&mut self, change: Change) -> Result<(), Refused>
         ensures { Makes self.old (Simple (change ∷ [])) result self.new }
     {
-        self.simple(&[change])
+        if self.tracker.is_joint() {
+            return Err(Refused::SimpleInJoint);
+        }
+        if !self.tracker.has_voter_after(change) {
+            return Err(Refused::RemovedAllVoters);
+        }
+        let next_index = self.fresh_next();
+        self.tracker.make_change(change, next_index)?;
+        Ok(())
     }
 
     /// Changes one voter at most, and any number of learners: `after_simple` in place.

@@ -1,5 +1,5 @@
 //! Edits of a configuration: one change, what is left of a joint one, and the ids of two sets. Members' progress is no matter here.
-ghost use Rattle.std.specs.Prelude.{◌≡◌, ◌≢◌, [], ◌∷◌, ◌++◌, IfOk, OnOk};
+ghost use Rattle.std.specs.Prelude.{◌≡◌, ◌≢◌, [], ◌∷◌, ◌++◌, IfOk, OnOk, OnErr};
 ghost use Rattle.quorum_sets.specs.Ids.{ids_of, ascending};
 ghost use Rattle.conf_change.specs.Change.{result_of};
 ghost use Rattle.conf_change.specs.Outcome.{after_leave};
@@ -11,9 +11,10 @@ use quorum_sets::{MemberSet, NoMemory};
 use smallvec::SmallVec;
 use std::alloc::Global;
 
-// Makes one change. After want of memory the configuration may be half changed.
+// Makes one change. After want of memory the configuration is as it was.
 pub(crate) fn apply<S: MemberSet>(config: &mut Config<S>, change: Change) -> Result<(), NoMemory>
-    ensures { OnOk result (config.new ≡ result_of config.old (change ∷ [])) }
+    ensures ok { OnOk result (config.new ≡ result_of config.old (change ∷ [])) }
+    ensures err { OnErr result (config.new ≡ config.old) }
 {
     if change.id == 0 {
         return Ok(());
@@ -30,7 +31,8 @@ pub(crate) fn apply<S: MemberSet>(config: &mut Config<S>, change: Change) -> Res
 // Makes the id an incoming voter.
 fn make_voter<S: MemberSet>(config: &mut Config<S>, id: u64) -> Result<(), NoMemory>
     requires { id ≢ 0 }
-    ensures { OnOk result (let change : Change = record { kind = Kind.Voter; id = id } in config.new ≡ result_of config.old (change ∷ [])) }
+    ensures ok { OnOk result (let change : Change = record { kind = Kind.Voter; id = id } in config.new ≡ result_of config.old (change ∷ [])) }
+    ensures err { OnErr result (config.new ≡ config.old) }
 {
     config.incoming.insert(id)?;
     config.learners.remove(id);
@@ -41,16 +43,17 @@ fn make_voter<S: MemberSet>(config: &mut Config<S>, id: u64) -> Result<(), NoMem
 // Makes the id a learner. One that is still an outgoing voter waits among the next learners.
 fn make_learner<S: MemberSet>(config: &mut Config<S>, id: u64) -> Result<(), NoMemory>
     requires { id ≢ 0 }
-    ensures { OnOk result (let change : Change = record { kind = Kind.Learner; id = id } in config.new ≡ result_of config.old (change ∷ [])) }
+    ensures ok { OnOk result (let change : Change = record { kind = Kind.Learner; id = id } in config.new ≡ result_of config.old (change ∷ [])) }
+    ensures err { OnErr result (config.new ≡ config.old) }
 {
-    config.incoming.remove(id);
     if config.outgoing.contains(id) {
-        config.learners.remove(id);
         config.learners_next.insert(id)?;
+        config.learners.remove(id);
     } else {
-        config.learners_next.remove(id);
         config.learners.insert(id)?;
+        config.learners_next.remove(id);
     }
+    config.incoming.remove(id);
     Ok(())
 }
 

@@ -1,7 +1,8 @@
 //! The members in ascending order of the ids, each with its progress.
-ghost use Rattle.std.specs.Prelude.{◌≡◌, ℕ, true, ◌==◌, Some, None, is_some, map, option_map, unwrap_or, OnOk, MatchResult, if◌then◌else◌};
+ghost use Rattle.std.specs.Prelude.{◌≡◌, ℕ, true, ◌==◌, Some, None, is_some, map, option_map, unwrap_or, IsOk, OnOk, MatchResult, if◌then◌else◌};
 ghost use Rattle.std.specs.Ordering.{nat_cmp};
 ghost use Rattle.std.specs.FinMap as finite;
+ghost use Rattle.smallvec.specs.SmallVec.{HasRoomFor};
 ghost use Rattle.quorum_sets.specs.Ids.{has};
 ghost use Rattle.quorum_sets.specs.Rising.{IsRising, StandsAt, GoesTo};
 ghost use Rattle.conf_change.specs.Configuration.{is_member};
@@ -46,6 +47,7 @@ pub(crate) fn follow<S: MemberSet>(
     requires { IsRising (map (λ m. m.0) members.old.items) }
     ensures rising { IsRising (map (λ m. m.0) members.new.items) }
     ensures entries { OnOk result ((q : ℕ) → finite.get (finite.from_entries {R = nat_cmp} members.new.items) q ≡ (if q == id then entry_of next_index (is_member config.now id) (has config.now.learners id) (finite.get (finite.from_entries {R = nat_cmp} members.old.items) id) else finite.get (finite.from_entries {R = nat_cmp} members.old.items) q)) }
+    ensures room { HasRoomFor members.old 1 → IsOk result }
 {
     let learner = config.learners.contains(id);
     if learner || config.incoming.contains(id) || config.outgoing.contains(id) {
@@ -66,6 +68,7 @@ fn keep_or_begin(
     requires { IsRising (map (λ m. m.0) members.old.items) }
     ensures rising { IsRising (map (λ m. m.0) members.new.items) }
     ensures entries { OnOk result ((q : ℕ) → finite.get (finite.from_entries {R = nat_cmp} members.new.items) q ≡ (if q == id then Some (with_mark learner (unwrap_or (finite.get (finite.from_entries {R = nat_cmp} members.old.items) id) (fresh_progress next_index learner))) else finite.get (finite.from_entries {R = nat_cmp} members.old.items) q)) }
+    ensures room { HasRoomFor members.old 1 → IsOk result }
 {
     match place_of(members.as_slice(), id) {
         Ok(place) => mark(members.as_mut_slice(), id, place, learner),

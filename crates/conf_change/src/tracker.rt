@@ -1,17 +1,18 @@
 //! The tracker: a configuration, and the progress of its members.
-ghost use Rattle.std.specs.Prelude.{◌≡◌, ℕ, ◌-◌, ◌^◌, min, true, false, ◌++◌, map, length, slice_get, IfOk, OnOk, if◌then◌else◌, ◌==◌, Some, is_some};
+ghost use Rattle.std.specs.Prelude.{◌≡◌, ℕ, ◌-◌, ◌^◌, min, true, false, not, [], ◌∷◌, ◌++◌, map, length, slice_get, IfOk, OnOk, OnErr, if◌then◌else◌, ◌==◌, Some, is_some};
 ghost use Rattle.std.specs.Ordering.{nat_cmp};
 ghost use Rattle.std.specs.FinMap as finite;
-ghost use Rattle.quorum_sets.specs.Ids.{has, with_id, difference_count};
+ghost use Rattle.quorum_sets.specs.Ids.{has, with_id, without_id, is_empty, difference_count};
 ghost use Rattle.quorum_sets.specs.Rising.{IsRising};
 ghost use Rattle.conf_change.specs.Configuration.{is_member, is_joint, has_voter};
+ghost use Rattle.conf_change.specs.Change.{result_of};
 ghost use Rattle.conf_change.specs.Outcome.{with_outgoing, after_leave};
 ghost use Rattle.conf_change.specs.Seat.{seat_in, is_member_seat};
 ghost use Rattle.conf_change.specs.TrackerEdits.{Applies, Keeps, beginning, entry_of, progress_left_by_word, entries_of, progress_kept};
 ghost use Rattle.conf_change.specs.Changer.{IsSound, nobody, tracker_of};
 ghost use Rattle.conf_change.specs.Acknowledgement.{with_progress};
 
-use crate::change::Change;
+use crate::change::{Change, Kind};
 use crate::config::Config;
 use crate::edits;
 use crate::floor::Floor;
@@ -167,6 +168,32 @@ impl<S: MemberSet> Tracker<S> {
         ensures { result ≡ has_voter self.now.config }
     {
         self.config.incoming.len() != 0
+    }
+
+    // Whether an incoming voter is left after one change.
+    pub(crate) fn has_voter_after(&self, change: Change) -> bool
+        ensures { result ≡ has_voter (result_of self.now.config (change ∷ [])) }
+    {
+        match change.kind {
+            _ if change.id == 0 => self.has_voter(),
+            Kind::Voter => true,
+            Kind::Learner | Kind::Remove => has_others(&self.config.incoming, change.id),
+            Kind::Update => self.has_voter(),
+        }
+    }
+
+    // Makes one change in place; a new member is sent this index next. After want of memory the tracker is as it was.
+    pub(crate) fn make_change(&mut self, change: Change, next_index: u64) -> Result<(), NoMemory>
+        requires { IsSound self.old }
+        ensures ok { OnOk result (Applies next_index (change ∷ []) self.old self.new) }
+        ensures err { OnErr result (self.new ≡ self.old) }
+    {
+        self.members.reserve(1)?;
+        edits::apply(&mut self.config, change)?;
+        let Ok(()) = follow(&mut self.members, &self.config, change.id, next_index) else {
+            unreachable!()
+        };
+        Ok(())
     }
 
     // How many ids are incoming voters of just one of the trackers, or the greatest `usize` where that is less.
@@ -369,6 +396,17 @@ impl<S: MemberSet> Tracker<S> {
             push_entry(&mut members, member.0, entry)?;
         }
         Ok(members)
+    }
+}
+
+// Whether the set has another id than this one.
+fn has_others<S: MemberSet>(set: &S, id: u64) -> bool
+    ensures { result ≡ not (is_empty (without_id (S.ids set.now) id)) }
+{
+    if set.contains(id) {
+        set.len() > 1
+    } else {
+        set.len() > 0
     }
 }
 

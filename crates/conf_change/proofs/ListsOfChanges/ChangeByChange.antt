@@ -266,3 +266,11 @@ MadeSoFar-one_more next_index t outgoing auto_leave changes k d now after member
           (tracker_of t.floor now (finite.from_entries {R = nat_cmp} members)) (tracker_of t.floor after (finite.from_entries {R = nat_cmp} members'))
           (no_progress_of_zero t sound) made_so_far.so_far is refl follows;
     })
+
+-- ---- one change alone
+pub Applies-one : (next_index : ℕ) (x : Change) (before after : TrackerState) → IsSound before
+    → after.config ≡ result_of before.config (x ∷ []) → after.floor ≡ before.floor → Follows next_index x.id after.config before.progress after.progress
+    → Applies next_index (x ∷ []) before after
+Applies-one next_index x before after sound made floor follows =
+    let due = HasDueEntries-beginning next_index before before.config.outgoing before.config.auto_leave sound (λ q. refl) in
+    (applied_more next_index [] x before before after (no_progress_of_zero before sound) (applied_none next_index before due) made floor follows).applied

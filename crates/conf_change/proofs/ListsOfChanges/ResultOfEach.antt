@@ -207,6 +207,13 @@ result_of-change kind c d id out apart e goes_out incoming outgoing learners nex
     (λ q. set_made (λ x o was. is_next_after o (has c.outgoing x) was) (λ _ _. refl) kind c.learners_next d.learners_next id apart e next_put q ∙ sym (has-next_after c (only kind id) q))
     auto_leave
 
+pub incoming_of-change : (kind : Kind) (c : Configuration) (id : ℕ) → id ≢ 0 → is_update kind ≡ false
+    → put_to (is_incoming_after (Some kind) (has c.incoming id)) c.incoming id ≡ (result_of c (only kind id)).incoming
+incoming_of-change kind c id apart e =
+    has-same_ids (put_to (is_incoming_after (Some kind) (has c.incoming id)) c.incoming id) (result_of c (only kind id)).incoming
+    (λ q. set_made (λ _ o was. is_incoming_after o was) (λ _ _. refl) kind c.incoming (put_to (is_incoming_after (Some kind) (has c.incoming id)) c.incoming id) id apart e refl q
+    ∙ sym (has-incoming_after c (only kind id) q))
+
 -- a list that has no say
 unsaid : (c : Configuration) (xs : List Change) → ((q : ℕ) → last_word xs q ≡ None) → c ≡ result_of c xs
 unsaid c xs silent =

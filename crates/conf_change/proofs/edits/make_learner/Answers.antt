@@ -1,17 +1,28 @@
 use Rattle.std.proofs.Common.{true, false, refl, sym, ap, ◌∙◌}
+use Rattle.quorum_sets.specs.Ids.{without_id}
 use Rattle.conf_change.specs.Change.{result_of}
 use Rattle.conf_change.specs.declared.change.Kind.TheVariants.{Learner}
 use Rattle.conf_change.proofs.ListsOfChanges.ResultOfEach.{only, result_of-change}
 use Rattle.conf_change.proofs.edits.make_learner.Goals as goal
+use Rattle.conf_change.proofs.edits.make_learner.Goals.{then-contains+in_ok-insert, else-contains+in_ok-insert-2}
 
-pub returns-in_ok-insert : goal.returns-in_ok-insert
-returns-in_ok-insert g c =
-    result_of-change Learner _ _ c.args.id true c.requires refl (sym c.if-contains.ensures)
-    c.remove.ensures.after refl c.remove-then-contains.ensures.after c.in_ok-insert.ensures.ok refl
-    ∙ ap (λ config. result_of config (only Learner c.args.id)) c.config.view_is
-
-pub returns-in_ok-insert-2 : goal.returns-in_ok-insert-2
-returns-in_ok-insert-2 g c =
-    result_of-change Learner _ _ c.args.id false c.requires refl (sym c.if-contains.ensures)
-    c.remove.ensures.after refl c.in_ok-insert-2.ensures.ok c.remove-else-contains.ensures.after refl
+pub returns-clause-ok : goal.returns-clause-ok
+returns-clause-ok g c =
+    let S = g.S.MemberSet in
+    elim c.if-contains.branch [
+      | then-contains+in_ok-insert w ↦
+          result_of-change Learner _ _ c.args.id true c.requires refl (sym w.if-contains.ensures)
+          (c.remove-2.ensures.after ∙ ap (λ i. without_id (S.ids i.incoming) c.args.id) w.config-inside-is)
+          (ap (λ i. S.ids i.outgoing) w.config-inside-is)
+          (ap (λ i. S.ids i.learners) w.config-inside-is ∙ w.remove.ensures.after)
+          (ap (λ i. S.ids i.learners_next) w.config-inside-is ∙ w.in_ok-insert.ensures.ok)
+          (ap (λ i. i.auto_leave) w.config-inside-is)
+      | else-contains+in_ok-insert-2 w ↦
+          result_of-change Learner _ _ c.args.id false c.requires refl (sym w.if-contains.ensures)
+          (c.remove-2.ensures.after ∙ ap (λ i. without_id (S.ids i.incoming) c.args.id) w.config-inside-is)
+          (ap (λ i. S.ids i.outgoing) w.config-inside-is)
+          (ap (λ i. S.ids i.learners) w.config-inside-is ∙ w.in_ok-insert-2.ensures.ok)
+          (ap (λ i. S.ids i.learners_next) w.config-inside-is ∙ w.remove-else-contains.ensures.after)
+          (ap (λ i. i.auto_leave) w.config-inside-is)
+    ]
     ∙ ap (λ config. result_of config (only Learner c.args.id)) c.config.view_is

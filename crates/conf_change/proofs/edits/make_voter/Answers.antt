@@ -4,7 +4,7 @@ use Rattle.conf_change.specs.declared.change.Kind.TheVariants.{Voter}
 use Rattle.conf_change.proofs.ListsOfChanges.ResultOfEach.{only, result_of-change}
 use Rattle.conf_change.proofs.edits.make_voter.Goals as goal
 
-pub returns : goal.returns
-returns g c =
+pub returns-clause-ok : goal.returns-clause-ok
+returns-clause-ok g c =
     result_of-change Voter _ _ c.args.id _ c.requires refl refl c.in_ok-insert.ensures.ok refl c.remove.ensures.after c.remove-2.ensures.after refl
     ∙ ap (λ config. result_of config (only Voter c.args.id)) c.config.view_is

@@ -17,4 +17,4 @@ pub loop-change-preserved : goal.loop-change-preserved
 loop-change-preserved g c =
     MadeSoFar-one_more c.args.next_index c.args.self.now (g.S.MemberSet.ids c.args.outgoing) c.args.auto_leave c.args.changes.now c.loop-change.change-index _
     c.loop-change.config c.apply.new.config c.loop-change.members.items c.follow.new.members.items
-    c.requires.sound c.loop-change-test.true c.loop-change.invariant c.in_ok-apply.ensures c.follow.ensures.rising c.in_ok-follow.ensures.entries
+    c.requires.sound c.loop-change-test.true c.loop-change.invariant c.in_ok-apply.ensures.ok c.follow.ensures.rising c.in_ok-follow.ensures.entries
