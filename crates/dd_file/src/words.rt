@@ -10,10 +10,13 @@ fn word_len(text: &[u8]) -> usize
 {
     let mut is_inside = false;
     for (i, b) in text.iter().enumerate() {
-        if is_space(*b) && !is_inside {
+        if is_inside {
+            is_inside = *b != b')';
+        } else if is_space(*b) {
             return i;
+        } else {
+            is_inside = *b == b'(';
         }
-        is_inside = *b == b'(' || (is_inside && *b != b')');
     }
     text.len()
 }
