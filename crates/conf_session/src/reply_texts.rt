@@ -34,7 +34,8 @@ fn end_line(text: Vec<u8>) -> Result<Vec<u8>, NoMemory>
 pub(crate) fn line_of(alloc: Global, front: &[u8], back: &[u8]) -> Result<Vec<u8>, NoMemory>
     ensures { IfOk result (λ text. text.items ≡ line (front.now ++ back.now)) }
 {
-    let mut text = Vec::new(alloc);
+    let room = front.len().saturating_add(back.len()).saturating_add(1);
+    let mut text = Vec::with_capacity(alloc, room)?;
     text.extend_from_slice(front)?;
     text.extend_from_slice(back)?;
     end_line(text)
@@ -59,6 +60,9 @@ pub(crate) fn refused_line(alloc: Global, refused: Refused) -> Result<Vec<u8>, N
     end_line(text)
 }
 
+// The room that the saved form of a small configuration needs.
+const USUAL_STATE_ROOM: usize = 128;
+
 /// The saved form of a configuration.
 pub(crate) fn conf_state_line(
     alloc: Global,
@@ -66,7 +70,7 @@ pub(crate) fn conf_state_line(
 ) -> Result<Vec<u8>, NoMemory>
     ensures { IfOk result (λ text. text.items ≡ line (conf_state_text (lists_of config.now))) }
 {
-    let mut text = Vec::new(alloc);
+    let mut text = Vec::with_capacity(alloc, USUAL_STATE_ROOM)?;
     let state = conf_state(alloc, config)?;
     write_conf_state(&mut text, &state)?;
     end_line(text)

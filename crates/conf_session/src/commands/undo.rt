@@ -1,6 +1,8 @@
 //! `undo`: undoes the last accepted changes, by the steps of a plan.
-ghost use Rattle.std.specs.Prelude.{◌≡◌, ◌≤◌, Ok, IfOk};
+ghost use Rattle.std.specs.Prelude.{◌≡◌, ◌≤◌, ◌++◌, Ok, IfOk};
+ghost use Rattle.conf_plan.specs.PlanText.{plan_text};
 ghost use Rattle.conf_session.specs.Commands as says;
+ghost use Rattle.conf_session.specs.ReplyTexts.{tracker_text};
 ghost use Rattle.conf_session.specs.Undo.{undo_plan_of, undone, undone_by};
 
 use super::Command;
@@ -14,7 +16,7 @@ use crate::reply_texts::{append_tracker, undo_fault_line};
 use crate::session::Session;
 use crate::session_ids::SessionIds;
 use crate::undo_fault::UndoFault;
-use conf_change::Changer;
+use conf_change::{Changer, Tracker};
 use conf_plan::{Plan, apply_plan, laws, print_plan};
 use dd_file::item::Argument;
 use quorum_sets::NoMemory;
@@ -86,9 +88,20 @@ fn tell_undone(
 ) -> Result<Reply, NoMemory>
     ensures { IfOk result (λ reply. reply ≡ undone_by after count plan.now) }
 {
-    let mut found = Vec::new(alloc);
-    print_plan(&mut found, plan)?;
-    append_tracker(&mut found, after.tracker())?;
+    let found = undone_text(alloc, plan, after.tracker())?;
     let boxed = BoxedChanger::new(alloc, after)?;
     Ok(Reply::new(found, Effect::Undone(boxed, count)))
+}
+
+// The room that the text of a short plan needs.
+const USUAL_PLAN_ROOM: usize = 128;
+
+// The steps of the plan, and behind them where they lead.
+fn undone_text(alloc: Global, plan: &Plan, after: &Tracker<SessionIds>) -> Result<Vec<u8>, NoMemory>
+    ensures { IfOk result (λ text. text.items ≡ plan_text plan.now ++ tracker_text after.now) }
+{
+    let mut text = Vec::with_capacity(alloc, USUAL_PLAN_ROOM)?;
+    print_plan(&mut text, plan)?;
+    append_tracker(&mut text, after)?;
+    Ok(text)
 }

@@ -6,7 +6,5 @@ use Rattle.conf_session.proofs.commands.undo.tell_undone.Goals as goal
 
 pub returns : goal.returns
 returns c =
-    let found = c.in_ok-append_tracker.ensures
-    ∙ ap (λ text. text ++ tracker_text c.tracker.result.now) (c.in_ok-print_plan.ensures.ok ∙ ap (λ text. text ++ plan_text c.args.plan.now) c.new-found.ensures.items)
-    ∙ ap (λ tracker. plan_text c.args.plan.now ++ tracker_text tracker) c.tracker.ensures.tracker in
+    let found = c.in_ok-found.ensures ∙ ap (λ tracker. plan_text c.args.plan.now ++ tracker_text tracker) c.tracker.ensures.tracker in
     c.new-2.ensures ∙ (λ i. record { found = found i; effect = Undone (c.in_ok-boxed.ensures i) c.args.count })
