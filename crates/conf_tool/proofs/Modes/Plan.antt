@@ -4,11 +4,9 @@ use Rattle.std.specs.Prelude.{Option, None, Ok}
 use Rattle.std.specs.Io.KnownBytes.{Appends}
 use Rattle.dd_file.specs.Device.{AppendsPart}
 use Rattle.dd_file.specs.Reading.{Script}
-use Rattle.conf_change.specs.Configuration.{Configuration}
 use Rattle.conf_tool.specs.Answered.{script, HasRead}
 use Rattle.conf_tool.specs.Outputs.{Output, planned_between}
 use Rattle.conf_tool.specs.TwoConfigurations.{configurations_in}
-use Rattle.conf_tool.specs.PlanAnswer.{plan_text_between, plan_status}
 use Rattle.conf_tool.specs.Run.{Means}
 use Rattle.conf_tool.specs.declared.status.Status.{Status}
 use Rattle.conf_tool.proofs.ModeOutput.KeptAnswers.{kept-part, keeps-appends, keeps-part}
@@ -32,19 +30,19 @@ planned-output : (texts : List (List ℕ)) (total : Script (List ℕ) → Output
 planned-output texts total parts before after read =
     read.is (script parts None) ∙ ap planned_between (sym (ap configurations_in read.texts_are ∙ configurations_in-take parts))
 
--- where the lines name two configurations
-pub read-ends : (texts : List (List ℕ)) (total : Script (List ℕ) → Output) (parts : List (List ℕ)) (before mid after : Option (List ℕ)) (now target : Configuration) (text : List ℕ) (status : Status) →
-    HasRead texts total parts before mid → configurations_in texts ≡ Ok (now, target) → text ≡ plan_text_between now target → status ≡ plan_status now target → Appends mid after text →
+-- where the text and the status are those of the lines
+pub read-ends : (texts : List (List ℕ)) (total : Script (List ℕ) → Output) (parts : List (List ℕ)) (before mid after : Option (List ℕ)) (text : List ℕ) (status : Status) →
+    HasRead texts total parts before mid → text ≡ (planned_between (configurations_in texts)).text → Ok status ≡ (planned_between (configurations_in texts)).outcome → Appends mid after text →
     Means (total (script parts None)) (Ok status) before after
-read-ends texts total parts before mid after now target text status read ends text_is status_is appends =
-    let is = planned-output texts total parts before mid read ∙ ap planned_between ends in (
-      ap (λ o. o.outcome) is ∙ ap Ok (sym status_is),
+read-ends texts total parts before mid after text status read text_is status_is appends =
+    let is = planned-output texts total parts before mid read in (
+      ap (λ o. o.outcome) is ∙ sym status_is,
       subst (λ t. Appends before after t) (text_is ∙ sym (ap (λ o. o.text) is)) (keeps-appends before mid after text read.unwritten appends),
     )
 
-pub read-ends_part : (texts : List (List ℕ)) (total : Script (List ℕ) → Output) (parts : List (List ℕ)) (before mid after : Option (List ℕ)) (now target : Configuration) (text : List ℕ) →
-    HasRead texts total parts before mid → configurations_in texts ≡ Ok (now, target) → text ≡ plan_text_between now target → AppendsPart mid after text →
+pub read-ends_part : (texts : List (List ℕ)) (total : Script (List ℕ) → Output) (parts : List (List ℕ)) (before mid after : Option (List ℕ)) (text : List ℕ) →
+    HasRead texts total parts before mid → text ≡ (planned_between (configurations_in texts)).text → AppendsPart mid after text →
     AppendsPart before after (total (script parts None)).text
-read-ends_part texts total parts before mid after now target text read ends text_is cut =
-    let is = planned-output texts total parts before mid read ∙ ap planned_between ends in
+read-ends_part texts total parts before mid after text read text_is cut =
+    let is = planned-output texts total parts before mid read in
     subst (λ t. AppendsPart before after t) (text_is ∙ sym (ap (λ o. o.text) is)) (keeps-part before mid after text read.unwritten cut)

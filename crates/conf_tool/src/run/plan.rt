@@ -1,7 +1,8 @@
 //! The mode `plan`: the input is two lines, each naming a configuration, and the plan is written from the first to the second.
-ghost use Rattle.std.specs.Prelude.{◌≡◌, ℕ, List, [], ◌∷◌, ◌++◌, Option, length, map, nat_lt, IfOk, OnOk, IsOkUnless, if◌then◌else◌};
+ghost use Rattle.std.specs.Prelude.{◌≡◌, ℕ, List, [], ◌∷◌, ◌++◌, Option, Ok, length, map, nat_lt, IfOk, IfErr, OnOk, IsOkUnless, if◌then◌else◌};
 ghost use Rattle.dd_file.specs.ReaderState.{fresh};
-ghost use Rattle.conf_tool.specs.Outputs.{planned_script};
+ghost use Rattle.conf_tool.specs.Outputs.{planned_between, planned_script};
+ghost use Rattle.conf_tool.specs.TwoConfigurations.{configurations_in, IsToldOf};
 ghost use Rattle.conf_tool.specs.declared.tool_fault.ToolFault.TheVariants.{NoMemory as OutOfMemory};
 
 use super::part_by_part::PartByPart;
@@ -48,6 +49,17 @@ fn keep_line(first: &mut Vec<Vec<u8>>, line: Vec<u8>) -> Result<(), NoMemory>
         first.push(line)?;
     }
     Ok(())
+}
+
+// The text of the plan between the two configurations that the lines name, or that there is none, and how a run ends that
+// writes it.
+fn answer_lines(alloc: Global, lines: &[Vec<u8>]) -> Result<(Vec<u8>, Status), ToolFault>
+    ensures text { IfOk result (λ answer. answer.0.items ≡ (planned_between (configurations_in (map (λ line. line.items) lines.now))).text) }
+    ensures status { IfOk result (λ answer. Ok answer.1 ≡ (planned_between (configurations_in (map (λ line. line.items) lines.now))).outcome) }
+    ensures fault { IfErr result (IsToldOf (configurations_in (map (λ line. line.items) lines.now))) }
+{
+    let (now, target) = read_configurations(alloc, lines)?;
+    plan_answer(alloc, &now, &target)
 }
 
 impl PartByPart for Planning {
@@ -105,8 +117,7 @@ impl PartByPart for Planning {
         if let Some(fault) = fault {
             return Err(ToolFault::Script(fault));
         }
-        let (now, target) = read_configurations(self.alloc, self.first.as_slice())?;
-        let (text, status) = plan_answer(self.alloc, &now, &target)?;
+        let (text, status) = answer_lines(self.alloc, self.first.as_slice())?;
         write_all(writer, text.as_slice())?;
         Ok(status)
     }
