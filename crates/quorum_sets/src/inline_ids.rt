@@ -60,6 +60,9 @@ impl MemberSet for InlineIds {
         ensures same { IfOk result (λ copy. copy ≡ self.now) }
         ensures few { size self.now ≤ 8 → IsOk result }
     {
+        if self.list.is_empty() {
+            return Ok(InlineIds::empty(self.allocator()));
+        }
         let list = SmallVec::from_slice(self.allocator(), self.list.as_slice())?;
         Ok(InlineIds { list })
     }
