@@ -2,5 +2,6 @@
 
 pub mod KnownBytes
 pub mod PartByPart
+pub mod FoundText
 pub mod ItemAgain
 pub mod ScriptAgain

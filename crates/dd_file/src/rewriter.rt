@@ -79,11 +79,19 @@ fn needs_double(text: &[u8]) -> bool
     false
 }
 
-/// What stands before an output, in double dashes or not.
-fn before_found(double: bool) -> &'static [u8]
-    ensures { result.now ≡ opening double }
+/// What is written before an output, in double dashes or not: the newline that is held back where so many end the text,
+/// and the dashes.
+fn before_found(newlines: u8, double: bool) -> &'static [u8]
+    ensures { result.now ≡ (if newlines == 0 then [] else newline) ++ opening double }
 {
-    if double { b"----\n----\n" } else { b"----\n" }
+    if newlines == 0 {
+        return if double { b"----\n----\n" } else { b"----\n" };
+    }
+    if double {
+        b"\n----\n----\n"
+    } else {
+        b"\n----\n"
+    }
 }
 
 /// What stands behind an output, in double dashes or not.
@@ -93,7 +101,7 @@ fn behind_found(double: bool) -> &'static [u8]
     if double { b"----\n----\n\n" } else { b"\n" }
 }
 
-/// Writes an output behind its separator, behind so many newlines.
+/// Writes an output behind its separator, behind so many newlines, and holds the newline at its end back.
 fn write_found<W: Sink>(writer: &mut W, newlines: u8, text: &[u8]) -> Result<u8, WriteFault>
     ensures ok { IfOk result (λ count. Continues newlines count (W.contents writer.old) (W.contents writer.new) (found_text text.now)) }
     ensures err { OnErr result (BreaksOff newlines (W.contents writer.old) (W.contents writer.new) (found_text text.now)) }
@@ -101,10 +109,12 @@ fn write_found<W: Sink>(writer: &mut W, newlines: u8, text: &[u8]) -> Result<u8,
     ensures sound { OnOk result (W.has_failed writer.new ≡ W.has_failed writer.old) }
 {
     let double = needs_double(text);
-    let before = write_text(writer, newlines, before_found(double))?;
-    let inside = write_text(writer, before, text)?;
-    let behind = write_text(writer, inside, behind_found(double))?;
-    Ok(behind)
+    let behind = behind_found(double);
+    write_all(writer, before_found(newlines, double))?;
+    write_all(writer, text)?;
+    write_all(writer, without_end(behind, b'\n'))?;
+    // One newline ends the dashes.
+    Ok(count_newlines(count_newlines(1, text), behind))
 }
 
 /// Writes a script again. The last newline of the text so far is held back until more text comes.

@@ -35,28 +35,23 @@ HasWritten-from_text newlines start now text count gained = record {
 
 -- the text so far and some bytes more
 text-more : (newlines : ℕ) (start now : Option (List ℕ)) (text more : List ℕ) → (length more == 0) ≡ false → HasWritten newlines start now text →
-    (without_last 10 text ++ held newlines) ++ without_last 10 more ≡ without_last 10 (text ++ more)
+    without_last 10 text ++ (held newlines ++ without_last 10 more) ≡ without_last 10 (text ++ more)
 text-more newlines start now text [] some is = cc
 text-more newlines start now text (x ∷ more) some is =
-    ap (λ t. t ++ without_last 10 (x ∷ more)) (ap (λ n. without_last 10 text ++ held n) is.counted ∙ text-held text) ∙ sym (without_last-append 10 text x more)
+    sym (append_assoc (without_last 10 text) (held newlines) (without_last 10 (x ∷ more)))
+    ∙ ap (λ t. t ++ without_last 10 (x ∷ more)) (ap (λ n. without_last 10 text ++ held n) is.counted ∙ text-held text) ∙ sym (without_last-append 10 text x more)
 
 -- bytes are written: what is held back, and then they without a newline at their end
-pub continues-bytes : (newlines count : ℕ) (old mid new : Option (List ℕ)) (more : List ℕ) → (length more == 0) ≡ false → Appends old mid (held newlines) →
-    Appends mid new (without_last 10 more) → ((text : List ℕ) → newlines ≡ newlines_at_end text → count ≡ newlines_at_end (text ++ more)) → Continues newlines count old new more
-continues-bytes newlines count old mid new more some front behind counts start text is =
+pub continues-bytes : (newlines count : ℕ) (old new : Option (List ℕ)) (more : List ℕ) → (length more == 0) ≡ false →
+    Appends old new (held newlines ++ without_last 10 more) → ((text : List ℕ) → newlines ≡ newlines_at_end text → count ≡ newlines_at_end (text ++ more)) → Continues newlines count old new more
+continues-bytes newlines count old new more some bytes counts start text is =
     HasWritten-from_text count start new (text ++ more) (counts text is.counted) (subst (λ t. Appends start new t) (text-more newlines start old text more some is)
-    (appends-append start mid new _ _ (appends-append start old mid _ _ is.gained front) behind))
+    (appends-append start old new _ _ is.gained bytes))
 
-pub breaks-held : (newlines : ℕ) (old new : Option (List ℕ)) (more : List ℕ) → (length more == 0) ≡ false → AppendsPart old new (held newlines) → BreaksOff newlines old new more
-breaks-held newlines old new more some part start text is =
-    begun-part start new (text ++ more) (subst (λ t. AppendsPart start new t) (text-more newlines start old text more some is)
-    (part-part start new _ _ (append-part start old new _ _ is.gained part)))
-
-pub breaks-bytes : (newlines : ℕ) (old mid new : Option (List ℕ)) (more : List ℕ) → (length more == 0) ≡ false → Appends old mid (held newlines) →
-    AppendsPart mid new (without_last 10 more) → BreaksOff newlines old new more
-breaks-bytes newlines old mid new more some front part start text is =
-    begun-part start new (text ++ more) (subst (λ t. AppendsPart start new t) (text-more newlines start old text more some is)
-    (append-part start mid new _ _ (appends-append start old mid _ _ is.gained front) part))
+pub breaks-bytes : (newlines : ℕ) (old new : Option (List ℕ)) (more : List ℕ) → (length more == 0) ≡ false →
+    AppendsPart old new (held newlines ++ without_last 10 more) → BreaksOff newlines old new more
+breaks-bytes newlines old new more some part start text is =
+    begun-part start new (text ++ more) (subst (λ t. AppendsPart start new t) (text-more newlines start old text more some is) (append-part start old new _ _ is.gained part))
 
 -- the end: the newline that is held back, where it is the only one
 abbrev pub last : ℕ → List ℕ
