@@ -8,26 +8,21 @@ use crate::command::{Command, Name, parse_command};
 pub use crate::raw_lines::RawLines;
 use crate::value_places::ValuePlaces;
 use ascii_text::white_space::{trimmed, without_leading_space, without_trailing_space};
-use smallvec::SmallVec;
 use std::alloc::{AllocError, Global};
 use std::marker::Model;
-
-/// A word of a head: a short one takes no memory.
-type Word = SmallVec<u8, 32>;
 
 /// An argument of a directive: a key and its values.
 #[derive(Drop)]
 pub struct Argument {
     /// The word that says it.
-    word: Word,
+    word: Vec<u8>,
     /// How much of it is the key.
     key_len: usize,
     places: ValuePlaces,
 }
 
 impl Model for Argument {
-    ghost use Rattle.std.specs.Prelude.{◌≤◌, take};
-    ghost use Rattle.smallvec.specs.SmallVec.{small_vec_len};
+    ghost use Rattle.std.specs.Prelude.{◌≤◌, take, vec_len};
     ghost use Rattle.dd_file.specs.ValuePlaces.{values_at, EndWithin};
     ghost use Rattle.dd_file.specs.Words.{ArgumentText};
 
@@ -38,7 +33,7 @@ impl Model for Argument {
       values = values_at a.word.items a.places.start a.places.ends.items;
     } };
 
-    ghost invariant = { λ a. (a.key_len ≤ small_vec_len a.word) × EndWithin (small_vec_len a.word) a.places.start a.places.ends.items };
+    ghost invariant = { λ a. (a.key_len ≤ vec_len a.word) × EndWithin (vec_len a.word) a.places.start a.places.ends.items };
 }
 
 impl Argument {
@@ -57,7 +52,7 @@ impl Argument {
         ensures { IfOk result (λ argument. argument ≡ record { key = take key_len word.now; values = values_at word.now places.start places.ends.items }) }
     {
         Ok(Argument {
-            word: Word::from_slice(alloc, word)?,
+            word: Vec::from_slice(alloc, word)?,
             key_len,
             places,
         })
@@ -67,7 +62,7 @@ impl Argument {
     pub fn key(&self) -> &[u8]
         ensures { result.now ≡ self.now.key }
     {
-        &self.word.as_slice()[..self.key_len]
+        &self.word[..self.key_len]
     }
 
     /// How many values it has.
@@ -81,7 +76,6 @@ impl Argument {
     pub fn value(&self, i: usize) -> Option<&[u8]>
         ensures { option_map (λ value. value.now) result ≡ slice_get self.now.values i }
     {
-        let word = self.word.as_slice();
         let ends = self.places.ends.as_slice();
         if i >= ends.len() {
             return None;
@@ -91,7 +85,7 @@ impl Argument {
         } else {
             ends[i - 1] + 1
         };
-        Some(trimmed(&word[start..ends[i]]))
+        Some(trimmed(&self.word[start..ends[i]]))
     }
 }
 

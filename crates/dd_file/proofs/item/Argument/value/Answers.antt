@@ -28,8 +28,9 @@ pub overflow_add-start : goal.overflow_add-start
 overflow_add-start c =
     let ends = c.self.inside.places.ends.items in
     let seen = c.as_slice-ends.ensures in
+    let word = c.self.inside.word in
     let within = (within-at _ _ ends (c.args.i - 1) c.self.invariant.1 (omega (arith, ap length seen))).1 in
-    omega (arith, within, ap (λ es. get_or es (c.args.i - 1) 0) seen, ap length c.as_slice-word.ensures)
+    omega (arith, within, ap (λ es. get_or es (c.args.i - 1) 0) seen, word.ok.0, word.ok.1, word.small)
 
 pub slice_bounds-trimmed-count : goal.slice_bounds-trimmed-count
 slice_bounds-trimmed-count c =
@@ -51,7 +52,7 @@ slice_bounds-trimmed-end c =
     let ends = c.self.inside.places.ends.items in
     let seen = c.as_slice-ends.ensures in
     let le = (within-at _ c.self.inside.places.start ends c.args.i c.self.invariant.1 (omega (arith, ap length seen))).1 in
-    let within : get_or c.as_slice-ends.result.now c.args.i 0 ≤ length c.as_slice-word.result.now = omega (arith, le, ap length c.as_slice-word.ensures, ap (λ es. get_or es c.args.i 0) seen) in
+    let within : get_or c.as_slice-ends.result.now c.args.i 0 ≤ length c.deref.result.now = omega (arith, le, ap length c.deref.ensures.value, c.self.inside.word.ok.0, ap (λ es. get_or es c.args.i 0) seen) in
     within
 
 pub returns : goal.returns
@@ -64,7 +65,7 @@ returns c =
       | else-i-eq0 w ↦ w.start-is ∙ next-start _ _ _ _ w.if-i-eq0.false c.as_slice-ends.ensures
     ] in
     let some : c.args.i < length ends = omega (arith, ap length c.as_slice-ends.ensures) in
-    ap Some (c.trimmed.ensures ∙ ap (λ t. trimmed (take (get_or c.as_slice-ends.result.now c.args.i 0 - c.if-i-eq0.start) (drop c.if-i-eq0.start t))) c.as_slice-word.ensures
+    ap Some (c.trimmed.ensures ∙ ap (λ t. trimmed (take (get_or c.as_slice-ends.result.now c.args.i 0 - c.if-i-eq0.start) (drop c.if-i-eq0.start t))) c.deref.ensures.value
     ∙ ap (λ n. trimmed (take (get_or c.as_slice-ends.result.now c.args.i 0 - n) (drop n word))) start
     ∙ ap (λ es. trimmed (take (get_or es c.args.i 0 - from) (drop from word))) c.as_slice-ends.ensures)
     ∙ values word _ ends _ _ (ap (λ (a : ArgumentText). a.values) c.self.view_is) some
