@@ -41,11 +41,14 @@ pub(crate) fn line_of(alloc: Global, front: &[u8], back: &[u8]) -> Result<Vec<u8
     end_line(text)
 }
 
+// The room that a line of one fault, one number or one member mostly needs.
+const USUAL_LINE_ROOM: usize = 64;
+
 /// Which word spells no change.
 pub(crate) fn bad_token_line(alloc: Global, fault: TokenFault<'_>) -> Result<Vec<u8>, NoMemory>
     ensures { IfOk result (λ text. IsSomeAnd (bad_token fault.entry) (λ bad. text.items ≡ line (bad_token_text bad))) }
 {
-    let mut text = Vec::new(alloc);
+    let mut text = Vec::with_capacity(alloc, USUAL_LINE_ROOM)?;
     write_token_fault(&mut text, fault)?;
     end_line(text)
 }
@@ -55,7 +58,7 @@ pub(crate) fn refused_line(alloc: Global, refused: Refused) -> Result<Vec<u8>, N
     requires { refused ≢ Refused.NoMemory }
     ensures { IfOk result (λ text. text.items ≡ line (refused_text refused)) }
 {
-    let mut text = Vec::new(alloc);
+    let mut text = Vec::with_capacity(alloc, USUAL_LINE_ROOM)?;
     write_refused(&mut text, refused)?;
     end_line(text)
 }
@@ -87,7 +90,7 @@ pub(crate) fn undo_fault_line(alloc: Global, fault: UndoFault) -> Result<Vec<u8>
 pub(crate) fn index_line(alloc: Global, index: u64) -> Result<Vec<u8>, NoMemory>
     ensures { IfOk result (λ text. text.items ≡ line (index_text index)) }
 {
-    let mut text = Vec::new(alloc);
+    let mut text = Vec::with_capacity(alloc, USUAL_LINE_ROOM)?;
     append_index(&mut text, index)?;
     end_line(text)
 }
@@ -150,8 +153,8 @@ pub(crate) fn append_tracker(
     append_members(tracker, text)
 }
 
-// The room that the text mostly needs, so that it seldom grows while it is written.
-fn usual_room(tracker: &Tracker<SessionIds>) -> usize {
+/// The room that the text mostly needs, so that it seldom grows while it is written.
+pub(crate) fn usual_room(tracker: &Tracker<SessionIds>) -> usize {
     tracker.member_count().saturating_mul(64).saturating_add(64)
 }
 
@@ -171,7 +174,7 @@ fn append_members(tracker: &Tracker<SessionIds>, text: &mut Vec<u8>) -> Result<(
 pub(crate) fn member_line(alloc: Global, id: u64, progress: Progress) -> Result<Vec<u8>, NoMemory>
     ensures { IfOk result (λ text. text.items ≡ line (progress_text id progress)) }
 {
-    let mut text = Vec::new(alloc);
+    let mut text = Vec::with_capacity(alloc, USUAL_LINE_ROOM)?;
     append_member(&mut text, id, progress)?;
     Ok(text)
 }

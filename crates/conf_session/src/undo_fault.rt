@@ -27,11 +27,14 @@ pub enum UndoFault {
     NoMemory,
 }
 
+// The room that the text needs.
+const FAULT_ROOM: usize = 64;
+
 /// Why there is no plan. Want of memory is no reason that a session has.
 pub fn undo_fault_text(alloc: Global, fault: UndoFault) -> Result<Vec<u8>, NoMemory>
     ensures { IfOk result (λ text. text.items ≡ says.undo_fault_text fault) }
 {
-    let mut text = Vec::new(alloc);
+    let mut text = Vec::with_capacity(alloc, FAULT_ROOM)?;
     match fault {
         UndoFault::NotKept(kept) => {
             text.extend_from_slice(NO_PLAN.as_bytes())?;

@@ -3,8 +3,8 @@ ghost use Rattle.std.specs.Prelude.{◌≡◌, ◌≤◌, ◌+◌, ◌++◌, len
 
 use std::alloc::AllocError;
 
-/// The least room that is made.
-const LEAST_ROOM: usize = 64;
+/// The least room that is made: most items need no more.
+const LEAST_ROOM: usize = 128;
 
 /// Makes room for so many bytes more.
 pub(crate) fn make_room(bytes: &mut Vec<u8>, more: usize) -> Result<(), AllocError>

@@ -12,7 +12,7 @@ use crate::boxed_changer::BoxedChanger;
 use crate::effect::Effect;
 use crate::parameter::{Parameter, number_from};
 use crate::reply::Reply;
-use crate::reply_texts::{append_tracker, undo_fault_line};
+use crate::reply_texts::{append_tracker, undo_fault_line, usual_room};
 use crate::session::Session;
 use crate::session_ids::SessionIds;
 use crate::undo_fault::UndoFault;
@@ -93,14 +93,15 @@ fn tell_undone(
     Ok(Reply::new(found, Effect::Undone(boxed, count)))
 }
 
-// The room that the text of a short plan needs.
+// The room that the text of a plan mostly needs.
 const USUAL_PLAN_ROOM: usize = 128;
 
 // The steps of the plan, and behind them where they lead.
 fn undone_text(alloc: Global, plan: &Plan, after: &Tracker<SessionIds>) -> Result<Vec<u8>, NoMemory>
     ensures { IfOk result (λ text. text.items ≡ plan_text plan.now ++ tracker_text after.now) }
 {
-    let mut text = Vec::with_capacity(alloc, USUAL_PLAN_ROOM)?;
+    let room = usual_room(after).saturating_add(USUAL_PLAN_ROOM);
+    let mut text = Vec::with_capacity(alloc, room)?;
     print_plan(&mut text, plan)?;
     append_tracker(&mut text, after)?;
     Ok(text)
