@@ -1,5 +1,5 @@
 //! Writing a script again, with what was found.
-ghost use Rattle.std.specs.Prelude.{◌≡◌, ◌⊎◌, ℕ, List, [], ◌∷◌, ◌++◌, ◌==◌, Option, IsErr, OnOk, OnErr, IfOk, true, map, if◌then◌else◌};
+ghost use Rattle.std.specs.Prelude.{◌≡◌, ◌⊎◌, ℕ, List, [], ◌∷◌, ◌++◌, ◌==◌, Option, IsErr, OnOk, OnErr, IfOk, true, false, map, if◌then◌else◌};
 ghost use Rattle.ascii_text.specs.Lines.{newline, text_of, without_last};
 ghost use Rattle.dd_file.specs.RewriterState.{CanKeep, WantsFound, HasWritten, Continues, BreaksOff, Finishes, FinishesPart};
 ghost use Rattle.dd_file.specs.Rewritten.{kept_text, found_text, opening, closing, has_blank_line, is_output, is_directive, newlines_at_end};
@@ -101,14 +101,19 @@ fn behind_found(double: bool) -> &'static [u8]
     if double { b"----\n----\n\n" } else { b"\n" }
 }
 
-/// Writes an output behind its separator, behind so many newlines, and holds the newline at its end back.
-fn write_found<W: Sink>(writer: &mut W, newlines: u8, text: &[u8]) -> Result<u8, WriteFault>
+/// Writes an output between dashes, double ones or not, behind so many newlines, and holds the newline at its end back.
+fn write_found<W: Sink>(
+    writer: &mut W,
+    newlines: u8,
+    text: &[u8],
+    double: bool,
+) -> Result<u8, WriteFault>
+    requires { double ≡ has_blank_line text.now }
     ensures ok { IfOk result (λ count. Continues newlines count (W.contents writer.old) (W.contents writer.new) (found_text text.now)) }
     ensures err { OnErr result (BreaksOff newlines (W.contents writer.old) (W.contents writer.new) (found_text text.now)) }
     ensures failed { OnErr result (W.has_failed writer.new ≡ true) }
     ensures sound { OnOk result (W.has_failed writer.new ≡ W.has_failed writer.old) }
 {
-    let double = needs_double(text);
     let behind = behind_found(double);
     write_all(writer, before_found(newlines, double))?;
     write_all(writer, text)?;
@@ -196,10 +201,58 @@ impl Rewriter {
         ensures failed { OnErr result ((self.old.stage ≡ Stage.Failed) ⊎ (W.has_failed writer.new ≡ true)) }
         ensures sound { OnOk result (W.has_failed writer.new ≡ W.has_failed writer.old) }
     {
+        let double = needs_double(text);
+        self.write_output(writer, text, double)
+    }
+
+    /// The same where no line of the text is blank: it is not looked through for one.
+    pub fn found_full_lines<W: Sink>(
+        &mut self,
+        writer: &mut W,
+        text: &[u8],
+    ) -> Result<(), WriteFault>
+        requires wanted { WantsFound self.old }
+        requires output { self.old.stage ≡ Stage.FoundWanted → is_output text.now ≡ true }
+        requires full { has_blank_line text.now ≡ false }
+        ensures written { OnOk result (Continues self.old.newlines self.new.newlines
+            (W.contents writer.old) (W.contents writer.new) (found_text text.now)) }
+        ensures part { OnErr result (BreaksOff self.old.newlines
+            (W.contents writer.old) (W.contents writer.new) (found_text text.now)) }
+        ensures stage { OnOk result (self.new.stage ≡ Stage.Ready) }
+        // A fault stays, and no writer is asked again.
+        ensures fault { OnErr result (self.new.stage ≡ Stage.Failed) }
+        ensures again { self.old.stage ≡ Stage.Failed → IsErr result × (writer.new ≡ writer.old) }
+        // A fault is answered exactly where a write failed.
+        ensures failed { OnErr result ((self.old.stage ≡ Stage.Failed) ⊎ (W.has_failed writer.new ≡ true)) }
+        ensures sound { OnOk result (W.has_failed writer.new ≡ W.has_failed writer.old) }
+    {
+        self.write_output(writer, text, false)
+    }
+
+    /// Writes an output between dashes, double ones or not.
+    fn write_output<W: Sink>(
+        &mut self,
+        writer: &mut W,
+        text: &[u8],
+        double: bool,
+    ) -> Result<(), WriteFault>
+        requires { double ≡ has_blank_line text.now }
+        ensures written { OnOk result (Continues self.old.newlines self.new.newlines
+            (W.contents writer.old) (W.contents writer.new) (found_text text.now)) }
+        ensures part { OnErr result (BreaksOff self.old.newlines
+            (W.contents writer.old) (W.contents writer.new) (found_text text.now)) }
+        ensures stage { OnOk result (self.new.stage ≡ Stage.Ready) }
+        // A fault stays, and no writer is asked again.
+        ensures fault { OnErr result (self.new.stage ≡ Stage.Failed) }
+        ensures again { self.old.stage ≡ Stage.Failed → IsErr result × (writer.new ≡ writer.old) }
+        // A fault is answered exactly where a write failed.
+        ensures failed { OnErr result ((self.old.stage ≡ Stage.Failed) ⊎ (W.has_failed writer.new ≡ true)) }
+        ensures sound { OnOk result (W.has_failed writer.new ≡ W.has_failed writer.old) }
+    {
         if self.stage == Stage::Failed {
             return Err(WriteFault);
         }
-        match write_found(writer, self.newlines, text) {
+        match write_found(writer, self.newlines, text, double) {
             Ok(newlines) => {
                 self.newlines = newlines;
                 self.stage = Stage::Ready;

@@ -24,11 +24,31 @@ fn written(alloc: Global, item: &Item) -> Result<Vec<u8>, Fail> {
     Ok(sink.into_inner())
 }
 
+// Writes an item, with a full line found where it is a directive, and answers whether that was done.
+fn writes_full_line(sink: &mut ToWrite<Vec<u8>>, item: &Item) -> bool {
+    let mut rewriter = Rewriter::new();
+    let mut is_written = rewriter.keep(sink, item).is_ok();
+    if let Item::Directive(_) = item {
+        is_written &= rewriter.found_full_lines(sink, b"a\n").is_ok();
+    }
+    is_written & rewriter.end(sink).is_ok()
+}
+
 #[test]
 fn writes_blank_lines_between_double_dashes(rt: HostRuntime) -> Result<(), Fail> {
     let item = first_item(rt.alloc(), b"vote\n\n----\n")?;
     let text = written(rt.alloc(), &item)?;
     let wanted = b"vote\n\n----\n----\na\n\n----\n----\n".as_slice();
     assert!(rt; text.as_slice() == wanted);
+    Ok(())
+}
+
+#[test]
+fn writes_full_lines_between_single_dashes(rt: HostRuntime) -> Result<(), Fail> {
+    let item = first_item(rt.alloc(), b"vote\n\n----\n")?;
+    let mut sink = ToWrite::new(Vec::new(rt.alloc()));
+    assert!(rt; writes_full_line(&mut sink, &item));
+    let wanted = b"vote\n\n----\na\n".as_slice();
+    assert!(rt; sink.into_inner().as_slice() == wanted);
     Ok(())
 }

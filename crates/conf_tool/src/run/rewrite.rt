@@ -1,7 +1,7 @@
 //! The mode `rewrite`: a script is run, and written again with what each directive found.
-ghost use Rattle.std.specs.Prelude.{◌≡◌, ◌||◌, ℕ, List, [], Option, true, IfOk, IfErr, OnOk, OnErr, IsOkUnless};
+ghost use Rattle.std.specs.Prelude.{◌≡◌, ◌||◌, ℕ, List, [], Option, true, false, IfOk, IfErr, OnOk, OnErr, IsOkUnless};
 ghost use Rattle.dd_file.specs.ReaderState.{fresh};
-ghost use Rattle.dd_file.specs.Rewritten.{entry_text, is_output};
+ghost use Rattle.dd_file.specs.Rewritten.{entry_text, has_blank_line, is_output};
 ghost use Rattle.dd_file.specs.RewriterState.{Continues, BreaksOff};
 ghost use Rattle.conf_tool.specs.Outputs.{rewritten_script};
 ghost use Rattle.conf_tool.specs.Reports.{found_for, session_after};
@@ -32,6 +32,7 @@ pub(super) fn run_item(
 ) -> Result<Vec<u8>, NoMemory>
     ensures found { IfOk result (λ found. found.items ≡ found_for session.old item.now) }
     ensures output { IfOk result (λ found. is_output found.items ≡ true) }
+    ensures full { IfOk result (λ found. has_blank_line found.items ≡ false) }
     ensures session { OnOk result (session.new ≡ session_after session.old item.now) }
     ensures unchanged { OnErr result (session.new ≡ session.old) }
 {
@@ -50,6 +51,7 @@ fn write_entry<W: Sink>(
 ) -> Result<(), WriteFault>
     requires stage { rewriter.old.stage ≡ Stage.Ready }
     requires output { is_output found.now ≡ true }
+    requires full { has_blank_line found.now ≡ false }
     ensures written { OnOk result (Continues rewriter.old.newlines rewriter.new.newlines (W.contents writer.old) (W.contents writer.new) (entry_text item found.now)) }
     ensures part { OnErr result (BreaksOff rewriter.old.newlines (W.contents writer.old) (W.contents writer.new) (entry_text item found.now)) }
     ensures stage { OnOk result (rewriter.new.stage ≡ Stage.Ready) }
@@ -59,7 +61,7 @@ fn write_entry<W: Sink>(
 {
     rewriter.keep(writer, &item)?;
     match item {
-        Item::Directive(_) => rewriter.found(writer, found),
+        Item::Directive(_) => rewriter.found_full_lines(writer, found),
         _ => Ok(()),
     }
 }

@@ -3,3 +3,6 @@ use Rattle.conf_tool.proofs.run.rewrite.run_item.Goals as goal
 
 pub returns-in-Directive-clause-output : goal.returns-in-Directive-clause-output
 returns-in-Directive-clause-output c = IfOk-weaker c.step.result _ _ (λ found stands. stands.output) c.step.ensures.told
+
+pub returns-in-Directive-clause-full : goal.returns-in-Directive-clause-full
+returns-in-Directive-clause-full c = IfOk-weaker c.step.result _ _ (λ found stands. stands.full) c.step.ensures.told
