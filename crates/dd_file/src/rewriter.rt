@@ -1,5 +1,5 @@
 //! Writing a script again, with what was found.
-ghost use Rattle.std.specs.Prelude.{◌≡◌, ◌⊎◌, ℕ, List, [], ◌∷◌, ◌++◌, ◌==◌, Option, IsErr, OnOk, OnErr, IfOk, true, false, map, if◌then◌else◌};
+ghost use Rattle.std.specs.Prelude.{◌≡◌, ◌⊎◌, ℕ, List, [], ◌∷◌, ◌++◌, ◌==◌, Option, IsOk, IsErr, OnOk, OnErr, IfOk, true, false, map, if◌then◌else◌};
 ghost use Rattle.ascii_text.specs.Lines.{newline, text_of, without_last};
 ghost use Rattle.dd_file.specs.RewriterState.{CanKeep, WantsFound, HasWritten, Continues, BreaksOff, Finishes, FinishesPart};
 ghost use Rattle.dd_file.specs.Rewritten.{kept_text, found_text, opening, closing, has_blank_line, is_output, is_directive, newlines_at_end};
@@ -149,6 +149,24 @@ impl Rewriter {
         }
     }
 
+    /// Takes on how many newlines end the text after a call that wrote, and this stage; or its fault.
+    fn settle(&mut self, written: Result<u8, WriteFault>, stage: Stage) -> Result<(), WriteFault>
+        ensures ok { IfOk written (λ count. IsOk result × (self.new ≡ record { stage = stage; newlines = count })) }
+        ensures err { OnErr written (IsErr result × (self.new.stage ≡ Stage.Failed)) }
+    {
+        match written {
+            Ok(newlines) => {
+                self.newlines = newlines;
+                self.stage = stage;
+                Ok(())
+            }
+            Err(fault) => {
+                self.stage = Stage::Failed;
+                Err(fault)
+            }
+        }
+    }
+
     /// Writes the lines of an item, of a directive those up to its separator. After a directive comes `found`.
     pub fn keep<W: Sink>(&mut self, writer: &mut W, item: &Item) -> Result<(), WriteFault>
         requires { CanKeep self.old }
@@ -172,17 +190,8 @@ impl Rewriter {
         } else {
             Stage::Ready
         };
-        match write_text(writer, self.newlines, item.raw_text()) {
-            Ok(newlines) => {
-                self.newlines = newlines;
-                self.stage = next;
-                Ok(())
-            }
-            Err(fault) => {
-                self.stage = Stage::Failed;
-                Err(fault)
-            }
-        }
+        let written = write_text(writer, self.newlines, item.raw_text());
+        self.settle(written, next)
     }
 
     /// Writes what was found for the directive that was kept last.
@@ -201,8 +210,12 @@ impl Rewriter {
         ensures failed { OnErr result ((self.old.stage ≡ Stage.Failed) ⊎ (W.has_failed writer.new ≡ true)) }
         ensures sound { OnOk result (W.has_failed writer.new ≡ W.has_failed writer.old) }
     {
+        if self.stage == Stage::Failed {
+            return Err(WriteFault);
+        }
         let double = needs_double(text);
-        self.write_output(writer, text, double)
+        let written = write_found(writer, self.newlines, text, double);
+        self.settle(written, Stage::Ready)
     }
 
     /// The same where no line of the text is blank: it is not looked through for one.
@@ -226,43 +239,11 @@ impl Rewriter {
         ensures failed { OnErr result ((self.old.stage ≡ Stage.Failed) ⊎ (W.has_failed writer.new ≡ true)) }
         ensures sound { OnOk result (W.has_failed writer.new ≡ W.has_failed writer.old) }
     {
-        self.write_output(writer, text, false)
-    }
-
-    /// Writes an output between dashes, double ones or not.
-    fn write_output<W: Sink>(
-        &mut self,
-        writer: &mut W,
-        text: &[u8],
-        double: bool,
-    ) -> Result<(), WriteFault>
-        requires { double ≡ has_blank_line text.now }
-        ensures written { OnOk result (Continues self.old.newlines self.new.newlines
-            (W.contents writer.old) (W.contents writer.new) (found_text text.now)) }
-        ensures part { OnErr result (BreaksOff self.old.newlines
-            (W.contents writer.old) (W.contents writer.new) (found_text text.now)) }
-        ensures stage { OnOk result (self.new.stage ≡ Stage.Ready) }
-        // A fault stays, and no writer is asked again.
-        ensures fault { OnErr result (self.new.stage ≡ Stage.Failed) }
-        ensures again { self.old.stage ≡ Stage.Failed → IsErr result × (writer.new ≡ writer.old) }
-        // A fault is answered exactly where a write failed.
-        ensures failed { OnErr result ((self.old.stage ≡ Stage.Failed) ⊎ (W.has_failed writer.new ≡ true)) }
-        ensures sound { OnOk result (W.has_failed writer.new ≡ W.has_failed writer.old) }
-    {
         if self.stage == Stage::Failed {
             return Err(WriteFault);
         }
-        match write_found(writer, self.newlines, text, double) {
-            Ok(newlines) => {
-                self.newlines = newlines;
-                self.stage = Stage::Ready;
-                Ok(())
-            }
-            Err(fault) => {
-                self.stage = Stage::Failed;
-                Err(fault)
-            }
-        }
+        let written = write_found(writer, self.newlines, text, false);
+        self.settle(written, Stage::Ready)
     }
 
     /// Writes the newline that is held back, unless the text ends in two.
