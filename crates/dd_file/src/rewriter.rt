@@ -149,10 +149,10 @@ impl Rewriter {
         }
     }
 
-    /// Takes on how many newlines end the text after a call that wrote, and this stage; or its fault.
+    /// Ends a call that wrote: keeps how many newlines end the text then and goes on to this stage, or fails for good.
     fn settle(&mut self, written: Result<u8, WriteFault>, stage: Stage) -> Result<(), WriteFault>
         ensures ok { IfOk written (λ count. IsOk result × (self.new ≡ record { stage = stage; newlines = count })) }
-        ensures err { OnErr written (IsErr result × (self.new.stage ≡ Stage.Failed)) }
+        ensures err { OnErr written (IsErr result × (self.new ≡ record self.old { stage = Stage.Failed })) }
     {
         match written {
             Ok(newlines) => {
@@ -167,7 +167,7 @@ impl Rewriter {
         }
     }
 
-    /// Writes the lines of an item, of a directive those up to its separator. After a directive comes `found`.
+    /// Writes the lines of an item, of a directive those up to its separator. After a directive comes what was found.
     pub fn keep<W: Sink>(&mut self, writer: &mut W, item: &Item) -> Result<(), WriteFault>
         requires { CanKeep self.old }
         ensures written { OnOk result (Continues self.old.newlines self.new.newlines
@@ -218,7 +218,8 @@ impl Rewriter {
         self.settle(written, Stage::Ready)
     }
 
-    /// The same where no line of the text is blank: it is not looked through for one.
+    /// Writes what was found for the directive that was kept last, as `found` does, where no line of it is blank; so it is
+    /// not looked through for one (own).
     pub fn found_full_lines<W: Sink>(
         &mut self,
         writer: &mut W,
