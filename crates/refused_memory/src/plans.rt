@@ -243,12 +243,14 @@ fn plans(rt: HostRuntime) {
     }
 }
 
-static NO_PLANS: [(&str, PlanTextFault); 6] = [
+static NO_PLANS: [(&str, PlanTextFault); 8] = [
     ("", PlanTextFault::BadLine(1)),
+    ("\n", PlanTextFault::BadLine(1)),
     ("enter-joint v1", PlanTextFault::BadLine(1)),
     ("leave-joint v1", PlanTextFault::BadLine(1)),
     ("nothing to do\nleave-joint", PlanTextFault::BadLine(1)),
     ("leave-joint\nsimple v1 x1", PlanTextFault::BadLine(2)),
+    ("leave-joint\n\nleave-joint\n", PlanTextFault::BadLine(2)),
     (
         "leave-joint\nleave-joint\nleave-joint\nleave-joint\nleave-joint",
         PlanTextFault::TooManySteps,

@@ -1,10 +1,9 @@
 //! Writing whole texts and whole blocks.
 use crate::devices::{Stop, taking};
+use crate::runtime::Runtime;
 use dd_file::blocks::Blocks;
 use dd_file::device::Sink;
 use dd_file::writing::write_all;
-use std::alloc::{AllocError, Global};
-use std::test::Fail;
 
 // Writes 10,500 bytes in parts, and answers whether a fault was told.
 fn write_parts<W: Sink>(writer: &mut W) -> bool {
@@ -16,45 +15,42 @@ fn write_parts<W: Sink>(writer: &mut W) -> bool {
 }
 
 // Whether a device takes so many bytes in three calls, a block in each, and a fault is told where it stops before the end.
-fn takes(alloc: Global, room: usize, stop: Stop) -> Result<bool, AllocError> {
-    let mut blocks = Blocks::new(alloc, taking(alloc, 20_000, room, stop))?;
+fn takes(rt: &impl Runtime, room: usize, stop: Stop) -> bool {
+    let device = taking(rt.alloc(), 20_000, room, stop);
+    let mut blocks = Blocks::new(rt.alloc(), device).expect(rt, "a block");
     let was_told = write_parts(&mut blocks);
     let is_told = blocks.flush().is_err();
     let failed = blocks.failed();
     let device = blocks.into_inner().into_inner();
-    Ok(
-        (device.taken.len() == room)
-            & (device.calls == 3)
-            & (was_told == failed)
-            & (is_told == failed)
-            & (failed == (room < 10_500)),
-    )
+    (device.taken.len() == room)
+        & (device.calls == 3)
+        & (was_told == failed)
+        & (is_told == failed)
+        & (failed == (room < 10_500))
 }
 
 #[test]
-fn writes_a_block_at_a_time(rt: HostRuntime) -> Result<(), Fail> {
-    assert!(rt; takes(rt.alloc(), 10_500, Stop::Fault)?);
-    Ok(())
+fn writes_a_block_at_a_time(rt: HostRuntime) {
+    assert!(rt; takes(&rt, 10_500, Stop::Fault));
 }
 
 #[test]
-fn nothing_is_written_after_a_fault(rt: HostRuntime) -> Result<(), Fail> {
-    assert!(rt; takes(rt.alloc(), 5_000, Stop::Fault)?);
-    assert!(rt; takes(rt.alloc(), 5_000, Stop::TakesNone)?);
-    Ok(())
+fn nothing_is_written_after_a_fault(rt: HostRuntime) {
+    assert!(rt; takes(&rt, 5_000, Stop::Fault));
+    assert!(rt; takes(&rt, 5_000, Stop::TakesNone));
 }
 
 // Whether two bytes that wait reach the device when they are written on.
-fn writes_on(alloc: Global) -> Result<bool, AllocError> {
-    let mut blocks = Blocks::new(alloc, taking(alloc, 20, 20, Stop::Fault))?;
+fn writes_on(rt: &impl Runtime) -> bool {
+    let device = taking(rt.alloc(), 20, 20, Stop::Fault);
+    let mut blocks = Blocks::new(rt.alloc(), device).expect(rt, "a block");
     let was_told = write_all(&mut blocks, b"12").is_err();
     let is_told = blocks.write_on().is_err();
     let device = blocks.into_inner().into_inner();
-    Ok(!was_told & !is_told & (device.taken.len() == 2) & (device.calls == 1))
+    !was_told & !is_told & (device.taken.len() == 2) & (device.calls == 1)
 }
 
 #[test]
-fn what_waits_is_written_on(rt: HostRuntime) -> Result<(), Fail> {
-    assert!(rt; writes_on(rt.alloc())?);
-    Ok(())
+fn what_waits_is_written_on(rt: HostRuntime) {
+    assert!(rt; writes_on(&rt));
 }

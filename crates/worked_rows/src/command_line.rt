@@ -1,8 +1,8 @@
 //! The words of the command line.
+use crate::runtime::Runtime;
 use conf_change::Floor;
 use conf_tool::command_line::command_line;
 use conf_tool::{Mode, Options};
-use std::alloc::Global;
 
 // Words that are accepted, and the mode, the file and the history that they ask for.
 static ACCEPTED: [(&[&str], Mode, Option<&str>, usize); 12] = [
@@ -122,70 +122,70 @@ static REFUSED: [(&[&str], i32); 25] = [
     (&["confscript", "help", "lines"], 0),
 ];
 
+// Whether the words ask for a mode with these options and this file.
+fn asks_for(
+    rt: &impl Runtime,
+    words: &[&str],
+    mode: Mode,
+    options: Options,
+    file: Option<&str>,
+) -> bool {
+    let asked = command_line(rt.alloc(), words).expect(rt, "words that are taken");
+    (asked.mode == mode) & (asked.options == options) & (asked.file == file)
+}
+
 #[test]
 fn takes_words(rt: HostRuntime) {
     for (words, mode, file, history) in &ACCEPTED {
-        match command_line(rt.alloc(), *words) {
-            Ok(invocation) => {
-                assert_eq!(rt; invocation.mode, *mode, "of {words:?}");
-                assert_eq!(rt; invocation.options.history, *history, "of {words:?}");
-                assert_eq!(rt; invocation.options.steps, 1);
-                assert_eq!(rt; invocation.file, *file, "of {words:?}");
-            }
-            Err(_) => assert!(rt; false, "refused {words:?}"),
-        }
-    }
-}
-
-#[test]
-fn takes_floors(rt: HostRuntime) {
-    for (words, floor) in &FLOORS {
-        match command_line(rt.alloc(), *words) {
-            Ok(invocation) => assert_eq!(rt; invocation.options.floor, *floor, "of {words:?}"),
-            Err(_) => assert!(rt; false, "refused {words:?}"),
-        }
-    }
-}
-
-// Whether the words ask for the mode that undoes changes, with this file and these options.
-fn asks_to_undo(
-    alloc: Global,
-    words: &[&str],
-    file: Option<&str>,
-    history: usize,
-    steps: usize,
-) -> bool {
-    match command_line(alloc, words) {
-        Ok(invocation) => {
-            (invocation.mode == Mode::Undo)
-                & (invocation.file == file)
-                & (invocation.options
-                    == Options {
-                        history,
-                        steps,
-                        floor: Floor::One,
-                    })
-        }
-        Err(_) => false,
-    }
-}
-
-#[test]
-fn takes_words_to_undo(rt: HostRuntime) {
-    for (words, file, history, steps) in &UNDOING {
+        let options = Options {
+            history: *history,
+            steps: 1,
+            floor: Floor::One,
+        };
         assert!(rt;
-            asks_to_undo(rt.alloc(), *words, *file, *history, *steps),
+            asks_for(&rt, *words, *mode, options, *file),
             "of {words:?}"
         );
     }
 }
 
 #[test]
+fn takes_words_to_undo(rt: HostRuntime) {
+    for (words, file, history, steps) in &UNDOING {
+        let options = Options {
+            history: *history,
+            steps: *steps,
+            floor: Floor::One,
+        };
+        assert!(rt;
+            asks_for(&rt, *words, Mode::Undo, options, *file),
+            "of {words:?}"
+        );
+    }
+}
+
+fn asks_for_floor(rt: &impl Runtime, words: &[&str], floor: Floor) -> bool {
+    let asked = command_line(rt.alloc(), words).expect(rt, "words that are taken");
+    asked.options.floor == floor
+}
+
+#[test]
+fn takes_floors(rt: HostRuntime) {
+    for (words, floor) in &FLOORS {
+        assert!(rt; asks_for_floor(&rt, *words, *floor), "of {words:?}");
+    }
+}
+
+// The status with which words are refused; none of those that are taken.
+fn status_of(rt: &impl Runtime, words: &[&str]) -> Option<i32> {
+    command_line(rt.alloc(), words)
+        .err()
+        .map(|error| error.exit_code())
+}
+
+#[test]
 fn refuses_words(rt: HostRuntime) {
     for (words, status) in &REFUSED {
-        match command_line(rt.alloc(), *words) {
-            Ok(_) => assert!(rt; false, "accepted {words:?}"),
-            Err(error) => assert_eq!(rt; error.exit_code(), *status, "of {words:?}"),
-        }
+        assert!(rt; status_of(&rt, *words) == Some(*status), "of {words:?}");
     }
 }

@@ -1,26 +1,21 @@
 //! Configurations, valid and broken ones.
+use crate::runtime::Runtime;
 use crate::sets_and_quorums::set_of;
 use conf_change::{Config, Invariant, check};
-use quorum_sets::{NoMemory, TreeIds};
-use std::alloc::Global;
-use std::test::Fail;
+use quorum_sets::TreeIds;
 
 /// The incoming voters, the outgoing voters, the learners and the next learners.
 pub(crate) type Sets = [&'static [u64]; 4];
 
-pub(crate) fn config_of(
-    alloc: Global,
-    sets: Sets,
-    auto_leave: bool,
-) -> Result<Config<TreeIds>, NoMemory> {
+pub(crate) fn config_of(rt: &impl Runtime, sets: Sets, auto_leave: bool) -> Config<TreeIds> {
     let [incoming, outgoing, learners, learners_next] = sets;
-    Ok(Config {
-        incoming: set_of(alloc, incoming)?,
-        outgoing: set_of(alloc, outgoing)?,
-        learners: set_of(alloc, learners)?,
-        learners_next: set_of(alloc, learners_next)?,
+    Config {
+        incoming: set_of(rt, incoming),
+        outgoing: set_of(rt, outgoing),
+        learners: set_of(rt, learners),
+        learners_next: set_of(rt, learners_next),
         auto_leave,
-    })
+    }
 }
 
 static CHECKED: [(Sets, bool, Result<(), Invariant>); 7] = [
@@ -49,21 +44,15 @@ static CHECKED: [(Sets, bool, Result<(), Invariant>); 7] = [
     ([&[3], &[1], &[2], &[1]], true, Ok(())),
 ];
 
-fn checked(alloc: Global, sets: Sets, auto_leave: bool) -> Result<Result<(), Invariant>, NoMemory> {
-    let config = config_of(alloc, sets, auto_leave)?;
-    Ok(check(&config))
+#[test]
+fn tells_what_is_broken(rt: HostRuntime) {
+    for (sets, auto_leave, want) in &CHECKED {
+        let config = config_of(&rt, *sets, *auto_leave);
+        assert!(rt; check(&config) == *want, "{want:?}");
+    }
 }
 
-#[test]
-fn tells_what_is_broken(rt: HostRuntime) -> Result<(), Fail> {
-    for (sets, auto_leave, want) in &CHECKED {
-        assert!(rt;
-            checked(rt.alloc(), *sets, *auto_leave)? == *want,
-            "{want:?}"
-        );
-    }
-    Ok(())
-}
+const ONE: Sets = [&[3], &[1], &[2], &[1]];
 
 // What differs from a configuration in one set, or in the flag.
 static OTHERS: [(Sets, bool); 5] = [
@@ -71,35 +60,26 @@ static OTHERS: [(Sets, bool); 5] = [
     ([&[3], &[1, 4], &[2], &[1]], true),
     ([&[3], &[1], &[], &[1]], true),
     ([&[3], &[1], &[2], &[]], true),
-    ([&[3], &[1], &[2], &[1]], false),
+    (ONE, false),
 ];
 
-fn is_same(
-    alloc: Global,
-    config: &Config<TreeIds>,
-    sets: Sets,
-    auto_leave: bool,
-) -> Result<bool, NoMemory> {
-    let other = config_of(alloc, sets, auto_leave)?;
-    Ok(config.same(&other) | other.same(config))
+// Whether a configuration is the same as another, asked from either side.
+fn is_same(rt: &impl Runtime, config: &Config<TreeIds>, sets: Sets, auto_leave: bool) -> bool {
+    let other = config_of(rt, sets, auto_leave);
+    config.same(&other) | other.same(config)
 }
 
-// Whether a configuration equals its copy and none of the others.
-fn is_told_apart(alloc: Global, config: &Config<TreeIds>) -> Result<bool, NoMemory> {
+// Whether a configuration is the same as itself made again, and as none of the others.
+fn is_told_apart(rt: &impl Runtime) -> bool {
+    let config = config_of(rt, ONE, true);
     let mut is_other = false;
     for (sets, auto_leave) in &OTHERS {
-        is_other |= is_same(alloc, config, *sets, *auto_leave)?;
+        is_other |= is_same(rt, &config, *sets, *auto_leave);
     }
-    Ok(!is_other & config.same(&config.try_clone()?))
-}
-
-fn tells_apart(alloc: Global) -> Result<bool, NoMemory> {
-    let config = config_of(alloc, [&[3], &[1], &[2], &[1]], true)?;
-    is_told_apart(alloc, &config)
+    !is_other & is_same(rt, &config, ONE, true)
 }
 
 #[test]
-fn tells_equal_configurations(rt: HostRuntime) -> Result<(), Fail> {
-    assert!(rt; tells_apart(rt.alloc())?);
-    Ok(())
+fn tells_equal_configurations(rt: HostRuntime) {
+    assert!(rt; is_told_apart(&rt));
 }

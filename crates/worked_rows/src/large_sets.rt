@@ -1,104 +1,106 @@
 //! Sets of 8, 9 and 10,000 ids, in both representations, and lists of 10,000 changes.
 ghost use Rattle.std.specs.Prelude.{◌≤◌, ◌<◌};
 
+use crate::runtime::Runtime;
 use conf_change::{Change, Changer, Kind, Progress, Refused};
-use quorum_sets::{InlineIds, MemberSet, NoMemory, TreeIds, symdiff};
-use std::alloc::{AllocError, Global};
-use std::process::Abort;
-use std::test::Fail;
+use quorum_sets::{InlineIds, MemberSet, TreeIds, symdiff};
 
 // The even numbers from 2 to twice the count, put in without order: no count that is used has the factor 7919.
-fn evens<S: MemberSet>(alloc: Global, count: u64) -> Result<S, NoMemory>
+fn evens<S: MemberSet>(rt: &impl Runtime, count: u64) -> S
     requires { count ≤ 10000 }
 {
-    let mut set = S::empty(alloc);
+    let mut set = S::empty(rt.alloc());
     for step in 0..count {
-        set.insert(step * 7919 % count * 2 + 2)?;
+        set.insert(step * 7919 % count * 2 + 2).expect(rt, "a set");
     }
-    Ok(set)
+    set
 }
 
-// Holds a set against the multiples of a number, which are its ids from the first place on. A tree walks up to a place,
-// so not all places are looked at.
-fn holds_multiples<S: MemberSet>(rt: &impl Abort, set: &S, count: usize, of: u64)
+// Whether the multiples of a number are the set's ids from the first place on. A tree walks up to a place, so not all places
+// are looked at.
+fn has_multiples<S: MemberSet>(set: &S, count: usize, of: u64) -> bool
     requires few { count ≤ 10000 }
     requires small { of ≤ 10 }
 {
-    assert_eq!(rt; set.len(), count);
-    assert_eq!(rt; set.at(count), None);
+    let mut is_so = (set.len() == count) & set.at(count).is_none();
     for place in 0..count {
         let id = (place as u64 + 1) * of;
+        is_so &= set.contains(id) & !set.contains(id + 1);
         if place % 89 < 9 {
-            assert_eq!(rt; set.at(place), Some(id), "at {place} of {count}");
+            is_so &= set.at(place) == Some(id);
         }
-        assert!(rt; set.contains(id), "{id} of {count}");
-        assert!(rt; !set.contains(id + 1), "{id} and 1 of {count}");
     }
+    is_so
 }
 
-// Half of the ids go again, each second one; the other half stay, and what was copied before keeps them all.
-fn walk_through<S: MemberSet>(rt: &impl Abort, alloc: Global, count: u64) -> Result<(), Fail>
+// Takes half of the ids, each second one, out of a set of even numbers, and puts others in that are there.
+fn takes_half_out<S: MemberSet>(rt: &impl Runtime, set: &mut S, count: u64) -> bool
     requires { count ≤ 10000 }
 {
-    let mut set: S = evens(alloc, count)?;
-    holds_multiples(rt, &set, count as usize, 2);
-    let copy = set.try_clone()?;
+    let mut is_so = true;
     for half in 0..count / 2 {
         let id = half * 4 + 2;
-        assert!(rt; set.remove(id), "remove {id}");
-        assert!(rt; !set.remove(id), "remove {id} again");
-        assert!(rt; !set.insert(id + 2)?, "insert {id} and 2");
+        is_so &= set.remove(id) & !set.remove(id);
+        is_so &= !set.insert(id + 2).expect(rt, "a set");
     }
     if count % 2 == 1 {
-        set.remove(count * 2);
+        is_so &= set.remove(count * 2);
     }
-    holds_multiples(rt, &set, (count / 2) as usize, 4);
-    holds_multiples(rt, &copy, count as usize, 2);
-    Ok(())
+    is_so
+}
+
+// Half of the ids go again; the other half stay, and what was copied before keeps them all.
+fn keeps_half<S: MemberSet>(rt: &impl Runtime, count: u64) -> bool
+    requires { count ≤ 10000 }
+{
+    let mut set: S = evens(rt, count);
+    let is_full = has_multiples(&set, count as usize, 2);
+    let copy = set.try_clone().expect(rt, "a copy");
+    is_full
+        & takes_half_out(rt, &mut set, count)
+        & has_multiples(&set, (count / 2) as usize, 4)
+        & has_multiples(&copy, count as usize, 2)
 }
 
 #[test]
-fn inline_ids(rt: HostRuntime) -> Result<(), Fail> {
+fn inline_ids(rt: HostRuntime) {
     for count in [8, 9, 10_000] {
-        walk_through::<InlineIds>(&rt, rt.alloc(), count)?;
+        assert!(rt; keeps_half::<InlineIds>(&rt, count), "{count}");
     }
-    Ok(())
 }
 
 #[test]
-fn tree_ids(rt: HostRuntime) -> Result<(), Fail> {
+fn tree_ids(rt: HostRuntime) {
     for count in [8, 9, 10_000] {
-        walk_through::<TreeIds>(&rt, rt.alloc(), count)?;
+        assert!(rt; keeps_half::<TreeIds>(&rt, count), "{count}");
     }
-    Ok(())
 }
 
 #[test]
-fn differences(rt: HostRuntime) -> Result<(), Fail> {
-    let few: InlineIds = evens(rt.alloc(), 9)?;
-    let many: InlineIds = evens(rt.alloc(), 10_000)?;
-    assert_eq!(rt; symdiff(&few, &many), 9_991);
-    assert_eq!(rt; symdiff(&many, &few), 9_991);
-    assert_eq!(rt; symdiff(&many, &many.try_clone()?), 0);
-    Ok(())
+fn differences(rt: HostRuntime) {
+    let few: InlineIds = evens(&rt, 9);
+    let many: InlineIds = evens(&rt, 10_000);
+    assert!(rt; symdiff(&few, &many) == 9_991);
+    assert!(rt; symdiff(&many, &few) == 9_991);
+    assert!(rt; symdiff(&many, &many) == 0);
 }
 
 // Makes voters of the ids from 1 to the count.
-fn voters(alloc: Global, count: u64) -> Result<Vec<Change>, AllocError> {
-    let mut changes = Vec::new(alloc);
+fn voters(rt: &impl Runtime, count: u64) -> Vec<Change> {
+    let mut changes = Vec::new(rt.alloc());
     for id in 0..count {
-        let kind = Kind::Voter;
-        changes.push(Change {
-            kind,
+        let change = Change {
+            kind: Kind::Voter,
             id: id.saturating_add(1),
-        })?;
+        };
+        changes.push(change).expect(rt, "a list");
     }
-    Ok(changes)
+    changes
 }
 
 // Takes the even ids out, and makes voters of the others, from the count down to 1.
-fn halves(alloc: Global, count: u64) -> Result<Vec<Change>, AllocError> {
-    let mut changes = Vec::new(alloc);
+fn halves(rt: &impl Runtime, count: u64) -> Vec<Change> {
+    let mut changes = Vec::new(rt.alloc());
     for below in 0..count {
         let id = count.saturating_sub(below);
         let kind = if id % 2 == 0 {
@@ -106,9 +108,9 @@ fn halves(alloc: Global, count: u64) -> Result<Vec<Change>, AllocError> {
         } else {
             Kind::Voter
         };
-        changes.push(Change { kind, id })?;
+        changes.push(Change { kind, id }).expect(rt, "a list");
     }
-    Ok(changes)
+    changes
 }
 
 // Makes voters of 10,000 members, and changes each of them in one list.
@@ -146,19 +148,18 @@ fn has_odd(changer: &Changer<InlineIds>, outgoing: usize, members: usize) -> boo
         & (tracker.progress(10_000).is_some() == (outgoing > 0))
 }
 
-fn changes_all(alloc: Global) -> Result<bool, Fail> {
-    let all = voters(alloc, 10_000)?;
-    let halves = halves(alloc, 10_000)?;
-    let mut changer = Changer::new(alloc, 0);
+fn changes_all(rt: &impl Runtime) -> bool {
+    let all = voters(rt, 10_000);
+    let halves = halves(rt, 10_000);
+    let mut changer = Changer::new(rt.alloc(), 0);
     let made = change_all(&mut changer, all.as_slice(), halves.as_slice());
     let is_joint = has_odd(&changer, 10_000, 10_000);
     let left = changer.leave_joint();
     let is_left = has_odd(&changer, 0, 5_000);
-    Ok((made == Ok(())) & is_joint & (left == Ok(())) & is_left)
+    (made == Ok(())) & is_joint & (left == Ok(())) & is_left
 }
 
 #[test]
-fn a_list_of_10_000_changes(rt: HostRuntime) -> Result<(), Fail> {
-    assert!(rt; changes_all(rt.alloc())?);
-    Ok(())
+fn a_list_of_10_000_changes(rt: HostRuntime) {
+    assert!(rt; changes_all(&rt));
 }

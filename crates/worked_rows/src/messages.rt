@@ -1,226 +1,246 @@
 //! The messages of the error types, each value once, and that no two of one type are equal.
+use crate::runtime::Runtime;
 use conf_change::{AckFault, ConfStateFault, Invariant, Refused, RestoreFault, TokenFault};
 use conf_plan::{PlanFault, PlanTextFault, StepRefused};
 use conf_session::UndoFault;
 use conf_tool::{ConfigurationsFault, ToolFault};
 use dd_file::fault::{DeviceFault, FileFault, WriteFault};
 use quorum_sets::NoMemory;
-use std::alloc::{AllocError, Global};
 use std::fmt::Display;
-use std::test::Fail;
+
+fn shows<T: Display>(rt: &impl Runtime, value: &T, message: &str) -> bool {
+    let shown = format!(in rt.alloc(); "{value}").expect(rt, "a message");
+    shown.as_str() == message
+}
+
+// Whether a value of the rows equals the one at its place alone.
+fn is_told_apart<T: PartialEq>(rows: &[(T, &str)], place: usize, value: &T) -> bool {
+    let mut is_so = true;
+    for (at, (other, _)) in rows.iter().enumerate() {
+        is_so &= (value == other) == (place == at);
+    }
+    is_so
+}
 
 // Whether each value shows its message, and equals itself alone.
-fn told<T: Display + PartialEq>(alloc: Global, rows: &[(T, &str)]) -> Result<bool, AllocError> {
-    let mut is_told = true;
+fn are_told<T: Display + PartialEq>(rt: &impl Runtime, rows: &[(T, &str)]) -> bool {
+    let mut is_so = true;
     for (place, (value, message)) in rows.iter().enumerate() {
-        let shown = format!(in alloc; "{value}")?;
-        is_told &= shown.as_str() == *message;
-        for (at, (other, _)) in rows.iter().enumerate() {
-            is_told &= (value == other) == (place == at);
-        }
+        is_so &= shows(rt, value, *message) & is_told_apart(rows, place, value);
     }
-    Ok(is_told)
+    is_so
 }
 
 const NO_MEMORY: &str = "out of memory";
 
-#[test]
-fn sets_and_changes(rt: HostRuntime) -> Result<(), Fail> {
-    assert!(rt; told(rt.alloc(), &[(NoMemory, NO_MEMORY)])?);
-    let refusals = [
-        (Refused::AlreadyJoint, "config is already joint"),
-        (
-            Refused::ZeroVoterJoint,
-            "can't make a zero-voter config joint",
-        ),
-        (Refused::NotJoint, "can't leave a non-joint config"),
-        (
-            Refused::SimpleInJoint,
-            "can't apply simple config change in joint config",
-        ),
-        (Refused::RemovedAllVoters, "removed all voters"),
-        (
-            Refused::MoreThanOneVoter,
-            "more than one voter changed without entering joint config",
-        ),
-        (Refused::NoMemory, NO_MEMORY),
-    ];
-    assert!(rt; told(rt.alloc(), &refusals)?);
-    let invariants = [
-        (Invariant::ZeroId, "a set holds the id 0"),
-        (
-            Invariant::NextNotOutgoing,
-            "a next learner is not an outgoing voter",
-        ),
-        (
-            Invariant::NextAndIncoming,
-            "a next learner is an incoming voter",
-        ),
-        (Invariant::LearnerAndVoter, "a learner is a voter"),
-        (
-            Invariant::NotJointButNext,
-            "next learners without outgoing voters",
-        ),
-        (
-            Invariant::NotJointButAutoLeave,
-            "auto-leave without outgoing voters",
-        ),
-    ];
-    assert!(rt; told(rt.alloc(), &invariants)?);
-    Ok(())
-}
+static REFUSALS: [(Refused, &str); 7] = [
+    (Refused::AlreadyJoint, "config is already joint"),
+    (
+        Refused::ZeroVoterJoint,
+        "can't make a zero-voter config joint",
+    ),
+    (Refused::NotJoint, "can't leave a non-joint config"),
+    (
+        Refused::SimpleInJoint,
+        "can't apply simple config change in joint config",
+    ),
+    (Refused::RemovedAllVoters, "removed all voters"),
+    (
+        Refused::MoreThanOneVoter,
+        "more than one voter changed without entering joint config",
+    ),
+    (Refused::NoMemory, NO_MEMORY),
+];
+
+static INVARIANTS: [(Invariant, &str); 6] = [
+    (Invariant::ZeroId, "a set holds the id 0"),
+    (
+        Invariant::NextNotOutgoing,
+        "a next learner is not an outgoing voter",
+    ),
+    (
+        Invariant::NextAndIncoming,
+        "a next learner is an incoming voter",
+    ),
+    (Invariant::LearnerAndVoter, "a learner is a voter"),
+    (
+        Invariant::NotJointButNext,
+        "next learners without outgoing voters",
+    ),
+    (
+        Invariant::NotJointButAutoLeave,
+        "auto-leave without outgoing voters",
+    ),
+];
 
 #[test]
-fn texts_of_changes(rt: HostRuntime) -> Result<(), Fail> {
-    let tokens = [
-        (TokenFault::UnknownToken(b"v"), "unknown token"),
-        (TokenFault::UnknownToken(b"w"), "unknown token"),
-        (TokenFault::UnknownInput(b"v"), "unknown input"),
-        (TokenFault::BadNumber(b"v"), "bad number"),
-        (TokenFault::NoMemory, NO_MEMORY),
-    ];
-    assert!(rt; told(rt.alloc(), &tokens)?);
-    let lines = [
-        (ConfStateFault::BadConfState, "bad conf state"),
-        (ConfStateFault::NoMemory, NO_MEMORY),
-    ];
-    assert!(rt; told(rt.alloc(), &lines)?);
-    let restored = [
-        (RestoreFault::NotAConfiguration, "not a configuration"),
-        (RestoreFault::NoMemory, NO_MEMORY),
-    ];
-    assert!(rt; told(rt.alloc(), &restored)?);
-    let acknowledged = [
-        (AckFault::NotMember, "not a member"),
-        (AckFault::IndexTooLarge, "index too large"),
-    ];
-    assert!(rt; told(rt.alloc(), &acknowledged)?);
-    Ok(())
+fn sets_and_changes(rt: HostRuntime) {
+    assert!(rt; are_told(&rt, &[(NoMemory, NO_MEMORY)]));
+    assert!(rt; are_told(&rt, &REFUSALS));
+    assert!(rt; are_told(&rt, &INVARIANTS));
 }
 
-#[test]
-fn plans(rt: HostRuntime) -> Result<(), Fail> {
-    let faults = [
-        (
-            PlanFault::NoVoterNow,
-            "the present configuration has no voter",
-        ),
-        (
-            PlanFault::NoVoterTarget,
-            "no plan: the earlier configuration has no voter",
-        ),
-        (PlanFault::NoMemory, NO_MEMORY),
-    ];
-    assert!(rt; told(rt.alloc(), &faults)?);
-    let refused = Refused::NotJoint;
-    let other = Refused::NoMemory;
-    let stops = [
-        (
-            StepRefused { step: 1, refused },
-            "step 1: can't leave a non-joint config",
-        ),
-        (
-            StepRefused { step: 2, refused },
-            "step 2: can't leave a non-joint config",
-        ),
-        (
-            StepRefused {
-                step: 2,
-                refused: other,
-            },
-            "step 2: out of memory",
-        ),
-    ];
-    assert!(rt; told(rt.alloc(), &stops)?);
-    let texts = [
-        (PlanTextFault::BadLine(1), "line 1: bad line"),
-        (PlanTextFault::BadLine(2), "line 2: bad line"),
-        (PlanTextFault::TooManySteps, "too many steps"),
-        (PlanTextFault::NoMemory, NO_MEMORY),
-    ];
-    assert!(rt; told(rt.alloc(), &texts)?);
-    Ok(())
-}
+static TOKENS: [(TokenFault<'_>, &str); 5] = [
+    (TokenFault::UnknownToken(b"v"), "unknown token"),
+    (TokenFault::UnknownToken(b"w"), "unknown token"),
+    (TokenFault::UnknownInput(b"v"), "unknown input"),
+    (TokenFault::BadNumber(b"v"), "bad number"),
+    (TokenFault::NoMemory, NO_MEMORY),
+];
+
+static LINES: [(ConfStateFault, &str); 2] = [
+    (ConfStateFault::BadConfState, "bad conf state"),
+    (ConfStateFault::NoMemory, NO_MEMORY),
+];
+
+static RESTORED: [(RestoreFault, &str); 2] = [
+    (RestoreFault::NotAConfiguration, "not a configuration"),
+    (RestoreFault::NoMemory, NO_MEMORY),
+];
+
+static ACKNOWLEDGED: [(AckFault, &str); 2] = [
+    (AckFault::NotMember, "not a member"),
+    (AckFault::IndexTooLarge, "index too large"),
+];
 
 #[test]
-fn files_and_runs(rt: HostRuntime) -> Result<(), Fail> {
-    let faults = [
-        (FileFault::BadDirective(1), "line 1: bad directive"),
-        (FileFault::BadDirective(12), "line 12: bad directive"),
-        (
-            FileFault::AfterDouble(1),
-            "line 1: line after double separator is not blank",
-        ),
-        (
-            FileFault::UnclosedDouble(1),
-            "line 1: double separator is not closed",
-        ),
-        (FileFault::InputTooLong(1), "line 1: input too long"),
-        (FileFault::Read, "cannot read"),
-        (FileFault::NoMemory, NO_MEMORY),
-    ];
-    assert!(rt; told(rt.alloc(), &faults)?);
-    assert!(rt; told(rt.alloc(), &[(DeviceFault, "device fault")])?);
-    assert!(rt; told(rt.alloc(), &[(WriteFault, "cannot write")])?);
-    let script = ToolFault::Script(FileFault::BadDirective(1));
-    let runs = [
-        (script, "line 1: bad directive"),
-        (
-            ToolFault::Script(FileFault::BadDirective(2)),
-            "line 2: bad directive",
-        ),
-        (ToolFault::Read, "cannot read"),
-        (ToolFault::Write, "cannot write"),
-        (ToolFault::NoMemory, NO_MEMORY),
-    ];
-    assert!(rt; told(rt.alloc(), &runs)?);
-    let undone = [
-        (
-            UndoFault::NotKept(0),
-            "no plan: 0 earlier configurations are kept",
-        ),
-        (
-            UndoFault::NotKept(12),
-            "no plan: 12 earlier configurations are kept",
-        ),
-        (
-            UndoFault::NoVoterTarget,
-            "no plan: the earlier configuration has no voter",
-        ),
-        (UndoFault::NoMemory, NO_MEMORY),
-    ];
-    assert!(rt; told(rt.alloc(), &undone)?);
-    Ok(())
+fn texts_of_changes(rt: HostRuntime) {
+    assert!(rt; are_told(&rt, &TOKENS));
+    assert!(rt; are_told(&rt, &LINES));
+    assert!(rt; are_told(&rt, &RESTORED));
+    assert!(rt; are_told(&rt, &ACKNOWLEDGED));
 }
 
+static NO_PLANS: [(PlanFault, &str); 3] = [
+    (
+        PlanFault::NoVoterNow,
+        "the present configuration has no voter",
+    ),
+    (
+        PlanFault::NoVoterTarget,
+        "no plan: the earlier configuration has no voter",
+    ),
+    (PlanFault::NoMemory, NO_MEMORY),
+];
+
+static STOPS: [(StepRefused, &str); 3] = [
+    (
+        StepRefused {
+            step: 1,
+            refused: Refused::NotJoint,
+        },
+        "step 1: can't leave a non-joint config",
+    ),
+    (
+        StepRefused {
+            step: 2,
+            refused: Refused::NotJoint,
+        },
+        "step 2: can't leave a non-joint config",
+    ),
+    (
+        StepRefused {
+            step: 2,
+            refused: Refused::NoMemory,
+        },
+        "step 2: out of memory",
+    ),
+];
+
+static PLAN_TEXTS: [(PlanTextFault, &str); 4] = [
+    (PlanTextFault::BadLine(1), "line 1: bad line"),
+    (PlanTextFault::BadLine(2), "line 2: bad line"),
+    (PlanTextFault::TooManySteps, "too many steps"),
+    (PlanTextFault::NoMemory, NO_MEMORY),
+];
+
 #[test]
-fn two_configurations(rt: HostRuntime) -> Result<(), Fail> {
-    let faults = [
-        (
-            ConfigurationsFault::BadConfState(1),
-            "line 1: bad conf state",
-        ),
-        (
-            ConfigurationsFault::BadConfState(2),
-            "line 2: bad conf state",
-        ),
-        (
-            ConfigurationsFault::NotAConfiguration(1),
-            "line 1: not a configuration",
-        ),
-        (ConfigurationsFault::NotTwoLines, "two lines are wanted"),
-    ];
-    assert!(rt; told(rt.alloc(), &faults)?);
-    let runs = [
-        (
-            ToolFault::Configurations(ConfigurationsFault::NotAConfiguration(2)),
-            "line 2: not a configuration",
-        ),
-        (
-            ToolFault::Configurations(ConfigurationsFault::NotTwoLines),
-            "two lines are wanted",
-        ),
-    ];
-    assert!(rt; told(rt.alloc(), &runs)?);
-    Ok(())
+fn plans(rt: HostRuntime) {
+    assert!(rt; are_told(&rt, &NO_PLANS));
+    assert!(rt; are_told(&rt, &STOPS));
+    assert!(rt; are_told(&rt, &PLAN_TEXTS));
+}
+
+static FILES: [(FileFault, &str); 7] = [
+    (FileFault::BadDirective(1), "line 1: bad directive"),
+    (FileFault::BadDirective(12), "line 12: bad directive"),
+    (
+        FileFault::AfterDouble(1),
+        "line 1: line after double separator is not blank",
+    ),
+    (
+        FileFault::UnclosedDouble(1),
+        "line 1: double separator is not closed",
+    ),
+    (FileFault::InputTooLong(1), "line 1: input too long"),
+    (FileFault::Read, "cannot read"),
+    (FileFault::NoMemory, NO_MEMORY),
+];
+
+#[test]
+fn files(rt: HostRuntime) {
+    assert!(rt; are_told(&rt, &FILES));
+    assert!(rt; are_told(&rt, &[(DeviceFault, "device fault")]));
+    assert!(rt; are_told(&rt, &[(WriteFault, "cannot write")]));
+}
+
+static CONFIGURATIONS: [(ConfigurationsFault, &str); 4] = [
+    (
+        ConfigurationsFault::BadConfState(1),
+        "line 1: bad conf state",
+    ),
+    (
+        ConfigurationsFault::BadConfState(2),
+        "line 2: bad conf state",
+    ),
+    (
+        ConfigurationsFault::NotAConfiguration(1),
+        "line 1: not a configuration",
+    ),
+    (ConfigurationsFault::NotTwoLines, "two lines are wanted"),
+];
+
+static RUNS: [(ToolFault, &str); 7] = [
+    (
+        ToolFault::Script(FileFault::BadDirective(1)),
+        "line 1: bad directive",
+    ),
+    (
+        ToolFault::Script(FileFault::BadDirective(2)),
+        "line 2: bad directive",
+    ),
+    (
+        ToolFault::Configurations(ConfigurationsFault::NotAConfiguration(2)),
+        "line 2: not a configuration",
+    ),
+    (
+        ToolFault::Configurations(ConfigurationsFault::NotTwoLines),
+        "two lines are wanted",
+    ),
+    (ToolFault::Read, "cannot read"),
+    (ToolFault::Write, "cannot write"),
+    (ToolFault::NoMemory, NO_MEMORY),
+];
+
+static UNDONE: [(UndoFault, &str); 4] = [
+    (
+        UndoFault::NotKept(0),
+        "no plan: 0 earlier configurations are kept",
+    ),
+    (
+        UndoFault::NotKept(12),
+        "no plan: 12 earlier configurations are kept",
+    ),
+    (
+        UndoFault::NoVoterTarget,
+        "no plan: the earlier configuration has no voter",
+    ),
+    (UndoFault::NoMemory, NO_MEMORY),
+];
+
+#[test]
+fn sessions_and_runs(rt: HostRuntime) {
+    assert!(rt; are_told(&rt, &UNDONE));
+    assert!(rt; are_told(&rt, &CONFIGURATIONS));
+    assert!(rt; are_told(&rt, &RUNS));
 }

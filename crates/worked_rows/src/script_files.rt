@@ -1,162 +1,149 @@
-//! Scripts and the items that are read of them, and the lines of inputs.
+//! Scripts and the items that are read of them and made, and the lines of inputs.
 use crate::devices::byte_by_byte;
+use crate::runtime::Runtime;
 use dd_file::device::{FromRead, Source};
+use dd_file::fault::FileFault;
 use dd_file::item::{Argument, Directive, Item};
 use dd_file::lines::Lines;
 use dd_file::reader::Reader;
-use std::alloc::{AllocError, Global};
-use std::test::Fail;
 
-fn show_line(shown: &mut Vec<u8>, line: &[u8]) -> Result<(), AllocError> {
-    shown.push(b'<')?;
-    shown.extend_from_slice(line)?;
-    shown.push(b'>')?;
-    Ok(())
+fn show(rt: &impl Runtime, shown: &mut Vec<u8>, bytes: &[u8]) {
+    shown.extend_from_slice(bytes).expect(rt, "room");
 }
 
-fn lines_of(alloc: Global, input: &str) -> Result<Vec<u8>, Fail> {
-    let mut source = FromRead::new(input.as_bytes());
-    let mut lines = Lines::new(alloc)?;
-    let mut shown = Vec::new(alloc);
-    for _ in 0..9 {
-        if let Some(line) = lines.next(&mut source)? {
-            show_line(&mut shown, line.as_slice())?;
-        }
+fn show_line(rt: &impl Runtime, shown: &mut Vec<u8>, line: &[u8]) {
+    show(rt, shown, b"<");
+    show(rt, shown, line);
+    show(rt, shown, b">");
+}
+
+// The next line with an h before it where it was in hand; nothing at the end.
+fn show_next_line<R: Source>(
+    rt: &impl Runtime,
+    shown: &mut Vec<u8>,
+    lines: &mut Lines,
+    source: &mut R,
+) {
+    let held = lines.next_held(source);
+    if held.is_some() {
+        show(rt, shown, b"h");
     }
-    Ok(shown)
+    let found = match held {
+        Some(found) => found,
+        None => lines.next(source),
+    };
+    if let Some(line) = found.expect(rt, "a line or the end") {
+        show_line(rt, shown, line.as_slice());
+    }
 }
 
-static LINES: [(&str, &str); 5] = [
+fn lines_of(rt: &impl Runtime, input: &str) -> Vec<u8> {
+    let mut source = FromRead::new(input.as_bytes());
+    let mut lines = Lines::new(rt.alloc()).expect(rt, "a reader");
+    let mut shown = Vec::new(rt.alloc());
+    for _ in 0..9 {
+        show_next_line(rt, &mut shown, &mut lines, &mut source);
+    }
+    shown
+}
+
+// Inputs, and their lines: what the first read gave is in hand, up to its last newline.
+static LINES: [(&str, &str); 6] = [
     ("", ""),
-    ("a\r\n\nb\r\r", "<a><><b\r>"),
+    ("a\r\n\nb\r\r", "<a>h<><b\r>"),
     ("\n", "<>"),
     ("\r", "<>"),
     ("a", "<a>"),
+    ("a\nb\r\n\nc", "<a>h<b>h<><c>"),
 ];
 
 #[test]
-fn gives_lines(rt: HostRuntime) -> Result<(), Fail> {
+fn gives_lines(rt: HostRuntime) {
     for (input, want) in &LINES {
-        let shown = lines_of(rt.alloc(), *input)?;
+        let shown = lines_of(&rt, *input);
         assert!(rt; shown.as_slice() == want.as_bytes(), "at {input}");
     }
-    Ok(())
-}
-
-// The lines of an input, each with an h before it where it was in hand.
-fn held_lines(alloc: Global, input: &str) -> Result<Vec<u8>, Fail> {
-    let mut source = FromRead::new(input.as_bytes());
-    let mut lines = Lines::new(alloc)?;
-    let mut shown = Vec::new(alloc);
-    for _ in 0..9 {
-        if let Some(held) = lines.next_held(&source) {
-            shown.push(b'h')?;
-            if let Some(line) = held? {
-                show_line(&mut shown, line.as_slice())?;
-            }
-        } else if let Some(line) = lines.next(&mut source)? {
-            show_line(&mut shown, line.as_slice())?;
-        }
-    }
-    Ok(shown)
-}
-
-#[test]
-fn tells_lines_in_hand(rt: HostRuntime) -> Result<(), Fail> {
-    let shown = held_lines(rt.alloc(), "a\nb\r\n\nc")?;
-    assert!(rt; shown.as_slice() == b"<a>h<b>h<><c>".as_slice());
-    Ok(())
 }
 
 // The lines of a comment or of a blank.
-fn show_lines(shown: &mut Vec<u8>, item: &Item) -> Result<(), AllocError> {
-    shown.extend_from_slice(b"lines:")?;
+fn show_lines(rt: &impl Runtime, shown: &mut Vec<u8>, item: &Item) {
+    show(rt, shown, b"lines:");
     for i in 0..3 {
         if let Some(line) = item.raw_line(i) {
-            show_line(shown, line)?;
+            show_line(rt, shown, line);
         }
     }
-    Ok(())
 }
 
-fn show_argument(shown: &mut Vec<u8>, argument: &Argument) -> Result<(), AllocError> {
-    shown.push(b' ')?;
-    shown.extend_from_slice(argument.key())?;
+fn show_argument(rt: &impl Runtime, shown: &mut Vec<u8>, argument: &Argument) {
+    show(rt, shown, b" ");
+    show(rt, shown, argument.key());
     for i in 0..argument.value_count() {
         if let Some(value) = argument.value(i) {
-            shown.push(b'[')?;
-            shown.extend_from_slice(value)?;
-            shown.push(b']')?;
+            show(rt, shown, b"[");
+            show(rt, shown, value);
+            show(rt, shown, b"]");
         }
     }
-    Ok(())
 }
 
 // The line and the command, each argument with its values in brackets, the input and what is expected.
-fn show_directive(shown: &mut Vec<u8>, directive: &Directive) -> Result<(), AllocError> {
-    shown.push(b'0' + (directive.line() % 10) as u8)?;
-    shown.push(b':')?;
-    shown.extend_from_slice(directive.command())?;
+fn show_directive(rt: &impl Runtime, shown: &mut Vec<u8>, directive: &Directive) {
+    show(rt, shown, &[b'0' + (directive.line() % 10) as u8, b':']);
+    show(rt, shown, directive.command());
     for i in 0..directive.arguments().len() {
         if let Some(argument) = directive.arg(i) {
-            show_argument(shown, argument)?;
+            show_argument(rt, shown, argument);
         }
     }
-    shown.push(b'/')?;
-    shown.extend_from_slice(directive.input())?;
-    shown.push(b'/')?;
-    shown.extend_from_slice(directive.expected())
+    show(rt, shown, b"/");
+    show(rt, shown, directive.input());
+    show(rt, shown, b"/");
+    show(rt, shown, directive.expected());
 }
 
-fn show_item(shown: &mut Vec<u8>, item: &Item) -> Result<(), AllocError> {
+fn show_item(rt: &impl Runtime, shown: &mut Vec<u8>, item: &Item) {
     match item {
-        Item::Directive(directive) => show_directive(shown, directive)?,
-        _ => show_lines(shown, item)?,
+        Item::Directive(directive) => show_directive(rt, shown, directive),
+        _ => show_lines(rt, shown, item),
     }
-    shown.push(b'|')?;
-    Ok(())
+    show(rt, shown, b"|");
+}
+
+fn show_fault(rt: &impl Runtime, shown: &mut Vec<u8>, fault: FileFault) {
+    let message = format!(in rt.alloc(); "{fault}").expect(rt, "a message");
+    show(rt, shown, message.as_bytes());
+}
+
+// The next item or the end, which is told, or the message of a fault.
+fn show_next_item<R: Source>(
+    rt: &impl Runtime,
+    shown: &mut Vec<u8>,
+    reader: &mut Reader,
+    source: &mut R,
+) -> bool {
+    match reader.next(source) {
+        Ok(Some(item)) => {
+            show_item(rt, shown, &item);
+            true
+        }
+        Ok(None) => false,
+        Err(fault) => {
+            show_fault(rt, shown, fault);
+            false
+        }
+    }
 }
 
 // Each item, and the message of the fault that ends them.
-fn shown<R: Source>(alloc: Global, source: &mut R) -> Result<Vec<u8>, Fail> {
-    let mut shown = Vec::new(alloc);
-    let mut reader = Reader::new(alloc)?;
+fn items_of<R: Source>(rt: &impl Runtime, source: &mut R) -> Vec<u8> {
+    let mut shown = Vec::new(rt.alloc());
+    let mut reader = Reader::new(rt.alloc()).expect(rt, "a reader");
+    let mut goes_on = true;
     for _ in 0..9 {
-        match reader.next(source) {
-            Ok(Some(item)) => show_item(&mut shown, &item)?,
-            Ok(None) => {}
-            Err(fault) => {
-                shown.extend_from_slice(format!(in alloc; "{fault}")?.as_bytes())?;
-                return Ok(shown);
-            }
-        }
+        goes_on = goes_on && show_next_item(rt, &mut shown, &mut reader, source);
     }
-    Ok(shown)
-}
-
-// The items of a script, each with an h before it where it was in hand.
-fn held_items(alloc: Global, input: &str) -> Result<Vec<u8>, Fail> {
-    let mut source = FromRead::new(input.as_bytes());
-    let mut reader = Reader::new(alloc)?;
-    let mut shown = Vec::new(alloc);
-    for _ in 0..9 {
-        if let Some(held) = reader.next_held(&source) {
-            shown.push(b'h')?;
-            if let Some(item) = held? {
-                show_item(&mut shown, &item)?;
-            }
-        } else if let Some(item) = reader.next(&mut source)? {
-            show_item(&mut shown, &item)?;
-        }
-    }
-    Ok(shown)
-}
-
-#[test]
-fn tells_items_in_hand(rt: HostRuntime) -> Result<(), Fail> {
-    let shown = held_items(rt.alloc(), "# a\nb\n\n----\n1\n\n\nc\n----\n2\n")?;
-    assert!(rt; shown.as_slice() == b"lines:<# a>|h2:b//1\n|hlines:<>|8:c//2\n|".as_slice());
-    Ok(())
+    shown
 }
 
 static SCRIPTS: [(&str, &str); 51] = [
@@ -253,34 +240,48 @@ static SCRIPTS: [(&str, &str); 51] = [
 ];
 
 #[test]
-fn reads_items(rt: HostRuntime) -> Result<(), Fail> {
+fn reads_items(rt: HostRuntime) {
     for (script, want) in &SCRIPTS {
-        let mut source = FromRead::new(script.as_bytes());
-        let found = shown(rt.alloc(), &mut source)?;
+        let found = items_of(&rt, &mut FromRead::new(script.as_bytes()));
         assert!(rt; found.as_slice() == want.as_bytes(), "at {script}");
-        let mut slow = byte_by_byte(script.as_bytes(), usize::MAX);
-        let found = shown(rt.alloc(), &mut slow)?;
-        assert!(rt; found.as_slice() == want.as_bytes(), "at {script}");
+        let slowly = items_of(&rt, &mut byte_by_byte(script.as_bytes(), usize::MAX));
+        assert!(rt; slowly.as_slice() == want.as_bytes(), "at {script}");
     }
-    Ok(())
 }
 
-// What is made of a line, with a line of input: a directive, if there is one, and a comment of the line.
-fn made(alloc: Global, line: &str, input: &str) -> Result<Vec<u8>, Fail> {
-    let mut lines = Vec::new(alloc);
-    lines.push(Vec::from_slice(alloc, input.as_bytes())?)?;
-    let line = line.as_bytes();
-    let mut shown = Vec::new(alloc);
-    if let Some(directive) = Item::directive(alloc, Vec::from_slice(alloc, line)?, lines)? {
-        show_item(&mut shown, &directive)?;
+// The next item with an h before it where it was in hand; nothing at the end.
+fn show_held_item<R: Source>(
+    rt: &impl Runtime,
+    shown: &mut Vec<u8>,
+    reader: &mut Reader,
+    source: &mut R,
+) {
+    let held = reader.next_held(source);
+    if held.is_some() {
+        show(rt, shown, b"h");
     }
-    show_item(
-        &mut shown,
-        &Item::comment(alloc, Vec::from_slice(alloc, line)?)?,
-    )?;
-    Ok(shown)
+    let found = match held {
+        Some(found) => found,
+        None => reader.next(source),
+    };
+    if let Some(item) = found.expect(rt, "an item or the end") {
+        show_item(rt, shown, &item);
+    }
 }
 
+#[test]
+fn tells_items_in_hand(rt: HostRuntime) {
+    let mut source = FromRead::new(b"# a\nb\n\n----\n1\n\n\nc\n----\n2\n".as_slice());
+    let mut reader = Reader::new(rt.alloc()).expect(&rt, "a reader");
+    let mut shown = Vec::new(rt.alloc());
+    for _ in 0..9 {
+        show_held_item(&rt, &mut shown, &mut reader, &mut source);
+    }
+    let wanted = b"lines:<# a>|h2:b//1\n|hlines:<>|8:c//2\n|".as_slice();
+    assert!(rt; shown.as_slice() == wanted);
+}
+
+// Lines, a line of input for each, and what is made of it: a directive, if there is one, and a comment of the line.
 static MADE: [(&str, &str, &str); 3] = [
     (
         "enter-joint autoleave=true",
@@ -291,21 +292,40 @@ static MADE: [(&str, &str, &str); 3] = [
     ("# nothing to do", "v1", "lines:<# nothing to do>|"),
 ];
 
-#[test]
-fn makes_items(rt: HostRuntime) -> Result<(), Fail> {
-    for (line, input, want) in &MADE {
-        let shown = made(rt.alloc(), *line, *input)?;
-        assert!(rt; shown.as_slice() == want.as_bytes(), "of {line}");
+fn copied(rt: &impl Runtime, text: &str) -> Vec<u8> {
+    Vec::from_slice(rt.alloc(), text.as_bytes()).expect(rt, "a copy")
+}
+
+fn show_made_directive(rt: &impl Runtime, shown: &mut Vec<u8>, line: &str, input: &str) {
+    let mut lines = Vec::new(rt.alloc());
+    lines.push(copied(rt, input)).expect(rt, "room");
+    let made = Item::directive(rt.alloc(), copied(rt, line), lines).expect(rt, "memory");
+    if let Some(directive) = made {
+        show_item(rt, shown, &directive);
     }
-    Ok(())
+}
+
+fn show_made_comment(rt: &impl Runtime, shown: &mut Vec<u8>, line: &str) {
+    let comment = Item::comment(rt.alloc(), copied(rt, line)).expect(rt, "memory");
+    show_item(rt, shown, &comment);
 }
 
 #[test]
-fn reads_little_ahead(rt: HostRuntime) -> Result<(), Fail> {
-    let script = vec![in rt.alloc(); b'\n'; 100_000]?;
+fn makes_items(rt: HostRuntime) {
+    for (line, input, want) in &MADE {
+        let mut shown = Vec::new(rt.alloc());
+        show_made_directive(&rt, &mut shown, *line, *input);
+        show_made_comment(&rt, &mut shown, *line);
+        assert!(rt; shown.as_slice() == want.as_bytes(), "of {line}");
+    }
+}
+
+#[test]
+fn reads_little_ahead(rt: HostRuntime) {
+    let script = vec![in rt.alloc(); b'\n'; 100_000].expect(&rt, "a script");
     let mut source = FromRead::new(script.as_slice());
-    let mut reader = Reader::new(rt.alloc())?;
-    assert!(rt; reader.next(&mut source)?.is_some());
+    let mut reader = Reader::new(rt.alloc()).expect(&rt, "a reader");
+    let first = reader.next(&mut source).expect(&rt, "an item");
+    assert!(rt; first.is_some());
     assert!(rt; source.into_inner().len() >= 100_000 - 1 - 4096);
-    Ok(())
 }
