@@ -1,9 +1,10 @@
 //! The changer: a tracker, and the three changes of its configuration. Each change makes the next changer out of one copy,
 //! and the calls that change in place assign it; so a refused change leaves nothing altered. Only `simple_one` asks first,
 //! and makes its change without a copy.
-ghost use Rattle.std.specs.Prelude.{◌≡◌, ◌-◌, ◌^◌, ◌↔◌, [], ◌∷◌, true, false, Some, Err, IfOk, OnErr};
+ghost use Rattle.std.specs.Prelude.{◌≡◌, ◌-◌, ◌^◌, ◌↔◌, [], ◌∷◌, true, false, not, nat_lt, Some, None, Err, IfOk, OnErr, if◌then◌else◌};
 ghost use Rattle.std.specs.FinMap as finite;
-ghost use Rattle.conf_change.specs.Configuration.{is_member};
+ghost use Rattle.quorum_sets.specs.Ids.{difference_count};
+ghost use Rattle.conf_change.specs.Configuration.{is_member, has_voter};
 ghost use Rattle.conf_change.specs.Acknowledgement.{acknowledged, ack_answer, changer_with_progress};
 ghost use Rattle.conf_change.specs.declared.floor.Floor.TheVariants.{One};
 ghost use Rattle.conf_change.specs.declared.progress.Progress.{Progress};
@@ -143,16 +144,13 @@ impl<S: MemberSet> Changer<S> {
             return Err(Refused::SimpleInJoint);
         }
         let after = self.tracker.after_changes(changes, self.fresh_next())?;
-        if !after.has_voter() {
-            return Err(Refused::RemovedAllVoters);
+        match simple_refusal(&self.tracker, &after) {
+            Some(refusal) => Err(refusal),
+            None => Ok(Changer {
+                tracker: after,
+                ..*self
+            }),
         }
-        if self.tracker.changed_voters(&after) > 1 {
-            return Err(Refused::MoreThanOneVoter);
-        }
-        Ok(Changer {
-            tracker: after,
-            ..*self
-        })
     }
 
     /// The changer after it entered a joint configuration: the voters so far become the outgoing ones, and the changes are
@@ -308,5 +306,19 @@ impl<S: MemberSet> Changer<S> {
         let progress = known.acknowledged(index);
         self.tracker.set_progress(id, progress);
         Ok(progress)
+    }
+}
+
+// Why a simple change does not lead from the one tracker, which is not joint, to the other; None where it does.
+fn simple_refusal<S: MemberSet>(before: &Tracker<S>, after: &Tracker<S>) -> Option<Refused>
+    ensures { result ≡ (if not (has_voter after.now.config) then Some Refused.RemovedAllVoters
+        else (if nat_lt 1 (difference_count before.now.config.incoming after.now.config.incoming) then Some Refused.MoreThanOneVoter else None)) }
+{
+    if !after.has_voter() {
+        Some(Refused::RemovedAllVoters)
+    } else if before.changed_voters(after) > 1 {
+        Some(Refused::MoreThanOneVoter)
+    } else {
+        None
     }
 }

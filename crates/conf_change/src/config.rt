@@ -63,11 +63,13 @@ impl<S: MemberSet> Config<S> {
     pub fn try_clone(&self) -> Result<Config<S>, NoMemory>
         ensures { IfOk result (λ copy. copy ≡ self.now) }
     {
+        let (incoming, outgoing) = both_cloned(&self.incoming, &self.outgoing)?;
+        let (learners, learners_next) = both_cloned(&self.learners, &self.learners_next)?;
         Ok(Config {
-            incoming: self.incoming.try_clone()?,
-            outgoing: self.outgoing.try_clone()?,
-            learners: self.learners.try_clone()?,
-            learners_next: self.learners_next.try_clone()?,
+            incoming,
+            outgoing,
+            learners,
+            learners_next,
             auto_leave: self.auto_leave,
         })
     }
@@ -79,6 +81,13 @@ impl<S: MemberSet> Config<S> {
     {
         has_same_parts(self, other)
     }
+}
+
+// The two sets once more.
+fn both_cloned<S: MemberSet>(a: &S, b: &S) -> Result<(S, S), NoMemory>
+    ensures { IfOk result (λ copies. (S.ids copies.0 ≡ S.ids a.now) × (S.ids copies.1 ≡ S.ids b.now)) }
+{
+    Ok((a.try_clone()?, b.try_clone()?))
 }
 
 // Whether the four sets and the flag are the same.
@@ -111,14 +120,24 @@ pub fn check<S: MemberSet>(config: &Config<S>) -> Result<(), Invariant>
     if !is_apart_from_both(&config.learners, &config.incoming, &config.outgoing) {
         return Err(Invariant::LearnerAndVoter);
     }
-    let joint = config.outgoing.len() != 0;
-    if !joint && config.learners_next.len() != 0 {
-        return Err(Invariant::NotJointButNext);
+    check_single(config)
+}
+
+// Answers the first invariant of a configuration that is not joint which is broken.
+fn check_single<S: MemberSet>(config: &Config<S>) -> Result<(), Invariant>
+    ensures kept { OnOk result ((keeps config.now Invariant.NotJointButNext && keeps config.now Invariant.NotJointButAutoLeave) ≡ true) }
+    ensures not_kept { OnErr result ((keeps config.now Invariant.NotJointButNext && keeps config.now Invariant.NotJointButAutoLeave) ≡ false) }
+    ensures broken { IfErr result (λ broken. broken ≡ (if keeps config.now Invariant.NotJointButNext then Invariant.NotJointButAutoLeave else Invariant.NotJointButNext)) }
+{
+    if config.outgoing.len() != 0 {
+        Ok(())
+    } else if config.learners_next.len() != 0 {
+        Err(Invariant::NotJointButNext)
+    } else if config.auto_leave {
+        Err(Invariant::NotJointButAutoLeave)
+    } else {
+        Ok(())
     }
-    if !joint && config.auto_leave {
-        return Err(Invariant::NotJointButAutoLeave);
-    }
-    Ok(())
 }
 
 // Whether one of the four sets holds 0.
