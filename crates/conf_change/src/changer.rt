@@ -174,13 +174,14 @@ impl<S: MemberSet> Changer<S> {
         let after = self
             .tracker
             .after_entering(auto_leave, changes, self.fresh_next())?;
-        if !after.has_voter() {
-            return Err(Refused::RemovedAllVoters);
+        if after.has_voter() {
+            Ok(Changer {
+                tracker: after,
+                ..*self
+            })
+        } else {
+            Err(Refused::RemovedAllVoters)
         }
-        Ok(Changer {
-            tracker: after,
-            ..*self
-        })
     }
 
     /// The changer after it left a joint configuration: the outgoing voters go, the next learners learn, and auto-leave is

@@ -139,9 +139,10 @@ impl<S: MemberSet> Tracker<S> {
     pub(crate) fn try_clone(&self) -> Result<Tracker<S>, NoMemory>
         ensures { IfOk result (λ copy. copy ≡ self.now) }
     {
+        let config = self.config.try_clone()?;
         let members = SmallVec::from_slice(self.alloc, self.members.as_slice())?;
         Ok(Tracker {
-            config: self.config.try_clone()?,
+            config,
             members,
             ..*self
         })
