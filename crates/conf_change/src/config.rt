@@ -63,13 +63,11 @@ impl<S: MemberSet> Config<S> {
     pub fn try_clone(&self) -> Result<Config<S>, NoMemory>
         ensures { IfOk result (λ copy. copy ≡ self.now) }
     {
-        let (incoming, outgoing) = both_cloned(&self.incoming, &self.outgoing)?;
-        let (learners, learners_next) = both_cloned(&self.learners, &self.learners_next)?;
         Ok(Config {
-            incoming,
-            outgoing,
-            learners,
-            learners_next,
+            incoming: self.incoming.try_clone()?,
+            outgoing: self.outgoing.try_clone()?,
+            learners: self.learners.try_clone()?,
+            learners_next: self.learners_next.try_clone()?,
             auto_leave: self.auto_leave,
         })
     }
@@ -81,13 +79,6 @@ impl<S: MemberSet> Config<S> {
     {
         has_same_parts(self, other)
     }
-}
-
-// The two sets once more.
-fn both_cloned<S: MemberSet>(a: &S, b: &S) -> Result<(S, S), NoMemory>
-    ensures { IfOk result (λ copies. (S.ids copies.0 ≡ S.ids a.now) × (S.ids copies.1 ≡ S.ids b.now)) }
-{
-    Ok((a.try_clone()?, b.try_clone()?))
 }
 
 // Whether the four sets and the flag are the same.

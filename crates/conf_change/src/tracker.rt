@@ -263,26 +263,19 @@ impl<S: MemberSet> Tracker<S> {
         requires members { (q : ℕ) → is_member (beginning self.now (S.ids outgoing) auto_leave).config q ≡ is_member self.now.config q }
         ensures { IfOk result (Applies next_index changes.now (beginning self.now (S.ids outgoing) auto_leave)) }
     {
-        let mut config = self.config_with(outgoing, auto_leave)?;
+        let mut config = Config {
+            incoming: self.config.incoming.try_clone()?,
+            outgoing,
+            learners: self.config.learners.try_clone()?,
+            learners_next: self.config.learners_next.try_clone()?,
+            auto_leave,
+        };
         let mut members = self.members_and_room(changes.len())?;
         for change in changes {
             edits::apply(&mut config, *change)?;
             follow(&mut members, &config, change.id, next_index)?;
         }
         Ok(Tracker::begin(self.alloc, self.floor, config, members))
-    }
-
-    // A copy of the configuration, but with these outgoing voters and this flag.
-    fn config_with(&self, outgoing: S, auto_leave: bool) -> Result<Config<S>, NoMemory>
-        ensures { IfOk result (λ config. config ≡ (beginning self.now (S.ids outgoing) auto_leave).config) }
-    {
-        Ok(Config {
-            incoming: self.config.incoming.try_clone()?,
-            outgoing,
-            learners: self.config.learners.try_clone()?,
-            learners_next: self.config.learners_next.try_clone()?,
-            auto_leave,
-        })
     }
 
     // A copy of the members, with room for more of them.

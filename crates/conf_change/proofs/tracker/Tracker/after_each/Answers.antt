@@ -1,10 +1,17 @@
+use Rattle.std.proofs.Common.{ap, ◌∙◌}
 use Rattle.conf_change.proofs.ListsOfChanges.ChangeByChange.{MadeSoFar-none, MadeSoFar-one_more}
 use Rattle.conf_change.proofs.tracker.Tracker.after_each.Goals as goal
 
 pub loop-change-init : goal.loop-change-init
 loop-change-init g c =
-    MadeSoFar-none c.args.next_index c.args.self.now (g.S.MemberSet.ids c.args.outgoing) c.args.auto_leave _ c.in_ok-members.members.items
-    c.requires.sound c.requires.members c.in_ok-members.ensures.rising c.in_ok-config.ensures c.in_ok-members.ensures.same
+    let out = g.S.MemberSet.ids c.args.outgoing in
+    let incoming = c.in_ok-try_clone.ensures ∙ ap (λ inside. inside.config.incoming) c.self-inside.view_is ∙ ap (λ t. t.config.incoming) c.self.view_is in
+    let learners = c.in_ok-try_clone-2.ensures ∙ ap (λ inside. inside.config.learners) c.self-inside.view_is ∙ ap (λ t. t.config.learners) c.self.view_is in
+    let next = c.in_ok-try_clone-3.ensures ∙ ap (λ inside. inside.config.learners_next) c.self-inside.view_is ∙ ap (λ t. t.config.learners_next) c.self.view_is in
+    MadeSoFar-none c.args.next_index c.args.self.now out c.args.auto_leave _ c.in_ok-members.members.items
+    c.requires.sound c.requires.members c.in_ok-members.ensures.rising
+    (λ i. record { incoming = incoming i; outgoing = out; learners = learners i; learners_next = next i; auto_leave = c.args.auto_leave })
+    c.in_ok-members.ensures.same
 
 pub loop-change-preserved : goal.loop-change-preserved
 loop-change-preserved g c =
