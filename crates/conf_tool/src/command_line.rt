@@ -1,6 +1,6 @@
 //! The words of the command line.
 ghost use Rattle.std.specs.Prelude.{◌≡◌, ◌≤◌, ◌<◌, ◌^◌, true, false, map, codes, option_map, IfOk, IfErr};
-ghost use Rattle.clap.specs.Words.{FailsBy, app_of, fault_of, first_of, found_of, kind_of, new_rule, rows_of, rule_of, subcommand_of, takes};
+ghost use Rattle.clap.specs.Words.{FailsBy, app_of, fault_of, first_of, found_of, kind_of, new_rule, rows_of, rule_of, subcommand_of, subcommand_rows_of, takes};
 ghost use Rattle.conf_tool.specs.Program.{program as the_program, OfProgram, with_mode, mode_command, script_command, undo_command, number_rule, words_rule, asked_mode, mode_named, asked_text, asked_floor, floor_named, IsAsked};
 ghost use Rattle.conf_tool.specs.Ranges.{IsInRange};
 
@@ -54,25 +54,51 @@ fn read_words<'a, S: AsStr>(
     ensures range { IfOk result (λ invocation. IsInRange invocation.options) }
 {
     let matches = program(alloc, floors)?.try_get_matches_from(words)?;
-    let (mode, file, history, steps, floor) = match matches.subcommand() {
-        Some((name, found)) => (
-            mode_of(name),
-            found.get_str("FILE"),
-            number_of(found, "history", 0, 1000, 100),
-            number_of(found, "steps", 1, 1000, 1),
-            floor_of(found),
-        ),
-        None => (Mode::Lines, None, 100, 1, Floor::One),
-    };
-    Ok(Invocation {
-        mode,
-        options: Options {
-            history,
-            steps,
-            floor,
+    Ok(invocation_of(&matches))
+}
+
+// What was read asks for.
+fn invocation_of<'a>(matches: &ArgMatches<'a>) -> Invocation<'a>
+    ensures mode { result.mode ≡ asked_mode (subcommand_rows_of matches.now) }
+    ensures file { option_map (λ name. name.now) result.file ≡ asked_text (codes "FILE") (subcommand_rows_of matches.now) }
+    ensures history { IsAsked 0 1000 100 (asked_text (codes "history") (subcommand_rows_of matches.now)) result.options.history }
+    ensures steps { IsAsked 1 1000 1 (asked_text (codes "steps") (subcommand_rows_of matches.now)) result.options.steps }
+    ensures floor { result.options.floor ≡ asked_floor (asked_text (codes "next-floor") (subcommand_rows_of matches.now)) }
+    ensures range { IsInRange result.options }
+{
+    match matches.subcommand() {
+        Some((name, found)) => Invocation {
+            mode: mode_of(name),
+            options: options_of(found),
+            file: file_of(found),
         },
-        file,
-    })
+        None => Invocation {
+            mode: Mode::Lines,
+            options: Options::default(),
+            file: None,
+        },
+    }
+}
+
+// The options of a mode, each with its default where it is left out.
+fn options_of(found: &ArgMatches<'_>) -> Options
+    ensures history { IsAsked 0 1000 100 (first_of (codes "history") (rows_of (found_of found.now))) result.history }
+    ensures steps { IsAsked 1 1000 1 (first_of (codes "steps") (rows_of (found_of found.now))) result.steps }
+    ensures floor { result.floor ≡ asked_floor (first_of (codes "next-floor") (rows_of (found_of found.now))) }
+    ensures range { IsInRange result }
+{
+    Options {
+        history: number_of(found, "history", 0, 1000, 100),
+        steps: number_of(found, "steps", 1, 1000, 1),
+        floor: floor_of(found),
+    }
+}
+
+// The file to read, if one is named.
+fn file_of<'a>(found: &ArgMatches<'a>) -> Option<&'a str>
+    ensures { option_map (λ name. name.now) result ≡ first_of (codes "FILE") (rows_of (found_of found.now)) }
+{
+    found.get_str("FILE")
 }
 
 // The number behind an option, or the default where it is left out. `clap` takes no number below the least or above the

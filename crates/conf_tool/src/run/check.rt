@@ -8,6 +8,7 @@ ghost use Rattle.conf_tool.specs.Reports.{found_for, session_after, differs, rep
 ghost use Rattle.conf_tool.specs.declared.tool_fault.ToolFault.TheVariants.{NoMemory as OutOfMemory};
 
 use super::part_by_part::PartByPart;
+use crate::options::Options;
 use crate::report::{Counts, append_difference};
 use crate::status::Status;
 use crate::tool_fault::ToolFault;
@@ -32,8 +33,17 @@ pub(super) struct Checking {
 }
 
 impl Checking {
-    /// Begins in a new session that keeps so many earlier configurations and has this floor.
-    pub(super) fn new(alloc: Global, history: usize, floor: Floor) -> Result<Checking, ToolFault>
+    /// Begins in a new session, by the options.
+    pub(super) fn with_options(alloc: Global, options: Options) -> Result<Checking, ToolFault>
+        ensures unread { IfOk result (λ mode. ⟦<Checking as PartByPart>⟧.reading mode ≡ fresh) }
+        ensures unwritten { IfOk result (λ mode. (held : Option (List ℕ)) → ⟦<Checking as PartByPart>⟧.HasAnswered mode (checked_script options.history options.floor) [] held held) }
+        ensures memory { IsOkUnless result OutOfMemory }
+    {
+        Checking::new(alloc, options.history, options.floor)
+    }
+
+    // Begins in a new session that keeps so many earlier configurations and has this floor.
+    fn new(alloc: Global, history: usize, floor: Floor) -> Result<Checking, ToolFault>
         ensures unread { IfOk result (λ mode. ⟦<Checking as PartByPart>⟧.reading mode ≡ fresh) }
         ensures unwritten { IfOk result (λ mode. (held : Option (List ℕ)) → ⟦<Checking as PartByPart>⟧.HasAnswered mode (checked_script history floor) [] held held) }
         ensures memory { IsOkUnless result OutOfMemory }
@@ -112,7 +122,9 @@ impl PartByPart for Checking {
     }
 
     fn answer<W: Sink>(&mut self, item: Item, writer: &mut W) -> Result<(), ToolFault> {
-        self.check_item(&item)?;
+        let checked = self.check_item(&item);
+        drop(item);
+        checked?;
         write_all(writer, self.text.as_slice())?;
         Ok(())
     }

@@ -10,6 +10,7 @@ ghost use Rattle.conf_tool.specs.declared.tool_fault.ToolFault.TheVariants.{NoMe
 
 use super::clean_unless::clean_unless;
 use super::part_by_part::PartByPart;
+use crate::options::Options;
 use crate::status::Status;
 use crate::tool_fault::ToolFault;
 use conf_change::Floor;
@@ -46,20 +47,20 @@ pub(super) fn run_item(
 fn write_entry<W: Sink>(
     rewriter: &mut Rewriter,
     writer: &mut W,
-    item: Item,
+    item: &Item,
     found: &[u8],
 ) -> Result<(), WriteFault>
     requires stage { rewriter.old.stage ≡ Stage.Ready }
     requires output { is_output found.now ≡ true }
     requires full { has_blank_line found.now ≡ false }
-    ensures written { OnOk result (Continues rewriter.old.newlines rewriter.new.newlines (W.contents writer.old) (W.contents writer.new) (entry_text item found.now)) }
-    ensures part { OnErr result (BreaksOff rewriter.old.newlines (W.contents writer.old) (W.contents writer.new) (entry_text item found.now)) }
+    ensures written { OnOk result (Continues rewriter.old.newlines rewriter.new.newlines (W.contents writer.old) (W.contents writer.new) (entry_text item.now found.now)) }
+    ensures part { OnErr result (BreaksOff rewriter.old.newlines (W.contents writer.old) (W.contents writer.new) (entry_text item.now found.now)) }
     ensures stage { OnOk result (rewriter.new.stage ≡ Stage.Ready) }
     // A fault is answered exactly where a write failed.
     ensures failed { OnErr result (W.has_failed writer.new ≡ true) }
     ensures sound { OnOk result (W.has_failed writer.new ≡ W.has_failed writer.old) }
 {
-    rewriter.keep(writer, &item)?;
+    rewriter.keep(writer, item)?;
     match item {
         Item::Directive(_) => rewriter.found_full_lines(writer, found),
         _ => Ok(()),
@@ -71,18 +72,18 @@ pub(super) fn rewrite_item<W: Sink>(
     alloc: Global,
     session: &mut Session,
     rewriter: &mut Rewriter,
-    item: Item,
+    item: &Item,
     writer: &mut W,
 ) -> Result<(), ToolFault>
     requires { rewriter.old.stage ≡ Stage.Ready }
-    ensures session { OnOk result (session.new ≡ session_after session.old item) }
-    ensures written { OnOk result (Continues rewriter.old.newlines rewriter.new.newlines (W.contents writer.old) (W.contents writer.new) (entry_text item (found_for session.old item))) }
-    ensures part { OnErr result (BreaksOff rewriter.old.newlines (W.contents writer.old) (W.contents writer.new) (entry_text item (found_for session.old item))) }
+    ensures session { OnOk result (session.new ≡ session_after session.old item.now) }
+    ensures written { OnOk result (Continues rewriter.old.newlines rewriter.new.newlines (W.contents writer.old) (W.contents writer.new) (entry_text item.now (found_for session.old item.now))) }
+    ensures part { OnErr result (BreaksOff rewriter.old.newlines (W.contents writer.old) (W.contents writer.new) (entry_text item.now (found_for session.old item.now))) }
     ensures stage { OnOk result (rewriter.new.stage ≡ Stage.Ready) }
     ensures write { W.has_failed writer.new ≡ (W.has_failed writer.old || is_write_fault result) }
     ensures kinds { IfErr result IsAnswerFault }
 {
-    let found = run_item(alloc, session, &item)?;
+    let found = run_item(alloc, session, item)?;
     write_entry(rewriter, writer, item, found.as_slice())?;
     Ok(())
 }
@@ -97,8 +98,17 @@ pub(super) struct Rewriting {
 }
 
 impl Rewriting {
-    /// Begins in a new session that keeps so many earlier configurations and has this floor.
-    pub(super) fn new(alloc: Global, history: usize, floor: Floor) -> Result<Rewriting, ToolFault>
+    /// Begins in a new session, by the options.
+    pub(super) fn with_options(alloc: Global, options: Options) -> Result<Rewriting, ToolFault>
+        ensures unread { IfOk result (λ mode. ⟦<Rewriting as PartByPart>⟧.reading mode ≡ fresh) }
+        ensures unwritten { IfOk result (λ mode. (held : Option (List ℕ)) → ⟦<Rewriting as PartByPart>⟧.HasAnswered mode (rewritten_script options.history options.floor) [] held held) }
+        ensures memory { IsOkUnless result OutOfMemory }
+    {
+        Rewriting::new(alloc, options.history, options.floor)
+    }
+
+    // Begins in a new session that keeps so many earlier configurations and has this floor.
+    fn new(alloc: Global, history: usize, floor: Floor) -> Result<Rewriting, ToolFault>
         ensures unread { IfOk result (λ mode. ⟦<Rewriting as PartByPart>⟧.reading mode ≡ fresh) }
         ensures unwritten { IfOk result (λ mode. (held : Option (List ℕ)) → ⟦<Rewriting as PartByPart>⟧.HasAnswered mode (rewritten_script history floor) [] held held) }
         ensures memory { IsOkUnless result OutOfMemory }
@@ -153,13 +163,15 @@ impl PartByPart for Rewriting {
     }
 
     fn answer<W: Sink>(&mut self, item: Item, writer: &mut W) -> Result<(), ToolFault> {
-        rewrite_item(
+        let answered = rewrite_item(
             self.alloc,
             &mut self.session,
             &mut self.rewriter,
-            item,
+            &item,
             writer,
-        )
+        );
+        drop(item);
+        answered
     }
 
     fn end<W: Sink>(

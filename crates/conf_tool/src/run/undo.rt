@@ -12,6 +12,7 @@ ghost use Rattle.conf_tool.specs.declared.tool_fault.ToolFault.TheVariants.{NoMe
 
 use super::part_by_part::PartByPart;
 use super::rewrite::{rewrite_item, run_item};
+use crate::options::Options;
 use crate::status::Status;
 use crate::tool_fault::ToolFault;
 use crate::undo_script::{comment, step_directive};
@@ -38,13 +39,18 @@ pub(super) struct Undoing {
 }
 
 impl Undoing {
-    /// Begins in a new session that keeps so many earlier configurations and has this floor, to undo so many changes, one at least.
-    pub(super) fn new(
-        alloc: Global,
-        history: usize,
-        floor: Floor,
-        steps: usize,
-    ) -> Result<Undoing, ToolFault>
+    /// Begins in a new session, by the options, to undo as many changes as they say, one at least.
+    pub(super) fn with_options(alloc: Global, options: Options) -> Result<Undoing, ToolFault>
+        requires { 1 ≤ options.steps }
+        ensures unread { IfOk result (λ mode. ⟦<Undoing as PartByPart>⟧.reading mode ≡ fresh) }
+        ensures unwritten { IfOk result (λ mode. (held : Option (List ℕ)) → ⟦<Undoing as PartByPart>⟧.HasAnswered mode (undone_script options.history options.floor options.steps) [] held held) }
+        ensures memory { IsOkUnless result OutOfMemory }
+    {
+        Undoing::new(alloc, options.history, options.floor, options.steps)
+    }
+
+    // Begins in a new session that keeps so many earlier configurations and has this floor, to undo so many changes, one at least.
+    fn new(alloc: Global, history: usize, floor: Floor, steps: usize) -> Result<Undoing, ToolFault>
         requires { 1 ≤ steps }
         ensures unread { IfOk result (λ mode. ⟦<Undoing as PartByPart>⟧.reading mode ≡ fresh) }
         ensures unwritten { IfOk result (λ mode. (held : Option (List ℕ)) → ⟦<Undoing as PartByPart>⟧.HasAnswered mode (undone_script history floor steps) [] held held) }
@@ -137,13 +143,15 @@ impl Undoing {
         ensures write { W.has_failed writer.new ≡ (W.has_failed writer.old || is_write_fault result) }
         ensures kinds { IfErr result IsAnswerFault }
     {
-        rewrite_item(
+        let written = rewrite_item(
             self.alloc,
             &mut self.session,
             &mut self.rewriter,
-            item,
+            &item,
             writer,
-        )
+        );
+        drop(item);
+        written
     }
 }
 
@@ -190,7 +198,9 @@ impl PartByPart for Undoing {
     // What a directive expects is not looked at, and nothing is written yet.
     fn answer<W: Sink>(&mut self, item: Item, writer: &mut W) -> Result<(), ToolFault> {
         let _ = &*writer;
-        let _found = run_item(self.alloc, &mut self.session, &item)?;
+        let obeyed = run_item(self.alloc, &mut self.session, &item);
+        drop(item);
+        obeyed?;
         Ok(())
     }
 

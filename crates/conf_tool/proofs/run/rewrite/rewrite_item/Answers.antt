@@ -13,10 +13,10 @@ returns-in_err-found-clause-part g c =
 pub returns-in_err-write_entry-clause-part : goal.returns-in_err-write_entry-clause-part
 returns-in_err-write_entry-clause-part g c =
     let p = err_from_is_err_and c.from_residual-in_err-write_entry.result c.from_residual-in_err-write_entry.ensures.1 in
-    rw p.1 (subst (λ found. BreaksOff c.args.rewriter.now.newlines (g.W.Sink.contents c.args.writer.now) (g.W.Sink.contents c.write_entry.new.writer) (entry_text c.args.item found))
+    rw p.1 (subst (λ found. BreaksOff c.args.rewriter.now.newlines (g.W.Sink.contents c.args.writer.now) (g.W.Sink.contents c.write_entry.new.writer) (entry_text c.args.item.now found))
     (c.as_slice.ensures.value ∙ c.in_ok-found.ensures.found) c.in_err-write_entry.ensures.part)
 
 pub returns-clause-written : goal.returns-clause-written
 returns-clause-written g c =
-    subst (λ found. Continues c.args.rewriter.now.newlines c.write_entry.new.rewriter.newlines (g.W.Sink.contents c.args.writer.now) (g.W.Sink.contents c.write_entry.new.writer) (entry_text c.args.item found))
+    subst (λ found. Continues c.args.rewriter.now.newlines c.write_entry.new.rewriter.newlines (g.W.Sink.contents c.args.writer.now) (g.W.Sink.contents c.write_entry.new.writer) (entry_text c.args.item.now found))
     (c.as_slice.ensures.value ∙ c.in_ok-found.ensures.found) c.in_ok-write_entry.ensures.written

@@ -1,0 +1,41 @@
+use Rattle.std.specs.Prelude.{Option, Some, None, option_map, option_and_then}
+use Rattle.std.proofs.Common.{List, ap, refl, ◌≡◌, ◌∙◌}
+use Rattle.std.specs.Box.{box_value}
+use Rattle.clap.specs.Words.{Row, subcommand_rows_of, Text, first_of, subcommand_name_of, subcommand_rows}
+use Rattle.clap.specs.declared.parser.matches.ArgMatches.{ArgMatches}
+use Rattle.clap.specs.declared.parser.matches.ArgMatches.TheViews.{out-ArgMatches, out-SubCommand}
+use Rattle.conf_tool.specs.declared.mode.Mode.{Mode}
+use Rattle.conf_tool.specs.declared.mode.Mode.TheVariants.{Lines}
+use Rattle.conf_tool.specs.Program.{mode_named, asked_mode, asked_text}
+use Rattle.conf_tool.proofs.command_line.invocation_of.Goals as goal
+
+-- a text by the rows alone
+text-in-rows : (id : Text) (found : Option (Text × List Row)) → option_and_then (first_of id) (option_map (λ p. p.1) found) ≡ asked_text id found
+text-in-rows id None = refl
+text-in-rows id (Some found) = refl
+
+-- a mode by the name alone
+abbrev mode-of-name : Option Text → Mode
+mode-of-name None = Lines
+mode-of-name (Some name) = mode_named name
+
+asked-mode-of-name : (found : Option (Text × List Row)) → mode-of-name (option_map (λ p. p.0) found) ≡ asked_mode found
+asked-mode-of-name None = refl
+asked-mode-of-name (Some found) = refl
+
+name-in-rows : (m : ArgMatches) → subcommand_name_of m ≡ option_map (λ p. p.0) (subcommand_rows_of m)
+name-in-rows m = elim (out-ArgMatches m).subcommand as (λ s. option_map (λ b. (out-SubCommand (box_value b)).name.now) s ≡ option_map (λ p. p.0) (subcommand_rows s)) [ None ↦ refl | Some b ↦ refl ]
+
+-- the mode that the rows name
+asked : (m : ArgMatches) (name : Option Text) → name ≡ subcommand_name_of m → mode-of-name name ≡ asked_mode (subcommand_rows_of m)
+asked m name is = ap mode-of-name (is ∙ name-in-rows m) ∙ asked-mode-of-name (subcommand_rows_of m)
+
+pub returns-in-Some-clause-mode : goal.returns-in-Some-clause-mode
+returns-in-Some-clause-mode c =
+    let named = asked c.args.matches.now (option_map (λ p. p.0.now) c.subcommand.result) c.subcommand.ensures.name in
+    c.mode_of.ensures ∙ (rw c.in-Some.is at named)
+
+pub returns-in-None-clause-mode : goal.returns-in-None-clause-mode
+returns-in-None-clause-mode c =
+    let named = asked c.args.matches.now (option_map (λ p. p.0.now) c.subcommand.result) c.subcommand.ensures.name in
+    rw c.in-None.is at named
