@@ -52,9 +52,9 @@ pub fn run<R: Source, W: Sink>(
 {
     match mode {
         Mode::Lines => run_by_part(LineByLine::new(alloc)?, reader, writer),
-        Mode::Check => run_by_part(Checking::with_options(alloc, options)?, reader, writer),
-        Mode::Rewrite => run_by_part(Rewriting::with_options(alloc, options)?, reader, writer),
-        Mode::Undo => run_by_part(Undoing::with_options(alloc, options)?, reader, writer),
+        Mode::Check => run_by_part(Checking::new(alloc, options)?, reader, writer),
+        Mode::Rewrite => run_by_part(Rewriting::new(alloc, options)?, reader, writer),
+        Mode::Undo => run_by_part(Undoing::new(alloc, options)?, reader, writer),
         Mode::Plan => run_by_part(Planning::new(alloc)?, reader, writer),
     }
 }

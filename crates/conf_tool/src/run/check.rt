@@ -12,7 +12,6 @@ use crate::options::Options;
 use crate::report::{Counts, append_difference};
 use crate::status::Status;
 use crate::tool_fault::ToolFault;
-use conf_change::Floor;
 use conf_session::Session;
 use dd_file::device::{Sink, Source};
 use dd_file::fault::FileFault;
@@ -34,23 +33,14 @@ pub(super) struct Checking {
 
 impl Checking {
     /// Begins in a new session, by the options.
-    pub(super) fn with_options(alloc: Global, options: Options) -> Result<Checking, ToolFault>
+    pub(super) fn new(alloc: Global, options: Options) -> Result<Checking, ToolFault>
         ensures unread { IfOk result (λ mode. ⟦<Checking as PartByPart>⟧.reading mode ≡ fresh) }
         ensures unwritten { IfOk result (λ mode. (held : Option (List ℕ)) → ⟦<Checking as PartByPart>⟧.HasAnswered mode (checked_script options.history options.floor) [] held held) }
         ensures memory { IsOkUnless result OutOfMemory }
     {
-        Checking::new(alloc, options.history, options.floor)
-    }
-
-    // Begins in a new session that keeps so many earlier configurations and has this floor.
-    fn new(alloc: Global, history: usize, floor: Floor) -> Result<Checking, ToolFault>
-        ensures unread { IfOk result (λ mode. ⟦<Checking as PartByPart>⟧.reading mode ≡ fresh) }
-        ensures unwritten { IfOk result (λ mode. (held : Option (List ℕ)) → ⟦<Checking as PartByPart>⟧.HasAnswered mode (checked_script history floor) [] held held) }
-        ensures memory { IsOkUnless result OutOfMemory }
-    {
         Ok(Checking {
             items: Reader::new(alloc)?,
-            session: Session::with_floor(alloc, history, floor)?,
+            session: Session::with_floor(alloc, options.history, options.floor)?,
             counts: Counts::new(),
             text: Vec::new(alloc),
         })

@@ -13,7 +13,6 @@ use super::part_by_part::PartByPart;
 use crate::options::Options;
 use crate::status::Status;
 use crate::tool_fault::ToolFault;
-use conf_change::Floor;
 use conf_session::Session;
 use dd_file::device::{Sink, Source};
 use dd_file::fault::{FileFault, WriteFault};
@@ -99,24 +98,15 @@ pub(super) struct Rewriting {
 
 impl Rewriting {
     /// Begins in a new session, by the options.
-    pub(super) fn with_options(alloc: Global, options: Options) -> Result<Rewriting, ToolFault>
+    pub(super) fn new(alloc: Global, options: Options) -> Result<Rewriting, ToolFault>
         ensures unread { IfOk result (λ mode. ⟦<Rewriting as PartByPart>⟧.reading mode ≡ fresh) }
         ensures unwritten { IfOk result (λ mode. (held : Option (List ℕ)) → ⟦<Rewriting as PartByPart>⟧.HasAnswered mode (rewritten_script options.history options.floor) [] held held) }
-        ensures memory { IsOkUnless result OutOfMemory }
-    {
-        Rewriting::new(alloc, options.history, options.floor)
-    }
-
-    // Begins in a new session that keeps so many earlier configurations and has this floor.
-    fn new(alloc: Global, history: usize, floor: Floor) -> Result<Rewriting, ToolFault>
-        ensures unread { IfOk result (λ mode. ⟦<Rewriting as PartByPart>⟧.reading mode ≡ fresh) }
-        ensures unwritten { IfOk result (λ mode. (held : Option (List ℕ)) → ⟦<Rewriting as PartByPart>⟧.HasAnswered mode (rewritten_script history floor) [] held held) }
         ensures memory { IsOkUnless result OutOfMemory }
     {
         Ok(Rewriting {
             alloc,
             items: Reader::new(alloc)?,
-            session: Session::with_floor(alloc, history, floor)?,
+            session: Session::with_floor(alloc, options.history, options.floor)?,
             rewriter: Rewriter::new(),
         })
     }

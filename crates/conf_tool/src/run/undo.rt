@@ -16,7 +16,6 @@ use crate::options::Options;
 use crate::status::Status;
 use crate::tool_fault::ToolFault;
 use crate::undo_script::{comment, step_directive};
-use conf_change::Floor;
 use conf_plan::Plan;
 use conf_session::{Session, UndoFault, undo_fault_text};
 use dd_file::device::{Sink, Source};
@@ -40,28 +39,18 @@ pub(super) struct Undoing {
 
 impl Undoing {
     /// Begins in a new session, by the options, to undo as many changes as they say, one at least.
-    pub(super) fn with_options(alloc: Global, options: Options) -> Result<Undoing, ToolFault>
+    pub(super) fn new(alloc: Global, options: Options) -> Result<Undoing, ToolFault>
         requires { 1 ≤ options.steps }
         ensures unread { IfOk result (λ mode. ⟦<Undoing as PartByPart>⟧.reading mode ≡ fresh) }
         ensures unwritten { IfOk result (λ mode. (held : Option (List ℕ)) → ⟦<Undoing as PartByPart>⟧.HasAnswered mode (undone_script options.history options.floor options.steps) [] held held) }
         ensures memory { IsOkUnless result OutOfMemory }
     {
-        Undoing::new(alloc, options.history, options.floor, options.steps)
-    }
-
-    // Begins in a new session that keeps so many earlier configurations and has this floor, to undo so many changes, one at least.
-    fn new(alloc: Global, history: usize, floor: Floor, steps: usize) -> Result<Undoing, ToolFault>
-        requires { 1 ≤ steps }
-        ensures unread { IfOk result (λ mode. ⟦<Undoing as PartByPart>⟧.reading mode ≡ fresh) }
-        ensures unwritten { IfOk result (λ mode. (held : Option (List ℕ)) → ⟦<Undoing as PartByPart>⟧.HasAnswered mode (undone_script history floor steps) [] held held) }
-        ensures memory { IsOkUnless result OutOfMemory }
-    {
         Ok(Undoing {
             alloc,
             items: Reader::new(alloc)?,
-            session: Session::with_floor(alloc, history, floor)?,
+            session: Session::with_floor(alloc, options.history, options.floor)?,
             rewriter: Rewriter::new(),
-            steps,
+            steps: options.steps,
         })
     }
 
