@@ -1,8 +1,9 @@
 //! The items of a script.
-ghost use Rattle.std.specs.Prelude.{◌≡◌, ◌≤◌, true, length, drop, IfOk, option_map, slice_get};
+ghost use Rattle.std.specs.Prelude.{◌≡◌, ◌≤◌, [], ◌∷◌, true, length, drop, map, IfOk, option_map, slice_get};
 ghost use Rattle.ascii_text.specs.WhiteSpace.{trimmed};
 ghost use Rattle.ascii_text.specs.Lines.{text_of};
-ghost use Rattle.dd_file.specs.Words.{has_keys};
+ghost use Rattle.dd_file.specs.Script.{directive};
+ghost use Rattle.dd_file.specs.Words.{has_keys, command_of};
 
 use crate::command::{Command, Name, parse_command};
 pub use crate::raw_lines::RawLines;
@@ -204,6 +205,20 @@ impl Directive {
     }
 }
 
+/// The directive that a line says with lines of input, if it says one.
+fn directive_of(alloc: Global, line: &[u8], input: &[Vec<u8>]) -> Result<Option<Item>, AllocError>
+    ensures { IfOk result (λ found. found ≡
+        option_map (λ command. directive 1 command (line.now ∷ []) (map (λ line. line.items) input.now) []) (command_of line.now)) }
+{
+    let Some(command) = parse_command(alloc, line)? else {
+        return Ok(None);
+    };
+    let mut lines = RawLines::new(alloc);
+    lines.push(line)?;
+    lines.push_all(input)?;
+    Ok(Some(Item::Directive(Directive::new(1, command, lines, 1, Vec::new(alloc)))))
+}
+
 /// An item of a script.
 #[derive(Drop)]
 pub enum Item {
@@ -216,10 +231,7 @@ pub enum Item {
 }
 
 impl Item {
-    ghost use Rattle.std.specs.Prelude.{◌≡◌, [], ◌∷◌, IfOk, option_map, slice_get, map};
     ghost use Rattle.dd_file.specs.Rewritten.{raw_lines_of, kept_text, is_directive};
-    ghost use Rattle.dd_file.specs.Script.{directive};
-    ghost use Rattle.dd_file.specs.Words.{command_of};
 
     /// A comment of one line, as it stands.
     pub fn comment(alloc: Global, line: Vec<u8>) -> Result<Item, AllocError>
@@ -240,15 +252,7 @@ impl Item {
         ensures { IfOk result (λ found. found ≡
             option_map (λ command. directive 1 command (line.items ∷ []) (map (λ line. line.items) input.items) []) (command_of line.items)) }
     {
-        let Some(command) = parse_command(alloc, line.as_slice())? else {
-            return Ok(None);
-        };
-        let mut lines = RawLines::new(alloc);
-        lines.push(line.as_slice())?;
-        for input_line in &input {
-            lines.push(input_line.as_slice())?;
-        }
-        Ok(Some(Item::Directive(Directive::new(1, command, lines, 1, Vec::new(alloc)))))
+        directive_of(alloc, line.as_slice(), input.as_slice())
     }
 
     /// The line at a place, counted from 0: a line of the item, of a directive one before its separator.

@@ -1,5 +1,5 @@
 //! Lines that lie in one text.
-ghost use Rattle.std.specs.Prelude.{◌≡◌, ◌≤◌, ◌<◌, ◌+◌, ◌-◌, ◌^◌, [], ◌∷◌, ◌++◌, length, take, drop, option_map, slice_get, slice_index_or, OnOk, OnErr};
+ghost use Rattle.std.specs.Prelude.{◌≡◌, ◌≤◌, ◌<◌, ◌+◌, ◌-◌, ◌^◌, [], ◌∷◌, ◌++◌, length, take, drop, map, option_map, slice_get, slice_index_or, OnOk, OnErr};
 ghost use Rattle.ascii_text.specs.Lines.{text_of};
 
 use crate::room::{append, make_room};
@@ -47,6 +47,16 @@ impl RawLines {
         self.ends.push(end)?;
         append(&mut self.text, line);
         append(&mut self.text, b"\n");
+        Ok(())
+    }
+
+    /// Adds a copy of each of some lines behind the others.
+    pub(crate) fn push_all(&mut self, lines: &[Vec<u8>]) -> Result<(), AllocError>
+        ensures { OnOk result (self.new ≡ self.old ++ map (λ line. line.items) lines.now) }
+    {
+        for line in lines {
+            self.push(line.as_slice())?;
+        }
         Ok(())
     }
 

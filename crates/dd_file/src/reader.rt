@@ -1,5 +1,5 @@
 //! Reading a script item by item.
-ghost use Rattle.std.specs.Prelude.{◌≡◌, None, false, IfOk, IfSome, IsOkUnless, OnOk};
+ghost use Rattle.std.specs.Prelude.{◌≡◌, None, true, false, IfOk, IfSome, IsOkUnless, OnOk};
 ghost use Rattle.dd_file.specs.Place.{longest_input};
 ghost use Rattle.dd_file.specs.Reading.{next_item};
 ghost use Rattle.dd_file.specs.ReaderState.{fresh, IsWithin};
@@ -69,12 +69,21 @@ impl Reader {
     pub fn next_held<R: Source>(&mut self, reader: &R) -> Option<Result<Option<Item>, FileFault>>
         ensures { HeldReadsOn R.remaining R.has_failed (λ item. item) (next_item longest_input) IsItemFault is_item_in_hand self.old self.new reader.now result }
     {
-        if self.fault.is_some() || !self.lines.can_tell() {
+        if !self.can_tell() {
             return None;
         }
         let answer = held_item(self.alloc, &mut self.lines, reader)?;
         self.fault = fault_in(&answer);
         Some(answer)
+    }
+
+    /// Whether what is held is told item by item: there is no fault, the end was not met, and the limit is not passed in it.
+    fn can_tell(&self) -> bool
+        ensures told { result ≡ true → CanTell self.now }
+        ensures untold { CanTell self.now → result ≡ true }
+        ensures within { result ≡ true → IsWithin self.now.held self.now.is_ended self.now.place.lines self.now.place.bytes }
+    {
+        self.fault.is_none() && self.lines.can_tell()
     }
 }
 
