@@ -1,18 +1,13 @@
-use Rattle.std.specs.Prelude.{Option, Some, None, option_map, option_and_then}
+use Rattle.std.specs.Prelude.{Option, Some, None, option_map}
 use Rattle.std.proofs.Common.{List, ap, refl, ◌≡◌, ◌∙◌}
 use Rattle.std.specs.Box.{box_value}
-use Rattle.clap.specs.Words.{Row, subcommand_rows_of, Text, first_of, subcommand_name_of, subcommand_rows}
+use Rattle.clap.specs.Words.{Row, subcommand_rows_of, Text, subcommand_name_of, subcommand_rows}
 use Rattle.clap.specs.declared.parser.matches.ArgMatches.{ArgMatches}
 use Rattle.clap.specs.declared.parser.matches.ArgMatches.TheViews.{out-ArgMatches, out-SubCommand}
 use Rattle.conf_tool.specs.declared.mode.Mode.{Mode}
 use Rattle.conf_tool.specs.declared.mode.Mode.TheVariants.{Lines}
-use Rattle.conf_tool.specs.Program.{mode_named, asked_mode, asked_text}
+use Rattle.conf_tool.specs.Program.{mode_named, asked_mode}
 use Rattle.conf_tool.proofs.command_line.invocation_of.Goals as goal
-
--- a text by the rows alone
-text-in-rows : (id : Text) (found : Option (Text × List Row)) → option_and_then (first_of id) (option_map (λ p. p.1) found) ≡ asked_text id found
-text-in-rows id None = refl
-text-in-rows id (Some found) = refl
 
 -- a mode by the name alone
 abbrev mode-of-name : Option Text → Mode
