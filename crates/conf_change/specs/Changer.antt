@@ -88,6 +88,11 @@ pub record GivesNext (before : ChangerState) (step : Step) (result : Result Chan
   pub overlap : IfOk result (OverlapAcross before)
   pub voter : has_voter before.tracker.config ≡ true → IfOk result (λ after. has_voter after.tracker.config ≡ true)
 
+-- what a call answers that leaves the next changer in its place
+abbrev pub left_in : Result (Unit {0}) Refused → ChangerState → Result ChangerState Refused
+left_in (Ok _) after = Ok after
+left_in (Err why) after = Err why
+
 -- What a call answers and leaves that makes a step in place: the same, and nothing is altered by a refusal (or want of memory).
 pub record Makes (before : ChangerState) (step : Step) (result : Result (Unit {0}) Refused) (after : ChangerState) : Type 0 where
   pub accepted : OnOk result (Accepts before step after)

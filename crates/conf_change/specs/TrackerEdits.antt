@@ -5,7 +5,7 @@ use Rattle.quorum_sets.specs.Ids.{Ids, has}
 use Rattle.conf_change.specs.Configuration.{Configuration, is_member}
 use Rattle.conf_change.specs.Change.{result_of, removes}
 use Rattle.conf_change.specs.Progress.{fresh_progress, with_mark}
-use Rattle.conf_change.specs.TrackerState.{TrackerState}
+use Rattle.conf_change.specs.TrackerState.{TrackerState, ProgressMap}
 use Rattle.conf_change.specs.declared.change.Change.{Change}
 use Rattle.conf_change.specs.declared.progress.Progress.{Progress}
 
@@ -20,6 +20,11 @@ entry_of next_index member learner had = if member then Some (with_mark learner 
 -- what an id is to have in a configuration, where it had this before
 abbrev pub entry_in : ℕ → Configuration → Option Progress → ℕ → Option Progress
 entry_in next_index c had id = entry_of next_index (is_member c id) (has c.learners id) had
+
+-- each id has what it is to have, and the id 0 nothing
+pub record IsDue (next_index : ℕ) (c : Configuration) (progress : ProgressMap) : Type 0 where
+  pub each : (id : ℕ) → finite.get progress id ≡ entry_in next_index c (finite.get progress id) id
+  pub nobody : finite.get progress 0 ≡ None
 
 -- what is left of what an id had, unless it is removed and does not go out
 abbrev pub progress_left_by_word : Bool → Bool → Option Progress → Option Progress

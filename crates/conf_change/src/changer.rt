@@ -1,6 +1,6 @@
 //! The changer: a tracker, and the three changes of its configuration. Each change makes the next changer out of one copy,
-//! and the calls that change in place assign it; so a refused change leaves nothing altered. Only `simple_one` asks first,
-//! and makes its change without a copy.
+//! which another changer may lend its memory for, and the calls that change in place assign it; so a refused change leaves
+//! nothing altered. Only `simple_one` asks first, and makes its change without a copy.
 ghost use Rattle.std.specs.Prelude.{◌≡◌, ◌-◌, ◌^◌, ◌↔◌, [], ◌∷◌, true, false, not, nat_lt, Some, None, Err, IfOk, OnErr, if◌then◌else◌};
 ghost use Rattle.std.specs.FinMap as finite;
 ghost use Rattle.quorum_sets.specs.Ids.{difference_count};
@@ -10,8 +10,8 @@ ghost use Rattle.conf_change.specs.declared.floor.Floor.TheVariants.{One};
 ghost use Rattle.conf_change.specs.declared.progress.Progress.{Progress};
 ghost use Rattle.conf_change.specs.declared.step.Step.TheVariants.{Simple, EnterJoint, LeaveJoint};
 ghost use Rattle.conf_change.specs.Progress.{fresh_next_of};
-ghost use Rattle.conf_change.specs.Transition.{step_taken};
-ghost use Rattle.conf_change.specs.Changer.{IsSound, GivesNext, Makes, new_changer, changer_of, with_last_index};
+ghost use Rattle.conf_change.specs.Transition.{step_of, step_taken};
+ghost use Rattle.conf_change.specs.Changer.{IsSound, GivesNext, Makes, left_in, new_changer, changer_of, with_last_index};
 
 use crate::acknowledgement::AckFault;
 use crate::change::Change;
@@ -124,12 +124,13 @@ impl<S: MemberSet> Changer<S> {
         })
     }
 
-    /// The configuration of a changer that is done with; its members' progress goes.
-    pub fn into_config(self) -> Config<S>
-        ensures config { result ≡ self.tracker.config }
-        ensures sound { IsSound self.tracker }
+    /// Takes the configuration out of a changer that is done with. Nobody is in it then.
+    pub fn take_config(&mut self) -> Config<S>
+        ensures config { result ≡ self.old.tracker.config }
+        ensures left { self.new ≡ new_changer self.old.tracker.floor self.old.last_index }
+        ensures sound { IsSound self.old.tracker }
     {
-        self.tracker.into_config()
+        self.tracker.take_config()
     }
 
     /// The changer after one voter at most changed, and any number of learners (etcd's `Simple`; Ongaro's dissertation,
@@ -140,17 +141,7 @@ impl<S: MemberSet> Changer<S> {
     pub fn after_simple(&self, changes: &[Change]) -> Result<Changer<S>, Refused>
         ensures { GivesNext self.now (Simple changes.now) result }
     {
-        if self.tracker.is_joint() {
-            return Err(Refused::SimpleInJoint);
-        }
-        let after = self.tracker.after_changes(changes, self.fresh_next())?;
-        match simple_refusal(&self.tracker, &after) {
-            Some(refusal) => Err(refusal),
-            None => Ok(Changer {
-                tracker: after,
-                ..*self
-            }),
-        }
+        self.next(Taken::Simple, changes)
     }
 
     /// The changer after it entered a joint configuration: the voters so far become the outgoing ones, and the changes are
@@ -165,23 +156,7 @@ impl<S: MemberSet> Changer<S> {
     ) -> Result<Changer<S>, Refused>
         ensures { GivesNext self.now (EnterJoint auto_leave changes.now) result }
     {
-        if self.tracker.is_joint() {
-            return Err(Refused::AlreadyJoint);
-        }
-        if !self.tracker.has_voter() {
-            return Err(Refused::ZeroVoterJoint);
-        }
-        let after = self
-            .tracker
-            .after_entering(auto_leave, changes, self.fresh_next())?;
-        if after.has_voter() {
-            Ok(Changer {
-                tracker: after,
-                ..*self
-            })
-        } else {
-            Err(Refused::RemovedAllVoters)
-        }
+        self.next(Taken::Enter(auto_leave), changes)
     }
 
     /// The changer after it left a joint configuration: the outgoing voters go, the next learners learn, and auto-leave is
@@ -192,13 +167,7 @@ impl<S: MemberSet> Changer<S> {
     pub fn after_leave_joint(&self) -> Result<Changer<S>, Refused>
         ensures { GivesNext self.now LeaveJoint result }
     {
-        if !self.tracker.is_joint() {
-            return Err(Refused::NotJoint);
-        }
-        Ok(Changer {
-            tracker: self.tracker.after_leaving()?,
-            ..*self
-        })
+        self.next(Taken::Leave, &[])
     }
 
     /// The changer after a step.
@@ -223,10 +192,47 @@ impl<S: MemberSet> Changer<S> {
     ) -> Result<Changer<S>, Refused>
         ensures { GivesNext self.now (step_taken transition changes.now) result }
     {
-        match taken(transition, changes) {
-            Taken::Simple => self.after_simple(changes),
-            Taken::Enter(auto_leave) => self.after_enter_joint(auto_leave, changes),
-            Taken::Leave => self.after_leave_joint(),
+        self.next(taken(transition, changes), changes)
+    }
+
+    // The changer after the step that is taken.
+    fn next(&self, taken: Taken, changes: &[Change]) -> Result<Changer<S>, Refused>
+        ensures { GivesNext self.now (step_of taken changes.now) result }
+    {
+        let mut next = self.nobody();
+        next.become_next(self, taken, changes)?;
+        Ok(next)
+    }
+
+    // The changer that nobody is in, with the same floor and last index.
+    fn nobody(&self) -> Changer<S>
+        ensures new { result ≡ new_changer self.now.tracker.floor self.now.last_index }
+        ensures sound { IsSound result.tracker }
+    {
+        Changer::begin(self.tracker.nobody(), self.last_index)
+    }
+
+    /// Becomes the changer after a step of another one, with the refusals of that step, over the memory that it has. After a
+    /// refusal nobody is in it. The changes of a step that leaves are not looked at.
+    pub fn become_next(
+        &mut self,
+        before: &Changer<S>,
+        taken: Taken,
+        changes: &[Change],
+    ) -> Result<(), Refused>
+        ensures next { GivesNext before.now (step_of taken changes.now) (left_in result self.new) }
+        ensures refused { OnErr result (self.new ≡ new_changer before.now.tracker.floor before.now.last_index) }
+        ensures sound { IsSound self.new.tracker }
+    {
+        match make_next(&mut self.tracker, before, taken, changes) {
+            Ok(()) => {
+                self.last_index = before.last_index;
+                Ok(())
+            }
+            Err(refused) => {
+                *self = before.nobody();
+                Err(refused)
+            }
         }
     }
 
@@ -308,6 +314,83 @@ impl<S: MemberSet> Changer<S> {
         self.tracker.set_progress(id, progress);
         Ok(progress)
     }
+}
+
+// Makes a tracker that of the changer after the step that is taken; where the step is refused, it is left on the way.
+fn make_next<S: MemberSet>(
+    tracker: &mut Tracker<S>,
+    before: &Changer<S>,
+    taken: Taken,
+    changes: &[Change],
+) -> Result<(), Refused>
+    ensures { GivesNext before.now (step_of taken changes.now) (left_in result (changer_of tracker.new before.now.last_index)) }
+{
+    match taken {
+        Taken::Simple => make_simple(tracker, before, changes),
+        Taken::Enter(auto_leave) => make_joint(tracker, before, auto_leave, changes),
+        Taken::Leave => make_left(tracker, before),
+    }
+}
+
+// Makes a tracker that of the changer after a simple change.
+fn make_simple<S: MemberSet>(
+    tracker: &mut Tracker<S>,
+    before: &Changer<S>,
+    changes: &[Change],
+) -> Result<(), Refused>
+    ensures { GivesNext before.now (Simple changes.now) (left_in result (changer_of tracker.new before.now.last_index)) }
+{
+    if before.tracker.is_joint() {
+        return Err(Refused::SimpleInJoint);
+    }
+    let config = before.tracker.config();
+    let next_index = before.fresh_next();
+    tracker.become_changed(
+        &before.tracker,
+        &config.outgoing,
+        config.auto_leave,
+        changes,
+        next_index,
+    )?;
+    match simple_refusal(&before.tracker, tracker) {
+        Some(refusal) => Err(refusal),
+        None => Ok(()),
+    }
+}
+
+// Makes a tracker that of the changer after it entered a joint configuration.
+fn make_joint<S: MemberSet>(
+    tracker: &mut Tracker<S>,
+    before: &Changer<S>,
+    auto_leave: bool,
+    changes: &[Change],
+) -> Result<(), Refused>
+    ensures { GivesNext before.now (EnterJoint auto_leave changes.now) (left_in result (changer_of tracker.new before.now.last_index)) }
+{
+    if before.tracker.is_joint() {
+        return Err(Refused::AlreadyJoint);
+    }
+    if !before.tracker.has_voter() {
+        return Err(Refused::ZeroVoterJoint);
+    }
+    let outgoing = &before.tracker.config().incoming;
+    let next_index = before.fresh_next();
+    tracker.become_changed(&before.tracker, outgoing, auto_leave, changes, next_index)?;
+    if !tracker.has_voter() {
+        return Err(Refused::RemovedAllVoters);
+    }
+    Ok(())
+}
+
+// Makes a tracker that of the changer after it left a joint configuration.
+fn make_left<S: MemberSet>(tracker: &mut Tracker<S>, before: &Changer<S>) -> Result<(), Refused>
+    ensures { GivesNext before.now LeaveJoint (left_in result (changer_of tracker.new before.now.last_index)) }
+{
+    if !before.tracker.is_joint() {
+        return Err(Refused::NotJoint);
+    }
+    tracker.become_left(&before.tracker)?;
+    Ok(())
 }
 
 // Why a simple change does not lead from the one tracker, which is not joint, to the other; None where it does.

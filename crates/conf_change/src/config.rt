@@ -1,10 +1,11 @@
 //! Configurations: who votes, who learns, and what is wrong with one that is not valid.
 ghost use Rattle.std.specs.Prelude.{◌≡◌, ◌↔◌, Some, true, false, not, ◌&&◌, IfOk, IfErr, OnOk, OnErr, IsOk, IsTrue, if◌then◌else◌};
 ghost use Rattle.quorum_sets.specs.Ids.{has};
-ghost use Rattle.conf_change.specs.Configuration.{first_broken, is_valid, keeps, is_within, is_apart, is_same, is_same_set};
+ghost use Rattle.conf_change.specs.Configuration.{empty_configuration, first_broken, is_valid, keeps, is_within, is_apart, is_same, is_same_set};
 ghost use Rattle.conf_change.specs.declared.config.Invariant.{Invariant};
 
 use quorum_sets::{MemberSet, NoMemory, has_next, symdiff};
+use std::alloc::Global;
 use std::marker::Model;
 use thiserror::Error;
 
@@ -59,6 +60,19 @@ pub enum Invariant {
 }
 
 impl<S: MemberSet> Config<S> {
+    // Nobody is in it.
+    pub(crate) fn empty(alloc: Global) -> Config<S>
+        ensures { result ≡ empty_configuration }
+    {
+        Config {
+            incoming: S::empty(alloc),
+            outgoing: S::empty(alloc),
+            learners: S::empty(alloc),
+            learners_next: S::empty(alloc),
+            auto_leave: false,
+        }
+    }
+
     /// The same configuration once more.
     pub fn try_clone(&self) -> Result<Config<S>, NoMemory>
         ensures { IfOk result (λ copy. copy ≡ self.now) }

@@ -6,9 +6,9 @@ ghost use Rattle.quorum_sets.specs.Ids.{has, with_id, without_id, is_empty, diff
 ghost use Rattle.quorum_sets.specs.Rising.{IsRising};
 ghost use Rattle.conf_change.specs.Configuration.{is_member, is_joint, has_voter};
 ghost use Rattle.conf_change.specs.Change.{result_of};
-ghost use Rattle.conf_change.specs.Outcome.{with_outgoing, after_leave};
+ghost use Rattle.conf_change.specs.Outcome.{after_leave};
 ghost use Rattle.conf_change.specs.Seat.{seat_in, is_member_seat};
-ghost use Rattle.conf_change.specs.TrackerEdits.{Applies, Keeps, beginning, entry_of, progress_left_by_word, entries_of, progress_kept};
+ghost use Rattle.conf_change.specs.TrackerEdits.{Applies, IsDue, Keeps, beginning, entry_of, progress_left_by_word, entries_of, progress_kept};
 ghost use Rattle.conf_change.specs.Changer.{IsSound, nobody, tracker_of};
 ghost use Rattle.conf_change.specs.Acknowledgement.{with_progress};
 
@@ -25,6 +25,7 @@ use quorum_sets::{MemberSet, NoMemory, has_next, symdiff};
 use smallvec::SmallVec;
 use std::alloc::Global;
 use std::marker::Model;
+use std::mem::replace;
 
 // Up to how many changes are made one after another.
 const SHORT_LIST: usize = 16;
@@ -62,13 +63,7 @@ impl<S: MemberSet> Tracker<S> {
         ensures { result ≡ nobody floor }
     {
         Tracker {
-            config: Config {
-                incoming: S::empty(alloc),
-                outgoing: S::empty(alloc),
-                learners: S::empty(alloc),
-                learners_next: S::empty(alloc),
-                auto_leave: false,
-            },
+            config: Config::empty(alloc),
             members: SmallVec::new(alloc),
             floor,
             alloc,
@@ -107,11 +102,13 @@ impl<S: MemberSet> Tracker<S> {
         self.floor
     }
 
-    // The configuration of a tracker that is done with.
-    pub(crate) fn into_config(self) -> Config<S>
-        ensures { result ≡ self.config }
+    // Takes the configuration out, and lets everybody go.
+    pub(crate) fn take_config(&mut self) -> Config<S>
+        ensures config { result ≡ self.old.config }
+        ensures left { self.new ≡ nobody self.old.floor }
     {
-        self.config
+        self.members.clear();
+        replace(&mut self.config, Config::empty(self.alloc))
     }
 
     /// The progress of the id; None where it is no member.
@@ -203,93 +200,62 @@ impl<S: MemberSet> Tracker<S> {
         symdiff(&self.config.incoming, &other.config.incoming)
     }
 
-    // The tracker after a list of changes; new members are sent this index next.
-    pub(crate) fn after_changes(
-        &self,
-        changes: &[Change],
-        next_index: u64,
-    ) -> Result<Tracker<S>, NoMemory>
-        requires { IsSound self.now }
-        ensures { IfOk result (Applies next_index changes.now self.now) }
+    // The tracker that nobody is in, with the same floor.
+    pub(crate) fn nobody(&self) -> Tracker<S>
+        ensures { result ≡ nobody self.now.floor }
     {
-        let outgoing = self.config.outgoing.try_clone()?;
-        self.after_list(outgoing, self.config.auto_leave, changes, next_index)
+        Tracker::new(self.alloc, self.floor)
     }
 
-    // The tracker that is joint, with the incoming voters for the outgoing ones, after a list of changes.
-    pub(crate) fn after_entering(
-        &self,
+    // Becomes what another one is after a list of changes, with these outgoing voters and this flag; new members are sent
+    // this index next. A short list is made in turn; each change of a longer one would move too much. Where memory is
+    // wanting, it is left on the way.
+    pub(crate) fn become_changed(
+        &mut self,
+        before: &Tracker<S>,
+        outgoing: &S,
         auto_leave: bool,
         changes: &[Change],
         next_index: u64,
-    ) -> Result<Tracker<S>, NoMemory>
-        requires sound { IsSound self.now }
-        requires single { is_joint self.now.config ≡ false }
-        ensures { IfOk result (Applies next_index changes.now (tracker_of self.now.floor (with_outgoing self.now.config auto_leave) self.now.progress)) }
+    ) -> Result<(), NoMemory>
+        requires sound { IsSound before.now }
+        requires members { (q : ℕ) → is_member (beginning before.now (S.ids outgoing.now) auto_leave).config q ≡ is_member before.now.config q }
+        ensures { OnOk result (Applies next_index changes.now (beginning before.now (S.ids outgoing.now) auto_leave) self.new) }
     {
-        let outgoing = self.config.incoming.try_clone()?;
-        self.after_list(outgoing, auto_leave, changes, next_index)
-    }
-
-    // The tracker with these outgoing voters and this flag, after a list of changes. A short one is made in turn; each
-    // change of a longer one would move too much.
-    fn after_list(
-        &self,
-        outgoing: S,
-        auto_leave: bool,
-        changes: &[Change],
-        next_index: u64,
-    ) -> Result<Tracker<S>, NoMemory>
-        requires sound { IsSound self.now }
-        requires members { (q : ℕ) → is_member (beginning self.now (S.ids outgoing) auto_leave).config q ≡ is_member self.now.config q }
-        ensures { IfOk result (Applies next_index changes.now (beginning self.now (S.ids outgoing) auto_leave)) }
-    {
-        if changes.len() <= SHORT_LIST {
-            self.after_each(outgoing, auto_leave, changes, next_index)
-        } else {
-            self.after_last_words(outgoing, auto_leave, changes, next_index)
+        if changes.len() > SHORT_LIST {
+            *self = before.after_last_words(
+                outgoing.try_clone()?,
+                auto_leave,
+                changes,
+                next_index,
+            )?;
+            return Ok(());
         }
+        self.begin_as(before, outgoing, auto_leave, changes.len())?;
+        make_each(&mut self.config, &mut self.members, changes, next_index)?;
+        Ok(())
     }
 
-    // The same by one change after another, made of a copy.
-    fn after_each(
-        &self,
-        outgoing: S,
+    // Becomes what another one is with these outgoing voters and this flag, with room for more members.
+    fn begin_as(
+        &mut self,
+        before: &Tracker<S>,
+        outgoing: &S,
         auto_leave: bool,
-        changes: &[Change],
-        next_index: u64,
-    ) -> Result<Tracker<S>, NoMemory>
-        requires sound { IsSound self.now }
-        requires members { (q : ℕ) → is_member (beginning self.now (S.ids outgoing) auto_leave).config q ≡ is_member self.now.config q }
-        ensures { IfOk result (Applies next_index changes.now (beginning self.now (S.ids outgoing) auto_leave)) }
+        more: usize,
+    ) -> Result<(), NoMemory>
+        ensures { OnOk result (self.new ≡ beginning before.now (S.ids outgoing.now) auto_leave) }
     {
-        let mut config = Config {
-            incoming: self.config.incoming.try_clone()?,
-            outgoing,
-            learners: self.config.learners.try_clone()?,
-            learners_next: self.config.learners_next.try_clone()?,
-            auto_leave,
-        };
-        let mut members = self.members_and_room(changes.len())?;
-        for change in changes {
-            edits::apply(&mut config, *change)?;
-            follow(&mut members, &config, change.id, next_index)?;
-        }
-        Ok(Tracker::begin(self.alloc, self.floor, config, members))
+        copy_ids(&mut self.config.incoming, &before.config.incoming)?;
+        copy_ids(&mut self.config.outgoing, outgoing)?;
+        copy_ids(&mut self.config.learners, &before.config.learners)?;
+        copy_ids(&mut self.config.learners_next, &before.config.learners_next)?;
+        self.config.auto_leave = auto_leave;
+        self.floor = before.floor;
+        copy_members(&mut self.members, before.members.as_slice(), more)
     }
 
-    // A copy of the members, with room for more of them.
-    fn members_and_room(&self, more: usize) -> Result<SmallVec<(u64, Progress), 1>, NoMemory>
-        ensures rising { IfOk result (λ members. IsRising (map (λ m. m.0) members.items)) }
-        ensures same { IfOk result (λ members. finite.from_entries {R = nat_cmp} members.items ≡ self.now.progress) }
-    {
-        let room = self.members.len().saturating_add(more);
-        let mut members = SmallVec::with_capacity(self.alloc, room)?;
-        members.extend_from_slice(self.members.as_slice())?;
-        Ok(members)
-    }
-
-    // The same by one walk over the last words.
+    // The tracker with these outgoing voters and this flag, after a list of changes, by one walk over the last words.
     fn after_last_words(
         &self,
         outgoing: S,
@@ -375,13 +341,14 @@ impl<S: MemberSet> Tracker<S> {
         }
     }
 
-    // The tracker that has left the joint configuration.
-    pub(crate) fn after_leaving(&self) -> Result<Tracker<S>, NoMemory>
-        ensures { IfOk result (Keeps (after_leave self.now.config) self.now) }
+    // Becomes what another one is when it has left the joint configuration. Where memory is wanting, it is left on the way.
+    pub(crate) fn become_left(&mut self, before: &Tracker<S>) -> Result<(), NoMemory>
+        ensures { OnOk result (Keeps (after_leave before.now.config) before.now self.new) }
     {
-        let config = edits::without_outgoing(&self.config, self.alloc)?;
-        let members = self.keeping(&config)?;
-        Ok(Tracker::begin(self.alloc, self.floor, config, members))
+        self.config = edits::without_outgoing(&before.config, self.alloc)?;
+        self.members = before.keeping(&self.config)?;
+        self.floor = before.floor;
+        Ok(())
     }
 
     // The members that are still in a configuration, with the progress that they have and their marks.
@@ -397,6 +364,50 @@ impl<S: MemberSet> Tracker<S> {
         }
         Ok(members)
     }
+}
+
+// Makes one change after another, of a configuration and its members. Where memory is wanting, some of them are made.
+fn make_each<S: MemberSet>(
+    config: &mut Config<S>,
+    members: &mut SmallVec<(u64, Progress), 1>,
+    changes: &[Change],
+    next_index: u64,
+) -> Result<(), NoMemory>
+    requires rising { IsRising (map (λ m. m.0) members.old.items) }
+    requires due { IsDue next_index config.old (finite.from_entries members.old.items) }
+    ensures rising { IsRising (map (λ m. m.0) members.new.items) }
+    ensures made { OnOk result ((floor : Floor) → Applies next_index changes.now
+        (tracker_of floor config.old (finite.from_entries members.old.items)) (tracker_of floor config.new (finite.from_entries members.new.items))) }
+{
+    for change in changes {
+        edits::apply(config, *change)?;
+        follow(members, config, change.id, next_index)?;
+    }
+    Ok(())
+}
+
+// Makes a set the same as another one.
+fn copy_ids<S: MemberSet>(set: &mut S, other: &S) -> Result<(), NoMemory>
+    ensures { OnOk result (S.ids set.new ≡ S.ids other.now) }
+{
+    *set = other.try_clone()?;
+    Ok(())
+}
+
+// Makes the members these, with room for more of them.
+fn copy_members(
+    members: &mut SmallVec<(u64, Progress), 1>,
+    others: &[(u64, Progress)],
+    more: usize,
+) -> Result<(), NoMemory>
+    requires { IsRising (map (λ m. m.0) others.now) }
+    ensures rising { IsRising (map (λ m. m.0) members.new.items) }
+    ensures same { OnOk result (members.new.items ≡ others.now) }
+{
+    members.clear();
+    members.reserve(others.len().saturating_add(more))?;
+    members.extend_from_slice(others)?;
+    Ok(())
 }
 
 // Whether the set has another id than this one.

@@ -12,9 +12,10 @@ use Rattle.quorum_sets.specs.Rising.{IsRising}
 use Rattle.conf_change.specs.Configuration.{Configuration, is_member, is_joint}
 use Rattle.conf_change.specs.Change.{is_update, is_removal, is_incoming_after, is_learner_after, result_of, removes}
 use Rattle.conf_change.specs.TrackerState.{TrackerState, ProgressMap}
-use Rattle.conf_change.specs.TrackerEdits.{beginning, entry_of, entry_in, progress_left, progress_left_by_word, Applies}
+use Rattle.conf_change.specs.TrackerEdits.{beginning, entry_of, entry_in, progress_left, progress_left_by_word, Applies, IsDue}
 use Rattle.conf_change.specs.Changer.{IsSound, tracker_of}
 use Rattle.conf_change.specs.declared.change.Change.{Change}
+use Rattle.conf_change.specs.declared.floor.Floor.{Floor}
 use Rattle.conf_change.specs.declared.change.Kind.{Kind}
 use Rattle.conf_change.specs.declared.change.Kind.TheVariants.{Voter, Learner, Remove, Update}
 use Rattle.conf_change.specs.declared.progress.Progress.{Progress}
@@ -113,10 +114,6 @@ step_at next_index Update true false incoming out learner removed had none here 
 }
 
 -- ---- a tracker
--- each id has what it is to have
-abbrev HasDueEntries : ℕ → TrackerState → Type 0
-HasDueEntries next_index t = (id : ℕ) → finite.get t.progress id ≡ entry_in next_index t.config (finite.get t.progress id) id
-
 -- the tracker after the changes so far
 pub record AppliedSoFar (next_index : ℕ) (changes : List Change) (before after : TrackerState) : Type 0 where
   pub applied : Applies next_index changes before after
@@ -131,10 +128,10 @@ removes-push : (xs : List Change) (x : Change) (q : ℕ) → removes (xs ++ x �
 removes-push xs x q =
     list_any-append (λ change. (change.id == q) && is_removal change.kind) xs (x ∷ []) ∙ or_false (removes xs q) ((x.id == q) && is_removal x.kind)
 
-applied_none : (next_index : ℕ) (t : TrackerState) → HasDueEntries next_index t → AppliedSoFar next_index [] t t
-applied_none next_index t in_line = record {
-  applied = record { configuration = result_of-none t.config; floor = refl; entries = in_line };
-  members = λ q e. sym (is_some-entry (is_member t.config q) _) ∙ sym (ap is_some (in_line q)) ∙ e;
+applied_none : (next_index : ℕ) (t : TrackerState) → IsDue next_index t.config t.progress → AppliedSoFar next_index [] t t
+applied_none next_index t due = record {
+  applied = record { configuration = result_of-none t.config; floor = refl; entries = due.each };
+  members = λ q e. sym (is_some-entry (is_member t.config q) _) ∙ sym (ap is_some (due.each q)) ∙ e;
 }
   where
     is_some-entry : (b : Bool) (p : Progress) → is_some (cond b (Some p) None) ≡ b
@@ -220,27 +217,6 @@ HasSameMembers-entering t outgoing auto_leave same single q =
     twice true b = refl
     twice false b = refl
 
-HasDueEntries-beginning : (next_index : ℕ) (t : TrackerState) (outgoing : Ids) (auto_leave : Bool) → IsSound t → HasSameMembers t outgoing auto_leave → HasDueEntries next_index (beginning t outgoing auto_leave)
-HasDueEntries-beginning next_index t outgoing auto_leave sound members q =
-    entry_in-due next_index (finite.get t.progress q) _ (has t.config.learners q) (sound.of_members q ∙ sym (members q)) (sound.marked q)
-
--- what is made of the first changes: the configuration, and the list of the members
-pub record MadeSoFar (next_index : ℕ) (t : TrackerState) (outgoing : Ids) (auto_leave : Bool) (changes : List Change) (c : Configuration) (members : List (ℕ × Progress)) : Type 0 where
-  pub rising : IsRising (map (λ m. m.0) members)
-  pub so_far : AppliedSoFar next_index changes (beginning t outgoing auto_leave) (tracker_of t.floor c (finite.from_entries {R = nat_cmp} members))
-
-pub MadeSoFar-none : (next_index : ℕ) (t : TrackerState) (outgoing : Ids) (auto_leave : Bool) (c : Configuration) (members : List (ℕ × Progress))
-    → IsSound t → HasSameMembers t outgoing auto_leave → IsRising (map (λ m. m.0) members)
-    → c ≡ (beginning t outgoing auto_leave).config → finite.from_entries {R = nat_cmp} members ≡ t.progress
-    → MadeSoFar next_index t outgoing auto_leave [] c members
-MadeSoFar-none next_index t outgoing auto_leave c members sound same rising same_config same_progress =
-    let start = beginning t outgoing auto_leave in
-    let P : TrackerState → Type 0 = AppliedSoFar next_index [] start in
-    record {
-      rising = rising;
-      so_far = subst P (λ i. tracker_of t.floor (sym same_config i) (sym same_progress i)) (applied_none next_index start (HasDueEntries-beginning next_index t outgoing auto_leave sound same));
-    }
-
 no_progress_of_zero : (t : TrackerState) → IsSound t → finite.get t.progress 0 ≡ None
 no_progress_of_zero t sound =
     let valid = ValidByMember-from_is_valid t.config (and_parts _ _ sound.restorable).0 in
@@ -251,20 +227,45 @@ no_progress_of_zero t sound =
     nothing None e = refl
     nothing (Some p) e = absurd (false≢true (sym e))
 
+pub IsDue-beginning : (next_index : ℕ) (t : TrackerState) (outgoing : Ids) (auto_leave : Bool) → IsSound t → HasSameMembers t outgoing auto_leave
+    → IsDue next_index (beginning t outgoing auto_leave).config t.progress
+IsDue-beginning next_index t outgoing auto_leave sound members = record {
+  each = λ q. entry_in-due next_index (finite.get t.progress q) _ (has t.config.learners q) (sound.of_members q ∙ sym (members q)) (sound.marked q);
+  nobody = no_progress_of_zero t sound;
+}
+
+-- ---- a configuration, and the list of its members
+abbrev tracker_at : Floor → Configuration → List (ℕ × Progress) → TrackerState
+tracker_at floor c members = tracker_of floor c (finite.from_entries {R = nat_cmp} members)
+
+abbrev DueOf : ℕ → Configuration → List (ℕ × Progress) → Type 0
+DueOf next_index c members = IsDue next_index c (finite.from_entries {R = nat_cmp} members)
+
+-- what is made of the first changes, whatever the floor
+pub record MadeSoFar (next_index : ℕ) (start : Configuration) (first : List (ℕ × Progress)) (changes : List Change) (c : Configuration) (members : List (ℕ × Progress)) : Type 0 where
+  pub rising : IsRising (map (λ m. m.0) members)
+  pub so_far : (floor : Floor) → AppliedSoFar next_index changes (tracker_at floor start first) (tracker_at floor c members)
+
+pub MadeSoFar-none : (next_index : ℕ) (c : Configuration) (members : List (ℕ × Progress)) → IsRising (map (λ m. m.0) members) → DueOf next_index c members
+    → MadeSoFar next_index c members [] c members
+MadeSoFar-none next_index c members rising due = record {
+  rising = rising;
+  so_far = λ floor. applied_none next_index (tracker_at floor c members) due;
+}
+
 -- one more change
-pub MadeSoFar-one_more : (next_index : ℕ) (t : TrackerState) (outgoing : Ids) (auto_leave : Bool) (changes : List Change) (k : ℕ) (d : Change)
+pub MadeSoFar-one_more : (next_index : ℕ) (start : Configuration) (first : List (ℕ × Progress)) (changes : List Change) (k : ℕ) (d : Change)
     (now after : Configuration) (members members' : List (ℕ × Progress))
-    → IsSound t → k < length changes → MadeSoFar next_index t outgoing auto_leave (take k changes) now members
+    → DueOf next_index start first → k < length changes → MadeSoFar next_index start first (take k changes) now members
     → after ≡ result_of now (get_or changes k d ∷ []) → IsRising (map (λ m. m.0) members')
     → Follows next_index (get_or changes k d).id after (finite.from_entries {R = nat_cmp} members) (finite.from_entries {R = nat_cmp} members')
-    → MadeSoFar next_index t outgoing auto_leave (take (k + 1) changes) after members'
-MadeSoFar-one_more next_index t outgoing auto_leave changes k d now after members members' sound within made_so_far is rising follows =
+    → MadeSoFar next_index start first (take (k + 1) changes) after members'
+MadeSoFar-one_more next_index start first changes k d now after members members' due within made_so_far is rising follows =
     rw (take_more changes k d within) (record {
       rising = rising;
-      so_far =
-          applied_more next_index (take k changes) (get_or changes k d) (beginning t outgoing auto_leave)
-          (tracker_of t.floor now (finite.from_entries {R = nat_cmp} members)) (tracker_of t.floor after (finite.from_entries {R = nat_cmp} members'))
-          (no_progress_of_zero t sound) made_so_far.so_far is refl follows;
+      so_far = λ floor.
+          applied_more next_index (take k changes) (get_or changes k d) (tracker_at floor start first) (tracker_at floor now members) (tracker_at floor after members')
+          due.nobody (made_so_far.so_far floor) is refl follows;
     })
 
 -- ---- one change alone
@@ -272,5 +273,5 @@ pub Applies-one : (next_index : ℕ) (x : Change) (before after : TrackerState) 
     → after.config ≡ result_of before.config (x ∷ []) → after.floor ≡ before.floor → Follows next_index x.id after.config before.progress after.progress
     → Applies next_index (x ∷ []) before after
 Applies-one next_index x before after sound made floor follows =
-    let due = HasDueEntries-beginning next_index before before.config.outgoing before.config.auto_leave sound (λ q. refl) in
-    (applied_more next_index [] x before before after (no_progress_of_zero before sound) (applied_none next_index before due) made floor follows).applied
+    let due = IsDue-beginning next_index before before.config.outgoing before.config.auto_leave sound (λ q. refl) in
+    (applied_more next_index [] x before before after due.nobody (applied_none next_index before due) made floor follows).applied

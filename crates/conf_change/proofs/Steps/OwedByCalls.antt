@@ -69,8 +69,8 @@ GivesNext-from_entries before step after sound e floor entries =
     }
 
 -- the same of the changer as it is seen
-pub GivesNext-seen_as : (before now : ChangerState) (step : Step) (after : ChangerState) → before ≡ now → GivesNext before step (Ok after) → GivesNext now step (Ok after)
-GivesNext-seen_as before now step after same next = let P : ChangerState → Type 0 = λ b. GivesNext b step (Ok after) in subst P same next
+pub GivesNext-seen_as : (before now : ChangerState) (step : Step) (after : ChangerState → ChangerState) → before ≡ now → GivesNext before step (Ok (after before)) → GivesNext now step (Ok (after now))
+GivesNext-seen_as before now step after same next = let P : ChangerState → Type 0 = λ b. GivesNext b step (Ok (after b)) in subst P same next
 
 -- ---- a simple change
 -- the outgoing voters stay

@@ -16,7 +16,7 @@ given : (g : Over) (c : In_ok-make_change g)
 given g c =
     let config = c.self.inside.tracker.config in
     let applied = c.in_ok-make_change.ensures.ok in
-    GivesNext-seen_as _ _ _ _ c.self.view_is
+    GivesNext-seen_as _ _ _ (λ _. changer_of c.make_change.new.self c.self.inside.last_index) c.self.view_is
     (GivesNext-simple (changer_of c.self.inside.tracker c.self.inside.last_index) (c.args.change ∷ []) c.fresh_next-next_index.result c.self.inside.tracker c.make_change.new.self
     c.self.invariant (c.fresh_next-next_index.ensures ∙ ap fresh_next_of (sym c.self.view_is)) refl (sym c.if-is_joint.ensures) applied
     (ap has_voter applied.configuration ∙ sym c.if-not-has_voter_after.ensures)

@@ -1,0 +1,7 @@
+use Rattle.std.proofs.Common.{sym, subst}
+use Rattle.conf_change.specs.Changer.{IsSound, TrackerState}
+use Rattle.conf_change.proofs.Steps.NobodyTracked.{nobody-is_sound}
+use Rattle.conf_change.proofs.changer.Changer.take_config.Goals as goal
+
+pub invariant_of-self : goal.invariant_of-self
+invariant_of-self g c = let P : TrackerState → Type 0 = IsSound in subst P (sym c.take_config.ensures.left) (nobody-is_sound _)
