@@ -174,14 +174,7 @@ impl<S: MemberSet> Changer<S> {
     pub fn after_step(&self, step: &Step) -> Result<Changer<S>, Refused>
         ensures { GivesNext self.now step.now result }
     {
-        match step {
-            Step::Simple(changes) => self.after_simple(changes.as_slice()),
-            Step::EnterJoint(auto_leave, changes) => self.after_enter_joint(
-                *auto_leave,
-                changes.as_slice(),
-            ),
-            Step::LeaveJoint => self.after_leave_joint(),
-        }
+        self.next(step.taken(), step.changes())
     }
 
     /// The changer after the change that a list takes, as `taken` names it, with its refusals.
@@ -255,39 +248,44 @@ impl<S: MemberSet> Changer<S> {
     pub fn simple(&mut self, changes: &[Change]) -> Result<(), Refused>
         ensures { Makes self.old (Simple changes.now) result self.new }
     {
-        *self = self.after_simple(changes)?;
-        Ok(())
+        self.make(Taken::Simple, changes)
     }
 
     /// Enters a joint configuration: `after_enter_joint` in place.
     pub fn enter_joint(&mut self, auto_leave: bool, changes: &[Change]) -> Result<(), Refused>
         ensures { Makes self.old (EnterJoint auto_leave changes.now) result self.new }
     {
-        *self = self.after_enter_joint(auto_leave, changes)?;
-        Ok(())
+        self.make(Taken::Enter(auto_leave), changes)
     }
 
     /// Leaves a joint configuration: `after_leave_joint` in place.
     pub fn leave_joint(&mut self) -> Result<(), Refused>
         ensures { Makes self.old LeaveJoint result self.new }
     {
-        *self = self.after_leave_joint()?;
-        Ok(())
+        self.make(Taken::Leave, &[])
     }
 
     /// Makes a step: `after_step` in place.
     pub fn step(&mut self, step: &Step) -> Result<(), Refused>
         ensures { Makes self.old step.now result self.new }
     {
-        *self = self.after_step(step)?;
-        Ok(())
+        self.make(step.taken(), step.changes())
     }
 
     /// Makes the change that a list takes: `after_change` in place.
     pub fn change(&mut self, transition: Transition, changes: &[Change]) -> Result<(), Refused>
         ensures { Makes self.old (step_taken transition changes.now) result self.new }
     {
-        *self = self.after_change(transition, changes)?;
+        self.make(taken(transition, changes), changes)
+    }
+
+    // Makes the step that is taken.
+    fn make(&mut self, taken: Taken, changes: &[Change]) -> Result<(), Refused>
+        ensures { Makes self.old (step_of taken changes.now) result self.new }
+    {
+        let mut next = self.nobody();
+        next.become_next(self, taken, changes)?;
+        *self = next;
         Ok(())
     }
 

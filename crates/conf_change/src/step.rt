@@ -1,6 +1,7 @@
 //! Steps from one configuration to another.
 ghost use Rattle.std.specs.Prelude.{◌≡◌};
 ghost use Rattle.conf_change.specs.Step.{changes_of};
+ghost use Rattle.conf_change.specs.Transition.{step_of};
 
 use crate::change::{Change, Changes};
 
@@ -35,6 +36,17 @@ impl Step {
         match self {
             Step::Simple(changes) | Step::EnterJoint(_, changes) => changes.as_slice(),
             Step::LeaveJoint => &[],
+        }
+    }
+
+    // The step without its changes.
+    pub(crate) fn taken(&self) -> Taken
+        ensures { step_of result (changes_of self.now) ≡ self.now }
+    {
+        match self {
+            Step::Simple(_) => Taken::Simple,
+            Step::EnterJoint(auto_leave, _) => Taken::Enter(*auto_leave),
+            Step::LeaveJoint => Taken::Leave,
         }
     }
 }

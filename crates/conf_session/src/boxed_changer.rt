@@ -1,9 +1,10 @@
 //! A changer on the heap.
 ghost use Rattle.std.specs.Prelude.{◌≡◌, IfOk};
-ghost use Rattle.conf_change.specs.Changer.{IsSound, with_last_index};
+ghost use Rattle.conf_change.specs.Changer.{GivesNext, IsSound, left_in, with_last_index};
+ghost use Rattle.conf_change.specs.Transition.{step_of};
 
 use crate::session_ids::SessionIds;
-use conf_change::{Changer, Config};
+use conf_change::{Change, Changer, Config, Refused, Taken};
 use quorum_sets::NoMemory;
 use std::alloc::Global;
 use std::marker::Model;
@@ -53,10 +54,22 @@ impl BoxedChanger {
         self.changer.set_last_index(last_index);
     }
 
-    /// The configuration of a changer that is done with.
-    pub(crate) fn into_config(self) -> Config<SessionIds>
-        ensures { result ≡ self.tracker.config }
+    /// Becomes the changer after a step of another one.
+    pub(crate) fn become_next(
+        &mut self,
+        before: &Changer<SessionIds>,
+        taken: Taken,
+        changes: &[Change],
+    ) -> Result<(), Refused>
+        ensures { GivesNext before.now (step_of taken changes.now) (left_in result self.new) }
     {
-        Box::into_inner(self.changer).into_config()
+        self.changer.become_next(before, taken, changes)
+    }
+
+    /// Takes the configuration out of a changer that is done with.
+    pub(crate) fn take_config(&mut self) -> Config<SessionIds>
+        ensures { result ≡ self.old.tracker.config }
+    {
+        self.changer.take_config()
     }
 }

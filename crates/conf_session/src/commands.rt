@@ -18,6 +18,7 @@ mod undo;
 mod unknown;
 mod vote;
 
+use crate::boxed_changer::BoxedChanger;
 use crate::laws::found_text_stands;
 use crate::parameter::Parameter;
 use crate::reply::Reply;
@@ -90,10 +91,11 @@ fn parameters_of(command: Command) -> &'static [Parameter]
     }
 }
 
-/// Carries out a directive.
+/// Carries out a directive. The changer that is spare becomes the next one, where a step is made.
 pub(crate) fn run_directive(
     alloc: Global,
     session: &Session,
+    spare: &mut Option<BoxedChanger>,
     directive: &Directive,
 ) -> Result<Reply, NoMemory>
     ensures reply { IfOk result (λ reply. reply ≡ says.reply_to session.now directive.now) }
@@ -104,6 +106,7 @@ pub(crate) fn run_directive(
     run_command(
         alloc,
         session,
+        spare,
         command,
         directive.input(),
         directive.arguments(),
@@ -113,6 +116,7 @@ pub(crate) fn run_directive(
 fn run_command(
     alloc: Global,
     session: &Session,
+    spare: &mut Option<BoxedChanger>,
     command: Command,
     input: &[u8],
     arguments: &[Argument],
@@ -121,10 +125,10 @@ fn run_command(
 {
     let changer = session.changer();
     match command {
-        Command::Simple => simple::run(alloc, changer, input),
-        Command::EnterJoint => enter_joint::run(alloc, changer, input, arguments),
-        Command::LeaveJoint => leave_joint::run(alloc, changer, input),
-        Command::ConfChange => change::run(alloc, changer, input, arguments),
+        Command::Simple => simple::run(alloc, changer, spare, input),
+        Command::EnterJoint => enter_joint::run(alloc, changer, spare, input, arguments),
+        Command::LeaveJoint => leave_joint::run(alloc, changer, spare, input),
+        Command::ConfChange => change::run(alloc, changer, spare, input, arguments),
         Command::ConfState => conf_state::run(alloc, changer, input, arguments),
         Command::Restore => restore::run(alloc, changer, input, arguments),
         Command::Undo => undo::run(alloc, session, input, arguments),

@@ -28,6 +28,8 @@ use std::mem::replace;
 #[derive(Drop)]
 pub struct Session {
     changer: BoxedChanger,
+    /// A changer that is done with, whose memory the next one takes.
+    spare: Option<BoxedChanger>,
     history: History,
     alloc: Global,
 }
@@ -59,6 +61,7 @@ impl Session {
     {
         Ok(Session {
             changer: BoxedChanger::new(alloc, Changer::new_with_floor(alloc, 0, floor))?,
+            spare: None,
             history: History::new(alloc, history)?,
             alloc,
         })
@@ -122,7 +125,10 @@ impl Session {
         ensures unchanged { OnErr result (self.new ≡ self.old) }
     {
         answer_keeps_session();
-        let (found, effect) = run_directive(self.alloc, self, directive)?.into_parts();
+        let mut spare = self.spare.take();
+        let reply = run_directive(self.alloc, self, &mut spare, directive)?;
+        self.spare = spare;
+        let (found, effect) = reply.into_parts();
         self.take_on(effect);
         Ok(found)
     }
@@ -138,8 +144,9 @@ impl Session {
                 self.changer = after;
             }
             Effect::Stepped(after) => {
-                let before = replace(&mut self.changer, after);
-                self.history.keep(before.into_config());
+                let mut before = replace(&mut self.changer, after);
+                self.history.keep(before.take_config());
+                self.spare = Some(before);
             }
             Effect::Restored(after) => {
                 self.changer = after;

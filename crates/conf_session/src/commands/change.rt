@@ -5,10 +5,11 @@ ghost use Rattle.conf_session.specs.Commands as says;
 use super::Command;
 use super::telling::{tell_arguments, tell_step, tell_token};
 use crate::arguments::argument_of;
+use crate::boxed_changer::BoxedChanger;
 use crate::parameter::{Parameter, has_only};
 use crate::reply::Reply;
 use crate::session_ids::SessionIds;
-use conf_change::{Change, Changer, Transition, read_changes};
+use conf_change::{Change, Changer, Transition, read_changes, taken};
 use dd_file::item::Argument;
 use quorum_sets::NoMemory;
 use std::alloc::Global;
@@ -17,13 +18,14 @@ use std::alloc::Global;
 pub(super) fn run(
     alloc: Global,
     changer: &Changer<SessionIds>,
+    spare: &mut Option<BoxedChanger>,
     input: &[u8],
     arguments: &[Argument],
 ) -> Result<Reply, NoMemory>
     ensures { IfOk result (λ reply. reply ≡ says.on_conf_change changer.now input.now arguments.now) }
 {
     match read_changes(alloc, input) {
-        Ok(changes) => change_with(alloc, changer, arguments, changes.as_slice()),
+        Ok(changes) => change_with(alloc, changer, spare, arguments, changes.as_slice()),
         Err(fault) => tell_token(alloc, fault),
     }
 }
@@ -31,6 +33,7 @@ pub(super) fn run(
 fn change_with(
     alloc: Global,
     changer: &Changer<SessionIds>,
+    spare: &mut Option<BoxedChanger>,
     arguments: &[Argument],
     changes: &[Change],
 ) -> Result<Reply, NoMemory>
@@ -39,8 +42,8 @@ fn change_with(
     if let Some(fault) = tell_arguments(alloc, Command::ConfChange, arguments)? {
         return Ok(fault);
     }
-    let transition = asked_transition(arguments);
-    tell_step(alloc, changer.after_change(transition, changes))
+    let taken = taken(asked_transition(arguments), changes);
+    tell_step(alloc, changer, spare, taken, changes)
 }
 
 // The transition that is asked for: Auto, where it is left out.

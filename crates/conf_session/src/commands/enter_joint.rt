@@ -5,10 +5,11 @@ ghost use Rattle.conf_session.specs.Commands as says;
 use super::Command;
 use super::telling::{tell_arguments, tell_step, tell_token};
 use crate::arguments::argument_of;
+use crate::boxed_changer::BoxedChanger;
 use crate::parameter::{Parameter, has_only};
 use crate::reply::Reply;
 use crate::session_ids::SessionIds;
-use conf_change::{Change, Changer, read_changes};
+use conf_change::{Change, Changer, Taken, read_changes};
 use dd_file::item::Argument;
 use quorum_sets::NoMemory;
 use std::alloc::Global;
@@ -17,13 +18,14 @@ use std::alloc::Global;
 pub(super) fn run(
     alloc: Global,
     changer: &Changer<SessionIds>,
+    spare: &mut Option<BoxedChanger>,
     input: &[u8],
     arguments: &[Argument],
 ) -> Result<Reply, NoMemory>
     ensures { IfOk result (λ reply. reply ≡ says.on_enter_joint changer.now input.now arguments.now) }
 {
     match read_changes(alloc, input) {
-        Ok(changes) => enter_with(alloc, changer, arguments, changes.as_slice()),
+        Ok(changes) => enter_with(alloc, changer, spare, arguments, changes.as_slice()),
         Err(fault) => tell_token(alloc, fault),
     }
 }
@@ -31,6 +33,7 @@ pub(super) fn run(
 fn enter_with(
     alloc: Global,
     changer: &Changer<SessionIds>,
+    spare: &mut Option<BoxedChanger>,
     arguments: &[Argument],
     changes: &[Change],
 ) -> Result<Reply, NoMemory>
@@ -39,8 +42,8 @@ fn enter_with(
     if let Some(fault) = tell_arguments(alloc, Command::EnterJoint, arguments)? {
         return Ok(fault);
     }
-    let auto_leave = asks_auto_leave(arguments);
-    tell_step(alloc, changer.after_enter_joint(auto_leave, changes))
+    let taken = Taken::Enter(asks_auto_leave(arguments));
+    tell_step(alloc, changer, spare, taken, changes)
 }
 
 // Whether `autoleave` is `true`.

@@ -3,9 +3,10 @@ ghost use Rattle.std.specs.Prelude.{◌≡◌, IfOk};
 ghost use Rattle.conf_session.specs.Commands as says;
 
 use super::telling::{tell_no_input, tell_step, tell_token};
+use crate::boxed_changer::BoxedChanger;
 use crate::reply::Reply;
 use crate::session_ids::SessionIds;
-use conf_change::{Change, Changer, read_changes};
+use conf_change::{Change, Changer, Taken, read_changes};
 use quorum_sets::NoMemory;
 use std::alloc::Global;
 
@@ -13,12 +14,13 @@ use std::alloc::Global;
 pub(super) fn run(
     alloc: Global,
     changer: &Changer<SessionIds>,
+    spare: &mut Option<BoxedChanger>,
     input: &[u8],
 ) -> Result<Reply, NoMemory>
     ensures { IfOk result (λ reply. reply ≡ says.on_leave_joint changer.now input.now) }
 {
     match read_changes(alloc, input) {
-        Ok(changes) => leave_with(alloc, changer, changes.as_slice()),
+        Ok(changes) => leave_with(alloc, changer, spare, changes.as_slice()),
         Err(fault) => tell_token(alloc, fault),
     }
 }
@@ -26,6 +28,7 @@ pub(super) fn run(
 fn leave_with(
     alloc: Global,
     changer: &Changer<SessionIds>,
+    spare: &mut Option<BoxedChanger>,
     changes: &[Change],
 ) -> Result<Reply, NoMemory>
     ensures { IfOk result (λ reply. reply ≡ says.leave_with changer.now changes.now) }
@@ -33,5 +36,5 @@ fn leave_with(
     if !changes.is_empty() {
         return tell_no_input(alloc);
     }
-    tell_step(alloc, changer.after_leave_joint())
+    tell_step(alloc, changer, spare, Taken::Leave, changes)
 }

@@ -3,9 +3,10 @@ ghost use Rattle.std.specs.Prelude.{◌≡◌, IfOk};
 ghost use Rattle.conf_session.specs.Commands.{on_simple};
 
 use super::telling::{tell_step, tell_token};
+use crate::boxed_changer::BoxedChanger;
 use crate::reply::Reply;
 use crate::session_ids::SessionIds;
-use conf_change::{Changer, read_changes};
+use conf_change::{Changer, Taken, read_changes};
 use quorum_sets::NoMemory;
 use std::alloc::Global;
 
@@ -13,12 +14,13 @@ use std::alloc::Global;
 pub(super) fn run(
     alloc: Global,
     changer: &Changer<SessionIds>,
+    spare: &mut Option<BoxedChanger>,
     input: &[u8],
 ) -> Result<Reply, NoMemory>
     ensures { IfOk result (λ reply. reply ≡ on_simple changer.now input.now) }
 {
     match read_changes(alloc, input) {
-        Ok(changes) => tell_step(alloc, changer.after_simple(changes.as_slice())),
+        Ok(changes) => tell_step(alloc, changer, spare, Taken::Simple, changes.as_slice()),
         Err(fault) => tell_token(alloc, fault),
     }
 }

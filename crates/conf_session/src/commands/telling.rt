@@ -1,8 +1,8 @@
 //! The replies that several commands give.
-ghost use Rattle.std.specs.Prelude.{◌≡◌, ◌≢◌, ◌++◌, unwrap_or, IfOk, MatchResult, IsSomeAnd};
+ghost use Rattle.std.specs.Prelude.{◌≡◌, ◌≢◌, ◌++◌, unwrap_or, IfOk, IsSomeAnd};
 ghost use Rattle.conf_change.specs.ChangeList.{bad_token};
-ghost use Rattle.conf_change.specs.Text.{refused_text};
-ghost use Rattle.conf_change.specs.Text.{bad_token_text};
+ghost use Rattle.conf_change.specs.Text.{bad_token_text, refused_text};
+ghost use Rattle.conf_change.specs.Transition.{step_of};
 ghost use Rattle.conf_session.specs.Reply.{Reply as Told, told, stepped};
 ghost use Rattle.conf_session.specs.Commands as says;
 ghost use Rattle.conf_session.specs.Commands.{no_input_text, with_no_input, with_arguments};
@@ -14,7 +14,7 @@ use crate::effect::Effect;
 use crate::reply::Reply;
 use crate::reply_texts::{bad_token_line, line_of, refused_line, tracker_lines};
 use crate::session_ids::SessionIds;
-use conf_change::{Changer, Refused, TokenFault};
+use conf_change::{Change, Changer, Refused, Taken, TokenFault};
 use dd_file::item::Argument;
 use quorum_sets::NoMemory;
 use std::alloc::Global;
@@ -73,25 +73,52 @@ pub(super) fn tell_arguments(
     Ok(None)
 }
 
-/// Tells the changer after a step, or why the step was refused.
+/// Tells the changer after the step that is taken, or why the step is refused. The changer that is spare becomes the next
+/// one, or else a new one.
 pub(super) fn tell_step(
     alloc: Global,
-    made: Result<Changer<SessionIds>, Refused>,
+    changer: &Changer<SessionIds>,
+    spare: &mut Option<BoxedChanger>,
+    taken: Taken,
+    changes: &[Change],
 ) -> Result<Reply, NoMemory>
-    ensures { IfOk result (λ reply. MatchResult made (λ after. reply ≡ stepped after) (λ refused. (refused ≢ Refused.NoMemory) × (reply ≡ told (refused_text refused)))) }
+    ensures { IfOk result (λ reply. reply ≡ says.on_step changer.now (step_of taken changes.now)) }
 {
-    match made {
-        Ok(after) => tell_stepped(alloc, after),
-        Err(Refused::NoMemory) => Err(NoMemory),
-        Err(refused) => Ok(Reply::told(refused_line(alloc, refused)?)),
+    let mut next = spare_or_new(alloc, spare)?;
+    match next.become_next(changer, taken, changes) {
+        Ok(()) => tell_stepped(alloc, next),
+        Err(refused) => {
+            *spare = Some(next);
+            tell_refused(alloc, refused)
+        }
+    }
+}
+
+// The changer that is spare, or else a new one.
+fn spare_or_new(
+    alloc: Global,
+    spare: &mut Option<BoxedChanger>,
+) -> Result<BoxedChanger, NoMemory> {
+    match spare.take() {
+        Some(changer) => Ok(changer),
+        None => BoxedChanger::new(alloc, Changer::new(alloc, 0)),
     }
 }
 
 // Tells the changer after an accepted step.
-fn tell_stepped(alloc: Global, after: Changer<SessionIds>) -> Result<Reply, NoMemory>
+fn tell_stepped(alloc: Global, after: BoxedChanger) -> Result<Reply, NoMemory>
     ensures { IfOk result (λ reply. reply ≡ stepped after) }
 {
-    let found = tracker_lines(alloc, after.tracker())?;
-    let boxed = BoxedChanger::new(alloc, after)?;
-    Ok(Reply::new(found, Effect::Stepped(boxed)))
+    let found = tracker_lines(alloc, after.changer().tracker())?;
+    Ok(Reply::new(found, Effect::Stepped(after)))
+}
+
+// Tells why a step is refused, want of memory aside.
+fn tell_refused(alloc: Global, refused: Refused) -> Result<Reply, NoMemory>
+    ensures { IfOk result (λ reply. (refused ≢ Refused.NoMemory) × (reply ≡ told (refused_text refused))) }
+{
+    match refused {
+        Refused::NoMemory => Err(NoMemory),
+        _ => Ok(Reply::told(refused_line(alloc, refused)?)),
+    }
 }
