@@ -129,6 +129,7 @@ impl<S: MemberSet> Changer<S> {
         ensures config { result ≡ self.old.tracker.config }
         ensures left { self.new ≡ new_changer self.old.tracker.floor self.old.last_index }
         ensures sound { IsSound self.old.tracker }
+        ensures sound_after { IsSound self.new.tracker }
     {
         self.tracker.take_config()
     }

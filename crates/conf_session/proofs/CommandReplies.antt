@@ -56,12 +56,16 @@ pub same-reply : {E : Type 0} (r : Result Reply E) (a b : Reply) → a ≡ b →
 same-reply (Ok reply) a b e h = h ∙ e
 same-reply (Err fault) a b e h = tt
 
--- the same of the reply to a step
-pub same-step : {E : Type 0} (r : Result Reply E) (before : ChangerState) (step : Step) (made : Result ChangerState Refused) (whole : Reply) → GivesNext before step made →
-    on_step before step ≡ whole →
-    IfOk r (λ reply. MatchResult made (λ after. reply ≡ stepped after) (λ refused. (refused ≢ NoMemory) × (reply ≡ told (refused_text refused)))) → IfOk r (λ reply. reply ≡ whole)
-same-step (Ok reply) before step made whole gives e h = on_step-reply before step made reply gives h ∙ e
-same-step (Err fault) before step made whole gives e h = tt
+-- the same of a step that is made, and of one that is refused
+pub same-made : {E : Type 0} (r : Result Reply E) (before : ChangerState) (step : Step) (after : ChangerState) → GivesNext before step (Ok after) →
+    IfOk r (λ reply. reply ≡ stepped after) → IfOk r (λ reply. reply ≡ on_step before step)
+same-made (Ok reply) before step after gives h = on_step-reply before step (Ok after) reply gives h
+same-made (Err fault) before step after gives h = tt
+
+pub same-refused : {E : Type 0} (r : Result Reply E) (before : ChangerState) (step : Step) (refused : Refused) → GivesNext before step (Err refused) →
+    IfOk r (λ reply. (refused ≢ NoMemory) × (reply ≡ told (refused_text refused))) → IfOk r (λ reply. reply ≡ on_step before step)
+same-refused (Ok reply) before step refused gives h = on_step-reply before step (Err refused) reply gives h
+same-refused (Err fault) before step refused gives h = tt
 
 -- one member more is told
 pub members-one_more : (old now new : List ℕ) (members : List (ℕ × Progress)) (i id : ℕ) (p : Progress) → slice_get members i ≡ Some (id, p) → now ≡ old ++ flat_map member_line (take i members) →

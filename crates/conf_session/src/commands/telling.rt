@@ -95,10 +95,7 @@ pub(super) fn tell_step(
 }
 
 // The changer that is spare, or else a new one.
-fn spare_or_new(
-    alloc: Global,
-    spare: &mut Option<BoxedChanger>,
-) -> Result<BoxedChanger, NoMemory> {
+fn spare_or_new(alloc: Global, spare: &mut Option<BoxedChanger>) -> Result<BoxedChanger, NoMemory> {
     match spare.take() {
         Some(changer) => Ok(changer),
         None => BoxedChanger::new(alloc, Changer::new(alloc, 0)),

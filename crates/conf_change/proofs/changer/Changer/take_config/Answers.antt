@@ -5,3 +5,6 @@ use Rattle.conf_change.proofs.changer.Changer.take_config.Goals as goal
 
 pub invariant_of-self : goal.invariant_of-self
 invariant_of-self g c = let P : TrackerState → Type 0 = IsSound in subst P (sym c.take_config.ensures.left) (nobody-is_sound _)
+
+pub returns-clause-sound_after : goal.returns-clause-sound_after
+returns-clause-sound_after g c = let P : TrackerState → Type 0 = IsSound in subst P (sym c.take_config.ensures.left) (nobody-is_sound _)

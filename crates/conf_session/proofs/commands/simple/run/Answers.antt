@@ -3,11 +3,11 @@ use Rattle.conf_change.specs.declared.change.Change.{Change}
 use Rattle.conf_change.specs.declared.step.Step.TheVariants.{Simple}
 use Rattle.conf_session.specs.Reply.{Reply}
 use Rattle.conf_session.specs.Commands.{with_changes, on_step, on_simple}
-use Rattle.conf_session.proofs.CommandReplies.{same-step}
+use Rattle.conf_session.proofs.CommandReplies.{same-reply}
 use Rattle.conf_session.proofs.commands.simple.run.Goals as goal
 
 pub returns-in-Ok : goal.returns-in-Ok
 returns-in-Ok c =
     let reply : List Change → Reply = λ changes. on_step c.args.changer.now (Simple changes) in
-    same-step c.tell_step.result c.args.changer.now (Simple c.as_slice.result.now) c.after_simple.result (on_simple c.args.changer.now c.args.input.now) c.after_simple.ensures
+    same-reply c.tell_step.result (reply c.as_slice.result.now) (on_simple c.args.changer.now c.args.input.now)
     (ap reply c.as_slice.ensures.value ∙ sym (ap (with_changes reply) c.in-Ok.ensures.value)) c.tell_step.ensures
