@@ -128,7 +128,7 @@ pub fn check<S: MemberSet>(config: &Config<S>) -> Result<(), Invariant>
     check_single(config)
 }
 
-// Answers the first invariant of a configuration that is not joint which is broken.
+// Answers the first broken one of the two invariants of a configuration that is not joint. One that is joint keeps both.
 fn check_single<S: MemberSet>(config: &Config<S>) -> Result<(), Invariant>
     ensures kept { OnOk result ((keeps config.now Invariant.NotJointButNext && keeps config.now Invariant.NotJointButAutoLeave) ≡ true) }
     ensures not_kept { OnErr result ((keeps config.now Invariant.NotJointButNext && keeps config.now Invariant.NotJointButAutoLeave) ≡ false) }

@@ -9,7 +9,6 @@ use crate::change::{Change, Kind};
 use crate::config::Config;
 use quorum_sets::{MemberSet, NoMemory};
 use smallvec::SmallVec;
-use std::alloc::Global;
 
 // Makes one change. After want of memory the configuration is as it was.
 pub(crate) fn apply<S: MemberSet>(config: &mut Config<S>, change: Change) -> Result<(), NoMemory>
@@ -67,20 +66,29 @@ fn take_out<S: MemberSet>(config: &mut Config<S>, id: u64)
     config.learners_next.remove(id);
 }
 
-// A copy that is not joint any more: the outgoing voters are gone, and the next learners are learners.
-pub(crate) fn without_outgoing<S: MemberSet>(
-    config: &Config<S>,
-    alloc: Global,
-) -> Result<Config<S>, NoMemory>
-    ensures { IfOk result (λ after. after ≡ after_leave config.now) }
+// Makes a configuration what another one is when it is not joint any more: the outgoing voters are gone, and the next
+// learners are learners. Where memory is wanting, it is left on the way.
+pub(crate) fn leave<S: MemberSet>(
+    config: &mut Config<S>,
+    before: &Config<S>,
+) -> Result<(), NoMemory>
+    ensures { OnOk result (config.new ≡ after_leave before.now) }
 {
-    Ok(Config {
-        incoming: config.incoming.try_clone()?,
-        outgoing: S::empty(alloc),
-        learners: union(&config.learners, &config.learners_next)?,
-        learners_next: S::empty(alloc),
-        auto_leave: false,
-    })
+    let alloc = before.incoming.allocator();
+    copy_ids(&mut config.incoming, &before.incoming)?;
+    config.outgoing = S::empty(alloc);
+    config.learners = union(&before.learners, &before.learners_next)?;
+    config.learners_next = S::empty(alloc);
+    config.auto_leave = false;
+    Ok(())
+}
+
+// Makes a set the same as another one.
+pub(crate) fn copy_ids<S: MemberSet>(set: &mut S, other: &S) -> Result<(), NoMemory>
+    ensures { OnOk result (S.ids set.new ≡ S.ids other.now) }
+{
+    *set = other.try_clone()?;
+    Ok(())
 }
 
 /// The ids of both sets.

@@ -246,10 +246,10 @@ impl<S: MemberSet> Tracker<S> {
     ) -> Result<(), NoMemory>
         ensures { OnOk result (self.new ≡ beginning before.now (S.ids outgoing.now) auto_leave) }
     {
-        copy_ids(&mut self.config.incoming, &before.config.incoming)?;
-        copy_ids(&mut self.config.outgoing, outgoing)?;
-        copy_ids(&mut self.config.learners, &before.config.learners)?;
-        copy_ids(&mut self.config.learners_next, &before.config.learners_next)?;
+        edits::copy_ids(&mut self.config.incoming, &before.config.incoming)?;
+        edits::copy_ids(&mut self.config.outgoing, outgoing)?;
+        edits::copy_ids(&mut self.config.learners, &before.config.learners)?;
+        edits::copy_ids(&mut self.config.learners_next, &before.config.learners_next)?;
         self.config.auto_leave = auto_leave;
         self.floor = before.floor;
         copy_members(&mut self.members, before.members.as_slice(), more)
@@ -345,24 +345,9 @@ impl<S: MemberSet> Tracker<S> {
     pub(crate) fn become_left(&mut self, before: &Tracker<S>) -> Result<(), NoMemory>
         ensures { OnOk result (Keeps (after_leave before.now.config) before.now self.new) }
     {
-        self.config = edits::without_outgoing(&before.config, self.alloc)?;
-        self.members = before.keeping(&self.config)?;
+        edits::leave(&mut self.config, &before.config)?;
         self.floor = before.floor;
-        Ok(())
-    }
-
-    // The members that are still in a configuration, with the progress that they have and their marks.
-    fn keeping(&self, config: &Config<S>) -> Result<SmallVec<(u64, Progress), 1>, NoMemory>
-        ensures rising { IfOk result (λ members. IsRising (map (λ m. m.0) members.items)) }
-        ensures kept { IfOk result (λ members. (q : ℕ) → finite.get (finite.from_entries {R = nat_cmp} members.items) q ≡ progress_kept (is_member config.now q) (has config.now.learners q) (finite.get self.now.progress q)) }
-    {
-        let mut members = SmallVec::with_capacity(self.alloc, self.members.len())?;
-        let mut places = Places::default();
-        for member in self.members.as_slice() {
-            let entry = kept(config, member.0, member.1, &mut places);
-            push_entry(&mut members, member.0, entry)?;
-        }
-        Ok(members)
+        keep_members(&mut self.members, &self.config, before.members.as_slice())
     }
 }
 
@@ -386,14 +371,6 @@ fn make_each<S: MemberSet>(
     Ok(())
 }
 
-// Makes a set the same as another one.
-fn copy_ids<S: MemberSet>(set: &mut S, other: &S) -> Result<(), NoMemory>
-    ensures { OnOk result (S.ids set.new ≡ S.ids other.now) }
-{
-    *set = other.try_clone()?;
-    Ok(())
-}
-
 // Makes the members these, with room for more of them.
 fn copy_members(
     members: &mut SmallVec<(u64, Progress), 1>,
@@ -407,6 +384,29 @@ fn copy_members(
     members.clear();
     members.reserve(others.len().saturating_add(more))?;
     members.extend_from_slice(others)?;
+    Ok(())
+}
+
+// Makes the members those of others that are still in a configuration, with the progress that they have and their marks.
+fn keep_members<S: MemberSet>(
+    members: &mut SmallVec<(u64, Progress), 1>,
+    config: &Config<S>,
+    others: &[(u64, Progress)],
+) -> Result<(), NoMemory>
+    requires { IsRising (map (λ m. m.0) others.now) }
+    ensures rising { IsRising (map (λ m. m.0) members.new.items) }
+    ensures kept { OnOk result ((q : ℕ) → finite.get (finite.from_entries {R = nat_cmp} members.new.items) q ≡ progress_kept (is_member config.now q) (has config.now.learners q) (finite.get (finite.from_entries {R = nat_cmp} others.now) q)) }
+{
+    members.clear();
+    members.reserve(others.len())?;
+    let mut places = Places::default();
+    for member in others {
+        let entry = kept(config, member.0, member.1, &mut places);
+        if push_entry(members, member.0, entry).is_err() {
+            members.clear();
+            return Err(NoMemory);
+        }
+    }
     Ok(())
 }
 

@@ -1,5 +1,5 @@
 -- A list of changes, made one after another: the configuration, and each id's progress.
-use Rattle.std.proofs.Common.{◌≡◌, ℕ, Bool, true, false, cond, not, ◌&&◌, ◌||◌, ◌==◌, List, [], ◌∷◌, ◌++◌, refl, sym, ap, subst, ◌∙◌, eqb-true, ◌+◌, ◌<◌, length, map, take, get_or}
+use Rattle.std.proofs.Common.{◌≡◌, ℕ, Bool, true, false, cond, not, ◌&&◌, ◌||◌, ◌==◌, List, [], ◌∷◌, ◌++◌, refl, sym, ap, ◌∙◌, eqb-true, ◌+◌, ◌<◌, length, map, take, get_or}
 use Rattle.std.specs.Prelude.{Option, Some, None, IfSome, is_some}
 use Rattle.std.specs.Ordering.{nat_cmp}
 use Rattle.std.specs.FinMap as finite
