@@ -1,7 +1,8 @@
 //! Gathering what is written into blocks, so that a program makes one system call a block and not one a line.
-ghost use Rattle.std.specs.Prelude.{◌≡◌, ◌≤◌, ◌+◌, ◌++◌, ◌||◌, IsErr, is_err, OnOk, IfOk, true, [], length, vec_len, vec_capacity};
-ghost use Rattle.std.specs.Io.KnownBytes.{Appends, Keeps};
-ghost use Rattle.dd_file.specs.Device.{AppendsPart};
+ghost use Rattle.std.specs.Prelude.{◌≡◌, ◌≤◌, ◌<◌, ◌+◌, ◌++◌, ◌||◌, IsErr, is_err, OnOk, IfOk, true, [], length, vec_len, vec_capacity};
+ghost use Rattle.std.specs.Io.{WritesAtMost};
+ghost use Rattle.std.specs.Io.KnownBytes.{Appends, Keeps, WriteAppends};
+ghost use Rattle.dd_file.specs.Device.{AppendsPart, is_failed_write};
 
 use crate::device::Sink;
 use crate::fault::{DeviceFault, WriteFault};
@@ -66,6 +67,22 @@ impl<W: Sink> Blocks<W> {
         Ok(())
     }
 
+    /// Takes a front part of bytes that the block has no room for, and writes the block on first where it is full.
+    #[cold]
+    fn write_part(&mut self, bytes: &[u8]) -> Result<usize, DeviceFault>
+        requires { 0 < length bytes.now }
+        ensures bound { WritesAtMost result bytes.now }
+        ensures bytes { WriteAppends (⟦<Blocks<W> as Sink>⟧.contents self.old) (⟦<Blocks<W> as Sink>⟧.contents self.new) result bytes.now }
+        ensures failed { W.has_failed (gathering_writer self.new) ≡ (W.has_failed (gathering_writer self.old) || is_failed_write result bytes.now) }
+    {
+        if self.block.len() == BLOCK_BYTES {
+            self.pass_on()?;
+        }
+        let count = bytes.len().min(BLOCK_BYTES - self.block.len());
+        append(&mut self.block, &bytes[..count]);
+        Ok(count)
+    }
+
     /// Writes on what waits.
     pub fn flush(&mut self) -> Result<(), WriteFault>
         ensures bytes { Keeps (⟦<Blocks<W> as Sink>⟧.contents self.old) (⟦<Blocks<W> as Sink>⟧.contents self.new) }
@@ -110,12 +127,11 @@ impl<W: Sink> Sink for Blocks<W> {
         if self.writer.failed() {
             return Err(DeviceFault);
         }
-        if self.block.len() == BLOCK_BYTES {
-            self.pass_on()?;
+        if bytes.len() > BLOCK_BYTES - self.block.len() {
+            return self.write_part(bytes);
         }
-        let count = bytes.len().min(BLOCK_BYTES - self.block.len());
-        append(&mut self.block, &bytes[..count]);
-        Ok(count)
+        append(&mut self.block, bytes);
+        Ok(bytes.len())
     }
 
     fn write_on(&mut self) -> Result<(), DeviceFault> {

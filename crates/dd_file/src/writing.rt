@@ -1,10 +1,42 @@
 //! Writing bytes whole to a sink.
-ghost use Rattle.std.specs.Prelude.{◌≡◌, ◌≤◌, ◌||◌, nat_lt, [], IsOk, OnOk, OnErr, true, length, take};
+ghost use Rattle.std.specs.Prelude.{◌≡◌, ◌≤◌, ◌<◌, ◌||◌, ◌==◌, nat_lt, ℕ, List, [], Option, IsOk, OnOk, OnErr, true, length, take};
 ghost use Rattle.std.specs.Io.KnownBytes.{Appends};
 ghost use Rattle.dd_file.specs.Device.{AppendsPart};
 
 use crate::device::Sink;
 use crate::fault::WriteFault;
+
+/// Writes some bytes by one call, and answers how many of them were taken: none only where the write failed.
+fn write_once<W: Sink>(writer: &mut W, bytes: &[u8]) -> usize
+    requires { 0 < length bytes.now }
+    ensures bound { result ≤ length bytes.now }
+    ensures bytes { Appends (W.contents writer.old) (W.contents writer.new) (take result bytes.now) }
+    ensures failed { W.has_failed writer.new ≡ (W.has_failed writer.old || (result == 0)) }
+{
+    match writer.write(bytes) {
+        Ok(count) => count,
+        Err(_) => 0,
+    }
+}
+
+/// Goes on with bytes of which so many are written until all are or a write fails, and answers how many are.
+#[cold]
+fn write_behind<W: Sink>(writer: &mut W, bytes: &[u8], front: usize) -> usize
+    requires { front ≤ length bytes.now }
+    ensures bound { result ≤ length bytes.now }
+    ensures bytes { (start : Option (List ℕ)) → Appends start (W.contents writer.old) (take front bytes.now) → Appends start (W.contents writer.new) (take result bytes.now) }
+    ensures failed { W.has_failed writer.new ≡ (W.has_failed writer.old || nat_lt result (length bytes.now)) }
+{
+    let mut written = front;
+    while written < bytes.len() {
+        let count = write_once(writer, &bytes[written..]);
+        if count == 0 {
+            return written;
+        }
+        written += count;
+    }
+    written
+}
 
 /// Writes bytes from their front on until all are written or a write fails, and answers how many were written.
 pub(crate) fn write_front<W: Sink>(writer: &mut W, bytes: &[u8]) -> usize
@@ -13,18 +45,14 @@ pub(crate) fn write_front<W: Sink>(writer: &mut W, bytes: &[u8]) -> usize
     ensures failed { W.has_failed writer.new ≡ (W.has_failed writer.old || nat_lt result (length bytes.now)) }
     ensures nothing { bytes.now ≡ [] → writer.new ≡ writer.old }
 {
-    let mut written = 0;
-    while written < bytes.len() {
-        let count = match writer.write(&bytes[written..]) {
-            Ok(count) => count,
-            Err(_) => return written,
-        };
-        if count == 0 {
-            return written;
-        }
-        written += count;
+    if bytes.is_empty() {
+        return 0;
     }
-    written
+    let count = write_once(writer, bytes);
+    if count == 0 || count == bytes.len() {
+        return count;
+    }
+    write_behind(writer, bytes, count)
 }
 
 /// Writes the whole of some bytes, part by part, and takes no memory. A fault is the writer's own, or that it took no

@@ -111,10 +111,8 @@ impl PartByPart for Checking {
         self.items.next(reader)
     }
 
-    fn answer<W: Sink>(&mut self, item: Item, writer: &mut W) -> Result<(), ToolFault> {
-        let checked = self.check_item(&item);
-        drop(item);
-        checked?;
+    fn answer<W: Sink>(&mut self, item: &Item, writer: &mut W) -> Result<(), ToolFault> {
+        self.check_item(item)?;
         write_all(writer, self.text.as_slice())?;
         Ok(())
     }

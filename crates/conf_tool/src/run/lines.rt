@@ -84,7 +84,7 @@ impl PartByPart for LineByLine {
         self.lines.next(reader)
     }
 
-    fn answer<W: Sink>(&mut self, line: Vec<u8>, writer: &mut W) -> Result<(), ToolFault> {
+    fn answer<W: Sink>(&mut self, line: &Vec<u8>, writer: &mut W) -> Result<(), ToolFault> {
         self.text.clear();
         answer_line(&mut self.changer, line.as_slice(), &mut self.text)?;
         write_all(writer, self.text.as_slice())?;

@@ -21,7 +21,7 @@ use dd_file::fault::{FileFault, WriteFault};
 /// What a mode does: how it reads the next part of its input, what it writes of it, and what at the end.
 pub(super) trait PartByPart {
     /// A line of the input, or an item of a script.
-    type Part;
+    type Part: Drop;
 
     /// What a part says.
     ghost Told: { Type 0 };
@@ -74,12 +74,12 @@ pub(super) trait PartByPart {
             HasAnswered self.old total parts before after → HasAnswered self.new total parts before after };
 
     /// Writes what the mode answers to a part, of which fewer than 2^30 came before.
-    fn answer<W: Sink>(&mut self, part: Self::Part, writer: &mut W) -> Result<(), ToolFault>
+    fn answer<W: Sink>(&mut self, part: &Self::Part, writer: &mut W) -> Result<(), ToolFault>
         requires { (total : ScriptOf Told → Output) × (parts : List Told) × (before : Option (List ℕ)) × HasAnswered self.old total parts before (W.contents writer.old) × (length parts < 2 ^ 30) }
         ensures answered { OnOk result ((total : ScriptOf Told → Output) (parts : List Told) (before : Option (List ℕ)) →
-            HasAnswered self.old total parts before (W.contents writer.old) → HasAnswered self.new total (parts ++ told part ∷ []) before (W.contents writer.new)) }
+            HasAnswered self.old total parts before (W.contents writer.old) → HasAnswered self.new total (parts ++ told part.now ∷ []) before (W.contents writer.new)) }
         ensures part { OnErr result ((total : ScriptOf Told → Output) (parts more : List Told) (fault : Option ReadFault) (before : Option (List ℕ)) →
-            HasAnswered self.old total parts before (W.contents writer.old) → AppendsPart before (W.contents writer.new) (total (script (parts ++ told part ∷ more) fault)).text) }
+            HasAnswered self.old total parts before (W.contents writer.old) → AppendsPart before (W.contents writer.new) (total (script (parts ++ told part.now ∷ more) fault)).text) }
         ensures reading { OnOk result (reading self.new ≡ reading self.old) }
         ensures write { W.has_failed writer.new ≡ (W.has_failed writer.old || is_write_fault result) }
         ensures kinds { IfErr result IsAnswerFault };
@@ -141,7 +141,7 @@ pub(super) fn run_by_part<M: PartByPart + Drop, R: Source, W: Sink>(
     loop {
         let found = next_part(&mut mode, reader, writer)?;
         match found {
-            Ok(Some(part)) => mode.answer(part, writer)?,
+            Ok(Some(part)) => mode.answer(&part, writer)?,
             Ok(None) => return mode.end(None, writer),
             Err(fault) => match ToolFault::from(fault) {
                 ToolFault::Script(fault) => return mode.end(Some(fault), writer),

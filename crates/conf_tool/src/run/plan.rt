@@ -40,13 +40,13 @@ impl Planning {
     }
 }
 
-// Keeps a line, if it is one of the first three.
-fn keep_line(first: &mut Vec<Vec<u8>>, line: Vec<u8>) -> Result<(), NoMemory>
+// Keeps a copy of a line, if it is one of the first three.
+fn keep_line(alloc: Global, first: &mut Vec<Vec<u8>>, line: &[u8]) -> Result<(), NoMemory>
     ensures { OnOk result (map (λ text. text.items) first.new.items
-        ≡ (if nat_lt (length first.old.items) 3 then map (λ text. text.items) first.old.items ++ line.items ∷ [] else map (λ text. text.items) first.old.items)) }
+        ≡ (if nat_lt (length first.old.items) 3 then map (λ text. text.items) first.old.items ++ line.now ∷ [] else map (λ text. text.items) first.old.items)) }
 {
     if first.len() < 3 {
-        first.push(line)?;
+        first.push(Vec::from_slice(alloc, line)?)?;
     }
     Ok(())
 }
@@ -103,9 +103,9 @@ impl PartByPart for Planning {
     }
 
     // Nothing is written yet.
-    fn answer<W: Sink>(&mut self, line: Vec<u8>, writer: &mut W) -> Result<(), ToolFault> {
+    fn answer<W: Sink>(&mut self, line: &Vec<u8>, writer: &mut W) -> Result<(), ToolFault> {
         let _ = &*writer;
-        keep_line(&mut self.first, line)?;
+        keep_line(self.alloc, &mut self.first, line.as_slice())?;
         Ok(())
     }
 

@@ -152,16 +152,14 @@ impl PartByPart for Rewriting {
         self.items.next(reader)
     }
 
-    fn answer<W: Sink>(&mut self, item: Item, writer: &mut W) -> Result<(), ToolFault> {
-        let answered = rewrite_item(
+    fn answer<W: Sink>(&mut self, item: &Item, writer: &mut W) -> Result<(), ToolFault> {
+        rewrite_item(
             self.alloc,
             &mut self.session,
             &mut self.rewriter,
-            &item,
+            item,
             writer,
-        );
-        drop(item);
-        answered
+        )
     }
 
     fn end<W: Sink>(

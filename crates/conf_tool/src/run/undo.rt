@@ -185,11 +185,9 @@ impl PartByPart for Undoing {
     }
 
     // What a directive expects is not looked at, and nothing is written yet.
-    fn answer<W: Sink>(&mut self, item: Item, writer: &mut W) -> Result<(), ToolFault> {
+    fn answer<W: Sink>(&mut self, item: &Item, writer: &mut W) -> Result<(), ToolFault> {
         let _ = &*writer;
-        let obeyed = run_item(self.alloc, &mut self.session, &item);
-        drop(item);
-        obeyed?;
+        run_item(self.alloc, &mut self.session, item)?;
         Ok(())
     }
 

@@ -5,8 +5,8 @@ use Rattle.std.proofs.Common.{◌≤◌, ◌-◌, ◌+◌, arith, rules}
 use Rattle.std.proofs.lemmas.Grind.{common_steps}
 use Rattle.std.proofs.lemmas.List.{append-nil, append_assoc, take-append-drop, take_all, length-drop, drop-drop}
 use Rattle.std.specs.Io.KnownBytes.{Appends, Keeps, append_known}
-use Rattle.std.specs.Prelude.{Bool, true, false, Ok, ◌||◌}
-use Rattle.dd_file.specs.Device.{AppendsPart, is_failed_write}
+use Rattle.std.specs.Prelude.{Bool, true, false, ◌||◌, ◌==◌}
+use Rattle.dd_file.specs.Device.{AppendsPart}
 
 -- one part after another
 pub appends-append : (old mid new : Option (List ℕ)) (xs ys : List ℕ) → Appends old mid xs → Appends mid new ys → Appends old new (xs ++ ys)
@@ -36,10 +36,8 @@ append-part (Some o) (Some m) (Some n) xs ys a b =
     (xs ++ b.0, b.1, ap (λ t. xs ++ t) b.2 ∙ sym (append_assoc xs b.0 b.1), b.3 ∙ ap (λ t. t ++ b.0) a ∙ append_assoc o xs b.0)
 
 -- a write that took some bytes did not fail
-pub not-failed : (before : Bool) (count : ℕ) (bytes : List ℕ) → (count ≡ 0 → ⊥) → (before || is_failed_write (Ok count) bytes) ≡ before
-not-failed true count bytes h = refl
-not-failed false zero bytes h = absurd (h refl)
-not-failed false (suc count) bytes h = refl
+pub not-failed : (before : Bool) (count : ℕ) → (count ≡ 0 → ⊥) → (before || (count == 0)) ≡ before
+not-failed before count h = search (rules, common_steps)
 
 -- some of the bytes from a place on, behind those before it
 pub take-more : (n k : ℕ) (bytes : List ℕ) → take (n + k) bytes ≡ take n bytes ++ take k (drop n bytes)

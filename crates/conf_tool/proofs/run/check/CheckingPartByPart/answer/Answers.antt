@@ -4,8 +4,8 @@ use Rattle.conf_tool.proofs.ModeOutput.FirstParts.{wrote-front}
 use Rattle.conf_tool.proofs.Modes.Check.{checked-part, checked-broken}
 use Rattle.conf_tool.proofs.run.check.CheckingPartByPart.answer.Goals as goal
 
-pub returns-in_err-checked-clause-part : goal.returns-in_err-checked-clause-part
-returns-in_err-checked-clause-part g c =
+pub returns-in_err-check_item-clause-part : goal.returns-in_err-check_item-clause-part
+returns-in_err-check_item-clause-part g c =
     let p = err_from_is_err_and c.from_residual.result c.from_residual.ensures.1 in
     rw p.1 (λ total parts more fault before checked. wrote-front total _ parts _ fault before _ checked.front)
 
@@ -13,10 +13,10 @@ pub returns-in_err-write_all-clause-part : goal.returns-in_err-write_all-clause-
 returns-in_err-write_all-clause-part g c =
     let p = err_from_is_err_and c.from_residual-in_err-write_all.result c.from_residual-in_err-write_all.ensures.1 in
     rw p.1 (λ total parts more fault before checked.
-    checked-broken _ _ _ _ total parts more fault _ before _ _ checked (c.as_slice.ensures.value ∙ c.in_ok-checked.ensures.text) c.in_err-write_all.ensures.err)
+    checked-broken _ _ _ _ total parts more fault _ before _ _ checked (c.as_slice.ensures.value ∙ c.in_ok-check_item.ensures.text) c.in_err-write_all.ensures.err)
 
 pub returns-clause-answered : goal.returns-clause-answered
 returns-clause-answered g c =
-    let after = c.in_ok-checked.ensures in
+    let after = c.in_ok-check_item.ensures in
     λ total parts before checked.
     checked-part _ _ _ _ _ _ _ total parts _ before _ _ checked after.session after.directives after.mismatches (c.as_slice.ensures.value ∙ after.text) c.in_ok-write_all.ensures.ok

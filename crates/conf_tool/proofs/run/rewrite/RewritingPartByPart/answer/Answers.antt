@@ -4,11 +4,11 @@ use Rattle.conf_tool.proofs.run.rewrite.RewritingPartByPart.answer.Goals as goal
 
 pub returns-clause-answered : goal.returns-clause-answered
 returns-clause-answered g c =
-    ok-by_three c.rewrite_item-answered.result
+    ok-by_three c.rewrite_item.result
     (λ session ready written total parts before rewritten. rewritten-part _ _ _ _ _ _ total parts before _ _ rewritten session refl ready written)
-    c.rewrite_item-answered.ensures.session c.rewrite_item-answered.ensures.stage c.rewrite_item-answered.ensures.written
+    c.rewrite_item.ensures.session c.rewrite_item.ensures.stage c.rewrite_item.ensures.written
 
 pub returns-clause-part : goal.returns-clause-part
 returns-clause-part g c =
-    err-by c.rewrite_item-answered.result
-    (λ breaks total parts more fault before rewritten. rewritten-broken _ _ _ _ total parts more fault before _ _ rewritten refl breaks) c.rewrite_item-answered.ensures.part
+    err-by c.rewrite_item.result
+    (λ breaks total parts more fault before rewritten. rewritten-broken _ _ _ _ total parts more fault before _ _ rewritten refl breaks) c.rewrite_item.ensures.part
