@@ -1,5 +1,6 @@
 pub mod Ids
 pub mod Rising
+pub mod Cut
 pub mod Voters
 pub mod Counting
 pub mod Committed

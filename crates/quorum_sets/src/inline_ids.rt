@@ -2,6 +2,7 @@
 ghost use Rattle.std.specs.Prelude.{◌≡◌, ◌<◌, ◌≤◌, true, not, length, insert, IfOk, OnOk, OnErr, IsOk, MatchResult};
 ghost use Rattle.quorum_sets.specs.Ids.{has, with_id, size, ids_of};
 ghost use Rattle.smallvec.specs.SmallVec.{small_vec_len, HasRoomFor};
+ghost use Rattle.quorum_sets.specs.Cut.{IsCut};
 ghost use Rattle.quorum_sets.specs.Rising.{IsRising, StandsAt, GoesTo};
 
 use crate::member_set::MemberSet;
@@ -124,15 +125,46 @@ fn make_rising(list: &mut SmallVec<u64, 8>)
     list.dedup();
 }
 
-// Where the id stands in a rising list, or else where it goes. Behind the last one it takes no search.
+// Up to how many ids are all looked at.
+const FEW: usize = 16;
+
+// Where the id stands in a rising list, or else where it goes. Among many, it takes no search behind the last one.
 fn place_of(list: &[u64], id: u64) -> Result<usize, usize>
     requires { IsRising list.now }
     ensures { MatchResult result (λ place. StandsAt list.now id place) (λ place. GoesTo list.now id place) }
 {
+    if list.len() <= FEW {
+        return place_among_few(list, id);
+    }
     match list.last() {
         Some(last) if *last < id => Err(list.len()),
         _ => list.binary_search(&id),
     }
+}
+
+// The same by the count of those below it: that takes no branch by what the ids are, as a search does.
+fn place_among_few(list: &[u64], id: u64) -> Result<usize, usize>
+    requires { IsRising list.now }
+    ensures { MatchResult result (λ place. StandsAt list.now id place) (λ place. GoesTo list.now id place) }
+{
+    let place = count_below(list, id);
+    if place < list.len() && list[place] == id {
+        Ok(place)
+    } else {
+        Err(place)
+    }
+}
+
+// How many ids of a rising list are below this one.
+fn count_below(list: &[u64], id: u64) -> usize
+    requires { IsRising list.now }
+    ensures { IsCut list.now id (length list.now) result }
+{
+    let mut count = 0;
+    for other in list {
+        count += usize::from(*other < id);
+    }
+    count
 }
 
 // Puts an id in at a place. At the end of the list nothing is moved.
