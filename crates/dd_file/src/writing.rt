@@ -39,6 +39,8 @@ fn write_behind<W: Sink>(writer: &mut W, bytes: &[u8], front: usize) -> usize
 }
 
 /// Writes bytes from their front on until all are written or a write fails, and answers how many were written.
+// Mostly it copies a few bytes into a block, which takes less than a call.
+#[inline(always)]
 pub(crate) fn write_front<W: Sink>(writer: &mut W, bytes: &[u8]) -> usize
     ensures bound { result ≤ length bytes.now }
     ensures bytes { Appends (W.contents writer.old) (W.contents writer.new) (take result bytes.now) }
@@ -57,6 +59,7 @@ pub(crate) fn write_front<W: Sink>(writer: &mut W, bytes: &[u8]) -> usize
 
 /// Writes the whole of some bytes, part by part, and takes no memory. A fault is the writer's own, or that it took no
 /// byte; the writer then holds a front part of the bytes, and none is written a second time.
+#[inline(always)]
 pub fn write_all<W: Sink>(writer: &mut W, bytes: &[u8]) -> Result<(), WriteFault>
     ensures ok { OnOk result (Appends (W.contents writer.old) (W.contents writer.new) bytes.now) }
     ensures err { OnErr result (AppendsPart (W.contents writer.old) (W.contents writer.new) bytes.now) }

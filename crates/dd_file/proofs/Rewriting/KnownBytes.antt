@@ -5,7 +5,7 @@ use Rattle.std.proofs.Common.{◌≤◌, ◌-◌, ◌+◌, arith, rules}
 use Rattle.std.proofs.lemmas.Grind.{common_steps}
 use Rattle.std.proofs.lemmas.List.{append-nil, append_assoc, take-append-drop, take_all, length-drop, drop-drop}
 use Rattle.std.specs.Io.KnownBytes.{Appends, Keeps, append_known}
-use Rattle.std.specs.Prelude.{Bool, true, false, ◌||◌, ◌==◌}
+use Rattle.std.specs.Prelude.{Bool, ◌||◌, ◌==◌}
 use Rattle.dd_file.specs.Device.{AppendsPart}
 
 -- one part after another
