@@ -4,5 +4,4 @@ pub mod FirstWord
 pub mod TrimmedEnd
 pub mod LoneKey
 pub mod ListedValues
-pub mod ClosedLists
 pub mod Keys
