@@ -71,7 +71,7 @@ fn is_empty_list(inside: &[u8]) -> bool
 }
 
 /// The place of a value that stands in these bytes of a word, without white space at its ends.
-fn place_of(word: &[u8], start: usize, end: usize) -> ValuePlace
+fn trimmed_place(word: &[u8], start: usize, end: usize) -> ValuePlace
     requires ordered { start ≤ end }
     requires within { end ≤ length word.now }
     ensures value { value_at word.now result ≡ trimmed (take (end - start) (drop start word.now)) }
@@ -87,6 +87,8 @@ fn place_of(word: &[u8], start: usize, end: usize) -> ValuePlace
 }
 
 /// Finds the values of a list, of which the first begins at a place of the word. The word has to end with the list.
+// Apart from its callers the loop keeps what it needs in registers.
+#[inline(never)]
 fn find_listed(places: &mut ValuePlaces, word: &[u8], start: usize) -> Result<bool, AllocError>
     requires empty { places.old.items ≡ [] }
     requires within { start ≤ length word.now }
@@ -96,7 +98,7 @@ fn find_listed(places: &mut ValuePlaces, word: &[u8], start: usize) -> Result<bo
     let mut at = start;
     'value: loop {
         let end = at + value_len(&word[at..]);
-        places.push(place_of(word, at, end))?;
+        places.push(trimmed_place(word, at, end))?;
         match word.get(end) {
             Some(b',') => at = end + 1,
             Some(_) => return Ok(end + 1 == word.len()),

@@ -50,10 +50,10 @@ value-preserved c =
     let comma : is_comma c.in-Some-eq44.field-0.now ≡ true = search rules in
     let found = c.in-Some-eq44.ensures.lookup in
     let len = c.value_len.ensures.len ∙ ap value_len (take_rest word c.value.at) in
-    let more = one-more word c.value.places.items _ c.place_of.result c.value.at c.value_len.result len c.in_ok-push.ensures.ok c.place_of.ensures.value in
+    let more = one-more word c.value.places.items _ c.trimmed_place.result c.value.at c.value_len.result len c.in_ok-push.ensures.ok c.trimmed_place.ensures.value in
     record {
       so_far = at-comma word c.value.places.items _ c.value.at c.value_len.result _ _ len found.3.0 (found.4 (omega arith) 0) comma more c.value.invariant.so_far;
-      within = more-within (length word) c.value.places.items _ c.place_of.result c.in_ok-push.ensures.ok c.value.invariant.within c.place_of.ensures.ordered c.place_of.ensures.within;
+      within = more-within (length word) c.value.places.items _ c.trimmed_place.result c.in_ok-push.ensures.ok c.value.invariant.within c.trimmed_place.ensures.ordered c.trimmed_place.ensures.within;
       at = search rules;
     }
 
@@ -79,7 +79,7 @@ returns-in-Some-clause-values c =
     let other : is_comma c.in-Some.field-0.now ≡ false = search rules in
     let found = c.in-Some.ensures.lookup in
     let len = c.value_len.ensures.len ∙ ap value_len (take_rest word c.value.at) in
-    let more = one-more word c.value.places.items _ c.place_of.result c.value.at c.value_len.result len c.in_ok-push.ensures.ok c.place_of.ensures.value in
+    let more = one-more word c.value.places.items _ c.trimmed_place.result c.value.at c.value_len.result len c.in_ok-push.ensures.ok c.trimmed_place.ensures.value in
     at-closing word c.value.places.items _ c.value.at c.value_len.result _ _ len found.3.0 (found.4 (omega arith) 0) other more c.value.invariant.so_far
 
 pub returns-in-None-clause-values : goal.returns-in-None-clause-values
@@ -91,4 +91,4 @@ returns-in-None-clause-values c =
 
 pub returns-in-None-clause-within : goal.returns-in-None-clause-within
 returns-in-None-clause-within c =
-    more-within (length c.args.word.now) c.value.places.items _ c.place_of.result c.in_ok-push.ensures.ok c.value.invariant.within c.place_of.ensures.ordered c.place_of.ensures.within
+    more-within (length c.args.word.now) c.value.places.items _ c.trimmed_place.result c.in_ok-push.ensures.ok c.value.invariant.within c.trimmed_place.ensures.ordered c.trimmed_place.ensures.within

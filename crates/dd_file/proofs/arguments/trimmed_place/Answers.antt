@@ -2,7 +2,7 @@ use Rattle.std.proofs.Common.{◌≡◌, ◌≤◌, ◌+◌, ◌-◌, ◌++◌, 
 use Rattle.std.proofs.lemmas.List.{length-take-le, take-append-drop}
 use Rattle.ascii_text.specs.WhiteSpace.{without_leading_space, without_trailing_space}
 use Rattle.dd_file.proofs.DirectiveWords.TrimmedEnd.{TrimmedAt, trimmed-at}
-use Rattle.dd_file.proofs.arguments.place_of.Goals as goal
+use Rattle.dd_file.proofs.arguments.trimmed_place.Goals as goal
 
 -- a part of a word, between what stands before it and behind it
 trimmed-part : (word : List ℕ) (start end : ℕ) (ended begun : List ℕ) → start ≤ end → end ≤ length word → ended ≡ without_trailing_space (take (end - start) (drop start word)) → begun ≡ without_leading_space ended →
