@@ -1,8 +1,8 @@
 -- The words of a directive: its command, its arguments and their values.
 
 pub mod FirstWord
+pub mod WordParts
 pub mod TrimmedEnd
 pub mod LoneKey
 pub mod ListedValues
-pub mod ClosedLists
 pub mod Keys

@@ -19,3 +19,4 @@ pub mod Gathered
 pub mod InTurn
 pub mod LineEnds
 pub mod ValuePlaces
+pub mod WordParts

@@ -2,7 +2,7 @@
 ghost use Rattle.std.specs.Prelude.{◌≡◌, IfOk, option_map};
 ghost use Rattle.dd_file.specs.Words.{is_command_name, words_of, arguments_of, command_of};
 
-use crate::arguments::{argument_of, is_key};
+use crate::arguments::{is_key, push_argument};
 use crate::item::Argument;
 use crate::words::next_word;
 use smallvec::SmallVec;
@@ -44,9 +44,8 @@ fn parse_arguments(alloc: Global, text: &[u8]) -> Result<Option<Vec<Argument>>, 
     let mut arguments = Vec::new(alloc);
     let mut rest = text;
     while let Some((word, behind)) = next_word(rest) {
-        match argument_of(alloc, word)? {
-            Some(argument) => arguments.push(argument)?,
-            None => return Ok(None),
+        if !push_argument(&mut arguments, alloc, word)? {
+            return Ok(None);
         }
         rest = behind;
     }

@@ -8,7 +8,7 @@ ghost use Rattle.dd_file.specs.Words.{has_keys, command_of};
 use crate::command::{Command, Name, parse_command};
 pub use crate::raw_lines::RawLines;
 use crate::value_places::ValuePlaces;
-use ascii_text::white_space::{trimmed, without_leading_space, without_trailing_space};
+use ascii_text::white_space::{without_leading_space, without_trailing_space};
 use std::alloc::{AllocError, Global};
 use std::marker::Model;
 
@@ -24,22 +24,22 @@ pub struct Argument {
 
 impl Model for Argument {
     ghost use Rattle.std.specs.Prelude.{◌≤◌, take, vec_len};
-    ghost use Rattle.dd_file.specs.ValuePlaces.{values_at, EndWithin};
+    ghost use Rattle.dd_file.specs.ValuePlaces.{values_at, AreWithin};
     ghost use Rattle.dd_file.specs.Words.{ArgumentText};
 
     ghost Value = { ArgumentText };
 
     ghost view = { λ a. record {
       key = take a.key_len a.word.items;
-      values = values_at a.word.items a.places.start a.places.ends.items;
+      values = values_at a.word.items a.places.items;
     } };
 
-    ghost invariant = { λ a. (a.key_len ≤ vec_len a.word) × EndWithin (vec_len a.word) a.places.start a.places.ends.items };
+    ghost invariant = { λ a. (a.key_len ≤ vec_len a.word) × AreWithin (vec_len a.word) a.places.items };
 }
 
 impl Argument {
     ghost use Rattle.std.specs.Prelude.{◌≤◌, length, take};
-    ghost use Rattle.dd_file.specs.ValuePlaces.{values_at, EndWithin};
+    ghost use Rattle.dd_file.specs.ValuePlaces.{values_at, AreWithin};
 
     /// The argument that a word says, of which the key comes first, with values in these places.
     pub(crate) fn new(
@@ -49,8 +49,8 @@ impl Argument {
         places: ValuePlaces,
     ) -> Result<Argument, AllocError>
         requires key { key_len ≤ length word.now }
-        requires within { EndWithin (length word.now) places.start places.ends.items }
-        ensures { IfOk result (λ argument. argument ≡ record { key = take key_len word.now; values = values_at word.now places.start places.ends.items }) }
+        requires within { AreWithin (length word.now) places.items }
+        ensures { IfOk result (λ argument. argument ≡ record { key = take key_len word.now; values = values_at word.now places.items }) }
     {
         Ok(Argument {
             word: Vec::from_slice(alloc, word)?,
@@ -70,23 +70,15 @@ impl Argument {
     pub fn value_count(&self) -> usize
         ensures { result ≡ length self.now.values }
     {
-        self.places.ends.len()
+        self.places.len()
     }
 
     /// The value at a place, counted from 0.
     pub fn value(&self, i: usize) -> Option<&[u8]>
         ensures { option_map (λ value. value.now) result ≡ slice_get self.now.values i }
     {
-        let ends = self.places.ends.as_slice();
-        if i >= ends.len() {
-            return None;
-        }
-        let start = if i == 0 {
-            self.places.start
-        } else {
-            ends[i - 1] + 1
-        };
-        Some(trimmed(&self.word[start..ends[i]]))
+        let place = self.places.as_slice().get(i)?;
+        Some(&self.word[place.start..place.end])
     }
 }
 

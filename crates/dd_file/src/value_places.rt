@@ -1,27 +1,12 @@
 //! Where the values of an argument stand in its word.
 use smallvec::SmallVec;
-use std::alloc::Global;
 
-/// The places where values end: of a few they take no memory.
-pub(crate) type Ends = SmallVec<usize, 8>;
-
-/// Where the first value begins, and where each ends. The next begins a byte behind.
-#[derive(Drop)]
-pub(crate) struct ValuePlaces {
+/// Where a value begins, and where it ends. No white space stands at its ends.
+#[derive(Clone, Copy, Debug, Default)]
+pub(crate) struct ValuePlace {
     pub(crate) start: usize,
-    pub(crate) ends: Ends,
+    pub(crate) end: usize,
 }
 
-impl ValuePlaces {
-    ghost use Rattle.std.specs.Prelude.{◌≡◌, []};
-
-    /// No value.
-    pub(crate) fn none(alloc: Global) -> ValuePlaces
-        ensures { result.ends.items ≡ [] }
-    {
-        ValuePlaces {
-            start: 0,
-            ends: Ends::new(alloc),
-        }
-    }
-}
+/// The places of values: a few take no memory.
+pub(crate) type ValuePlaces = SmallVec<ValuePlace, 8>;

@@ -1,24 +1,39 @@
 //! The words of a directive's text: white space parts them, but not between parentheses.
-ghost use Rattle.std.specs.Prelude.{◌≡◌, ◌<◌, false, [], ◌∷◌, length, IfSome, MatchOption};
+ghost use Rattle.std.specs.Prelude.{◌≡◌, ◌<◌, ◌≤◌, false, [], ◌∷◌, length, IfSome, MatchOption};
+ghost use Rattle.std.specs.List.{prefix_len};
+ghost use Rattle.dd_file.specs.WordParts.{is_outside};
 ghost use Rattle.dd_file.specs.Words.{word_len, words_of};
 
+use ascii_text::cut::place_of;
 use ascii_text::white_space::{is_space, without_leading_space};
+
+/// Whether the byte is outside of parentheses and ends no word there: white space ends one.
+fn is_outside(b: u8) -> bool
+    ensures { result ≡ is_outside b }
+{
+    !is_space(b) && b != b'('
+}
+
+/// How many such bytes come first.
+fn outside_len(text: &[u8]) -> usize
+    ensures len { result ≡ prefix_len is_outside text.now }
+    ensures within { result ≤ length text.now }
+{
+    text.iter().take_while(|b| is_outside(**b)).count()
+}
 
 /// How many bytes come before the first white space that is not between parentheses.
 fn word_len(text: &[u8]) -> usize
     ensures { result ≡ word_len false text.now }
 {
-    let mut is_inside = false;
-    for (i, b) in text.iter().enumerate() {
-        if is_inside {
-            is_inside = *b != b')';
-        } else if is_space(*b) {
-            return i;
-        } else {
-            is_inside = *b == b'(';
-        }
+    let mut len = 0;
+    'part: loop {
+        len += outside_len(&text[len..]);
+        let Some(b'(') = text.get(len) else {
+            return len;
+        };
+        len += place_of(&text[len..], b')');
     }
-    text.len()
 }
 
 /// The first word of a text, and what stands behind it. White space alone has no word.

@@ -1,122 +1,163 @@
--- Values that are cut at commas, and where they end.
-use Rattle.std.proofs.Common.{◌≡◌, ℕ, ◌≤◌, ◌<◌, ◌+◌, ◌-◌, zero, suc, Bool, true, false, not, cond, ◌&&◌, ◌||◌, List, [], ◌∷◌, ◌++◌, length, take, drop, get_or, refl, sym, ◌∙◌, ap, arith}
-use Rattle.std.proofs.lemmas.List.{append_assoc, length-append, take_at, drop_at}
-use Rattle.ascii_text.specs.WhiteSpace.{is_space, is_blank, trimmed, without_leading_space, without_trailing_space}
-use Rattle.dd_file.specs.LineEnds.{lines_at, ends_of}
-use Rattle.dd_file.specs.ValuePlaces.{EndWithin}
-use Rattle.dd_file.specs.Words.{is_comma, is_opening, is_closing, is_plain, placed, cut_at_commas}
+-- The values of a list, one by one up to its closing parenthesis.
+use Rattle.std.proofs.Common.{◌≡◌, ℕ, ◌+◌, suc, Bool, true, false, not, cond, ◌&&◌, ◌||◌, List, [], ◌∷◌, length, take, drop, map, refl, sym, ◌∙◌, ap, arith, rules}
+use Rattle.std.specs.Prelude.{◌==◌, Option, Some, None, option_map, bytes_eq}
+use Rattle.std.specs.List.{list_any, prefix_len}
+use Rattle.std.proofs.Math.Bool.{and-false, or-true}
+use Rattle.std.proofs.lemmas.Bool.{true≢false}
+use Rattle.ascii_text.specs.WhiteSpace.{is_space, is_blank, trimmed, without_leading_space}
+use Rattle.dd_file.specs.Parts.{up_to, behind}
+use Rattle.dd_file.specs.ValuePlaces.{is_in_value, ends_at_closing, is_empty_list, listed_from}
+use Rattle.dd_file.specs.Words.{is_comma, is_opening, is_closing, is_plain, placed, cut_at_commas, listed, values_of}
 
--- a text begins with some values, and a byte stands between two of them
-abbrev pub Begins : List ℕ → List (List ℕ) → Type 0
-Begins text [] = Unit {0}
-Begins text (value ∷ []) = (rest : List ℕ) × (text ≡ value ++ rest)
-Begins text (value ∷ next ∷ values) = (b : ℕ) × (rest : List ℕ) × (text ≡ value ++ b ∷ rest) × Begins rest (next ∷ values)
+-- how many bytes the first value has
+abbrev pub value_len : List ℕ → ℕ
+value_len text = prefix_len is_in_value text
 
--- what is cut at commas, with more behind it
-pub begins-cut : (bs after : List ℕ) → Begins (bs ++ after) (cut_at_commas bs)
-begins-cut [] after = (after, refl)
-begins-cut (b ∷ bs) after = at (is_comma b) (cut_at_commas bs) (begins-cut bs after) where
-  at : (c : Bool) (values : List (List ℕ)) → Begins (bs ++ after) values → Begins (b ∷ bs ++ after) (placed c b values)
-  at true [] h = (b ∷ bs ++ after, refl)
-  at true (value ∷ values) h = (b, bs ++ after, refl, h)
-  at false [] h = (bs ++ after, refl)
-  at false (value ∷ []) h = (h.0, ap (λ t. b ∷ t) h.1)
-  at false (value ∷ next ∷ values) h = (h.0, h.1, ap (λ t. b ∷ t) h.2, h.3)
+-- what stands between the parentheses is cut into these
+abbrev cut : List ℕ → List (List ℕ)
+cut text = cut_at_commas (up_to is_closing text)
 
--- the value that stands at a place
-first-at : (before text : List ℕ) (start : ℕ) (value rest : List ℕ) → length before ≡ start → text ≡ value ++ rest → take (start + length value - start) (drop start (before ++ text)) ≡ value
-first-at before text start value rest at is =
-    let count : start + length value - start ≡ length value = omega arith in
-    ap (λ n. take n (drop start (before ++ text))) count ∙ ap (take (length value)) (drop_at before text start at ∙ is) ∙ take_at value rest (length value) refl
+-- the first value of a list, and what stands behind it
+record FirstValue (text : List ℕ) (b : ℕ) (rest : List ℕ) : Type 0 where
+  comma : is_comma b ≡ true → (cut text ≡ take (value_len text) text ∷ cut rest) × (ends_at_closing text ≡ ends_at_closing rest)
+  closing : is_comma b ≡ false → (cut text ≡ take (value_len text) text ∷ []) × (ends_at_closing text ≡ (length rest == 0))
 
--- such values are found by where they end
-pub lines_at-begins : (before text : List ℕ) (start : ℕ) (values : List (List ℕ)) → length before ≡ start → Begins text values → lines_at (before ++ text) start (ends_of start values) ≡ values
-lines_at-begins before text start [] at h = refl
-lines_at-begins before text start (value ∷ []) at h = ap (λ v. v ∷ []) (first-at before text start value h.0 at h.1)
-lines_at-begins before text start (value ∷ next ∷ values) at h =
-    ap (λ v. v ∷ lines_at (before ++ text) (start + length value + 1) (ends_of (start + length value + 1) (next ∷ values))) (first-at before text start value (h.0 ∷ h.1) at h.2)
-    ∙ ap (λ t. value ∷ lines_at t (start + length value + 1) (ends_of (start + length value + 1) (next ∷ values))) whole
-    ∙ ap (λ vs. value ∷ vs) (lines_at-begins (before ++ (value ++ h.0 ∷ [])) h.1 (start + length value + 1) (next ∷ values) behind h.3) where
-      whole : before ++ text ≡ (before ++ (value ++ h.0 ∷ [])) ++ h.1
-      whole = ap (λ t. before ++ t) (h.2 ∙ sym (append_assoc value (h.0 ∷ []) h.1)) ∙ sym (append_assoc before (value ++ h.0 ∷ []) h.1)
+-- a byte before a text that closes nothing
+up_to-other : (x : ℕ) (xs : List ℕ) → is_closing x ≡ false → up_to is_closing (x ∷ xs) ≡ x ∷ up_to is_closing xs
+up_to-other x xs h = ap (λ d. cond d [] (x ∷ up_to is_closing xs)) h
 
-      behind : length (before ++ (value ++ h.0 ∷ [])) ≡ start + length value + 1
-      behind = omega (arith, at, length-append before (value ++ h.0 ∷ []), length-append value (h.0 ∷ []))
+ends-other : (x : ℕ) (xs : List ℕ) → is_closing x ≡ false → ends_at_closing (x ∷ xs) ≡ ends_at_closing xs
+ends-other x xs h = ap (λ d. (d || list_any is_closing xs) && (length (cond d xs (behind is_closing xs)) == 0)) h
 
--- and their ends lie in the text
-pub end-within : (len : ℕ) (text : List ℕ) (start : ℕ) (values : List (List ℕ)) → start + length text ≤ len → Begins text values → EndWithin len start (ends_of start values)
-end-within len text start [] le h = tt
-end-within len text start (value ∷ []) le h = (omega arith, omega (arith, le, ap length h.1, length-append value h.0), tt)
-end-within len text start (value ∷ next ∷ values) le h =
-    let all : length text ≡ length value + suc (length h.1) = ap length h.2 ∙ length-append value (h.0 ∷ h.1) in
-    (omega arith, omega (arith, le, all), end-within len h.1 (start + length value + 1) (next ∷ values) (omega (arith, le, all)) h.3)
+ends-closing : (x : ℕ) (xs : List ℕ) → is_closing x ≡ true → ends_at_closing (x ∷ xs) ≡ (length xs == 0)
+ends-closing x xs h = ap (λ d. (d || list_any is_closing xs) && (length (cond d xs (behind is_closing xs)) == 0)) h
 
--- where the values end, byte by byte
-pub ends_of-comma : (at b : ℕ) (bs : List ℕ) → is_comma b ≡ true → ends_of at (cut_at_commas (b ∷ bs)) ≡ at ∷ ends_of (at + 1) (cut_at_commas bs)
-ends_of-comma at b bs h =
-    let here : at + 0 ≡ at = omega arith in
-    ap (λ c. ends_of at (placed c b (cut_at_commas bs))) h ∙ ap (λ n. n ∷ ends_of (n + 1) (cut_at_commas bs)) here
+comma-not_closing : (x : ℕ) → is_comma x ≡ true → is_closing x ≡ true → ⊥
+comma-not_closing x c d = let is : x ≡ 44 = search rules in let at : is_closing 44 ≡ true = ap is_closing (sym is) ∙ d in cc
 
-pub ends_of-other : (at b : ℕ) (bs : List ℕ) → is_comma b ≡ false → ends_of at (cut_at_commas (b ∷ bs)) ≡ ends_of (at + 1) (cut_at_commas bs)
-ends_of-other at b bs h = ap (λ c. ends_of at (placed c b (cut_at_commas bs))) h ∙ along (cut_at_commas bs) (some-cut bs) where
-  along : (values : List (List ℕ)) → 0 < length values → ends_of at (placed false b values) ≡ ends_of (at + 1) values
-  along [] lt = absurd (omega (arith, lt))
-  along (value ∷ values) lt =
-      let here : at + suc (length value) ≡ at + 1 + length value = omega arith in
-      ap (λ n. n ∷ ends_of (n + 1) values) here
+cut-longer : (x : ℕ) (xs value : List ℕ) (values : List (List ℕ)) → is_comma x ≡ false → is_closing x ≡ false → cut xs ≡ value ∷ values → cut (x ∷ xs) ≡ (x ∷ value) ∷ values
+cut-longer x xs value values c d h = ap cut_at_commas (up_to-other x xs d) ∙ ap (λ e. placed e x (cut xs)) c ∙ ap (placed false x) h
 
-  some-cut : (xs : List ℕ) → 0 < length (cut_at_commas xs)
-  some-cut [] = omega arith
-  some-cut (x ∷ xs) = each (is_comma x) (cut_at_commas xs) where
-    each : (c : Bool) (values : List (List ℕ)) → 0 < length (placed c x values)
-    each true values = omega arith
-    each false [] = omega arith
-    each false (value ∷ values) = omega arith
+first-value : (text : List ℕ) (b : ℕ) (rest : List ℕ) → drop (value_len text) text ≡ b ∷ rest → FirstValue text b rest
+first-value [] b rest h = cc
+first-value (x ∷ xs) b rest h = at (is_comma x) (is_closing x) refl refl h (first-value xs b rest) where
+  at : (c d : Bool) → is_comma x ≡ c → is_closing x ≡ d → drop (cond (not (c || d)) (1 + value_len xs) 0) (x ∷ xs) ≡ b ∷ rest → (drop (value_len xs) xs ≡ b ∷ rest → FirstValue xs b rest) → FirstValue (x ∷ xs) b rest
+  at false false c d k ih =
+      let one : 1 + value_len xs ≡ suc (value_len xs) = omega arith in
+      let r = ih (sym (ap (λ n. drop n (x ∷ xs)) one) ∙ k) in
+      let n : value_len (x ∷ xs) ≡ suc (value_len xs) = ap (λ i. cond (not (i || is_closing x)) (1 + value_len xs) 0) c ∙ ap (λ i. cond (not i) (1 + value_len xs) 0) d ∙ one in record {
+        comma = λ is. (
+          cut-longer x xs (take (value_len xs) xs) (cut rest) c d (r.comma is).0 ∙ sym (ap (λ m. take m (x ∷ xs) ∷ cut rest) n),
+          ends-other x xs d ∙ (r.comma is).1,
+        );
+        closing = λ is. (
+          cut-longer x xs (take (value_len xs) xs) [] c d (r.closing is).0 ∙ sym (ap (λ m. take m (x ∷ xs) ∷ []) n),
+          ends-other x xs d ∙ (r.closing is).1,
+        );
+      }
+  at true true c d k ih = absurd (comma-not_closing x c d)
+  at true false c d k ih =
+      let first : x ≡ b = cc in
+      let same : xs ≡ rest = cc in
+      let n : value_len (x ∷ xs) ≡ 0 = ap (λ i. cond (not (i || is_closing x)) (1 + value_len xs) 0) c in record {
+        comma = λ is. (
+          ap cut_at_commas (up_to-other x xs d) ∙ ap (λ e. placed e x (cut xs)) c ∙ ap (λ t. [] ∷ cut t) same ∙ sym (ap (λ m. take m (x ∷ xs) ∷ cut rest) n),
+          ends-other x xs d ∙ ap ends_at_closing same,
+        );
+        closing = λ is. absurd (true≢false (sym c ∙ ap is_comma first ∙ is));
+      }
+  at false true c d k ih =
+      let first : x ≡ b = cc in
+      let same : xs ≡ rest = cc in
+      let n : value_len (x ∷ xs) ≡ 0 = ap (λ i. cond (not (i || is_closing x)) (1 + value_len xs) 0) c ∙ ap (λ i. cond (not i) (1 + value_len xs) 0) d in record {
+        comma = λ is. absurd (true≢false (sym is ∙ sym (ap is_comma first) ∙ c));
+        closing = λ is. (
+          ap (λ e. cut_at_commas (cond e [] (x ∷ up_to is_closing xs))) d ∙ sym (ap (λ m. take m (x ∷ xs) ∷ []) n),
+          ends-closing x xs d ∙ ap (λ t. length t == 0) same,
+        );
+      }
 
--- a value by its place among them
-abbrev pub start-at : ℕ → List ℕ → ℕ → ℕ
-start-at start ends zero = start
-start-at start ends (suc i) = get_or ends i 0 + 1
+no-end : (text : List ℕ) → drop (value_len text) text ≡ [] → ends_at_closing text ≡ false
+no-end [] h = refl
+no-end (x ∷ xs) h = at (is_comma x) (is_closing x) refl refl h (no-end xs) where
+  at : (c d : Bool) → is_comma x ≡ c → is_closing x ≡ d → drop (cond (not (c || d)) (1 + value_len xs) 0) (x ∷ xs) ≡ [] → (drop (value_len xs) xs ≡ [] → ends_at_closing xs ≡ false) → ends_at_closing (x ∷ xs) ≡ false
+  at false false c d k ih =
+      let one : 1 + value_len xs ≡ suc (value_len xs) = omega arith in
+      ends-other x xs d ∙ ih (sym (ap (λ n. drop n (x ∷ xs)) one) ∙ k)
+  at true d c e k ih = cc
+  at false true c d k ih = cc
 
--- the first begins at the start, and another a byte behind the end before it
-pub first-start : (start : ℕ) (ends : List ℕ) (i : ℕ) → i ≡ 0 → start ≡ start-at start ends i
-first-start start ends i is = ap (start-at start ends) (sym is)
+-- a comma stands behind the first value
+pub listed_from-comma : (text : List ℕ) (b : ℕ) (rest : List ℕ) → drop (value_len text) text ≡ b ∷ rest → is_comma b ≡ true →
+    listed_from text ≡ option_map (λ others. trimmed (take (value_len text) text) ∷ others) (listed_from rest)
+listed_from-comma text b rest h is =
+    let r = (first-value text b rest h).comma is in
+    ap (λ vs. cond (ends_at_closing text) (Some (map trimmed vs)) None) r.0
+    ∙ ap (λ c. cond c (Some (trimmed (take (value_len text) text) ∷ map trimmed (cut rest))) None) r.1 ∙ each (ends_at_closing rest) where
+      each : (c : Bool) → cond c (Some (trimmed (take (value_len text) text) ∷ map trimmed (cut rest))) None
+          ≡ option_map (λ others. trimmed (take (value_len text) text) ∷ others) (cond c (Some (map trimmed (cut rest))) None)
+      each true = refl
+      each false = refl
 
-pub next-start : (start : ℕ) (ends seen : List ℕ) (i : ℕ) → (i ≡ 0 → ⊥) → seen ≡ ends → get_or seen (i - 1) 0 + 1 ≡ start-at start ends i
-next-start start ends seen zero some is = absurd (some refl)
-next-start start ends seen (suc i) some is = let before : suc i - 1 ≡ i = omega arith in ap (λ k. get_or seen k 0 + 1) before ∙ ap (λ es. get_or es i 0 + 1) is
+-- a closing parenthesis does, and has to be the last byte
+pub listed_from-closing : (text : List ℕ) (b : ℕ) (rest : List ℕ) → drop (value_len text) text ≡ b ∷ rest → is_comma b ≡ false →
+    listed_from text ≡ cond (length rest == 0) (Some (trimmed (take (value_len text) text) ∷ [])) None
+listed_from-closing text b rest h is =
+    let r = (first-value text b rest h).closing is in
+    ap (λ vs. cond (ends_at_closing text) (Some (map trimmed vs)) None) r.0
+    ∙ ap (λ c. cond c (Some (trimmed (take (value_len text) text) ∷ [])) None) r.1
 
-pub line-at : (text : List ℕ) (start : ℕ) (ends : List ℕ) (i : ℕ) → i < length ends →
-    get_or (lines_at text start ends) i [] ≡ take (get_or ends i 0 - start-at start ends i) (drop (start-at start ends i) text)
-line-at text start [] i lt = absurd (omega (arith, lt))
-line-at text start (end ∷ ends) zero lt = refl
-line-at text start (end ∷ ends) (suc zero) lt = line-at text (end + 1) ends zero (omega (arith, lt))
-line-at text start (end ∷ ends) (suc (suc i)) lt = line-at text (end + 1) ends (suc i) (omega (arith, lt))
+-- nothing does
+pub listed_from-open : (text : List ℕ) → drop (value_len text) text ≡ [] → listed_from text ≡ None
+listed_from-open text h = ap (λ c. cond c (Some (map trimmed (cut text))) None) (no-end text h)
 
-pub length-lines_at : (text : List ℕ) (start : ℕ) (ends : List ℕ) → length (lines_at text start ends) ≡ length ends
-length-lines_at text start [] = refl
-length-lines_at text start (end ∷ ends) = ap suc (length-lines_at text (end + 1) ends)
+-- a list with no values
+pub empty-list : (inside : List ℕ) → bytes_eq (without_leading_space inside) (41 ∷ []) ≡ is_empty_list inside
+empty-list [] = refl
+empty-list (x ∷ xs) = at (is_space x) (is_closing x) refl refl (empty-list xs) where
+  none : (ys : List ℕ) → bytes_eq ys [] ≡ ((length ys == 0) && true)
+  none [] = refl
+  none (y ∷ ys) = let some : (suc (length ys) == 0) ≡ false = search rules in sym (ap (λ e. e && true) some)
 
-pub within-at : (len start : ℕ) (ends : List ℕ) (i : ℕ) → EndWithin len start ends → i < length ends → (start-at start ends i ≤ get_or ends i 0) × (get_or ends i 0 ≤ len)
-within-at len start [] i h lt = absurd (omega (arith, lt))
-within-at len start (end ∷ ends) zero h lt = (h.0, h.1)
-within-at len start (end ∷ ends) (suc zero) h lt = within-at len (end + 1) ends zero h.2 (omega (arith, lt))
-within-at len start (end ∷ ends) (suc (suc i)) h lt = within-at len (end + 1) ends (suc i) h.2 (omega (arith, lt))
+  at : (c d : Bool) → is_space x ≡ c → is_closing x ≡ d → bytes_eq (without_leading_space xs) (41 ∷ []) ≡ is_empty_list xs →
+      bytes_eq (cond c (without_leading_space xs) (x ∷ xs)) (41 ∷ []) ≡ is_empty_list (x ∷ xs)
+  at true true c d ih = let is : x ≡ 41 = search rules in let no : is_space 41 ≡ true = ap is_space (sym is) ∙ c in cc
+  at true false c d ih =
+      ih ∙ sym (ap (λ e. e && is_blank (up_to is_closing (x ∷ xs))) (ends-other x xs d)
+      ∙ ap (λ t. ends_at_closing xs && is_blank t) (up_to-other x xs d)
+      ∙ ap (λ e. ends_at_closing xs && (e && is_blank (up_to is_closing xs))) c)
+  at false true c d ih =
+      ap (λ e. e && bytes_eq xs []) d ∙ none xs
+      ∙ sym (ap (λ e. e && is_blank (up_to is_closing (x ∷ xs))) (ends-closing x xs d)
+      ∙ ap (λ e. (length xs == 0) && is_blank (cond e [] (x ∷ up_to is_closing xs))) d)
+  at false false c d ih =
+      ap (λ e. e && bytes_eq xs []) d
+      ∙ sym (ap (λ t. ends_at_closing (x ∷ xs) && is_blank t) (up_to-other x xs d)
+      ∙ ap (λ e. ends_at_closing (x ∷ xs) && (e && is_blank (up_to is_closing xs))) c
+      ∙ and-false (ends_at_closing (x ∷ xs)))
 
--- a plain value has no white space at its ends
-pub trimmed-plain : (bytes : List ℕ) → is_plain bytes ≡ true → trimmed bytes ≡ bytes
-trimmed-plain bytes h = ap without_leading_space (ends bytes h) ∙ leads bytes h where
-  full : (b : ℕ) (bs : List ℕ) → is_plain (b ∷ bs) ≡ true → (is_space b ≡ false) × (is_plain bs ≡ true)
-  full b bs k = at (is_space b) (is_opening b || is_closing b) refl k where
-    at : (c d : Bool) → is_space b ≡ c → (not (c || d) && is_plain bs) ≡ true → (is_space b ≡ false) × (is_plain bs ≡ true)
-    at true d e k = cc
-    at false true e k = cc
-    at false false e k = (e, k)
+-- what a list says
+pub values_of-empty : (text inside : List ℕ) → text ≡ 40 ∷ inside → is_empty_list inside ≡ true → values_of text ≡ Some []
+values_of-empty text inside begins is = ap values_of begins ∙ each (ends_at_closing inside) (is_blank (up_to is_closing inside)) is where
+  each : (c d : Bool) → (c && d) ≡ true → cond c (Some (cond d [] (map trimmed (cut inside)))) None ≡ Some []
+  each true true e = refl
+  each true false e = cc
+  each false d e = cc
 
-  leads : (bs : List ℕ) → is_plain bs ≡ true → without_leading_space bs ≡ bs
-  leads [] k = refl
-  leads (b ∷ bs) k = ap (λ c. cond c (without_leading_space bs) (b ∷ bs)) (full b bs k).0
+pub values_of-list : (text inside : List ℕ) → text ≡ 40 ∷ inside → is_empty_list inside ≡ false → values_of text ≡ listed_from inside
+values_of-list text inside begins is = ap values_of begins ∙ each (ends_at_closing inside) (is_blank (up_to is_closing inside)) is where
+  each : (c d : Bool) → (c && d) ≡ false → cond c (Some (cond d [] (map trimmed (cut inside)))) None ≡ cond c (Some (map trimmed (cut inside))) None
+  each true true e = cc
+  each true false e = refl
+  each false d e = refl
 
-  ends : (bs : List ℕ) → is_plain bs ≡ true → without_trailing_space bs ≡ bs
-  ends [] k = refl
-  ends (b ∷ bs) k = ap (λ c. cond (c && is_blank bs) [] (b ∷ without_trailing_space bs)) (full b bs k).0 ∙ ap (λ t. b ∷ t) (ends bs (full b bs k).1)
+-- bytes that are no list are a plain value
+pub values_of-plain : (text : List ℕ) → is_plain text ≡ true → values_of text ≡ Some (text ∷ [])
+values_of-plain [] plain = refl
+values_of-plain (b ∷ bs) plain = each (is_opening b) refl where
+  rest : Bool → Option (List (List ℕ))
+  rest c = cond c (cond (ends_at_closing bs) (Some (listed (up_to is_closing bs))) None) (cond (is_plain (b ∷ bs)) (Some ((b ∷ bs) ∷ [])) None)
+
+  each : (c : Bool) → is_opening b ≡ c → rest c ≡ Some ((b ∷ bs) ∷ [])
+  each true e = absurd (true≢false (sym plain ∙ ap (λ c. not (is_space b || (c || is_closing b)) && is_plain bs) e ∙ ap (λ c. not c && is_plain bs) (or-true (is_space b))))
+  each false e = ap (λ c. cond c (Some ((b ∷ bs) ∷ [])) None) plain
