@@ -1,16 +1,15 @@
 //! The quorum that the arguments of a command name, and the values that its ids are given.
-ghost use Rattle.std.specs.Prelude.{◌≡◌, true, [], ◌++◌, length, nat_eq, filter_map, option_map, option_to_list, IfOk, OnOk};
+ghost use Rattle.std.specs.Prelude.{◌≡◌, true, [], ◌++◌, length, nat_eq, option_map, option_to_list, IfOk, OnOk};
 ghost use Rattle.std.specs.Ordering.{nat_cmp};
 ghost use Rattle.std.specs.FinMap as finite;
-ghost use Rattle.ascii_text.specs.Number.{number_in};
 ghost use Rattle.conf_session.specs.Given.{entries_in, given_in};
 ghost use Rattle.conf_session.specs.QuorumArguments as says;
 
 use crate::arguments::argument_of;
 use crate::given::{FEW, Given, GivenValue};
+use crate::named_ids::NamedIds;
 use crate::parameter::{Parameter, number_from};
 use crate::session_ids::SessionIds;
-use ascii_text::number::read_number;
 use dd_file::item::Argument;
 use quorum_sets::{MemberSet, NoMemory};
 use smallvec::SmallVec;
@@ -25,54 +24,6 @@ pub(crate) fn number_given(parameter: Parameter, arguments: &[Argument]) -> u64
         Some(argument) => number_from(0, argument).unwrap_or(0),
         None => 0,
     }
-}
-
-// Puts the numbers of an argument behind the others; none where it is left out.
-fn push_numbers(
-    numbers: &mut SmallVec<u64, FEW>,
-    parameter: Parameter,
-    arguments: &[Argument],
-) -> Result<(), NoMemory>
-    ensures { OnOk result (numbers.new.items ≡ numbers.old.items ++ says.numbers_given parameter arguments.now) }
-{
-    match argument_of(parameter, arguments) {
-        Some(argument) => push_numbers_in(numbers, argument),
-        None => Ok(()),
-    }
-}
-
-// Puts the values of an argument that are numbers behind the others.
-fn push_numbers_in(numbers: &mut SmallVec<u64, FEW>, argument: &Argument) -> Result<(), NoMemory>
-    ensures { OnOk result (numbers.new.items ≡ numbers.old.items ++ filter_map number_in argument.now.values) }
-{
-    for place in 0..argument.value_count() {
-        if let Some(value) = argument.value(place) {
-            push_known(numbers, read_number(value))?;
-        }
-    }
-    Ok(())
-}
-
-// Puts the number behind the others, if there is one.
-fn push_known(numbers: &mut SmallVec<u64, FEW>, number: Option<u64>) -> Result<(), NoMemory>
-    ensures { OnOk result (numbers.new.items ≡ numbers.old.items ++ option_to_list number) }
-{
-    if let Some(number) = number {
-        numbers.push(number)?;
-    }
-    Ok(())
-}
-
-// Puts in the numbers of `cfg` and behind them those of `cfgj`, and tells where these begin.
-fn push_both(named: &mut SmallVec<u64, FEW>, arguments: &[Argument]) -> Result<usize, NoMemory>
-    requires { named.old.items ≡ [] }
-    ensures numbers { IfOk result (λ split. named.new.items ≡ says.numbers_given Parameter.Incoming arguments.now ++ says.numbers_given Parameter.Outgoing arguments.now) }
-    ensures split { IfOk result (λ split. split ≡ length (says.numbers_given Parameter.Incoming arguments.now)) }
-{
-    push_numbers(named, Parameter::Incoming, arguments)?;
-    let split = named.len();
-    push_numbers(named, Parameter::Outgoing, arguments)?;
-    Ok(split)
 }
 
 // Puts in the ids, each once, in the order in which they come first.
@@ -123,8 +74,7 @@ pub(crate) struct Quorum<V: GivenValue> {
 }
 
 impl<V: GivenValue> Quorum<V> {
-    ghost use Rattle.std.specs.Prelude.{◌≡◌, ◌≤◌, true, [], length, take, drop, IfOk, OnOk};
-    ghost use Rattle.quorum_sets.specs.Ids.{ids_of};
+    ghost use Rattle.std.specs.Prelude.{◌≡◌, true, [], IfOk};
     ghost use Rattle.conf_session.specs.Given.{entries_in, given_in};
     ghost use Rattle.conf_session.specs.QuorumArguments as says;
 
@@ -139,61 +89,33 @@ impl<V: GivenValue> Quorum<V> {
         }
     }
 
-    /// Reads the sets that `cfg` and `cfgj` name, and tells whether the other argument has a value for each of their
-    /// ids. Where it has, they are given these. A quorum is read once.
+    /// Takes on the sets whose ids are named, and tells whether the argument has a value for each of these ids. Where it
+    /// has, they are given these values. The ids are joined then.
     pub(crate) fn read(
         &mut self,
         alloc: Global,
-        parameter: Parameter,
-        arguments: &[Argument],
-    ) -> Result<bool, NoMemory>
-        requires { entries_in self.old.given ≡ [] }
-        ensures one_each { IfOk result (λ each. each ≡ says.is_one_each parameter arguments.now) }
-        ensures incoming { IfOk result (λ each. self.new.incoming ≡ (says.voters_given arguments.now).incoming) }
-        ensures outgoing { IfOk result (λ each. self.new.outgoing ≡ (says.voters_given arguments.now).outgoing) }
-        ensures given { IfOk result (λ each. each ≡ true → given_in self.new.given ≡ says.map_given V.says (says.ids_given arguments.now) (says.values_given parameter arguments.now)) }
-    {
-        let mut named = SmallVec::new(alloc);
-        self.read_named(alloc, &mut named, parameter, arguments)
-    }
-
-    // The same, where the ids are put into a list that is lent.
-    fn read_named(
-        &mut self,
-        alloc: Global,
-        named: &mut SmallVec<u64, FEW>,
+        named: &mut NamedIds,
         parameter: Parameter,
         arguments: &[Argument],
     ) -> Result<bool, NoMemory>
         requires none { entries_in self.old.given ≡ [] }
-        requires nobody { named.old.items ≡ [] }
+        requires incoming { named.old.incoming.items ≡ says.numbers_given Parameter.Incoming arguments.now }
+        requires outgoing { named.old.outgoing.items ≡ says.numbers_given Parameter.Outgoing arguments.now }
         ensures one_each { IfOk result (λ each. each ≡ says.is_one_each parameter arguments.now) }
         ensures incoming { IfOk result (λ each. self.new.incoming ≡ (says.voters_given arguments.now).incoming) }
         ensures outgoing { IfOk result (λ each. self.new.outgoing ≡ (says.voters_given arguments.now).outgoing) }
         ensures given { IfOk result (λ each. each ≡ true → given_in self.new.given ≡ says.map_given V.says (says.ids_given arguments.now) (says.values_given parameter arguments.now)) }
     {
-        let split = push_both(named, arguments)?;
-        self.take_sets(alloc, named.as_slice(), split)?;
+        self.incoming = SessionIds::of_list(alloc, named.incoming.as_slice())?;
+        self.outgoing = SessionIds::of_list(alloc, named.outgoing.as_slice())?;
+        named.join()?;
         give_each_once(
             &mut self.given,
             alloc,
-            named.as_slice(),
+            named.incoming.as_slice(),
             parameter,
             arguments,
         )
-    }
-
-    // Takes on the sets that a list names: the one in front of a place, and the one from there on.
-    fn take_sets(&mut self, alloc: Global, named: &[u64], split: usize) -> Result<(), NoMemory>
-        requires { split ≤ length named.now }
-        ensures incoming { OnOk result (self.new.incoming ≡ ids_of (take split named.now)) }
-        ensures outgoing { OnOk result (self.new.outgoing ≡ ids_of (drop split named.now)) }
-        ensures given { self.new.given ≡ self.old.given }
-    {
-        let (first, second) = named.split_at(split);
-        self.incoming = SessionIds::of_list(alloc, first)?;
-        self.outgoing = SessionIds::of_list(alloc, second)?;
-        Ok(())
     }
 }
 
