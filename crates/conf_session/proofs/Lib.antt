@@ -8,3 +8,4 @@ mod InputLines
 mod SameAnswer
 mod Kept
 mod QuorumValues
+mod NamedIdsRead

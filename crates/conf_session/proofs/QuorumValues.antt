@@ -60,16 +60,15 @@ once-more (y ∷ xs) x =
     ∙ ap (λ t. y ∷ t) (filter-append (λ other. not (other == y)) (each_once xs) (cond (list_any (λ id. x == id) xs) [] (x ∷ []))
     ∙ ap (λ t. filter (λ other. not (other == y)) (each_once xs) ++ t) (kept-step x y (x == y) (list_any (λ id. x == id) xs) refl))
 
+pub drop-here : {X : Type 0} (xs : List X) (i : ℕ) (x : X) → slice_get xs i ≡ Some x → drop i xs ≡ x ∷ drop (i + 1) xs
+drop-here xs i x e = drop_more xs i x (slice_get_within xs i x e) ∙ ap (λ y. y ∷ drop (i + 1) xs) (get_or_from_slice_get xs i x x e)
+
 -- ---- what is given behind a place, and at it
 pub given-here : {V : Type 0} (says : List ℕ → Option V) (ids : List ℕ) (values : List (List ℕ)) (i k id : ℕ) (value : List ℕ) → i + 1 ≡ k → slice_get ids i ≡ Some id → slice_get values i ≡ Some value →
     with_given (map_given says (drop k ids) (drop k values)) id (says value) ≡ map_given says (drop i ids) (drop i values)
 given-here says ids values i k id value next e f =
     ap (λ n. with_given (map_given says (drop n ids) (drop n values)) id (says value)) (sym next)
-    ∙ sym (λ j. map_given says (drop_here ids i id e j) (drop_here values i value f j))
-  where
-    drop_here : {X : Type 0} (xs : List X) (i : ℕ) (x : X) → slice_get xs i ≡ Some x → drop i xs ≡ x ∷ drop (i + 1) xs
-    drop_here xs i x e =
-        drop_more xs i x (slice_get_within xs i x e) ∙ ap (λ y. y ∷ drop (i + 1) xs) (get_or_from_slice_get xs i x x e)
+    ∙ sym (λ j. map_given says (drop-here ids i id e j) (drop-here values i value f j))
 
 pub nothing-given : {V : Type 0} (says : List ℕ → Option V) (ids : List ℕ) → map_given says ids [] ≡ finite.empty
 nothing-given says [] = refl

@@ -12,9 +12,9 @@ use Rattle.quorum_sets.specs.declared.voting.VoteResult.TheVariants.{VotePending
 use Rattle.dd_file.specs.Words.{ArgumentText}
 use Rattle.ascii_text.specs.Number.{number_in}
 use Rattle.conf_session.specs.Arguments.{argument_of}
-use Rattle.conf_session.specs.Parameter.{number_from}
+use Rattle.conf_session.specs.Parameter.{key_of, number_from}
 use Rattle.conf_session.specs.declared.parameter.Parameter.{Parameter}
-use Rattle.conf_session.specs.declared.parameter.Parameter.TheVariants.{Incoming, Outgoing, Indexes, Votes}
+use Rattle.conf_session.specs.declared.parameter.Parameter.TheVariants.{AutoLeave, Transition, Steps, Id, Index, Incoming, Outgoing, Indexes, Votes}
 
 -- the values of an argument; none where it is left out
 abbrev pub values_given : Parameter → List ArgumentText → List (List ℕ)
@@ -27,6 +27,22 @@ number_given parameter arguments = unwrap_or (number_from 0 (values_given parame
 -- the numbers of an argument
 abbrev pub numbers_given : Parameter → List ArgumentText → List ℕ
 numbers_given parameter arguments = filter_map number_in (values_given parameter arguments)
+
+-- the numbers of an argument, if this stands for it
+abbrev pub numbers_of : Parameter → ArgumentText → List ℕ
+numbers_of parameter argument = if bytes_eq argument.key (key_of parameter) then filter_map number_in argument.values else []
+
+-- its values say something of ids
+abbrev pub says_of_ids : Parameter → Bool
+says_of_ids AutoLeave = false
+says_of_ids Transition = false
+says_of_ids Steps = false
+says_of_ids Id = false
+says_of_ids Index = false
+says_of_ids Incoming = false
+says_of_ids Outgoing = false
+says_of_ids Indexes = true
+says_of_ids Votes = true
 
 -- both sets: the second is empty where it is left out, or `zero`
 abbrev pub voters_given : List ArgumentText → Voters

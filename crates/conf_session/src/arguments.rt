@@ -55,8 +55,8 @@ fn is_allowed(parameters: &[Parameter], argument: &Argument) -> bool
         && parameter.allows(argument))
 }
 
-// Whether one of the arguments has the key.
-fn has_key(arguments: &[Argument], key: &[u8]) -> bool
+/// Whether one of the arguments has the key.
+pub(crate) fn has_key(arguments: &[Argument], key: &[u8]) -> bool
     ensures { result ≡ says.has_key arguments.now key.now }
 {
     arguments.iter().any(|argument| argument.key() == key)

@@ -11,6 +11,7 @@ mod committed;
 mod conf_state;
 mod enter_joint;
 mod leave_joint;
+mod reading;
 mod restore;
 mod simple;
 mod telling;

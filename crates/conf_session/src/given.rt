@@ -6,6 +6,7 @@ ghost use Rattle.conf_session.specs.Given.{given_in};
 use ascii_text::number::read_number;
 use quorum_sets::{AckSource, VoteSource};
 use smallvec::SmallVec;
+use std::alloc::Global;
 use std::collections::BTreeMap;
 
 /// What a value of an argument says of an id.
@@ -60,9 +61,26 @@ pub(crate) enum Given<V: GivenValue> {
 }
 
 impl<V: GivenValue> Given<V> {
-    ghost use Rattle.std.specs.Prelude.{◌≡◌};
+    ghost use Rattle.std.specs.Prelude.{◌≡◌, []};
     ghost use Rattle.std.specs.FinMap as finite;
-    ghost use Rattle.conf_session.specs.Given.{given_in};
+    ghost use Rattle.conf_session.specs.Given.{entries_in, given_in};
+
+    /// Nothing.
+    pub(crate) fn none(alloc: Global) -> Given<V>
+        ensures { entries_in result ≡ [] }
+    {
+        Given::Few(SmallVec::new(alloc))
+    }
+
+    /// Makes ready for so many ids, where nothing is given yet.
+    pub(crate) fn make_room(&mut self, alloc: Global, ids: usize)
+        requires { entries_in self.old ≡ [] }
+        ensures { entries_in self.new ≡ [] }
+    {
+        if ids > FEW {
+            *self = Given::Many(BTreeMap::new(alloc));
+        }
+    }
 
     /// What the id is given, if that is known.
     fn of(&self, id: u64) -> Option<V>

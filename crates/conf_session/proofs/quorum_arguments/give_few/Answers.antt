@@ -5,8 +5,8 @@ use Rattle.std.specs.Ordering.{nat_cmp}
 use Rattle.std.specs.FinMap as finite
 use Rattle.std.proofs.lemmas.Option.{slice_get-get_or}
 use Rattle.conf_session.proofs.QuorumValues.{entry_given, entries-map_given, known-more, zip-here, zip-past, zip-whole}
-use Rattle.conf_session.proofs.quorum_arguments.given_to_few.Goals as goal
-use Rattle.conf_session.proofs.quorum_arguments.given_to_few.Goals.{in-Some+in_ok-push_given, in_default}
+use Rattle.conf_session.proofs.quorum_arguments.give_few.Goals as goal
+use Rattle.conf_session.proofs.quorum_arguments.give_few.Goals.{in-Some+in_ok-push_given, in_default}
 
 pub loop-place-preserved : goal.loop-place-preserved
 loop-place-preserved g c =

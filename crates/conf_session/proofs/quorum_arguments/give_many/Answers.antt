@@ -3,7 +3,7 @@ use Rattle.std.specs.Prelude.{Some, None, option_map, slice_get}
 use Rattle.std.proofs.lemmas.Option.{slice_get-get_or}
 use Rattle.conf_session.specs.QuorumArguments.{with_given}
 use Rattle.conf_session.proofs.QuorumValues.{given-here, given-past}
-use Rattle.conf_session.proofs.quorum_arguments.given_to_many.Goals as goal
+use Rattle.conf_session.proofs.quorum_arguments.give_many.Goals as goal
 
 pub loop-place-preserved-in-Continue-1 : goal.loop-place-preserved-in-Continue-1
 loop-place-preserved-in-Continue-1 g c =

@@ -3,8 +3,8 @@ use Rattle.std.specs.Prelude.{Some, slice_get}
 use Rattle.std.specs.List.{list_any}
 use Rattle.std.proofs.lemmas.Option.{slice_get-get_or}
 use Rattle.conf_session.proofs.QuorumValues.{any-once, new-there, old-there}
-use Rattle.conf_session.proofs.quorum_arguments.each_once_of_few.Goals as goal
-use Rattle.conf_session.proofs.quorum_arguments.each_once_of_few.Goals.{then-not-contains+in_ok-push, else-not-contains}
+use Rattle.conf_session.proofs.quorum_arguments.push_each_of_few.Goals as goal
+use Rattle.conf_session.proofs.quorum_arguments.push_each_of_few.Goals.{then-not-contains+in_ok-push, else-not-contains}
 
 pub loop-id-preserved : goal.loop-id-preserved
 loop-id-preserved c =
@@ -17,10 +17,10 @@ loop-id-preserved c =
     elim c.if-not-contains.branch [
       | then-not-contains+in_ok-push w ↦
           let none : list_any (λ other. id == other) (take i ids) ≡ false = sym seen ∙ w.if-not-contains.true in
-          let items : c.if-not-contains.distinct.items ≡ c.loop-id.distinct.items ++ id ∷ [] = rw w.distinct-is (search rules) in
+          let items : c.if-not-contains.each.items ≡ c.loop-id.each.items ++ id ∷ [] = rw w.each-is (search rules) in
           items ∙ ap (λ xs. xs ++ id ∷ []) c.loop-id.invariant ∙ new-there ids i id here none
       | else-not-contains w ↦
           let some : list_any (λ other. id == other) (take i ids) ≡ true = sym seen ∙ w.if-not-contains.false in
-          let items : c.if-not-contains.distinct.items ≡ c.loop-id.distinct.items = rw w.distinct-is (search rules) in
+          let items : c.if-not-contains.each.items ≡ c.loop-id.each.items = rw w.each-is (search rules) in
           items ∙ c.loop-id.invariant ∙ old-there ids i id here some
     ]

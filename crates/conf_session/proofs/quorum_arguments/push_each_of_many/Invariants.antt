@@ -3,9 +3,9 @@ use Rattle.std.specs.Ordering.{nat_cmp}
 use Rattle.std.specs.List.{list_any}
 use Rattle.std.specs.BTreeSet.{contains}
 use Rattle.conf_session.specs.QuorumArguments.{each_once}
-use Rattle.conf_session.proofs.quorum_arguments.each_once_of_many.Given as goal
+use Rattle.conf_session.proofs.quorum_arguments.push_each_of_many.Given as goal
 
 abbrev pub invariant-loop-id : goal.invariant-loop-id
 invariant-loop-id l =
-    (l.distinct.items ≡ each_once (take l.id-index l.ids))
+    (l.each.items ≡ each_once (take l.id-index l.ids))
     × ((q : ℕ) → contains nat_cmp l.seen q ≡ list_any (λ id. q == id) (take l.id-index l.ids))

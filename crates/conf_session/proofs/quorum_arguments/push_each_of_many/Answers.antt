@@ -3,8 +3,8 @@ use Rattle.std.specs.Prelude.{Some, slice_get}
 use Rattle.std.specs.List.{list_any}
 use Rattle.std.proofs.lemmas.Option.{slice_get-get_or}
 use Rattle.conf_session.proofs.QuorumValues.{seen-here, new-there, old-there, not-one, not-none}
-use Rattle.conf_session.proofs.quorum_arguments.each_once_of_many.Goals as goal
-use Rattle.conf_session.proofs.quorum_arguments.each_once_of_many.Goals.{then-branch+in_ok-push, else-branch}
+use Rattle.conf_session.proofs.quorum_arguments.push_each_of_many.Goals as goal
+use Rattle.conf_session.proofs.quorum_arguments.push_each_of_many.Goals.{then-branch+in_ok-push, else-branch}
 
 pub loop-id-preserved : goal.loop-id-preserved
 loop-id-preserved c =
@@ -16,11 +16,11 @@ loop-id-preserved c =
       elim c.if-branch.branch [
         | then-branch+in_ok-push w ↦
             let none : list_any (λ other. id == other) (take i ids) ≡ false = not-one _ (sym seen ∙ w.if-branch.true) in
-            let items : c.if-branch.distinct.items ≡ c.loop-id.distinct.items ++ id ∷ [] = rw w.distinct-is (search rules) in
+            let items : c.if-branch.each.items ≡ c.loop-id.each.items ++ id ∷ [] = rw w.each-is (search rules) in
             items ∙ ap (λ xs. xs ++ id ∷ []) c.loop-id.invariant.0 ∙ new-there ids i id here none
         | else-branch w ↦
             let some : list_any (λ other. id == other) (take i ids) ≡ true = not-none _ (sym seen ∙ w.if-branch.false) in
-            let items : c.if-branch.distinct.items ≡ c.loop-id.distinct.items = rw w.distinct-is (search rules) in
+            let items : c.if-branch.each.items ≡ c.loop-id.each.items = rw w.each-is (search rules) in
             items ∙ c.loop-id.invariant.0 ∙ old-there ids i id here some
       ],
       seen-here ids i id c.loop-id.seen c.insert.new.self here c.loop-id.invariant.1 c.in_ok-insert.ensures.updates,
