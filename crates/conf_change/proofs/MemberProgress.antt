@@ -4,3 +4,4 @@ pub mod Entries
 pub mod OfEachId
 pub mod Picked
 pub mod Acknowledged
+pub mod Cut
