@@ -11,8 +11,8 @@ use smallvec::SmallVec;
 use std::alloc::Global;
 use std::marker::Model;
 
-/// A set of ids over a sorted list. Up to 8 ids take no memory. `at` and `len` take constant time, `contains` is a
-/// binary search, and an id that is put behind the last one takes constant time, growth aside.
+/// A set of ids over a sorted list. Up to 8 ids take no memory. `at` and `len` take constant time, and `contains` a binary
+/// search, where there are more than 16 ids; an id that is put behind the last one then takes constant time, growth aside.
 #[derive(Drop)]
 pub struct InlineIds {
     list: SmallVec<u64, 8>,
