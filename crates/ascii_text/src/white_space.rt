@@ -7,7 +7,8 @@ ghost use Rattle.ascii_text.specs.WhiteSpace.{is_space, is_blank, without_leadin
 pub fn is_space(byte: u8) -> bool
     ensures { result ≡ is_space byte }
 {
-    matches!(byte, 9..=13 | 32)
+    // Most bytes are above all of them, and one comparison tells.
+    byte <= 32 && matches!(byte, 9..=13 | 32)
 }
 
 /// Whether the text is white space alone, or empty.

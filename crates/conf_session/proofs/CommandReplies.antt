@@ -1,34 +1,16 @@
--- What a step on a copy, or a saved form, gives as the reply of a command.
-use Rattle.std.proofs.Common.{◌≡◌, ◌≢◌, ℕ, zero, suc, ◌+◌, true, List, [], ◌∷◌, ◌++◌, length, take, sym, ap, ◌∙◌, subst, add-one}
-use Rattle.std.specs.Prelude.{◌==◌, Option, Some, None, unwrap_or, Result, Ok, Err, IfOk, MatchResult, OnOk, flat_map, slice_get}
-use Rattle.std.proofs.lemmas.Bool.{eqb-true}
-use Rattle.std.proofs.lemmas.List.{nil_from_length, append_assoc, append-nil}
+-- What a fault or a saved form gives as the reply of a command, and how its texts grow.
+use Rattle.std.proofs.Common.{◌≡◌, ℕ, zero, suc, ◌+◌, List, [], ◌∷◌, ◌++◌, take, sym, ap, ◌∙◌, subst, add-one}
+use Rattle.std.specs.Prelude.{Option, Some, None, unwrap_or, Result, Ok, Err, IfOk, OnOk, flat_map, slice_get}
+use Rattle.std.proofs.lemmas.List.{append_assoc, append-nil}
 use Rattle.conf_change.specs.Configuration.{Configuration}
 use Rattle.conf_change.specs.ConfState.{ConfStateLists, restored}
-use Rattle.conf_change.specs.declared.change.Change.{Change}
-use Rattle.conf_change.specs.Text.{refused_text, config_text, progress_text}
+use Rattle.conf_change.specs.Text.{config_text, progress_text}
 use Rattle.conf_change.specs.TrackerState.{TrackerState}
 use Rattle.ascii_text.specs.Lines.{newline}
-use Rattle.conf_change.specs.Changer.{ChangerState, GivesNext, moved_by}
 use Rattle.conf_change.specs.declared.progress.Progress.{Progress}
-use Rattle.conf_change.specs.declared.refused.Refused.{Refused}
-use Rattle.conf_change.specs.declared.refused.Refused.TheVariants.{NoMemory}
-use Rattle.conf_change.specs.declared.step.Step.{Step}
-use Rattle.conf_change.specs.declared.step.Step.TheVariants.{LeaveJoint}
 use Rattle.conf_session.specs.ReplyTexts.{line, member_line, member_lines, tracker_text}
 use Rattle.conf_session.specs.Told.{CanStand}
-use Rattle.conf_session.specs.Reply.{Reply, told, stepped}
-use Rattle.conf_session.specs.Commands.{after_step, on_step, leave_with}
-
--- the reply after a step
-pub on_step-reply : (before : ChangerState) (step : Step) (made : Result ChangerState Refused) (reply : Reply) → GivesNext before step made →
-    MatchResult made (λ after. reply ≡ stepped after) (λ refused. (refused ≢ NoMemory) × (reply ≡ told (refused_text refused))) → reply ≡ on_step before step
-on_step-reply before step (Ok after) reply gives h =
-    h ∙ ap stepped gives.accepted.whole ∙ sym (ap (λ o. after_step (moved_by before step o)) gives.accepted.configuration)
-on_step-reply before step (Err refused) reply gives h = h.1 ∙ sym (ap (λ o. after_step (moved_by before step o)) (gives.refused h.0))
-
-pub leave-none : (before : ChangerState) (changes : List Change) → (length changes == 0) ≡ true → leave_with before changes ≡ on_step before LeaveJoint
-leave-none before changes e = ap (leave_with before) (nil_from_length changes (eqb-true (length changes) 0 e))
+use Rattle.conf_session.specs.Reply.{Reply, told}
 
 -- there is neither input nor a fault of the arguments
 pub no-fault : (fault : Option Reply) (reply whole : Reply) → whole ≡ unwrap_or fault reply → fault ≡ None → whole ≡ reply
@@ -55,17 +37,6 @@ flat_map-front f xs i x e = ap (λ n. flat_map f (take n xs)) (add-one i) ∙ fl
 pub same-reply : {E : Type 0} (r : Result Reply E) (a b : Reply) → a ≡ b → IfOk r (λ reply. reply ≡ a) → IfOk r (λ reply. reply ≡ b)
 same-reply (Ok reply) a b e h = h ∙ e
 same-reply (Err fault) a b e h = tt
-
--- the same of a step that is made, and of one that is refused
-pub same-made : {E : Type 0} (r : Result Reply E) (before : ChangerState) (step : Step) (after : ChangerState) → GivesNext before step (Ok after) →
-    IfOk r (λ reply. reply ≡ stepped after) → IfOk r (λ reply. reply ≡ on_step before step)
-same-made (Ok reply) before step after gives h = on_step-reply before step (Ok after) reply gives h
-same-made (Err fault) before step after gives h = tt
-
-pub same-refused : {E : Type 0} (r : Result Reply E) (before : ChangerState) (step : Step) (refused : Refused) → GivesNext before step (Err refused) →
-    IfOk r (λ reply. (refused ≢ NoMemory) × (reply ≡ told (refused_text refused))) → IfOk r (λ reply. reply ≡ on_step before step)
-same-refused (Ok reply) before step refused gives h = on_step-reply before step (Err refused) reply gives h
-same-refused (Err fault) before step refused gives h = tt
 
 -- one member more is told
 pub members-one_more : (old now new : List ℕ) (members : List (ℕ × Progress)) (i id : ℕ) (p : Progress) → slice_get members i ≡ Some (id, p) → now ≡ old ++ flat_map member_line (take i members) →

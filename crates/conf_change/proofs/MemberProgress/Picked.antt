@@ -1,5 +1,5 @@
 -- Members that are picked from a list, in its order, each with its progress.
-use Rattle.std.proofs.Common.{◌≡◌, ℕ, ◌+◌, ◌<◌, length, take, get_or, Bool, true, false, cond, ◌||◌, ◌==◌, List, [], ◌∷◌, ◌++◌, map, refl, sym, ap, subst, ◌∙◌, eqb-true}
+use Rattle.std.proofs.Common.{◌≡◌, ℕ, ◌+◌, Bool, true, false, cond, ◌||◌, ◌==◌, List, [], ◌∷◌, ◌++◌, map, refl, sym, ap, subst, ◌∙◌, eqb-true}
 use Rattle.std.specs.Prelude.{Option, Some, None, is_some}
 use Rattle.std.specs.Ordering.{nat_cmp}
 use Rattle.std.specs.Cmp.{nat_cmp_total, unsigned_tied}
@@ -8,7 +8,7 @@ use Rattle.std.specs.FinMap as finite
 use Rattle.std.specs.FinMap.{find}
 use Rattle.std.specs.List.{list_any, flat_map, AllByRecursion}
 use Rattle.std.specs.List.Sorted.{IsStrictlySortedBy}
-use Rattle.std.proofs.lemmas.List.{map-id, flat_map_more, take_more}
+use Rattle.std.proofs.lemmas.List.{map-id}
 use Rattle.quorum_sets.specs.Rising.{IsRising}
 use Rattle.quorum_sets.proofs.Offered.{rising-sorted, sorted-rising}
 use Rattle.conf_change.specs.TrackerEdits.{entries_of, progress_kept}
@@ -120,11 +120,3 @@ pub get-kept : (member learner : ℕ → Bool) (es : List (ℕ × Progress)) (q 
 get-kept member learner es q =
     finite.get-from_entries nat_cmp_total (picked (λ m. m.0) (kept_entry member learner) es) q ∙ find-kept member learner es q
     ∙ ap (progress_kept (member q) (learner q)) (sym (finite.get-from_entries nat_cmp_total es q))
-
-pub kept-one_more : (member learner : ℕ → Bool) (es : List (ℕ × Progress)) (k : ℕ) (d : ℕ × Progress) (now after : List (ℕ × Progress)) (entry : Option Progress)
-    → k < length es → now ≡ picked (λ m. m.0) (kept_entry member learner) (take k es) → entry ≡ kept_entry member learner (get_or es k d) → after ≡ now ++ entries_of (get_or es k d).0 entry
-    → after ≡ picked (λ m. m.0) (kept_entry member learner) (take (k + 1) es)
-kept-one_more member learner es k d now after entry within so_far entry_is is =
-    is ∙ (λ i. so_far i ++ entries_of (get_or es k d).0 (entry_is i))
-    ∙ flat_map_more (λ m. entries_of m.0 (kept_entry member learner m)) [] (take k es) (get_or es k d)
-    ∙ ap (picked (λ m. m.0) (kept_entry member learner)) (sym (take_more es k d within))

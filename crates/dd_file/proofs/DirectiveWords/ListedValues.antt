@@ -1,13 +1,13 @@
 -- The values of a list, one by one up to its closing parenthesis.
 use Rattle.std.proofs.Common.{◌≡◌, ℕ, ◌+◌, suc, Bool, true, false, not, cond, ◌&&◌, ◌||◌, List, [], ◌∷◌, length, take, drop, map, refl, sym, ◌∙◌, ap, arith, rules}
-use Rattle.std.specs.Prelude.{◌==◌, Option, Some, None, option_map, bytes_eq}
+use Rattle.std.specs.Prelude.{◌==◌, Some, None, option_map, bytes_eq}
 use Rattle.std.specs.List.{list_any, prefix_len}
-use Rattle.std.proofs.Math.Bool.{and-false, or-true}
+use Rattle.std.proofs.Math.Bool.{and-false}
 use Rattle.std.proofs.lemmas.Bool.{true≢false}
 use Rattle.ascii_text.specs.WhiteSpace.{is_space, is_blank, trimmed, without_leading_space}
 use Rattle.dd_file.specs.Parts.{up_to, behind}
 use Rattle.dd_file.specs.ValuePlaces.{is_in_value, ends_at_closing, is_empty_list, listed_from}
-use Rattle.dd_file.specs.Words.{is_comma, is_opening, is_closing, is_plain, placed, cut_at_commas, listed, values_of}
+use Rattle.dd_file.specs.Words.{is_comma, is_closing, placed, cut_at_commas, values_of}
 
 -- how many bytes the first value has
 abbrev pub value_len : List ℕ → ℕ
@@ -137,27 +137,9 @@ empty-list (x ∷ xs) = at (is_space x) (is_closing x) refl refl (empty-list xs)
       ∙ and-false (ends_at_closing (x ∷ xs)))
 
 -- what a list says
-pub values_of-empty : (text inside : List ℕ) → text ≡ 40 ∷ inside → is_empty_list inside ≡ true → values_of text ≡ Some []
-values_of-empty text inside begins is = ap values_of begins ∙ each (ends_at_closing inside) (is_blank (up_to is_closing inside)) is where
-  each : (c d : Bool) → (c && d) ≡ true → cond c (Some (cond d [] (map trimmed (cut inside)))) None ≡ Some []
-  each true true e = refl
-  each true false e = cc
-  each false d e = cc
-
 pub values_of-list : (text inside : List ℕ) → text ≡ 40 ∷ inside → is_empty_list inside ≡ false → values_of text ≡ listed_from inside
 values_of-list text inside begins is = ap values_of begins ∙ each (ends_at_closing inside) (is_blank (up_to is_closing inside)) is where
   each : (c d : Bool) → (c && d) ≡ false → cond c (Some (cond d [] (map trimmed (cut inside)))) None ≡ cond c (Some (map trimmed (cut inside))) None
   each true true e = cc
   each true false e = refl
   each false d e = refl
-
--- bytes that are no list are a plain value
-pub values_of-plain : (text : List ℕ) → is_plain text ≡ true → values_of text ≡ Some (text ∷ [])
-values_of-plain [] plain = refl
-values_of-plain (b ∷ bs) plain = each (is_opening b) refl where
-  rest : Bool → Option (List (List ℕ))
-  rest c = cond c (cond (ends_at_closing bs) (Some (listed (up_to is_closing bs))) None) (cond (is_plain (b ∷ bs)) (Some ((b ∷ bs) ∷ [])) None)
-
-  each : (c : Bool) → is_opening b ≡ c → rest c ≡ Some ((b ∷ bs) ∷ [])
-  each true e = absurd (true≢false (sym plain ∙ ap (λ c. not (is_space b || (c || is_closing b)) && is_plain bs) e ∙ ap (λ c. not c && is_plain bs) (or-true (is_space b))))
-  each false e = ap (λ c. cond c (Some ((b ∷ bs) ∷ [])) None) plain
