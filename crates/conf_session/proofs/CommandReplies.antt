@@ -10,7 +10,7 @@ use Rattle.ascii_text.specs.Lines.{newline}
 use Rattle.conf_change.specs.declared.progress.Progress.{Progress}
 use Rattle.conf_session.specs.ReplyTexts.{line, member_line, member_lines, tracker_text}
 use Rattle.conf_session.specs.Told.{CanStand}
-use Rattle.conf_session.specs.Reply.{Reply, told}
+use Rattle.conf_session.specs.Reply.{Reply}
 
 -- there is neither input nor a fault of the arguments
 pub no-fault : (fault : Option Reply) (reply whole : Reply) → whole ≡ unwrap_or fault reply → fault ≡ None → whole ≡ reply

@@ -8,4 +8,5 @@ mod InputLines
 mod SameAnswer
 mod Kept
 mod QuorumValues
-mod NamedIdsRead
+mod NamedQuorumRead
+mod QuorumParameters

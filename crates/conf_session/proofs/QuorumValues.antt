@@ -1,5 +1,5 @@
 -- What the values of quorum arguments give, place by place.
-use Rattle.std.proofs.Common.{◌≡◌, ℕ, zero, suc, ◌+◌, ◌≤◌, ◌==◌, Bool, true, false, cond, not, List, [], ◌∷◌, ◌++◌, length, filter, filter_map, take, drop, refl, sym, ap, ◌∙◌, inl, inr, arith}
+use Rattle.std.proofs.Common.{◌≡◌, ℕ, ◌+◌, ◌≤◌, ◌==◌, Bool, true, false, cond, not, List, [], ◌∷◌, ◌++◌, length, filter, filter_map, map, take, drop, refl, sym, ap, ◌∙◌, inl, inr, arith}
 use Rattle.std.specs.Prelude.{◌||◌, Option, Some, None, option_map, option_to_list, slice_get}
 use Rattle.std.specs.List.{find, list_any, list_all, zip}
 use Rattle.std.specs.Ordering.{nat_cmp}
@@ -7,13 +7,14 @@ use Rattle.std.specs.Cmp.{nat_cmp_total, unsigned_tied, eq_by_cmp_equiv, nat_eq_
 use Rattle.std.specs.Ordering.{eq_by_cmp}
 use Rattle.std.specs.BTreeSet.{BTreeSet, Updates, contains}
 use Rattle.std.specs.FinMap as finite
-use Rattle.std.proofs.lemmas.List.{append-nil, take_all, drop_more, drop_all}
+use Rattle.std.proofs.lemmas.List.{map-append, append-nil, drop_more, drop_all}
 use Rattle.std.proofs.lemmas.Option.{slice_get_within, slice_get_cases, get_or_from_slice_get}
 use Rattle.std.proofs.lemmas.Bool.{eqb-true}
 use Rattle.std.proofs.lemmas.List.Elements.{filter-append, filter_map-append}
 use Rattle.std.proofs.lemmas.List.Folds.{list_all_at}
 use Rattle.quorum_sets.proofs.Offered.{take-one_more}
 use Rattle.conf_session.proofs.ToldLines.{and-both, all-append}
+use Rattle.conf_session.specs.NamedQuorum.{map_said}
 use Rattle.conf_session.specs.QuorumArguments.{each_once, with_given, map_given}
 
 tied : (id q : ℕ) → eq_by_cmp nat_cmp id q ≡ (q == id)
@@ -29,6 +30,9 @@ one-known {Y = Y} h x = at (h x) refl where
 pub known-more : {X Y : Type 0} (h : X → Option Y) (xs : List X) (i : ℕ) (x : X) → slice_get xs i ≡ Some x → filter_map h (take i xs) ++ option_to_list (h x) ≡ filter_map h (take (i + 1) xs)
 known-more h xs i x e =
     sym (ap (filter_map h) (take-one_more xs i x e) ∙ filter_map-append h (take i xs) (x ∷ []) ∙ ap (λ t. filter_map h (take i xs) ++ t) (one-known h x))
+
+pub map-more : {X Y : Type 0} (f : X → Y) (xs : List X) (i : ℕ) (x : X) → slice_get xs i ≡ Some x → map f (take i xs) ++ f x ∷ [] ≡ map f (take (i + 1) xs)
+map-more f xs i x e = sym (ap (map f) (take-one_more xs i x e) ∙ map-append f (take i xs) (x ∷ []))
 
 not_within : {X : Type 0} (xs : List X) (i : ℕ) → slice_get xs i ≡ None → length xs ≤ i
 not_within xs i e = elim (slice_get_cases xs i).1 [
@@ -64,23 +68,23 @@ pub drop-here : {X : Type 0} (xs : List X) (i : ℕ) (x : X) → slice_get xs i 
 drop-here xs i x e = drop_more xs i x (slice_get_within xs i x e) ∙ ap (λ y. y ∷ drop (i + 1) xs) (get_or_from_slice_get xs i x x e)
 
 -- ---- what is given behind a place, and at it
-pub given-here : {V : Type 0} (says : List ℕ → Option V) (ids : List ℕ) (values : List (List ℕ)) (i k id : ℕ) (value : List ℕ) → i + 1 ≡ k → slice_get ids i ≡ Some id → slice_get values i ≡ Some value →
-    with_given (map_given says (drop k ids) (drop k values)) id (says value) ≡ map_given says (drop i ids) (drop i values)
-given-here says ids values i k id value next e f =
-    ap (λ n. with_given (map_given says (drop n ids) (drop n values)) id (says value)) (sym next)
-    ∙ sym (λ j. map_given says (drop-here ids i id e j) (drop-here values i value f j))
+pub said-here : {V : Type 0} (ids : List ℕ) (said : List (Option V)) (i k id : ℕ) (one : Option V) → i + 1 ≡ k → slice_get ids i ≡ Some id → slice_get said i ≡ Some one →
+    with_given (map_said (drop k ids) (drop k said)) id one ≡ map_said (drop i ids) (drop i said)
+said-here ids said i k id one next e f =
+    ap (λ n. with_given (map_said (drop n ids) (drop n said)) id one) (sym next)
+    ∙ sym (λ j. map_said (drop-here ids i id e j) (drop-here said i one f j))
 
-pub nothing-given : {V : Type 0} (says : List ℕ → Option V) (ids : List ℕ) → map_given says ids [] ≡ finite.empty
-nothing-given says [] = refl
-nothing-given says (id ∷ ids) = refl
+nothing-said : {V : Type 0} (ids : List ℕ) → map_said {V = V} ids [] ≡ finite.empty
+nothing-said [] = refl
+nothing-said (id ∷ ids) = refl
 
-pub given-past : {V : Type 0} (says : List ℕ → Option V) (ids : List ℕ) (values : List (List ℕ)) (i k : ℕ) → i + 1 ≡ k → slice_get values i ≡ None →
-    map_given says (drop k ids) (drop k values) ≡ map_given says (drop i ids) (drop i values)
-given-past says ids values i k next e =
-    ap (map_given says (drop k ids)) (none_behind values i k next e).1 ∙ nothing-given says (drop k ids)
-    ∙ sym (ap (map_given says (drop i ids)) (none_behind values i k next e).0 ∙ nothing-given says (drop i ids))
+pub said-past : {V : Type 0} (ids : List ℕ) (said : List (Option V)) (i k : ℕ) → i + 1 ≡ k → slice_get said i ≡ None →
+    map_said (drop k ids) (drop k said) ≡ map_said (drop i ids) (drop i said)
+said-past ids said i k next e =
+    ap (map_said (drop k ids)) (none_behind said i k next e).1 ∙ nothing-said (drop k ids)
+    ∙ sym (ap (map_said (drop i ids)) (none_behind said i k next e).0 ∙ nothing-said (drop i ids))
   where
-    none_behind : (xs : List (List ℕ)) (i k : ℕ) → i + 1 ≡ k → slice_get xs i ≡ None → (drop i xs ≡ []) × (drop k xs ≡ [])
+    none_behind : {X : Type 0} (xs : List X) (i k : ℕ) → i + 1 ≡ k → slice_get xs i ≡ None → (drop i xs ≡ []) × (drop k xs ≡ [])
     none_behind xs i k next e =
         let past : length xs ≤ i = not_within xs i e in (drop_all i xs past, drop_all k xs (omega arith))
 
@@ -136,44 +140,44 @@ any-once q [] = refl
 any-once q (x ∷ xs) = any-kept q x (each_once xs) ∙ (λ i. nat_eq_equiv.symm x q i || any-once q xs i)
 
 -- ---- what is given, entry by entry
--- an id with what a value says, if it says something
-abbrev pub entry_given : {V : Type 0} → (List ℕ → Option V) → ℕ × List ℕ → Option (ℕ × V)
-entry_given says named = option_map (λ value. (named.0, value)) (says named.1)
+-- an id with what is said of it, if something is known
+abbrev pub entry_said : {V : Type 0} → ℕ × Option V → Option (ℕ × V)
+entry_said named = option_map (λ value. (named.0, value)) named.1
 
-pub entries-map_given : {V : Type 0} (says : List ℕ → Option V) (ids : List ℕ) (values : List (List ℕ)) →
-    finite.from_entries {R = nat_cmp} (filter_map (entry_given says) (zip ids values)) ≡ map_given says ids values
-entries-map_given says [] values = refl
-entries-map_given says (id ∷ ids) [] = refl
-entries-map_given {V = V} says (id ∷ ids) (value ∷ values) = at (says value) refl (entries-map_given says ids values) where
-  at : (said : Option V) → says value ≡ said → finite.from_entries {R = nat_cmp} (filter_map (entry_given says) (zip ids values)) ≡ map_given says ids values →
-      finite.from_entries {R = nat_cmp} (filter_map (entry_given says) (zip (id ∷ ids) (value ∷ values))) ≡ with_given (map_given says ids values) id (says value)
-  at None e rest = rw e rest
-  at (Some v) e rest = rw e (ap (λ map. finite.insert map id v) rest)
+pub entries-map_said : {V : Type 0} (ids : List ℕ) (said : List (Option V)) → finite.from_entries {R = nat_cmp} (filter_map entry_said (zip ids said)) ≡ map_said ids said
+entries-map_said [] said = refl
+entries-map_said (id ∷ ids) [] = refl
+entries-map_said (id ∷ ids) (None ∷ said) = entries-map_said ids said
+entries-map_said (id ∷ ids) (Some v ∷ said) = ap (λ map. finite.insert map id v) (entries-map_said ids said)
 
-pub zip-here : (ids : List ℕ) (values : List (List ℕ)) (i id : ℕ) (value : List ℕ) → slice_get ids i ≡ Some id → slice_get values i ≡ Some value → slice_get (zip ids values) i ≡ Some (id, value)
-zip-here [] values i id value e f = cc
-zip-here (x ∷ ids) [] i id value e f = cc
-zip-here (x ∷ ids) (y ∷ values) zero id value e f = cc
-zip-here (x ∷ ids) (y ∷ values) (suc i) id value e f = zip-here ids values i id value e f
+-- one id more, of which something is said, or nothing
+zip-more : {X : Type 0} (ids : List ℕ) (said : List X) (id : ℕ) (one : X) → slice_get said (length ids) ≡ Some one → zip (ids ++ id ∷ []) said ≡ zip ids said ++ (id, one) ∷ []
+zip-more [] [] id one e = cc
+zip-more [] (x ∷ said) id one e = let same : x ≡ one = cc in ap (λ y. (id, y) ∷ []) same
+zip-more (i ∷ ids) [] id one e = cc
+zip-more (i ∷ ids) (x ∷ said) id one e = ap (λ t. (i, x) ∷ t) (zip-more ids said id one e)
 
-zip-few : (ids : List ℕ) (values : List (List ℕ)) → length (zip ids values) ≤ length ids
-zip-few [] values = omega arith
-zip-few (id ∷ ids) [] = omega arith
-zip-few (id ∷ ids) (value ∷ values) = let few = zip-few ids values in omega arith
+zip-full : {X : Type 0} (ids : List ℕ) (said : List X) (id : ℕ) → slice_get said (length ids) ≡ None → zip (ids ++ id ∷ []) said ≡ zip ids said
+zip-full [] [] id e = refl
+zip-full [] (x ∷ said) id e = cc
+zip-full (i ∷ ids) [] id e = refl
+zip-full (i ∷ ids) (x ∷ said) id e = ap (λ t. (i, x) ∷ t) (zip-full ids said id e)
 
-zip-short : (ids : List ℕ) (values : List (List ℕ)) → length (zip ids values) ≤ length values
-zip-short [] values = omega arith
-zip-short (id ∷ ids) [] = omega arith
-zip-short (id ∷ ids) (value ∷ values) = let short = zip-short ids values in omega arith
+pub entries-more : {V : Type 0} (ids : List ℕ) (said : List (Option V)) (id : ℕ) (one : Option V) → slice_get said (length ids) ≡ Some one →
+    filter_map entry_said (zip (ids ++ id ∷ []) said) ≡ filter_map entry_said (zip ids said) ++ option_to_list (entry_said (id, one))
+entries-more ids said id one e =
+    ap (filter_map entry_said) (zip-more ids said id one e) ∙ filter_map-append entry_said (zip ids said) ((id, one) ∷ [])
+    ∙ ap (λ t. filter_map entry_said (zip ids said) ++ t) (one-known entry_said (id, one))
 
-pub zip-whole : (ids : List ℕ) (values : List (List ℕ)) (i : ℕ) → length ids ≤ i → take i (zip ids values) ≡ zip ids values
-zip-whole ids values i past = let few = zip-few ids values in take_all i (zip ids values) (omega arith)
+pub entries-full : {V : Type 0} (ids : List ℕ) (said : List (Option V)) (id : ℕ) → slice_get said (length ids) ≡ None →
+    filter_map entry_said (zip (ids ++ id ∷ []) said) ≡ filter_map entry_said (zip ids said)
+entries-full ids said id e = ap (filter_map entry_said) (zip-full ids said id e)
 
-pub zip-past : (ids : List ℕ) (values : List (List ℕ)) (i : ℕ) → slice_get values i ≡ None → take i (zip ids values) ≡ take (i + 1) (zip ids values)
-zip-past ids values i none =
-    let short = zip-short ids values in
-    let past = not_within values i none in
-    take_all i (zip ids values) (omega arith) ∙ sym (take_all (i + 1) (zip ids values) (omega arith))
+-- what is said by values
+pub said-by-values : {V : Type 0} (says : List ℕ → Option V) (ids : List ℕ) (values : List (List ℕ)) → map_said ids (map says values) ≡ map_given says ids values
+said-by-values says [] values = refl
+said-by-values says (id ∷ ids) [] = refl
+said-by-values says (id ∷ ids) (value ∷ values) = ap (λ given. with_given given id (says value)) (said-by-values says ids values)
 
 -- what a list of entries has at an id
 pub get-entry : {V : Type 0} (id : ℕ) (entries : List (ℕ × V)) → finite.get (finite.from_entries {R = nat_cmp} entries) id ≡ option_map (λ e. e.1) (find (λ e. e.0 == id) entries)

@@ -5,6 +5,7 @@ pub mod Parameter
 pub mod Arguments
 pub mod QuorumArguments
 pub mod Given
+pub mod NamedQuorum
 pub mod Reply
 pub mod Undo
 pub mod Commands

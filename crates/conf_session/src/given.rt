@@ -3,46 +3,102 @@ ghost use Rattle.std.specs.Prelude.{◌≡◌, ◌==◌, option_copied};
 ghost use Rattle.std.specs.List.{find};
 ghost use Rattle.conf_session.specs.Given.{given_in};
 
+use crate::parameter::{Parameter, is_unknown};
 use ascii_text::number::read_number;
 use quorum_sets::{AckSource, VoteSource};
 use smallvec::SmallVec;
 use std::alloc::Global;
 use std::collections::BTreeMap;
 
-/// What a value of an argument says of an id.
+/// What a value of an argument says of an id. Such values stand in one argument of one command.
 pub(crate) trait GivenValue: Copy + Default + Drop {
-    ghost use Rattle.std.specs.Prelude.{ℕ, List, Option};
+    ghost use Rattle.std.specs.Prelude.{◌≡◌, ℕ, true, [], ◌∷◌, List, Option, is_some, IfSome};
+    ghost use Rattle.conf_session.specs.Commands.{parameters_of};
+    ghost use Rattle.conf_session.specs.Parameter.{may_stand_in};
+    ghost use Rattle.conf_session.specs.QuorumArguments.{says_of_ids};
+    ghost use Rattle.conf_session.specs.declared.commands.Command.{Command};
+    ghost use Rattle.conf_session.specs.declared.parameter.Parameter.{Parameter as Named};
+    ghost use Rattle.conf_session.specs.declared.parameter.Parameter.TheVariants.{Incoming, Outgoing};
 
     /// What a value says; nothing where it is not known.
     ghost says: { List ℕ → Option Self };
 
-    /// What the value says.
-    fn read(value: &[u8]) -> Option<Self>
-        ensures { result ≡ says value.now };
+    /// The argument in which it stands, and the command that has it.
+    ghost last: { Named };
+    ghost command: { Command };
+    ghost is_last: { parameters_of command ≡ Incoming ∷ Outgoing ∷ last ∷ [] };
+    ghost is_of_ids: { says_of_ids last ≡ true };
+
+    /// The argument in which it stands.
+    fn parameter() -> Parameter
+        ensures { result ≡ last };
+
+    /// What the value says, if it may stand there.
+    fn read(value: &[u8]) -> Option<Option<Self>>
+        ensures stands { is_some result ≡ may_stand_in last value.now }
+        ensures said { IfSome result (λ said. said ≡ says value.now) };
 }
 
 /// An index that is acknowledged.
 impl GivenValue for u64 {
+    ghost use Rattle.std.specs.Prelude.{refl};
     ghost use Rattle.ascii_text.specs.Number.{number_in};
+    ghost use Rattle.conf_session.specs.declared.commands.Command.TheVariants.{Committed};
+    ghost use Rattle.conf_session.specs.declared.parameter.Parameter.TheVariants.{Indexes};
 
     ghost says = { number_in };
 
-    fn read(value: &[u8]) -> Option<u64> {
-        read_number(value)
+    ghost last = { Indexes };
+
+    ghost command = { Committed };
+
+    ghost is_last = { refl };
+
+    ghost is_of_ids = { refl };
+
+    fn parameter() -> Parameter {
+        Parameter::Indexes
+    }
+
+    fn read(value: &[u8]) -> Option<Option<u64>> {
+        if is_unknown(value) {
+            return Some(None);
+        }
+        match read_number(value) {
+            Some(0) | None => None,
+            index => Some(index),
+        }
     }
 }
 
 /// A vote.
 impl GivenValue for bool {
+    ghost use Rattle.std.specs.Prelude.{refl};
     ghost use Rattle.conf_session.specs.QuorumArguments.{vote_in};
+    ghost use Rattle.conf_session.specs.declared.commands.Command.TheVariants.{Vote};
+    ghost use Rattle.conf_session.specs.declared.parameter.Parameter.TheVariants.{Votes};
 
     ghost says = { vote_in };
 
-    fn read(value: &[u8]) -> Option<bool> {
+    ghost last = { Votes };
+
+    ghost command = { Vote };
+
+    ghost is_last = { refl };
+
+    ghost is_of_ids = { refl };
+
+    fn parameter() -> Parameter {
+        Parameter::Votes
+    }
+
+    fn read(value: &[u8]) -> Option<Option<bool>> {
         if value == b"y".as_slice() {
-            Some(true)
+            Some(Some(true))
         } else if value == b"n".as_slice() {
-            Some(false)
+            Some(Some(false))
+        } else if is_unknown(value) {
+            Some(None)
         } else {
             None
         }

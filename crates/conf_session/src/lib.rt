@@ -8,7 +8,7 @@ mod effect;
 mod given;
 mod history;
 pub mod laws;
-mod named_ids;
+mod named_quorum;
 mod parameter;
 mod quorum_arguments;
 mod reply;

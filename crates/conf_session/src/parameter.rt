@@ -137,8 +137,8 @@ fn is_number_from(least: u64, value: &[u8]) -> bool
     }
 }
 
-// Whether the value says that nothing is known.
-fn is_unknown(value: &[u8]) -> bool
+/// Whether the value says that nothing is known.
+pub(crate) fn is_unknown(value: &[u8]) -> bool
     ensures { result ≡ says.is_unknown value.now }
 {
     value == b"_".as_slice()

@@ -3,9 +3,8 @@ ghost use Rattle.std.specs.Prelude.{◌≡◌, [], IfOk};
 ghost use Rattle.conf_session.specs.Given.{entries_in};
 ghost use Rattle.conf_session.specs.Commands.{on_committed};
 
-use super::Command;
 use super::reading::tell_quorum_fault;
-use crate::parameter::Parameter;
+use crate::named_quorum::NamedQuorum;
 use crate::quorum_arguments::Quorum;
 use crate::reply::Reply;
 use crate::reply_texts::committed_lines;
@@ -18,22 +17,25 @@ pub(super) fn run(alloc: Global, input: &[u8], arguments: &[Argument]) -> Result
     ensures { IfOk result (λ reply. reply ≡ on_committed input.now arguments.now) }
 {
     let mut quorum = Quorum::new(alloc);
-    run_with(alloc, &mut quorum, input, arguments)
+    let mut named = NamedQuorum::new(alloc);
+    run_with(alloc, &mut quorum, &mut named, input, arguments)
 }
 
-// The same, with a quorum to read.
+// The same, with a quorum to read, and lists for what is named.
 fn run_with(
     alloc: Global,
     quorum: &mut Quorum<u64>,
+    named: &mut NamedQuorum<u64>,
     input: &[u8],
     arguments: &[Argument],
 ) -> Result<Reply, NoMemory>
-    requires { entries_in quorum.old.given ≡ [] }
+    requires none { entries_in quorum.old.given ≡ [] }
+    requires incoming { named.old.incoming.items ≡ [] }
+    requires outgoing { named.old.outgoing.items ≡ [] }
+    requires said { named.old.said.items ≡ [] }
     ensures { IfOk result (λ reply. reply ≡ on_committed input.now arguments.now) }
 {
-    let command = Command::Committed;
-    let last = Parameter::Indexes;
-    if let Some(fault) = tell_quorum_fault(alloc, quorum, command, last, input, arguments)? {
+    if let Some(fault) = tell_quorum_fault(alloc, quorum, named, input, arguments)? {
         return Ok(fault);
     }
     Ok(Reply::told(committed_lines(alloc, &quorum.incoming, &quorum.outgoing, &quorum.given)?))

@@ -1,15 +1,13 @@
 //! What the commands read that take a quorum in their arguments.
-ghost use Rattle.std.specs.Prelude.{◌≡◌, true, [], ◌∷◌, None, unwrap_or, IfOk};
+ghost use Rattle.std.specs.Prelude.{◌≡◌, true, [], None, unwrap_or, IfOk};
 ghost use Rattle.conf_session.specs.Given.{entries_in, given_in};
 ghost use Rattle.conf_session.specs.Reply.{Reply as Told};
-ghost use Rattle.conf_session.specs.Commands.{parameters_of, with_no_input, with_arguments, with_one_each};
+ghost use Rattle.conf_session.specs.Commands.{with_no_input, with_arguments, with_one_each};
 ghost use Rattle.conf_session.specs.QuorumArguments as says;
 
-use super::Command;
 use super::telling::{tell, tell_no_input};
 use crate::given::GivenValue;
-use crate::named_ids::NamedIds;
-use crate::parameter::Parameter;
+use crate::named_quorum::NamedQuorum;
 use crate::quorum_arguments::Quorum;
 use crate::reply::Reply;
 use dd_file::item::Argument;
@@ -17,53 +15,49 @@ use quorum_sets::NoMemory;
 use std::alloc::Global;
 
 /// Tells that there is input, or else which argument is bad, or that the last of the command's arguments has more or
-/// fewer values than there are ids. Where it tells nothing the quorum is read.
+/// fewer values than there are ids. Where it tells nothing the quorum is read. What is named is read into lists that are lent.
 pub(super) fn tell_quorum_fault<V: GivenValue>(
     alloc: Global,
     quorum: &mut Quorum<V>,
-    command: Command,
-    last: Parameter,
+    named: &mut NamedQuorum<V>,
     input: &[u8],
     arguments: &[Argument],
 ) -> Result<Option<Reply>, NoMemory>
-    requires last { says.says_of_ids last ≡ true }
-    requires command { parameters_of command ≡ Parameter.Incoming ∷ Parameter.Outgoing ∷ last ∷ [] }
     requires none { entries_in quorum.old.given ≡ [] }
-    ensures fault { IfOk result (λ fault. (reply : Told) → with_no_input (with_arguments command arguments.now (with_one_each last arguments.now reply)) input.now ≡ unwrap_or fault reply) }
+    requires incoming { named.old.incoming.items ≡ [] }
+    requires outgoing { named.old.outgoing.items ≡ [] }
+    requires said { named.old.said.items ≡ [] }
+    ensures fault { IfOk result (λ fault. (reply : Told) → with_no_input (with_arguments V.command arguments.now (with_one_each V.last arguments.now reply)) input.now ≡ unwrap_or fault reply) }
     ensures incoming { IfOk result (λ fault. fault ≡ None → quorum.new.incoming ≡ (says.voters_given arguments.now).incoming) }
     ensures outgoing { IfOk result (λ fault. fault ≡ None → quorum.new.outgoing ≡ (says.voters_given arguments.now).outgoing) }
-    ensures given { IfOk result (λ fault. fault ≡ None → given_in quorum.new.given ≡ says.map_given V.says (says.ids_given arguments.now) (says.values_given last arguments.now)) }
+    ensures given { IfOk result (λ fault. fault ≡ None → given_in quorum.new.given ≡ says.map_given V.says (says.ids_given arguments.now) (says.values_given V.last arguments.now)) }
 {
     if !input.is_empty() {
         return Ok(Some(tell_no_input(alloc)?));
     }
-    let mut named = NamedIds::new(alloc);
-    tell_named_fault(alloc, quorum, &mut named, command, last, arguments)
+    tell_named_fault(alloc, quorum, named, arguments)
 }
 
-// The same where there is no input, with a list for the ids.
+// The same where there is no input.
 fn tell_named_fault<V: GivenValue>(
     alloc: Global,
     quorum: &mut Quorum<V>,
-    named: &mut NamedIds,
-    command: Command,
-    last: Parameter,
+    named: &mut NamedQuorum<V>,
     arguments: &[Argument],
 ) -> Result<Option<Reply>, NoMemory>
-    requires last { says.says_of_ids last ≡ true }
-    requires command { parameters_of command ≡ Parameter.Incoming ∷ Parameter.Outgoing ∷ last ∷ [] }
     requires none { entries_in quorum.old.given ≡ [] }
     requires incoming { named.old.incoming.items ≡ [] }
     requires outgoing { named.old.outgoing.items ≡ [] }
-    ensures fault { IfOk result (λ fault. (reply : Told) → with_arguments command arguments.now (with_one_each last arguments.now reply) ≡ unwrap_or fault reply) }
+    requires said { named.old.said.items ≡ [] }
+    ensures fault { IfOk result (λ fault. (reply : Told) → with_arguments V.command arguments.now (with_one_each V.last arguments.now reply) ≡ unwrap_or fault reply) }
     ensures incoming { IfOk result (λ fault. fault ≡ None → quorum.new.incoming ≡ (says.voters_given arguments.now).incoming) }
     ensures outgoing { IfOk result (λ fault. fault ≡ None → quorum.new.outgoing ≡ (says.voters_given arguments.now).outgoing) }
-    ensures given { IfOk result (λ fault. fault ≡ None → given_in quorum.new.given ≡ says.map_given V.says (says.ids_given arguments.now) (says.values_given last arguments.now)) }
+    ensures given { IfOk result (λ fault. fault ≡ None → given_in quorum.new.given ≡ says.map_given V.says (says.ids_given arguments.now) (says.values_given V.last arguments.now)) }
 {
-    if let Some(key) = named.read(last, arguments)? {
+    if let Some(key) = named.read(arguments)? {
         return Ok(Some(tell(alloc, b"bad argument: ", key)?));
     }
-    if !quorum.read(alloc, named, last, arguments)? {
+    if !quorum.read(alloc, named)? {
         return Ok(Some(tell(alloc, b"wrong number of values", b"")?));
     }
     Ok(None)

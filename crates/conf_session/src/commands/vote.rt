@@ -4,10 +4,9 @@ ghost use Rattle.conf_session.specs.Given.{entries_in};
 ghost use Rattle.conf_session.specs.Commands.{on_vote};
 ghost use Rattle.conf_session.specs.QuorumArguments.{vote_text};
 
-use super::Command;
 use super::reading::tell_quorum_fault;
 use super::telling::tell;
-use crate::parameter::Parameter;
+use crate::named_quorum::NamedQuorum;
 use crate::quorum_arguments::Quorum;
 use crate::reply::Reply;
 use dd_file::item::Argument;
@@ -19,22 +18,25 @@ pub(super) fn run(alloc: Global, input: &[u8], arguments: &[Argument]) -> Result
     ensures { IfOk result (λ reply. reply ≡ on_vote input.now arguments.now) }
 {
     let mut quorum = Quorum::new(alloc);
-    run_with(alloc, &mut quorum, input, arguments)
+    let mut named = NamedQuorum::new(alloc);
+    run_with(alloc, &mut quorum, &mut named, input, arguments)
 }
 
-// The same, with a quorum to read.
+// The same, with a quorum to read, and lists for what is named.
 fn run_with(
     alloc: Global,
     quorum: &mut Quorum<bool>,
+    named: &mut NamedQuorum<bool>,
     input: &[u8],
     arguments: &[Argument],
 ) -> Result<Reply, NoMemory>
-    requires { entries_in quorum.old.given ≡ [] }
+    requires none { entries_in quorum.old.given ≡ [] }
+    requires incoming { named.old.incoming.items ≡ [] }
+    requires outgoing { named.old.outgoing.items ≡ [] }
+    requires said { named.old.said.items ≡ [] }
     ensures { IfOk result (λ reply. reply ≡ on_vote input.now arguments.now) }
 {
-    let command = Command::Vote;
-    let last = Parameter::Votes;
-    if let Some(fault) = tell_quorum_fault(alloc, quorum, command, last, input, arguments)? {
+    if let Some(fault) = tell_quorum_fault(alloc, quorum, named, input, arguments)? {
         return Ok(fault);
     }
     let result = joint_vote(&quorum.incoming, &quorum.outgoing, &quorum.given);

@@ -1,21 +1,23 @@
-use Rattle.std.proofs.Common.{◌≡◌, true, false, not, ◌&&◌, [], ◌∷◌, ◌++◌, take, ◌∙◌, ap, sym}
+use Rattle.std.proofs.Common.{◌≡◌, true, false, not, ◌&&◌, ◌++◌, map, take, ◌∙◌, ap, refl, sym}
 use Rattle.std.specs.Prelude.{Some, slice_get}
 use Rattle.std.proofs.Math.Bool.{and-false}
 use Rattle.std.proofs.lemmas.Option.{slice_get-get_or}
 use Rattle.quorum_sets.proofs.Offered.{take-one_more}
 use Rattle.conf_session.specs.Arguments.{has_key, is_allowed, is_good}
-use Rattle.conf_session.specs.QuorumArguments.{numbers_given, numbers_of}
+use Rattle.conf_session.specs.Commands.{parameters_of}
+use Rattle.conf_session.specs.NamedQuorum.{values_of}
+use Rattle.conf_session.specs.QuorumArguments.{numbers_given, numbers_of, values_given}
 use Rattle.conf_session.specs.declared.parameter.Parameter.TheVariants.{Incoming, Outgoing}
-use Rattle.conf_session.proofs.NamedIdsRead.{numbers-more, bad-here, good-here}
-use Rattle.conf_session.proofs.named_ids.NamedIds.read.Goals as goal
-use Rattle.conf_session.proofs.named_ids.NamedIds.read.Goals.{then-has_key-via-then-has_key, then-has_key-via-else-has_key+in_ok-take+then-not-branch}
+use Rattle.conf_session.proofs.NamedQuorumRead.{values-more, numbers-more, bad-here, good-here}
+use Rattle.conf_session.proofs.named_quorum.NamedQuorum.read.Goals as goal
+use Rattle.conf_session.proofs.named_quorum.NamedQuorum.read.Goals.{then-has_key-via-then-has_key, then-has_key-via-else-has_key+in_ok-take+then-not-branch}
 
 pub returns-then-has_key-clause-bad : goal.returns-then-has_key-clause-bad
-returns-then-has_key-clause-bad c =
+returns-then-has_key-clause-bad g c =
     let args = c.args.arguments.now in
     let i = c.loop-place.place in
     let a = c.index-arguments-place.result in
-    let parameters = Incoming ∷ Outgoing ∷ c.args.last ∷ [] in
+    let parameters = parameters_of g.V.GivenValue.command in
     let here : slice_get args i ≡ Some a = slice_get-get_or args i a c.loop-place-test.true ∙ ap Some (sym c.index-arguments-place.is) in
     let found : c.has_key.result ≡ has_key (take i args) a.key = c.has_key.ensures ∙ ap (has_key (take i args)) c.key.ensures in
     let bad : is_good parameters (take i args) a ≡ false = elim c.then-has_key.branch [
@@ -25,13 +27,15 @@ returns-then-has_key-clause-bad c =
     ap Some c.key-then-has_key.ensures ∙ bad-here parameters args i a here c.loop-place.invariant.0 bad
 
 pub loop-place-preserved : goal.loop-place-preserved
-loop-place-preserved c =
+loop-place-preserved g c =
     let args = c.args.arguments.now in
     let i = c.loop-place.place in
     let a = c.index-arguments-place.result in
-    let parameters = Incoming ∷ Outgoing ∷ c.args.last ∷ [] in
+    let parameters = parameters_of g.V.GivenValue.command in
     let here : slice_get args i ≡ Some a = slice_get-get_or args i a c.loop-place-test.true ∙ ap Some (sym c.index-arguments-place.is) in
     let new : has_key (take i args) a.key ≡ false = sym (c.has_key.ensures ∙ ap (has_key (take i args)) c.key.ensures) ∙ c.if-has_key.false in
+    let says = g.V.GivenValue.says in
+    let last = g.V.GivenValue.last in
     let taken = c.if-not-branch.false in
     let allowed : is_allowed parameters a ≡ true = sym c.in_ok-take.ensures.allowed ∙ taken in
     let good : is_good parameters (take i args) a ≡ true = λ j. allowed j && not (new j) in (
@@ -40,4 +44,6 @@ loop-place-preserved c =
           ∙ sym (ap (numbers_given Incoming) (take-one_more args i a here) ∙ numbers-more Incoming (take i args) a new),
       c.in_ok-take.ensures.outgoing taken ∙ ap (λ ids. ids ++ numbers_of Outgoing a) c.loop-place.invariant.2
           ∙ sym (ap (numbers_given Outgoing) (take-one_more args i a here) ∙ numbers-more Outgoing (take i args) a new),
+      c.in_ok-take.ensures.said taken ∙ ap (λ said. said ++ map says (values_of last a)) c.loop-place.invariant.3
+          ∙ sym (ap (λ before. map says (values_given last before)) (take-one_more args i a here) ∙ values-more (map says) refl last (take i args) a new),
     )

@@ -5,8 +5,8 @@ use Rattle.std.proofs.lemmas.List.{append_assoc}
 use Rattle.ascii_text.specs.Number.{number_in}
 use Rattle.conf_session.specs.Parameter as says
 use Rattle.conf_session.proofs.QuorumValues.{known-more, all-more, one-bad}
-use Rattle.conf_session.proofs.named_ids.push_ids.Goals as goal
-use Rattle.conf_session.proofs.named_ids.push_ids.Goals.{in-Some+in_ok-push_id+else-not-branch, in_default}
+use Rattle.conf_session.proofs.named_quorum.push_ids.Goals as goal
+use Rattle.conf_session.proofs.named_quorum.push_ids.Goals.{in-Some+in_ok-push_id+else-not-branch, in_default}
 
 pub returns-then-not-branch-clause-all : goal.returns-then-not-branch-clause-all
 returns-then-not-branch-clause-all c =

@@ -2,7 +2,7 @@ use Rattle.std.proofs.Common.{◌≡◌, true, ◌++◌, filter_map, take}
 use Rattle.std.specs.List.{list_all}
 use Rattle.ascii_text.specs.Number.{number_in}
 use Rattle.conf_session.specs.Parameter as says
-use Rattle.conf_session.proofs.named_ids.push_ids.Given as goal
+use Rattle.conf_session.proofs.named_quorum.push_ids.Given as goal
 
 abbrev pub invariant-loop-place : goal.invariant-loop-place
 invariant-loop-place l =

@@ -1,11 +1,11 @@
-//! The ids that the sets of a quorum are named by, read where the arguments are looked at.
-ghost use Rattle.std.specs.Prelude.{◌≡◌, true, ◌++◌, filter_map, option_to_list, IfOk};
+//! What the arguments of a quorum name, read where they are looked at.
+ghost use Rattle.std.specs.Prelude.{◌≡◌, true, ◌++◌, map, filter_map, option_to_list, IfOk};
 ghost use Rattle.std.specs.List.{list_all};
 ghost use Rattle.ascii_text.specs.Number.{number_in};
 ghost use Rattle.conf_session.specs.Parameter as says;
 
 use crate::arguments::has_key;
-use crate::given::FEW;
+use crate::given::{FEW, GivenValue};
 use crate::parameter::{Parameter, has_only};
 use ascii_text::number::read_number;
 use dd_file::item::Argument;
@@ -13,45 +13,50 @@ use quorum_sets::NoMemory;
 use smallvec::SmallVec;
 use std::alloc::Global;
 
-/// The ids of `cfg` and those of `cfgj`, as they are named.
+/// The ids of `cfg` and those of `cfgj`, as they are named, and what the values of the last argument say.
 #[derive(Drop)]
-pub(crate) struct NamedIds {
+pub(crate) struct NamedQuorum<V: GivenValue> {
     pub(crate) incoming: SmallVec<u64, FEW>,
     pub(crate) outgoing: SmallVec<u64, FEW>,
+    pub(crate) said: SmallVec<Option<V>, FEW>,
 }
 
-impl NamedIds {
-    ghost use Rattle.std.specs.Prelude.{◌≡◌, true, [], ◌∷◌, ◌++◌, None, option_map, IfOk, OnOk};
-    ghost use Rattle.conf_session.specs.Arguments.{bad_argument, is_allowed};
-    ghost use Rattle.conf_session.specs.QuorumArguments.{numbers_given, numbers_of, says_of_ids};
+impl<V: GivenValue> NamedQuorum<V> {
+    ghost use Rattle.std.specs.Prelude.{◌≡◌, true, [], ◌++◌, map, None, option_map, IfOk, OnOk};
+    ghost use Rattle.conf_session.specs.Arguments.{bad_argument, missing_argument, is_allowed};
+    ghost use Rattle.conf_session.specs.Commands.{parameters_of};
+    ghost use Rattle.conf_session.specs.QuorumArguments.{numbers_given, numbers_of, values_given};
+    ghost use Rattle.conf_session.specs.NamedQuorum.{values_of};
 
-    /// Nobody is named.
-    pub(crate) fn new(alloc: Global) -> NamedIds
+    /// Nothing is named.
+    pub(crate) fn new(alloc: Global) -> NamedQuorum<V>
         ensures incoming { result.incoming.items ≡ [] }
         ensures outgoing { result.outgoing.items ≡ [] }
+        ensures said { result.said.items ≡ [] }
     {
-        NamedIds {
+        NamedQuorum {
             incoming: SmallVec::new(alloc),
             outgoing: SmallVec::new(alloc),
+            said: SmallVec::new(alloc),
         }
     }
 
-    /// Takes the ids of the arguments of a quorum, of which the last one is this. It tells the key of the first
-    /// argument that is bad, if there is one.
+    /// Takes what the arguments name, none of which is required. It tells the key of the first one that is bad, if there
+    /// is one.
     pub(crate) fn read<'a>(
         &mut self,
-        last: Parameter,
         arguments: &'a [Argument],
     ) -> Result<Option<&'a [u8]>, NoMemory>
-        requires last { says_of_ids last ≡ true }
         requires incoming { self.old.incoming.items ≡ [] }
         requires outgoing { self.old.outgoing.items ≡ [] }
-        ensures bad { IfOk result (λ bad. option_map (λ key. key.now) bad ≡ bad_argument (Parameter.Incoming ∷ Parameter.Outgoing ∷ last ∷ []) arguments.now) }
+        requires said { self.old.said.items ≡ [] }
+        ensures bad { IfOk result (λ bad. option_map (λ key. key.now) bad ≡ bad_argument (parameters_of V.command) arguments.now) }
         ensures incoming { IfOk result (λ bad. bad ≡ None → self.new.incoming.items ≡ numbers_given Parameter.Incoming arguments.now) }
         ensures outgoing { IfOk result (λ bad. bad ≡ None → self.new.outgoing.items ≡ numbers_given Parameter.Outgoing arguments.now) }
+        ensures said { IfOk result (λ bad. bad ≡ None → self.new.said.items ≡ map V.says (values_given V.last arguments.now)) }
     {
         for (place, argument) in arguments.iter().enumerate() {
-            if has_key(&arguments[..place], argument.key()) || !self.take(last, argument)? {
+            if has_key(&arguments[..place], argument.key()) || !self.take(argument)? {
                 return Ok(Some(argument.key()));
             }
         }
@@ -60,26 +65,29 @@ impl NamedIds {
 
     /// Puts the ids of `cfgj` behind those of `cfg`.
     pub(crate) fn join(&mut self) -> Result<(), NoMemory>
-        ensures { OnOk result (self.new.incoming.items ≡ self.old.incoming.items ++ self.old.outgoing.items) }
+        ensures ids { OnOk result (self.new.incoming.items ≡ self.old.incoming.items ++ self.old.outgoing.items) }
+        ensures said { self.new.said ≡ self.old.said }
     {
         self.incoming.extend_from_slice(self.outgoing.as_slice())?;
         Ok(())
     }
 
-    // Takes the ids of an argument, and tells whether it may stand.
-    fn take(&mut self, last: Parameter, argument: &Argument) -> Result<bool, NoMemory>
-        requires { says_of_ids last ≡ true }
-        ensures allowed { IfOk result (λ good. good ≡ is_allowed (Parameter.Incoming ∷ Parameter.Outgoing ∷ last ∷ []) argument.now) }
+    // Takes what an argument names, and tells whether it may stand.
+    fn take(&mut self, argument: &Argument) -> Result<bool, NoMemory>
+        ensures allowed { IfOk result (λ good. good ≡ is_allowed (parameters_of V.command) argument.now) }
         ensures incoming { IfOk result (λ good. good ≡ true → self.new.incoming.items ≡ self.old.incoming.items ++ numbers_of Parameter.Incoming argument.now) }
         ensures outgoing { IfOk result (λ good. good ≡ true → self.new.outgoing.items ≡ self.old.outgoing.items ++ numbers_of Parameter.Outgoing argument.now) }
+        ensures said { IfOk result (λ good. good ≡ true → self.new.said.items ≡ self.old.said.items ++ map V.says (values_of V.last argument.now)) }
     {
         let key = argument.key();
         if key == Parameter::Incoming.key() {
             push_ids(&mut self.incoming, argument)
         } else if key == Parameter::Outgoing.key() {
             push_ids_or_zero(&mut self.outgoing, argument)
+        } else if key == V::parameter().key() {
+            push_said(&mut self.said, argument)
         } else {
-            Ok(key == last.key() && last.allows(argument))
+            Ok(false)
         }
     }
 }
@@ -123,4 +131,23 @@ fn push_id(ids: &mut SmallVec<u64, FEW>, value: &[u8]) -> Result<bool, NoMemory>
             Ok(true)
         }
     }
+}
+
+// Puts what the values of an argument say behind the rest, and tells whether each of them may stand there.
+fn push_said<V: GivenValue>(
+    said: &mut SmallVec<Option<V>, FEW>,
+    argument: &Argument,
+) -> Result<bool, NoMemory>
+    ensures all { IfOk result (λ all. all ≡ list_all (says.may_stand_in V.last) argument.now.values) }
+    ensures said { IfOk result (λ all. all ≡ true → said.new.items ≡ said.old.items ++ map V.says argument.now.values) }
+{
+    for place in 0..argument.value_count() {
+        if let Some(value) = argument.value(place) {
+            let Some(one) = V::read(value) else {
+                return Ok(false);
+            };
+            said.push(one)?;
+        }
+    }
+    Ok(true)
 }

@@ -1,4 +1,4 @@
--- What one more argument adds to the ids that are named.
+-- What one more argument adds to what is named.
 use Rattle.std.proofs.Common.{◌≡◌, ℕ, ◌+◌, take, drop, Bool, true, false, cond, List, [], ◌∷◌, ◌++◌, filter_map, refl, sym, ap, ◌∙◌}
 use Rattle.std.specs.Prelude.{◌||◌, Option, Some, None, option_map, unwrap_or, bytes_eq, slice_get}
 use Rattle.std.specs.Option.{option_or}
@@ -12,7 +12,8 @@ use Rattle.quorum_sets.proofs.Offered.{take-one_more}
 use Rattle.conf_session.proofs.QuorumValues.{drop-here}
 use Rattle.conf_session.specs.Arguments.{has_key, is_good, first_bad, bad_argument, argument_of}
 use Rattle.conf_session.specs.Parameter.{key_of}
-use Rattle.conf_session.specs.QuorumArguments.{numbers_given, numbers_of}
+use Rattle.conf_session.specs.NamedQuorum.{values_of}
+use Rattle.conf_session.specs.QuorumArguments.{values_given, numbers_given, numbers_of}
 use Rattle.conf_session.specs.declared.parameter.Parameter.{Parameter}
 
 find-none : {X : Type 0} (p : X → Bool) (xs : List X) → list_any p xs ≡ false → find p xs ≡ None
@@ -26,19 +27,27 @@ or-none : {X : Type 0} (o : Option X) → option_or o None ≡ o
 or-none None = refl
 or-none (Some x) = refl
 
-abbrev numbers_in : Option ArgumentText → List ℕ
-numbers_in o = filter_map number_in (unwrap_or (option_map (λ argument. argument.values) o) [])
+-- the values with one more argument, whose key is new, by what they are read as
+pub values-more : {X : Type 0} (reads : List (List ℕ) → List X) → reads [] ≡ [] → (p : Parameter) (before : List ArgumentText) (a : ArgumentText) → has_key before a.key ≡ false →
+    reads (values_given p (before ++ a ∷ [])) ≡ reads (values_given p before) ++ reads (values_of p a)
+values-more {X = X} reads nothing p before a new = ap read (find-append (λ x. bytes_eq x.key (key_of p)) before (a ∷ [])) ∙ at (bytes_eq a.key (key_of p)) refl where
+  read : Option ArgumentText → List X
+  read o = reads (unwrap_or (option_map (λ argument. argument.values) o) [])
 
--- the numbers with one more argument, whose key is new
-pub numbers-more : (p : Parameter) (before : List ArgumentText) (a : ArgumentText) → has_key before a.key ≡ false → numbers_given p (before ++ a ∷ []) ≡ numbers_given p before ++ numbers_of p a
-numbers-more p before a new = ap numbers_in (find-append (λ x. bytes_eq x.key (key_of p)) before (a ∷ [])) ∙ at (bytes_eq a.key (key_of p)) refl where
   at : (same : Bool) → bytes_eq a.key (key_of p) ≡ same →
-      numbers_in (option_or (argument_of p before) (cond (bytes_eq a.key (key_of p)) (Some a) None)) ≡ numbers_given p before ++ cond (bytes_eq a.key (key_of p)) (filter_map number_in a.values) []
+      read (option_or (argument_of p before) (cond (bytes_eq a.key (key_of p)) (Some a) None)) ≡ reads (values_given p before) ++ reads (cond (bytes_eq a.key (key_of p)) a.values [])
   at true is =
       let key : a.key ≡ key_of p = (bytes_eq-Decides a.key (key_of p)).0 is in
       let none : argument_of p before ≡ None = find-none _ before (ap (has_key before) (sym key) ∙ new) in
-      rw is (rw none refl)
-  at false is = rw is (ap numbers_in (or-none (argument_of p before)) ∙ sym (append-nil (numbers_given p before)))
+      rw is (rw none (sym (ap (λ t. t ++ reads a.values) nothing)))
+  at false is = rw is (ap read (or-none (argument_of p before)) ∙ sym (append-nil (reads (values_given p before))) ∙ ap (λ t. reads (values_given p before) ++ t) (sym nothing))
+
+-- .. as numbers
+pub numbers-more : (p : Parameter) (before : List ArgumentText) (a : ArgumentText) → has_key before a.key ≡ false → numbers_given p (before ++ a ∷ []) ≡ numbers_given p before ++ numbers_of p a
+numbers-more p before a new = values-more (filter_map number_in) refl p before a new ∙ ap (λ t. numbers_given p before ++ t) (at (bytes_eq a.key (key_of p))) where
+  at : (same : Bool) → filter_map number_in (cond same a.values []) ≡ cond same (filter_map number_in a.values) []
+  at true = refl
+  at false = refl
 
 -- ---- an argument is good, or bad
 pub bad-here : (ps : List Parameter) (args : List ArgumentText) (i : ℕ) (a : ArgumentText) → slice_get args i ≡ Some a → first_bad ps (take i args) (drop i args) ≡ bad_argument ps args →
