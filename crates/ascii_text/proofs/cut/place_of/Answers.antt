@@ -1,0 +1,19 @@
+use Rattle.std.proofs.Common.{◌≡◌, Bool, true, false, length, refl, sym, arith}
+use Rattle.std.specs.Prelude.{◌==◌}
+use Rattle.std.proofs.lemmas.List.Sums.{position_or_len_is}
+use Rattle.ascii_text.proofs.cut.place_of.Goals as goal
+
+not-true : (b : Bool) → (b ≡ true → ⊥) → b ≡ false
+not-true true not = absurd (not refl)
+not-true false not = refl
+
+pub returns-in-Some-clause-place : goal.returns-in-Some-clause-place
+returns-in-Some-clause-place c =
+    let found = c.in-Some.ensures in
+    sym (position_or_len_is (λ b. b == c.args.byte) c.args.text.now c.in-Some.place 0 (omega (arith, found.0.high))
+    (λ k before. not-true _ (found.0.before k (omega arith) before)) (λ within. found.1))
+
+pub returns-in-None-clause-place : goal.returns-in-None-clause-place
+returns-in-None-clause-place c =
+    let text = c.args.text.now in
+    sym (position_or_len_is (λ b. b == c.args.byte) text (length text) 0 (omega arith) (λ k within. not-true _ (c.in-None.ensures k (omega arith) within)) (λ less. absurd (omega (arith, less))))
