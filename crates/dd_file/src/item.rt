@@ -9,21 +9,23 @@ use crate::command::{Command, Name, parse_command};
 pub use crate::raw_lines::RawLines;
 use crate::value_places::ValuePlaces;
 use ascii_text::white_space::{without_leading_space, without_trailing_space};
+use smallvec::SmallVec;
 use std::alloc::{AllocError, Global};
 use std::marker::Model;
 
 /// An argument of a directive: a key and its values.
 #[derive(Drop)]
 pub struct Argument {
-    /// The word that says it.
-    word: Vec<u8>,
+    /// The word that says it. A short one takes no memory.
+    word: SmallVec<u8, 32>,
     /// How much of it is the key.
     key_len: usize,
     places: ValuePlaces,
 }
 
 impl Model for Argument {
-    ghost use Rattle.std.specs.Prelude.{◌≤◌, take, vec_len};
+    ghost use Rattle.std.specs.Prelude.{◌≤◌, take};
+    ghost use Rattle.smallvec.specs.SmallVec.{small_vec_len};
     ghost use Rattle.dd_file.specs.ValuePlaces.{values_at, AreWithin};
     ghost use Rattle.dd_file.specs.Words.{ArgumentText};
 
@@ -34,7 +36,7 @@ impl Model for Argument {
       values = values_at a.word.items a.places.items;
     } };
 
-    ghost invariant = { λ a. (a.key_len ≤ vec_len a.word) × AreWithin (vec_len a.word) a.places.items };
+    ghost invariant = { λ a. (a.key_len ≤ small_vec_len a.word) × AreWithin (small_vec_len a.word) a.places.items };
 }
 
 impl Argument {
@@ -53,7 +55,7 @@ impl Argument {
         ensures { IfOk result (λ argument. argument ≡ record { key = take key_len word.now; values = values_at word.now places.items }) }
     {
         Ok(Argument {
-            word: Vec::from_slice(alloc, word)?,
+            word: SmallVec::from_slice(alloc, word)?,
             key_len,
             places,
         })
@@ -63,7 +65,7 @@ impl Argument {
     pub fn key(&self) -> &[u8]
         ensures { result.now ≡ self.now.key }
     {
-        &self.word[..self.key_len]
+        &self.word.as_slice()[..self.key_len]
     }
 
     /// How many values it has.
@@ -78,7 +80,7 @@ impl Argument {
         ensures { option_map (λ value. value.now) result ≡ slice_get self.now.values i }
     {
         let place = self.places.as_slice().get(i)?;
-        Some(&self.word[place.start..place.end])
+        Some(&self.word.as_slice()[place.start..place.end])
     }
 }
 
