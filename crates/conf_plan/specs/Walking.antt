@@ -1,7 +1,7 @@
 -- Ids that are met in rising order.
-use Rattle.std.specs.Prelude.{◌≡◌, ℕ, ◌+◌, ◌≤◌, Bool, ◌⊎◌, ◌↔◌, true, List, ◌++◌, Option, Some, None, slice_get, if◌then◌else◌}
+use Rattle.std.specs.Prelude.{◌≡◌, ℕ, ◌+◌, ◌^◌, ◌<◌, ◌≤◌, Bool, ◌⊎◌, ◌↔◌, true, List, ◌++◌, Option, Some, None, slice_get, if◌then◌else◌}
 use Rattle.std.specs.List.{All}
-use Rattle.quorum_sets.specs.Ids.{Ids, ascending}
+use Rattle.quorum_sets.specs.Ids.{Ids, ascending, size}
 use Rattle.conf_change.specs.declared.step.Step.{Step}
 use Rattle.conf_plan.specs.PlanSteps.{HasWordIds}
 
@@ -21,6 +21,11 @@ pub record IsEarlier (a b first : Option ℕ) : Type 0 where
 pub record IsPassed (ids : Ids) (place id : ℕ) (found : Bool) (next : ℕ) : Type 0 where
   pub here : (found ≡ true) ↔ (slice_get (ascending ids) place ≡ Some id)
   pub behind : next ≡ place + (if found then 1 else 0)
+
+-- a walk over the ids stands at the place, where this id comes next, and its places are numbers of 64 bits
+pub record IsStanding (ids : Ids) (place : ℕ) (next : Option ℕ) : Type 0 where
+  pub here : next ≡ slice_get (ascending ids) place
+  pub few : size ids < 2 ^ 64
 
 -- steps are added behind those before; their ids are numbers of 64 bits
 pub record IsAdded (before more after : List Step) : Type 0 where

@@ -2,14 +2,17 @@
 ghost use Rattle.std.specs.Prelude.{◌≡◌, ◌<◌, ◌^◌, IfOk};
 ghost use Rattle.std.specs.List.{All};
 ghost use Rattle.conf_plan.specs.Planned.{kind_by, moves, single_with};
-ghost use Rattle.conf_plan.specs.Walking.{IsEarlier, IsPassed};
+ghost use Rattle.conf_plan.specs.Walking.{IsEarlier, IsPassed, IsStanding};
 
 use conf_change::{Change, Kind};
 use quorum_sets::{MemberSet, NoMemory};
 use std::alloc::Global;
 
+// The room for changes that is taken at first: there are seldom more.
+const USUAL_CHANGES: usize = 16;
+
 // The changes from the voters and learners that there are to those that are wanted, by rising id. Each place of the four
-// sets is met once.
+// sets is met once, and asked for once.
 pub(crate) fn moves_to<S: MemberSet>(
     alloc: Global,
     incoming: &S,
@@ -20,27 +23,60 @@ pub(crate) fn moves_to<S: MemberSet>(
     ensures moves { IfOk result (λ changes. changes.items ≡ moves (single_with (S.ids incoming.now) (S.ids learners.now)) (S.ids to_voters.now) (S.ids to_learners.now)) }
     ensures word_ids { IfOk result (λ changes. All (λ change. change.id < 2 ^ 64) changes.items) }
 {
-    let mut changes = Vec::new(alloc);
-    let mut voter_place = 0;
-    let mut learner_place = 0;
-    let mut to_voter_place = 0;
-    let mut to_learner_place = 0;
+    let mut changes = Vec::with_capacity(alloc, USUAL_CHANGES)?;
+    let mut voter_walk = Walk::begin(incoming);
+    let mut learner_walk = Walk::begin(learners);
+    let mut to_voter_walk = Walk::begin(to_voters);
+    let mut to_learner_walk = Walk::begin(to_learners);
     while let Some(id) = earlier(
-        earlier(
-            to_voters.at(to_voter_place),
-            to_learners.at(to_learner_place),
-        ),
-        earlier(incoming.at(voter_place), learners.at(learner_place)),
+        earlier(to_voter_walk.next, to_learner_walk.next),
+        earlier(voter_walk.next, learner_walk.next),
     ) {
-        let wanted_voter = pass(to_voters, &mut to_voter_place, id);
-        let wanted_learner = pass(to_learners, &mut to_learner_place, id);
-        let voter = pass(incoming, &mut voter_place, id);
-        let learner = pass(learners, &mut learner_place, id);
+        let wanted_voter = to_voter_walk.pass(to_voters, id);
+        let wanted_learner = to_learner_walk.pass(to_learners, id);
+        let voter = voter_walk.pass(incoming, id);
+        let learner = learner_walk.pass(learners, id);
         if let Some(kind) = kind_of_move(wanted_voter, wanted_learner, voter, learner) {
             changes.push(Change { kind, id })?;
         }
     }
     Ok(changes)
+}
+
+// Where a walk over the ids of a set stands: the place, and the id there, which the set is asked for once.
+#[derive(Drop)]
+struct Walk {
+    place: usize,
+    next: Option<u64>,
+}
+
+impl Walk {
+    // Begins with the first id.
+    fn begin<S: MemberSet>(ids: &S) -> Walk
+        ensures begun { result.place ≡ 0 }
+        ensures standing { IsStanding (S.ids ids.now) result.place result.next }
+    {
+        // The length fits a usize, so the places do.
+        let _len = ids.len();
+        Walk {
+            place: 0,
+            next: ids.at(0),
+        }
+    }
+
+    // Goes past the id if it stands at the place, and tells whether it does.
+    fn pass<S: MemberSet>(&mut self, ids: &S, id: u64) -> bool
+        requires { IsStanding (S.ids ids.now) self.old.place self.old.next }
+        ensures passed { IsPassed (S.ids ids.now) self.old.place id result self.new.place }
+        ensures standing { IsStanding (S.ids ids.now) self.new.place self.new.next }
+    {
+        let here = self.next == Some(id);
+        if here {
+            self.place += 1;
+            self.next = ids.at(self.place);
+        }
+        here
+    }
 }
 
 // The first of two ids, if there is one.
@@ -52,17 +88,6 @@ fn earlier(a: Option<u64>, b: Option<u64>) -> Option<u64>
         (Some(_), None) => a,
         (None, _) => b,
     }
-}
-
-// Goes past the id if it stands at the place, and tells whether it does.
-fn pass<S: MemberSet>(ids: &S, place: &mut usize, id: u64) -> bool
-    ensures { IsPassed (S.ids ids.now) place.old id result place.new }
-{
-    let here = *place < ids.len() && ids.at(*place) == Some(id);
-    if here {
-        *place += 1;
-    }
-    here
 }
 
 // What an id has to become, if anything.

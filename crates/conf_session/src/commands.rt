@@ -19,11 +19,11 @@ mod undo;
 mod unknown;
 mod vote;
 
-use crate::boxed_changer::BoxedChanger;
 use crate::laws::found_text_stands;
 use crate::parameter::Parameter;
 use crate::reply::Reply;
 use crate::session::Session;
+use crate::spare_changers::SpareChangers;
 use dd_file::item::{Argument, Directive};
 use quorum_sets::NoMemory;
 use std::alloc::Global;
@@ -92,11 +92,11 @@ fn parameters_of(command: Command) -> &'static [Parameter]
     }
 }
 
-/// Carries out a directive. The changer that is spare becomes the next one, where a step is made.
+/// Carries out a directive. A changer that is spare becomes the next one, where a step is made.
 pub(crate) fn run_directive(
     alloc: Global,
     session: &Session,
-    spare: &mut Option<BoxedChanger>,
+    spare: &mut SpareChangers,
     directive: &Directive,
 ) -> Result<Reply, NoMemory>
     ensures reply { IfOk result (λ reply. reply ≡ says.reply_to session.now directive.now) }
@@ -117,7 +117,7 @@ pub(crate) fn run_directive(
 fn run_command(
     alloc: Global,
     session: &Session,
-    spare: &mut Option<BoxedChanger>,
+    spare: &mut SpareChangers,
     command: Command,
     input: &[u8],
     arguments: &[Argument],
@@ -132,7 +132,7 @@ fn run_command(
         Command::ConfChange => change::run(alloc, changer, spare, input, arguments),
         Command::ConfState => conf_state::run(alloc, changer, input, arguments),
         Command::Restore => restore::run(alloc, changer, input, arguments),
-        Command::Undo => undo::run(alloc, session, input, arguments),
+        Command::Undo => undo::run(alloc, session, spare, input, arguments),
         Command::Ack => ack::run(alloc, changer, input, arguments),
         Command::CommitIndex => commit_index::run(alloc, changer, input, arguments),
         Command::Committed => committed::run(alloc, input, arguments),

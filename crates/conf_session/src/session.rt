@@ -14,6 +14,7 @@ use crate::effect::Effect;
 use crate::history::History;
 use crate::laws::{answer_keeps_session, kept_lead_to_now};
 use crate::session_ids::SessionIds;
+use crate::spare_changers::SpareChangers;
 use crate::undo_fault::UndoFault;
 use conf_change::{Changer, Config, Floor};
 use conf_plan::laws::undo_of_run;
@@ -28,8 +29,7 @@ use std::mem::replace;
 #[derive(Drop)]
 pub struct Session {
     changer: BoxedChanger,
-    /// A changer that is done with, whose memory the next one takes.
-    spare: Option<BoxedChanger>,
+    spare: SpareChangers,
     history: History,
     alloc: Global,
 }
@@ -61,7 +61,7 @@ impl Session {
     {
         Ok(Session {
             changer: BoxedChanger::new(alloc, Changer::new_with_floor(alloc, 0, floor))?,
-            spare: None,
+            spare: SpareChangers::new(),
             history: History::new(alloc, history)?,
             alloc,
         })
@@ -125,7 +125,7 @@ impl Session {
         ensures unchanged { OnErr result (self.new ≡ self.old) }
     {
         answer_keeps_session();
-        let mut spare = self.spare.take();
+        let mut spare = replace(&mut self.spare, SpareChangers::new());
         let reply = run_directive(self.alloc, self, &mut spare, directive)?;
         self.spare = spare;
         let (found, effect) = reply.into_parts();
@@ -146,14 +146,15 @@ impl Session {
             Effect::Stepped(after) => {
                 let mut before = replace(&mut self.changer, after);
                 self.history.keep(before.take_config());
-                self.spare = Some(before);
+                self.spare.put_back(before);
             }
             Effect::Restored(after) => {
                 self.changer = after;
                 self.history.clear();
             }
             Effect::Undone(after, count) => {
-                self.changer = after;
+                let before = replace(&mut self.changer, after);
+                self.spare.put_back(before);
                 self.history.forget(count);
             }
         }

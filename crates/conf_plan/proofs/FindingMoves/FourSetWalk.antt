@@ -177,16 +177,22 @@ pub record IsWalked (c : Configuration) (voters learners : Ids) (voter_place lea
   pub moved : changes ++ filter_map (move_of c voters learners) (ids_from bound (ascending (all_ids voters learners c.incoming c.learners))) ≡ moves c voters learners
   pub word_ids : All (λ change. change.id < 2 ^ 64) changes
 
-pub IsWalked-begun : (c : Configuration) (voters learners : Ids) → IsWalked c voters learners 0 0 0 0 []
-IsWalked-begun c voters learners = record {
-  bound = 0;
-  to_voters_left = sym (ids_from-start (ascending voters));
-  to_learners_left = sym (ids_from-start (ascending learners));
-  voters_left = sym (ids_from-start (ascending c.incoming));
-  learners_left = sym (ids_from-start (ascending c.learners));
-  moved = ap (filter_map (move_of c voters learners)) (ids_from-start (ascending (all_ids voters learners c.incoming c.learners)));
-  word_ids = All-nil _;
-}
+-- at the first place all of a set is left
+left-begun : (s : Ids) (place : ℕ) → place ≡ 0 → IsLeft place 0 s
+left-begun s place first = ap (λ k. drop k (ascending s)) first ∙ sym (ids_from-start (ascending s))
+
+pub IsWalked-begun : (c : Configuration) (voters learners : Ids) (i l v m : ℕ) (changes : List Change) → i ≡ 0 → l ≡ 0 → v ≡ 0 → m ≡ 0 → changes ≡ [] → IsWalked c voters learners i l v m changes
+IsWalked-begun c voters learners i l v m changes i_first l_first v_first m_first none =
+    let moved_from = λ (made : List Change). made ++ filter_map (move_of c voters learners) (ids_from 0 (ascending (all_ids voters learners c.incoming c.learners))) in
+    record {
+      bound = 0;
+      to_voters_left = left-begun voters v v_first;
+      to_learners_left = left-begun learners m m_first;
+      voters_left = left-begun c.incoming i i_first;
+      learners_left = left-begun c.learners l l_first;
+      moved = ap moved_from none ∙ ap (filter_map (move_of c voters learners)) (ids_from-start (ascending (all_ids voters learners c.incoming c.learners)));
+      word_ids = subst (All (λ change. change.id < 2 ^ 64)) (sym none) (All-nil _);
+    }
 
 -- the four sets at an id that is the first of those that are left
 record IsStepOfFour (a b c d : Ids) (bound id next_a next_b next_c next_d : ℕ) (in_a in_b in_c in_d : Bool) : Type 0 where

@@ -5,10 +5,10 @@ ghost use Rattle.conf_session.specs.Commands as says;
 use super::Command;
 use super::telling::{tell_arguments, tell_step, tell_token};
 use crate::arguments::argument_of;
-use crate::boxed_changer::BoxedChanger;
 use crate::parameter::{Parameter, has_only};
 use crate::reply::Reply;
 use crate::session_ids::SessionIds;
+use crate::spare_changers::SpareChangers;
 use conf_change::{Change, Changer, Taken, read_changes};
 use dd_file::item::Argument;
 use quorum_sets::NoMemory;
@@ -18,7 +18,7 @@ use std::alloc::Global;
 pub(super) fn run(
     alloc: Global,
     changer: &Changer<SessionIds>,
-    spare: &mut Option<BoxedChanger>,
+    spare: &mut SpareChangers,
     input: &[u8],
     arguments: &[Argument],
 ) -> Result<Reply, NoMemory>
@@ -33,7 +33,7 @@ pub(super) fn run(
 fn enter_with(
     alloc: Global,
     changer: &Changer<SessionIds>,
-    spare: &mut Option<BoxedChanger>,
+    spare: &mut SpareChangers,
     arguments: &[Argument],
     changes: &[Change],
 ) -> Result<Reply, NoMemory>

@@ -14,6 +14,7 @@ use crate::effect::Effect;
 use crate::reply::Reply;
 use crate::reply_texts::{bad_token_line, line_of, refused_line, tracker_lines};
 use crate::session_ids::SessionIds;
+use crate::spare_changers::SpareChangers;
 use conf_change::{Change, Changer, Refused, Taken, TokenFault};
 use dd_file::item::Argument;
 use quorum_sets::NoMemory;
@@ -73,32 +74,24 @@ pub(super) fn tell_arguments(
     Ok(None)
 }
 
-/// Tells the changer after the step that is taken, or why the step is refused. The changer that is spare becomes the next
+/// Tells the changer after the step that is taken, or why the step is refused. A changer that is spare becomes the next
 /// one, or else a new one.
 pub(super) fn tell_step(
     alloc: Global,
     changer: &Changer<SessionIds>,
-    spare: &mut Option<BoxedChanger>,
+    spare: &mut SpareChangers,
     taken: Taken,
     changes: &[Change],
 ) -> Result<Reply, NoMemory>
     ensures { IfOk result (λ reply. reply ≡ says.on_step changer.now (step_of taken changes.now)) }
 {
-    let mut next = spare_or_new(alloc, spare)?;
+    let mut next = spare.take(alloc)?;
     match next.become_next(changer, taken, changes) {
         Ok(()) => tell_stepped(alloc, next),
         Err(refused) => {
-            *spare = Some(next);
+            spare.put_back(next);
             tell_refused(alloc, refused)
         }
-    }
-}
-
-// The changer that is spare, or else a new one.
-fn spare_or_new(alloc: Global, spare: &mut Option<BoxedChanger>) -> Result<BoxedChanger, NoMemory> {
-    match spare.take() {
-        Some(changer) => Ok(changer),
-        None => BoxedChanger::new(alloc, Changer::new(alloc, 0)),
     }
 }
 

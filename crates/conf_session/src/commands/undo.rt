@@ -1,6 +1,10 @@
 //! `undo`: undoes the last accepted changes, by the steps of a plan.
-ghost use Rattle.std.specs.Prelude.{◌≡◌, ◌≤◌, ◌++◌, Ok, IfOk};
+ghost use Rattle.std.specs.Prelude.{◌≡◌, ◌≤◌, ◌++◌, Ok, Some, IfOk};
+ghost use Rattle.conf_change.specs.Changer.{changer_after};
+ghost use Rattle.conf_change.specs.Step.{changes_of};
+ghost use Rattle.conf_change.specs.Transition.{step_of};
 ghost use Rattle.conf_plan.specs.PlanText.{plan_text};
+ghost use Rattle.conf_plan.specs.Run.{after_steps};
 ghost use Rattle.conf_session.specs.Commands as says;
 ghost use Rattle.conf_session.specs.ReplyTexts.{tracker_text};
 ghost use Rattle.conf_session.specs.Undo.{undo_plan_of, undone, undone_by};
@@ -15,17 +19,21 @@ use crate::reply::Reply;
 use crate::reply_texts::{append_tracker, undo_fault_line, usual_room};
 use crate::session::Session;
 use crate::session_ids::SessionIds;
+use crate::spare_changers::SpareChangers;
 use crate::undo_fault::UndoFault;
-use conf_change::{Changer, Tracker};
-use conf_plan::{Plan, apply_plan, laws, print_plan};
+use conf_change::laws::one_changer_after_a_step;
+use conf_change::{Changer, Step, Taken, Tracker};
+use conf_plan::{Plan, print_plan};
 use dd_file::item::Argument;
 use quorum_sets::NoMemory;
 use std::alloc::Global;
+use std::mem::replace;
 
 /// Undoes as many as `steps` says, where there is no input.
 pub(super) fn run(
     alloc: Global,
     session: &Session,
+    spare: &mut SpareChangers,
     input: &[u8],
     arguments: &[Argument],
 ) -> Result<Reply, NoMemory>
@@ -34,7 +42,7 @@ pub(super) fn run(
     if let Some(fault) = tell_fault(alloc, Command::Undo, input, arguments)? {
         return Ok(fault);
     }
-    undo(alloc, session, steps_of(arguments))
+    undo(alloc, session, spare, steps_of(arguments))
 }
 
 // How many changes are undone: one, where `steps` is left out.
@@ -52,12 +60,17 @@ fn steps_of(arguments: &[Argument]) -> usize
 }
 
 // Undoes so many changes.
-fn undo(alloc: Global, session: &Session, count: usize) -> Result<Reply, NoMemory>
+fn undo(
+    alloc: Global,
+    session: &Session,
+    spare: &mut SpareChangers,
+    count: usize,
+) -> Result<Reply, NoMemory>
     requires { 1 ≤ count }
     ensures { IfOk result (λ reply. reply ≡ says.undo_last session.now count) }
 {
     match session.undo_plan(count) {
-        Ok(plan) => take_back(alloc, session, count, &plan),
+        Ok(plan) => take_back(alloc, session, spare, count, &plan),
         Err(fault) => match fault {
             UndoFault::NoMemory => Err(NoMemory),
             _ => Ok(Reply::told(undo_fault_line(alloc, fault)?)),
@@ -65,32 +78,84 @@ fn undo(alloc: Global, session: &Session, count: usize) -> Result<Reply, NoMemor
     }
 }
 
-// Takes the steps of the plan, on a copy.
-fn take_back(alloc: Global, session: &Session, count: usize, plan: &Plan) -> Result<Reply, NoMemory>
+// Takes the steps of the plan.
+fn take_back(
+    alloc: Global,
+    session: &Session,
+    spare: &mut SpareChangers,
+    count: usize,
+    plan: &Plan,
+) -> Result<Reply, NoMemory>
     requires { undo_plan_of session.now count ≡ Ok plan.now }
     ensures { IfOk result (λ reply. reply ≡ undone session.now count plan.now) }
 {
-    laws::one_changer_after_steps();
-    let mut after = session.changer().try_clone()?;
-    match apply_plan(&mut after, plan) {
-        Ok(()) => tell_undone(alloc, after, count, plan),
-        // A plan is a run, so a step of it is refused for want of memory alone.
+    let after = after_plan(alloc, session.changer(), spare, plan)?;
+    tell_undone(alloc, after, count, plan)
+}
+
+// The changer after the steps of a plan. Each step reads the changer of before it and makes the next one of a spare one, so
+// that none is copied, unless the plan has no step.
+fn after_plan(
+    alloc: Global,
+    before: &Changer<SessionIds>,
+    spare: &mut SpareChangers,
+    plan: &Plan,
+) -> Result<BoxedChanger, NoMemory>
+    ensures { IfOk result (λ after. after_steps before.now plan.now ≡ Some after) }
+{
+    let Some(first) = plan.step(0) else {
+        return BoxedChanger::new(alloc, before.try_clone()?);
+    };
+    let mut after = next_of(alloc, before, spare, first)?;
+    for place in 1..plan.len() {
+        if let Some(step) = plan.step(place) {
+            let next = next_of(alloc, after.changer(), spare, step)?;
+            spare.put_back(replace(&mut after, next));
+        }
+    }
+    Ok(after)
+}
+
+// The changer after a step of a plan, made in one that is spare. A plan is a run, so a step of it is refused for want of
+// memory alone.
+fn next_of(
+    alloc: Global,
+    before: &Changer<SessionIds>,
+    spare: &mut SpareChangers,
+    step: &Step,
+) -> Result<BoxedChanger, NoMemory>
+    ensures { IfOk result (λ next. changer_after before.now step.now ≡ Ok next) }
+{
+    one_changer_after_a_step();
+    let mut next = spare.take(alloc)?;
+    match next.become_next(before, taken_by(step), step.changes()) {
+        Ok(()) => Ok(next),
         Err(_) => Err(NoMemory),
+    }
+}
+
+// The step without its changes.
+fn taken_by(step: &Step) -> Taken
+    ensures { step_of result (changes_of step.now) ≡ step.now }
+{
+    match step {
+        Step::Simple(_) => Taken::Simple,
+        Step::EnterJoint(auto_leave, _) => Taken::Enter(*auto_leave),
+        Step::LeaveJoint => Taken::Leave,
     }
 }
 
 // Tells the plan, and the changer after it.
 fn tell_undone(
     alloc: Global,
-    after: Changer<SessionIds>,
+    after: BoxedChanger,
     count: usize,
     plan: &Plan,
 ) -> Result<Reply, NoMemory>
     ensures { IfOk result (λ reply. reply ≡ undone_by after count plan.now) }
 {
-    let found = undone_text(alloc, plan, after.tracker())?;
-    let boxed = BoxedChanger::new(alloc, after)?;
-    Ok(Reply::new(found, Effect::Undone(boxed, count)))
+    let found = undone_text(alloc, plan, after.changer().tracker())?;
+    Ok(Reply::new(found, Effect::Undone(after, count)))
 }
 
 // The room that the text of a plan mostly needs.

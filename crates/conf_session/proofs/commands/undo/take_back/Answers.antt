@@ -6,12 +6,9 @@ use Rattle.conf_session.specs.Undo.{undone, undone_by}
 use Rattle.conf_session.proofs.CommandReplies.{same-reply}
 use Rattle.conf_session.proofs.commands.undo.take_back.Goals as goal
 
-pub returns-in-Ok : goal.returns-in-Ok
-returns-in-Ok c =
-    let after = c.apply_plan.new.changer in
+pub returns : goal.returns
+returns c =
     let steps = c.args.plan.now in
-    let from = c.in_ok-after.ensures.same ∙ c.changer.ensures.changer in
-    let taken = (c.one_changer_after_steps.ensures.taken c.in_ok-after.after after steps).0 c.in-Ok.ensures.taken in
-    let there = ap (λ (changer : ChangerState). after_steps changer steps) (sym from) ∙ taken in
-    same-reply c.tell_undone.result (undone_by after c.args.count steps) (undone c.args.session.now c.args.count steps)
+    let there = ap (λ (changer : ChangerState). after_steps changer steps) (sym c.changer.ensures.changer) ∙ c.in_ok-after.ensures in
+    same-reply c.tell_undone.result (undone_by c.in_ok-after.after c.args.count steps) (undone c.args.session.now c.args.count steps)
     (ap (λ o. undone_by (unwrap_or o c.args.session.now.changer) c.args.count steps) (sym there)) c.tell_undone.ensures
