@@ -251,6 +251,8 @@ impl Draft {
     }
 
     /// The item that the lines so far are where no further line belongs to it, or its fault.
+    // Written out where it is called, so that its parts are moved once.
+    #[inline(always)]
     pub(crate) fn finish(self) -> Result<Option<Item>, FileFault>
         requires fits { Fits self }
         requires room { self.line + self.count < 2 ^ 62 }
