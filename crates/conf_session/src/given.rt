@@ -23,10 +23,14 @@ pub(crate) trait GivenValue: Copy + Default + Drop {
     /// What a value says; nothing where it is not known.
     ghost says: { List ℕ → Option Self };
 
-    /// The argument in which it stands, and the command that has it.
+    /// The argument in which it stands.
     ghost last: { Named };
+
+    /// The command that has it, behind both sets.
     ghost command: { Command };
+
     ghost is_last: { parameters_of command ≡ Incoming ∷ Outgoing ∷ last ∷ [] };
+
     ghost is_of_ids: { says_of_ids last ≡ true };
 
     /// The argument in which it stands.
