@@ -109,11 +109,10 @@ fn push_ids(ids: &mut SmallVec<u64, FEW>, argument: &Argument) -> Result<bool, N
     ensures all { IfOk result (λ all. all ≡ list_all (says.is_number_from 1) argument.now.values) }
     ensures ids { IfOk result (λ all. all ≡ true → ids.new.items ≡ ids.old.items ++ filter_map number_in argument.now.values) }
 {
-    for place in 0..argument.value_count() {
-        if let Some(value) = argument.value(place) {
-            if !push_id(ids, value)? {
-                return Ok(false);
-            }
+    let mut values = argument.values();
+    while let Some(value) = values.next() {
+        if !push_id(ids, value)? {
+            return Ok(false);
         }
     }
     Ok(true)
@@ -141,13 +140,12 @@ fn push_said<V: GivenValue>(
     ensures all { IfOk result (λ all. all ≡ list_all (says.may_stand_in V.last) argument.now.values) }
     ensures said { IfOk result (λ all. all ≡ true → said.new.items ≡ said.old.items ++ map V.says argument.now.values) }
 {
-    for place in 0..argument.value_count() {
-        if let Some(value) = argument.value(place) {
-            let Some(one) = V::read(value) else {
-                return Ok(false);
-            };
-            said.push(one)?;
-        }
+    let mut values = argument.values();
+    while let Some(value) = values.next() {
+        let Some(one) = V::read(value) else {
+            return Ok(false);
+        };
+        said.push(one)?;
     }
     Ok(true)
 }

@@ -77,11 +77,10 @@ impl Parameter {
     fn has_list(self, argument: &Argument) -> bool
         ensures { result ≡ list_all (says.may_stand_in self) argument.now.values }
     {
-        for place in 0..argument.value_count() {
-            if let Some(value) = argument.value(place) {
-                if !self.may_stand_in(value) {
-                    return false;
-                }
+        let mut values = argument.values();
+        while let Some(value) = values.next() {
+            if !self.may_stand_in(value) {
+                return false;
             }
         }
         true
@@ -106,8 +105,9 @@ impl Parameter {
 pub(crate) fn has_only(argument: &Argument, value: &[u8]) -> bool
     ensures { result ≡ says.has_only value.now argument.now.values }
 {
-    match argument.value(0) {
-        Some(first) => first == value && argument.value(1).is_none(),
+    let mut values = argument.values();
+    match values.next() {
+        Some(first) => first == value && values.next().is_none(),
         None => false,
     }
 }
@@ -116,8 +116,9 @@ pub(crate) fn has_only(argument: &Argument, value: &[u8]) -> bool
 pub(crate) fn number_from(least: u64, argument: &Argument) -> Option<u64>
     ensures { result ≡ says.number_from least argument.now.values }
 {
-    let digits = argument.value(0)?;
-    if argument.value(1).is_some() {
+    let mut values = argument.values();
+    let digits = values.next()?;
+    if values.next().is_some() {
         return None;
     }
     let number = read_number(digits)?;

@@ -5,4 +5,5 @@ pub mod WordParts
 pub mod TrimmedEnd
 pub mod LoneKey
 pub mod ListedValues
+pub mod KeptArgument
 pub mod Keys

@@ -18,5 +18,5 @@ pub mod Wrapped
 pub mod Gathered
 pub mod InTurn
 pub mod LineEnds
-pub mod ValuePlaces
+pub mod ArgumentValues
 pub mod WordParts

@@ -7,7 +7,7 @@ ghost use Rattle.dd_file.specs.Words.{has_keys, command_of};
 
 use crate::command::{Command, Name, parse_command};
 pub use crate::raw_lines::RawLines;
-use crate::value_places::ValuePlaces;
+pub use crate::values::Values;
 use ascii_text::white_space::{without_leading_space, without_trailing_space};
 use smallvec::SmallVec;
 use std::alloc::{AllocError, Global};
@@ -20,44 +20,36 @@ pub struct Argument {
     word: SmallVec<u8, 32>,
     /// How much of it is the key.
     key_len: usize,
-    places: ValuePlaces,
 }
 
 impl Model for Argument {
-    ghost use Rattle.std.specs.Prelude.{◌≤◌, take};
-    ghost use Rattle.smallvec.specs.SmallVec.{small_vec_len};
-    ghost use Rattle.dd_file.specs.ValuePlaces.{values_at, AreWithin};
-    ghost use Rattle.dd_file.specs.Words.{ArgumentText};
+    ghost use Rattle.std.specs.Prelude.{◌≡◌, true};
+    ghost use Rattle.std.specs.List.{prefix_len};
+    ghost use Rattle.dd_file.specs.ArgumentValues.{says_argument, argument_in};
+    ghost use Rattle.dd_file.specs.Words.{ArgumentText, is_key_byte};
 
     ghost Value = { ArgumentText };
 
-    ghost view = { λ a. record {
-      key = take a.key_len a.word.items;
-      values = values_at a.word.items a.places.items;
-    } };
+    ghost view = { λ a. argument_in a.word.items };
 
-    ghost invariant = { λ a. (a.key_len ≤ small_vec_len a.word) × AreWithin (small_vec_len a.word) a.places.items };
+    ghost invariant = { λ a. (says_argument a.word.items ≡ true) × (a.key_len ≡ prefix_len is_key_byte a.word.items) };
 }
 
 impl Argument {
-    ghost use Rattle.std.specs.Prelude.{◌≤◌, length, take};
-    ghost use Rattle.dd_file.specs.ValuePlaces.{values_at, AreWithin};
+    ghost use Rattle.std.specs.Prelude.{◌≡◌, true, length};
+    ghost use Rattle.std.specs.List.{prefix_len};
+    ghost use Rattle.dd_file.specs.ArgumentValues.{says_argument, argument_in};
+    ghost use Rattle.dd_file.specs.Words.{is_key_byte};
 
-    /// The argument that a word says, of which the key comes first, with values in these places.
-    pub(crate) fn new(
-        alloc: Global,
-        word: &[u8],
-        key_len: usize,
-        places: ValuePlaces,
-    ) -> Result<Argument, AllocError>
-        requires key { key_len ≤ length word.now }
-        requires within { AreWithin (length word.now) places.items }
-        ensures { IfOk result (λ argument. argument ≡ record { key = take key_len word.now; values = values_at word.now places.items }) }
+    /// The argument that a word says, of which the key comes first.
+    pub(crate) fn new(alloc: Global, word: &[u8], key_len: usize) -> Result<Argument, AllocError>
+        requires says { says_argument word.now ≡ true }
+        requires key { key_len ≡ prefix_len is_key_byte word.now }
+        ensures { IfOk result (λ argument. argument ≡ argument_in word.now) }
     {
         Ok(Argument {
             word: SmallVec::from_slice(alloc, word)?,
             key_len,
-            places,
         })
     }
 
@@ -68,19 +60,29 @@ impl Argument {
         &self.word.as_slice()[..self.key_len]
     }
 
+    /// Its values, one after another (datadriven's `CmdArg.Vals`).
+    pub fn values(&self) -> Values<'_>
+        ensures { result ≡ self.now.values }
+    {
+        Values::behind(self.word.as_slice().split_at(self.key_len).1)
+    }
+
     /// How many values it has.
     pub fn value_count(&self) -> usize
         ensures { result ≡ length self.now.values }
     {
-        self.places.len()
+        self.values().len()
     }
 
-    /// The value at a place, counted from 0.
+    /// The value at a place, counted from 0. The values before it are passed over.
     pub fn value(&self, i: usize) -> Option<&[u8]>
         ensures { option_map (λ value. value.now) result ≡ slice_get self.now.values i }
     {
-        let place = self.places.as_slice().get(i)?;
-        Some(&self.word.as_slice()[place.start..place.end])
+        let mut values = self.values();
+        for _passed in 0..i {
+            values.next()?;
+        }
+        values.next()
     }
 }
 

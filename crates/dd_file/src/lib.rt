@@ -19,6 +19,6 @@ pub mod reader;
 pub mod rewriter;
 mod room;
 pub mod stage;
-mod value_places;
+mod values;
 mod words;
 pub mod writing;

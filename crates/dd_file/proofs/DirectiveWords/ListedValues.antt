@@ -1,28 +1,15 @@
--- The values of a list, one by one up to its closing parenthesis.
-use Rattle.std.proofs.Common.{◌≡◌, ℕ, ◌+◌, suc, Bool, true, false, not, cond, ◌&&◌, ◌||◌, List, [], ◌∷◌, length, take, drop, map, refl, sym, ◌∙◌, ap, arith, rules}
-use Rattle.std.specs.Prelude.{◌==◌, Some, None, option_map, bytes_eq}
-use Rattle.std.specs.List.{list_any, prefix_len}
-use Rattle.std.proofs.Math.Bool.{and-false}
+-- The values of a list in parentheses, one by one.
+use Rattle.std.proofs.Common.{◌≡◌, ℕ, ◌+◌, ◌-◌, suc, Bool, true, false, not, cond, ◌&&◌, ◌||◌, List, [], ◌∷◌, length, take, drop, count_by, refl, sym, ◌∙◌, ap, arith, rules}
+use Rattle.std.specs.Prelude.{◌==◌, Some, None, is_some, unwrap_or}
+use Rattle.std.specs.List.{list_any, position_or_len}
 use Rattle.std.proofs.lemmas.Bool.{true≢false}
-use Rattle.ascii_text.specs.WhiteSpace.{is_space, is_blank, trimmed, without_leading_space}
+use Rattle.std.proofs.lemmas.List.Sums.{sum_by-cons}
+use Rattle.dd_file.specs.ArgumentValues.{ends_at_closing}
 use Rattle.dd_file.specs.Parts.{up_to, behind}
-use Rattle.dd_file.specs.ValuePlaces.{is_in_value, ends_at_closing, is_empty_list, listed_from}
-use Rattle.dd_file.specs.Words.{is_comma, is_closing, placed, cut_at_commas, values_of}
+use Rattle.dd_file.specs.Words.{is_comma, is_closing, placed, cut_at_commas, listed, values_of}
 
--- how many bytes the first value has
-abbrev pub value_len : List ℕ → ℕ
-value_len text = prefix_len is_in_value text
-
--- what stands between the parentheses is cut into these
-abbrev cut : List ℕ → List (List ℕ)
-cut text = cut_at_commas (up_to is_closing text)
-
--- the first value of a list, and what stands behind it
-record FirstValue (text : List ℕ) (b : ℕ) (rest : List ℕ) : Type 0 where
-  comma : is_comma b ≡ true → (cut text ≡ take (value_len text) text ∷ cut rest) × (ends_at_closing text ≡ ends_at_closing rest)
-  closing : is_comma b ≡ false → (cut text ≡ take (value_len text) text ∷ []) × (ends_at_closing text ≡ (length rest == 0))
-
--- a byte before a text that closes nothing
+-- ---- the closing parenthesis
+-- before a text that closes nothing
 up_to-other : (x : ℕ) (xs : List ℕ) → is_closing x ≡ false → up_to is_closing (x ∷ xs) ≡ x ∷ up_to is_closing xs
 up_to-other x xs h = ap (λ d. cond d [] (x ∷ up_to is_closing xs)) h
 
@@ -32,114 +19,92 @@ ends-other x xs h = ap (λ d. (d || list_any is_closing xs) && (length (cond d x
 ends-closing : (x : ℕ) (xs : List ℕ) → is_closing x ≡ true → ends_at_closing (x ∷ xs) ≡ (length xs == 0)
 ends-closing x xs h = ap (λ d. (d || list_any is_closing xs) && (length (cond d xs (behind is_closing xs)) == 0)) h
 
-comma-not_closing : (x : ℕ) → is_comma x ≡ true → is_closing x ≡ true → ⊥
-comma-not_closing x c d = let is : x ≡ 44 = search rules in let at : is_closing 44 ≡ true = ap is_closing (sym is) ∙ d in cc
+-- it comes last exactly where its place is that of the last byte
+pub ends_at_closing-place : (inside : List ℕ) → (position_or_len is_closing inside + 1 == length inside) ≡ ends_at_closing inside
+ends_at_closing-place [] = refl
+ends_at_closing-place (x ∷ xs) = at (is_closing x) refl (ends_at_closing-place xs) where
+  n : ℕ
+  n = position_or_len is_closing xs
 
-cut-longer : (x : ℕ) (xs value : List ℕ) (values : List (List ℕ)) → is_comma x ≡ false → is_closing x ≡ false → cut xs ≡ value ∷ values → cut (x ∷ xs) ≡ (x ∷ value) ∷ values
-cut-longer x xs value values c d h = ap cut_at_commas (up_to-other x xs d) ∙ ap (λ e. placed e x (cut xs)) c ∙ ap (placed false x) h
+  less : (a b : ℕ) → (1 + a == suc b) ≡ (a == b)
+  less a b = search (rules, arith)
 
-first-value : (text : List ℕ) (b : ℕ) (rest : List ℕ) → drop (value_len text) text ≡ b ∷ rest → FirstValue text b rest
-first-value [] b rest h = cc
-first-value (x ∷ xs) b rest h = at (is_comma x) (is_closing x) refl refl h (first-value xs b rest) where
-  at : (c d : Bool) → is_comma x ≡ c → is_closing x ≡ d → drop (cond (not (c || d)) (1 + value_len xs) 0) (x ∷ xs) ≡ b ∷ rest → (drop (value_len xs) xs ≡ b ∷ rest → FirstValue xs b rest) → FirstValue (x ∷ xs) b rest
-  at false false c d k ih =
-      let one : 1 + value_len xs ≡ suc (value_len xs) = omega arith in
-      let r = ih (sym (ap (λ n. drop n (x ∷ xs)) one) ∙ k) in
-      let n : value_len (x ∷ xs) ≡ suc (value_len xs) = ap (λ i. cond (not (i || is_closing x)) (1 + value_len xs) 0) c ∙ ap (λ i. cond (not i) (1 + value_len xs) 0) d ∙ one in record {
-        comma = λ is. (
-          cut-longer x xs (take (value_len xs) xs) (cut rest) c d (r.comma is).0 ∙ sym (ap (λ m. take m (x ∷ xs) ∷ cut rest) n),
-          ends-other x xs d ∙ (r.comma is).1,
-        );
-        closing = λ is. (
-          cut-longer x xs (take (value_len xs) xs) [] c d (r.closing is).0 ∙ sym (ap (λ m. take m (x ∷ xs) ∷ []) n),
-          ends-other x xs d ∙ (r.closing is).1,
-        );
-      }
-  at true true c d k ih = absurd (comma-not_closing x c d)
-  at true false c d k ih =
-      let first : x ≡ b = cc in
-      let same : xs ≡ rest = cc in
-      let n : value_len (x ∷ xs) ≡ 0 = ap (λ i. cond (not (i || is_closing x)) (1 + value_len xs) 0) c in record {
-        comma = λ is. (
-          ap cut_at_commas (up_to-other x xs d) ∙ ap (λ e. placed e x (cut xs)) c ∙ ap (λ t. [] ∷ cut t) same ∙ sym (ap (λ m. take m (x ∷ xs) ∷ cut rest) n),
-          ends-other x xs d ∙ ap ends_at_closing same,
-        );
-        closing = λ is. absurd (true≢false (sym c ∙ ap is_comma first ∙ is));
-      }
-  at false true c d k ih =
-      let first : x ≡ b = cc in
-      let same : xs ≡ rest = cc in
-      let n : value_len (x ∷ xs) ≡ 0 = ap (λ i. cond (not (i || is_closing x)) (1 + value_len xs) 0) c ∙ ap (λ i. cond (not i) (1 + value_len xs) 0) d in record {
-        comma = λ is. absurd (true≢false (sym is ∙ sym (ap is_comma first) ∙ c));
-        closing = λ is. (
-          ap (λ e. cut_at_commas (cond e [] (x ∷ up_to is_closing xs))) d ∙ sym (ap (λ m. take m (x ∷ xs) ∷ []) n),
-          ends-closing x xs d ∙ ap (λ t. length t == 0) same,
-        );
-      }
+  none : (b : ℕ) → (0 + 1 == suc b) ≡ (b == 0)
+  none b = search (rules, arith)
 
-no-end : (text : List ℕ) → drop (value_len text) text ≡ [] → ends_at_closing text ≡ false
-no-end [] h = refl
-no-end (x ∷ xs) h = at (is_comma x) (is_closing x) refl refl h (no-end xs) where
-  at : (c d : Bool) → is_comma x ≡ c → is_closing x ≡ d → drop (cond (not (c || d)) (1 + value_len xs) 0) (x ∷ xs) ≡ [] → (drop (value_len xs) xs ≡ [] → ends_at_closing xs ≡ false) → ends_at_closing (x ∷ xs) ≡ false
-  at false false c d k ih =
-      let one : 1 + value_len xs ≡ suc (value_len xs) = omega arith in
-      ends-other x xs d ∙ ih (sym (ap (λ n. drop n (x ∷ xs)) one) ∙ k)
-  at true d c e k ih = cc
-  at false true c d k ih = cc
+  at : (c : Bool) → is_closing x ≡ c → (n + 1 == length xs) ≡ ends_at_closing xs → (cond (not c) (1 + n) 0 + 1 == suc (length xs)) ≡ ends_at_closing (x ∷ xs)
+  at true c ih = none (length xs) ∙ sym (ends-closing x xs c)
+  at false c ih = let next : 1 + n + 1 ≡ 1 + (n + 1) = omega arith in ap (λ k. k == suc (length xs)) next ∙ less (n + 1) (length xs) ∙ ih ∙ sym (ends-other x xs c)
 
--- a comma stands behind the first value
-pub listed_from-comma : (text : List ℕ) (b : ℕ) (rest : List ℕ) → drop (value_len text) text ≡ b ∷ rest → is_comma b ≡ true →
-    listed_from text ≡ option_map (λ others. trimmed (take (value_len text) text) ∷ others) (listed_from rest)
-listed_from-comma text b rest h is =
-    let r = (first-value text b rest h).comma is in
-    ap (λ vs. cond (ends_at_closing text) (Some (map trimmed vs)) None) r.0
-    ∙ ap (λ c. cond c (Some (trimmed (take (value_len text) text) ∷ map trimmed (cut rest))) None) r.1 ∙ each (ends_at_closing rest) where
-      each : (c : Bool) → cond c (Some (trimmed (take (value_len text) text) ∷ map trimmed (cut rest))) None
-          ≡ option_map (λ others. trimmed (take (value_len text) text) ∷ others) (cond c (Some (map trimmed (cut rest))) None)
-      each true = refl
-      each false = refl
-
--- a closing parenthesis does, and has to be the last byte
-pub listed_from-closing : (text : List ℕ) (b : ℕ) (rest : List ℕ) → drop (value_len text) text ≡ b ∷ rest → is_comma b ≡ false →
-    listed_from text ≡ cond (length rest == 0) (Some (trimmed (take (value_len text) text) ∷ [])) None
-listed_from-closing text b rest h is =
-    let r = (first-value text b rest h).closing is in
-    ap (λ vs. cond (ends_at_closing text) (Some (map trimmed vs)) None) r.0
-    ∙ ap (λ c. cond c (Some (trimmed (take (value_len text) text) ∷ [])) None) r.1
-
--- nothing does
-pub listed_from-open : (text : List ℕ) → drop (value_len text) text ≡ [] → listed_from text ≡ None
-listed_from-open text h = ap (λ c. cond c (Some (map trimmed (cut text))) None) (no-end text h)
-
--- a list with no values
-pub empty-list : (inside : List ℕ) → bytes_eq (without_leading_space inside) (41 ∷ []) ≡ is_empty_list inside
-empty-list [] = refl
-empty-list (x ∷ xs) = at (is_space x) (is_closing x) refl refl (empty-list xs) where
-  none : (ys : List ℕ) → bytes_eq ys [] ≡ ((length ys == 0) && true)
-  none [] = refl
-  none (y ∷ ys) = let some : (suc (length ys) == 0) ≡ false = search rules in sym (ap (λ e. e && true) some)
-
-  at : (c d : Bool) → is_space x ≡ c → is_closing x ≡ d → bytes_eq (without_leading_space xs) (41 ∷ []) ≡ is_empty_list xs →
-      bytes_eq (cond c (without_leading_space xs) (x ∷ xs)) (41 ∷ []) ≡ is_empty_list (x ∷ xs)
-  at true true c d ih = let is : x ≡ 41 = search rules in let no : is_space 41 ≡ true = ap is_space (sym is) ∙ c in cc
-  at true false c d ih =
-      ih ∙ sym (ap (λ e. e && is_blank (up_to is_closing (x ∷ xs))) (ends-other x xs d)
-      ∙ ap (λ t. ends_at_closing xs && is_blank t) (up_to-other x xs d)
-      ∙ ap (λ e. ends_at_closing xs && (e && is_blank (up_to is_closing xs))) c)
-  at false true c d ih =
-      ap (λ e. e && bytes_eq xs []) d ∙ none xs
-      ∙ sym (ap (λ e. e && is_blank (up_to is_closing (x ∷ xs))) (ends-closing x xs d)
-      ∙ ap (λ e. (length xs == 0) && is_blank (cond e [] (x ∷ up_to is_closing xs))) d)
-  at false false c d ih =
-      ap (λ e. e && bytes_eq xs []) d
-      ∙ sym (ap (λ t. ends_at_closing (x ∷ xs) && is_blank t) (up_to-other x xs d)
-      ∙ ap (λ e. ends_at_closing (x ∷ xs) && (e && is_blank (up_to is_closing xs))) c
-      ∙ and-false (ends_at_closing (x ∷ xs)))
+-- what stands before it then
+pub up_to-closing : (inside : List ℕ) → ends_at_closing inside ≡ true → up_to is_closing inside ≡ take (length inside - 1) inside
+up_to-closing [] ends = cc
+up_to-closing (x ∷ xs) ends = at (is_closing x) refl xs refl (up_to-closing xs) where
+  at : (c : Bool) → is_closing x ≡ c → (ys : List ℕ) → xs ≡ ys → (ends_at_closing xs ≡ true → up_to is_closing xs ≡ take (length xs - 1) xs) → up_to is_closing (x ∷ xs) ≡ take (suc (length xs) - 1) (x ∷ xs)
+  at true c [] e ih = ap (λ d. cond d [] (x ∷ up_to is_closing xs)) c ∙ sym (ap (λ t. take (suc (length t) - 1) (x ∷ t)) e)
+  at true c (y ∷ ys) e ih =
+      let none : (suc (length ys) == 0) ≡ true = ap (λ t. length t == 0) (sym e) ∙ sym (ends-closing x xs c) ∙ ends in
+      absurd (search rules)
+  at false c [] e ih = absurd (true≢false (sym ends ∙ ends-other x xs c ∙ ap ends_at_closing e))
+  at false c (y ∷ ys) e ih =
+      let n : suc (length xs) - 1 ≡ suc (length xs - 1) = omega (arith, ap length e) in
+      up_to-other x xs c ∙ ap (λ t. x ∷ t) (ih (sym (ends-other x xs c) ∙ ends)) ∙ sym (ap (λ m. take m (x ∷ xs)) n)
 
 -- what a list says
-pub values_of-list : (text inside : List ℕ) → text ≡ 40 ∷ inside → is_empty_list inside ≡ false → values_of text ≡ listed_from inside
-values_of-list text inside begins is = ap values_of begins ∙ each (ends_at_closing inside) (is_blank (up_to is_closing inside)) is where
-  each : (c d : Bool) → (c && d) ≡ false → cond c (Some (cond d [] (map trimmed (cut inside)))) None ≡ cond c (Some (map trimmed (cut inside))) None
-  each true true e = cc
-  each true false e = refl
-  each false d e = refl
+pub values_of-list : (inside : List ℕ) → is_some (values_of (40 ∷ inside)) ≡ true → unwrap_or (values_of (40 ∷ inside)) [] ≡ listed (take (length inside - 1) inside)
+values_of-list inside says = at (ends_at_closing inside) refl says where
+  at : (c : Bool) → ends_at_closing inside ≡ c → is_some (cond c (Some (listed (up_to is_closing inside))) None) ≡ true →
+      unwrap_or (cond c (Some (listed (up_to is_closing inside))) None) [] ≡ listed (take (length inside - 1) inside)
+  at true ends some = ap listed (up_to-closing inside ends)
+  at false ends some = cc
+
+-- ---- the commas
+-- the first value, and what stands behind it
+record FirstValue (text : List ℕ) (n : ℕ) : Type 0 where
+  last : drop n text ≡ [] → cut_at_commas text ≡ take n text ∷ []
+  comma : (b : ℕ) (rest : List ℕ) → drop n text ≡ b ∷ rest → cut_at_commas text ≡ take n text ∷ cut_at_commas rest
+
+first-value : (text : List ℕ) → FirstValue text (position_or_len is_comma text)
+first-value [] = record { last = λ none. refl; comma = λ b rest none. cc }
+first-value (x ∷ xs) = at (is_comma x) refl (first-value xs) where
+  n : ℕ
+  n = position_or_len is_comma xs
+
+  one : 1 + n ≡ suc n
+  one = omega arith
+
+  at : (c : Bool) → is_comma x ≡ c → FirstValue xs n → FirstValue (x ∷ xs) (cond (not c) (1 + n) 0)
+  at true c ih = record {
+    last = λ none. cc;
+    comma = λ b rest is. let same : xs ≡ rest = cc in ap (λ d. placed d x (cut_at_commas xs)) c ∙ ap (λ t. [] ∷ cut_at_commas t) same;
+  }
+  at false c ih = record {
+    last = λ none.
+        ap (λ d. placed d x (cut_at_commas xs)) c ∙ ap (placed false x) (ih.last (sym (ap (λ m. drop m (x ∷ xs)) one) ∙ none)) ∙ sym (ap (λ m. take m (x ∷ xs) ∷ []) one);
+    comma = λ b rest is.
+        ap (λ d. placed d x (cut_at_commas xs)) c ∙ ap (placed false x) (ih.comma b rest (sym (ap (λ m. drop m (x ∷ xs)) one) ∙ is)) ∙ sym (ap (λ m. take m (x ∷ xs) ∷ cut_at_commas rest) one);
+  }
+
+pub cut_at_commas-last : (text : List ℕ) → drop (position_or_len is_comma text) text ≡ [] → cut_at_commas text ≡ take (position_or_len is_comma text) text ∷ []
+cut_at_commas-last text = (first-value text).last
+
+pub cut_at_commas-comma : (text : List ℕ) (b : ℕ) (rest : List ℕ) → drop (position_or_len is_comma text) text ≡ b ∷ rest →
+    cut_at_commas text ≡ take (position_or_len is_comma text) text ∷ cut_at_commas rest
+cut_at_commas-comma text = (first-value text).comma
+
+-- one value more than there are commas
+pub length-cut_at_commas : (text : List ℕ) → length (cut_at_commas text) ≡ count_by is_comma text + 1
+length-cut_at_commas [] = refl
+length-cut_at_commas (x ∷ xs) = at (is_comma x) refl (cut_at_commas xs) refl (length-cut_at_commas xs) where
+  more : count_by is_comma (x ∷ xs) ≡ cond (is_comma x) 1 0 + count_by is_comma xs
+  more = sum_by-cons (λ b. cond (is_comma b) 1 0) x xs
+
+  at : (c : Bool) → is_comma x ≡ c → (cut : List (List ℕ)) → cut_at_commas xs ≡ cut → length (cut_at_commas xs) ≡ count_by is_comma xs + 1 → length (placed (is_comma x) x (cut_at_commas xs)) ≡ count_by is_comma (x ∷ xs) + 1
+  at true is cut e ih =
+      let one : count_by is_comma (x ∷ xs) ≡ 1 + count_by is_comma xs = more ∙ ap (λ c. cond c 1 0 + count_by is_comma xs) is in
+      ap (λ c. length (placed c x (cut_at_commas xs))) is ∙ omega (arith, ih, one)
+  at false is [] e ih = let none : length (cut_at_commas xs) ≡ 0 = ap length e in absurd (omega (arith, ih, none))
+  at false is (value ∷ values) e ih =
+      let none : count_by is_comma (x ∷ xs) ≡ 0 + count_by is_comma xs = more ∙ ap (λ c. cond c 1 0 + count_by is_comma xs) is in
+      let same : length (placed false x (cut_at_commas xs)) ≡ length (cut_at_commas xs) = ap (λ t. length (placed false x t)) e ∙ sym (ap length e) in
+      ap (λ c. length (placed c x (cut_at_commas xs))) is ∙ omega (arith, ih, none, same)
