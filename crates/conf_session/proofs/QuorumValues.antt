@@ -1,50 +1,34 @@
 -- What the values of quorum arguments give, place by place.
 use Rattle.std.proofs.Common.{◌≡◌, ℕ, ◌+◌, ◌≤◌, ◌==◌, Bool, true, false, cond, not, List, [], ◌∷◌, ◌++◌, length, filter, filter_map, map, take, drop, refl, sym, ap, ◌∙◌, inl, inr, arith}
 use Rattle.std.specs.Prelude.{◌||◌, Option, Some, None, option_map, option_to_list, slice_get}
-use Rattle.std.specs.List.{find, list_any, list_all, zip}
+use Rattle.std.specs.List.{find, list_any, zip}
 use Rattle.std.specs.Ordering.{nat_cmp}
 use Rattle.std.specs.Cmp.{nat_cmp_total, unsigned_tied, eq_by_cmp_equiv, nat_eq_equiv}
 use Rattle.std.specs.Ordering.{eq_by_cmp}
 use Rattle.std.specs.BTreeSet.{BTreeSet, Updates, contains}
 use Rattle.std.specs.FinMap as finite
-use Rattle.std.proofs.lemmas.List.{map-append, append-nil, drop_more, drop_all}
+use Rattle.std.proofs.lemmas.List.{append-nil, drop_more, drop_all}
 use Rattle.std.proofs.lemmas.Option.{slice_get_within, slice_get_cases, get_or_from_slice_get}
 use Rattle.std.proofs.lemmas.Bool.{eqb-true}
 use Rattle.std.proofs.lemmas.List.Elements.{filter-append, filter_map-append}
-use Rattle.std.proofs.lemmas.List.Folds.{list_all_at}
 use Rattle.quorum_sets.proofs.Offered.{take-one_more}
-use Rattle.conf_session.proofs.ToldLines.{and-both, all-append}
 use Rattle.conf_session.specs.NamedQuorum.{map_said}
 use Rattle.conf_session.specs.QuorumArguments.{each_once, with_given, map_given}
 
 tied : (id q : ℕ) → eq_by_cmp nat_cmp id q ≡ (q == id)
 tied id q = (eq_by_cmp_equiv nat_cmp_total).symm id q ∙ unsigned_tied q id
 
--- ---- the values of the items in front of a place, and of one more
 one-known : {X Y : Type 0} (h : X → Option Y) (x : X) → filter_map h (x ∷ []) ≡ option_to_list (h x)
 one-known {Y = Y} h x = at (h x) refl where
   at : (o : Option Y) → h x ≡ o → filter_map h (x ∷ []) ≡ option_to_list o
   at None e = rw e refl
   at (Some y) e = rw e refl
 
-pub known-more : {X Y : Type 0} (h : X → Option Y) (xs : List X) (i : ℕ) (x : X) → slice_get xs i ≡ Some x → filter_map h (take i xs) ++ option_to_list (h x) ≡ filter_map h (take (i + 1) xs)
-known-more h xs i x e =
-    sym (ap (filter_map h) (take-one_more xs i x e) ∙ filter_map-append h (take i xs) (x ∷ []) ∙ ap (λ t. filter_map h (take i xs) ++ t) (one-known h x))
-
-pub map-more : {X Y : Type 0} (f : X → Y) (xs : List X) (i : ℕ) (x : X) → slice_get xs i ≡ Some x → map f (take i xs) ++ f x ∷ [] ≡ map f (take (i + 1) xs)
-map-more f xs i x e = sym (ap (map f) (take-one_more xs i x e) ∙ map-append f (take i xs) (x ∷ []))
-
 not_within : {X : Type 0} (xs : List X) (i : ℕ) → slice_get xs i ≡ None → length xs ≤ i
 not_within xs i e = elim (slice_get_cases xs i).1 [
   | inl within ↦ let is = within.2 in cc
   | inr past ↦ past.0
 ]
-
-pub all-more : {X : Type 0} (p : X → Bool) (xs : List X) (i : ℕ) (x : X) → slice_get xs i ≡ Some x → list_all p (take i xs) ≡ true → p x ≡ true → list_all p (take (i + 1) xs) ≡ true
-all-more p xs i x e h k = ap (list_all p) (take-one_more xs i x e) ∙ all-append p (take i xs) (x ∷ []) h (and-both _ _ k refl)
-
-pub one-bad : {X : Type 0} (p : X → Bool) (xs : List X) (i : ℕ) (x : X) → slice_get xs i ≡ Some x → p x ≡ false → list_all p xs ≡ false
-one-bad p xs i x e k = list_all_at p xs i x (slice_get_within xs i x e) (ap p (get_or_from_slice_get xs i x x e) ∙ k)
 
 -- ---- each id once
 other-kept : (x y : ℕ) (same : Bool) → (x == y) ≡ same → filter (λ other. not (other == y)) (x ∷ []) ≡ cond same [] (x ∷ [])
