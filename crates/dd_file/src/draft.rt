@@ -50,14 +50,15 @@ impl Model for Draft {
 }
 
 impl Draft {
-    /// An item that will begin at this line, counted from 1.
-    pub(crate) fn new(alloc: Global, line: usize) -> Draft
+    /// An item that will begin at this line, counted from 1. Its lines are read into the memory of these.
+    pub(crate) fn new(alloc: Global, line: usize, raw_lines: RawLines) -> Draft
+        requires { raw_lines ≡ [] }
         ensures { result ≡ blank_draft line }
     {
         Draft {
             alloc,
             line,
-            raw_lines: RawLines::new(alloc),
+            raw_lines,
             heads: 0,
             command: None,
             expected: RawLines::new(alloc),

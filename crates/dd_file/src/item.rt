@@ -273,6 +273,17 @@ impl Item {
         }
     }
 
+    /// Those lines, and nothing else of the item.
+    pub(crate) fn into_raw_lines(self) -> RawLines
+        ensures { result ≡ raw_lines_of self }
+    {
+        match self {
+            Item::Comment(lines) => lines,
+            Item::Blank(lines) => lines,
+            Item::Directive(directive) => directive.raw_lines,
+        }
+    }
+
     pub(crate) fn is_directive(&self) -> bool
         ensures { result ≡ is_directive self.now }
     {

@@ -6,6 +6,7 @@ use crate::room::{append, make_room};
 use smallvec::SmallVec;
 use std::alloc::{AllocError, Global};
 use std::marker::Model;
+use std::mem::replace;
 
 /// Lines, without what ended them.
 #[derive(Drop)]
@@ -107,6 +108,14 @@ impl RawLines {
         let start = self.start(count);
         self.text.truncate(start);
         self.ends.truncate(count);
+    }
+
+    /// Gives the lines out with their memory, and has none from then on.
+    pub(crate) fn take(&mut self, alloc: Global) -> RawLines
+        ensures taken { result ≡ self.old }
+        ensures empty { self.new ≡ [] }
+    {
+        replace(self, RawLines::new(alloc))
     }
 
     pub(crate) fn into_text(self) -> Vec<u8>

@@ -1,5 +1,5 @@
 //! Reading a script item by item.
-ghost use Rattle.std.specs.Prelude.{◌≡◌, None, true, false, IfOk, IfSome, IsOkUnless, OnOk};
+ghost use Rattle.std.specs.Prelude.{◌≡◌, [], None, true, false, IfOk, IfSome, IsOkUnless, OnOk};
 ghost use Rattle.dd_file.specs.Place.{longest_input};
 ghost use Rattle.dd_file.specs.Reading.{next_item};
 ghost use Rattle.dd_file.specs.ReaderState.{fresh, IsWithin};
@@ -11,6 +11,7 @@ use crate::draft::Draft;
 use crate::fault::FileFault;
 use crate::item::Item;
 use crate::lines::Lines;
+use crate::raw_lines::RawLines;
 use ascii_text::lines::{is_whole, line_of, piece_len};
 use std::alloc::Global;
 use std::marker::Model;
@@ -21,17 +22,19 @@ pub struct Reader {
     alloc: Global,
     lines: Lines,
     fault: Option<FileFault>,
+    /// No lines, in the memory of lines that are done with.
+    spare: RawLines,
 }
 
 impl Model for Reader {
-    ghost use Rattle.std.specs.Prelude.{◌≡◌, None};
+    ghost use Rattle.std.specs.Prelude.{◌≡◌, [], None};
     ghost use Rattle.dd_file.specs.ReaderState.{ReaderState};
 
     ghost Value = { ReaderState };
 
     ghost view = { λ a. record a.lines { fault = a.fault } };
 
-    ghost invariant = { λ a. a.fault ≡ None → a.lines.fault ≡ None };
+    ghost invariant = { λ a. (a.fault ≡ None → a.lines.fault ≡ None) × (a.spare ≡ []) };
 }
 
 impl Reader {
@@ -44,6 +47,7 @@ impl Reader {
             alloc,
             lines: Lines::new(alloc)?,
             fault: None,
+            spare: RawLines::new(alloc),
         })
     }
 
@@ -59,7 +63,8 @@ impl Reader {
         if self.lines.is_over() {
             return Ok(None);
         }
-        let found = read_item(self.alloc, &mut self.lines, reader);
+        let raw_lines = self.spare.take(self.alloc);
+        let found = read_item(self.alloc, raw_lines, &mut self.lines, reader);
         self.fault = fault_in(&found);
         found
     }
@@ -72,9 +77,19 @@ impl Reader {
         if !self.can_tell() {
             return None;
         }
-        let answer = held_item(self.alloc, &mut self.lines, reader)?;
+        let raw_lines = self.spare.take(self.alloc);
+        let answer = held_item(self.alloc, raw_lines, &mut self.lines, reader)?;
         self.fault = fault_in(&answer);
         Some(answer)
+    }
+
+    /// Takes back an item that is done with, so that a later one is read into its memory (own).
+    pub fn reuse(&mut self, item: Item)
+        ensures { self.new ≡ self.old }
+    {
+        let mut raw_lines = item.into_raw_lines();
+        raw_lines.truncate(0);
+        self.spare = raw_lines;
     }
 
     /// Whether what is held is told item by item: there is no fault, the end was not met, and the limit is not passed in it.
@@ -97,19 +112,21 @@ fn fault_in(found: &Result<Option<Item>, FileFault>) -> Option<FileFault>
     }
 }
 
-/// Reads the lines of one item, and no further.
+/// Reads the lines of one item into the memory of these, and no further.
 fn read_item<R: Source>(
     alloc: Global,
+    raw_lines: RawLines,
     lines: &mut Lines,
     reader: &mut R,
 ) -> Result<Option<Item>, FileFault>
+    requires empty { raw_lines ≡ [] }
     requires faultless { lines.old.fault ≡ None }
     requires unended { lines.old.is_ended ≡ false }
     ensures reads { ReadsOn R.remaining R.has_failed (λ item. item) (next_item longest_input) IsItemFault lines.old
         (record lines.new { fault = fault_of result }) reader.old reader.new result }
     ensures faultless { OnOk result (lines.new.fault ≡ None) }
 {
-    let mut draft = Draft::new(alloc, lines.count() + 1);
+    let mut draft = Draft::new(alloc, lines.count() + 1, raw_lines);
     'read: loop {
         match lines.next(reader) {
             Ok(Some(line)) => match draft.add(line.as_slice()) {
@@ -123,12 +140,14 @@ fn read_item<R: Source>(
     }
 }
 
-/// Reads the lines of one item off what is held, where all of them are there. Else nothing is taken.
+/// Reads the lines of one item into the memory of these, off what is held, where all of them are there. Else nothing is taken.
 fn held_item<R: Source>(
     alloc: Global,
+    raw_lines: RawLines,
     lines: &mut Lines,
     reader: &R,
 ) -> Option<Result<Option<Item>, FileFault>>
+    requires empty { raw_lines ≡ [] }
     requires tells { CanTell lines.old }
     requires within { IsWithin lines.old.held lines.old.is_ended lines.old.place.lines lines.old.place.bytes }
     ensures told { IfSome result (λ answer. ReadsOn R.remaining R.has_failed (λ item. item) (next_item longest_input) IsItemFault lines.old
@@ -137,7 +156,7 @@ fn held_item<R: Source>(
     ensures faultless { lines.new.fault ≡ None }
 {
     let _ = reader;
-    let mut draft = Draft::new(alloc, lines.count() + 1);
+    let mut draft = Draft::new(alloc, lines.count() + 1, raw_lines);
     let mut count = 0;
     let mut taken = 0;
     'held: loop {

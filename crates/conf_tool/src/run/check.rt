@@ -117,6 +117,10 @@ impl PartByPart for Checking {
         Ok(())
     }
 
+    fn reuse(&mut self, item: Item) {
+        self.items.reuse(item);
+    }
+
     fn end<W: Sink>(
         &mut self,
         fault: Option<FileFault>,

@@ -91,6 +91,11 @@ impl PartByPart for LineByLine {
         Ok(())
     }
 
+    fn reuse(&mut self, line: Vec<u8>) {
+        let _ = &*self;
+        drop(line);
+    }
+
     fn end<W: Sink>(
         &mut self,
         fault: Option<FileFault>,

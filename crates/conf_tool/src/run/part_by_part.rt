@@ -84,6 +84,12 @@ pub(super) trait PartByPart {
         ensures write { W.has_failed writer.new ≡ (W.has_failed writer.old || is_write_fault result) }
         ensures kinds { IfErr result IsAnswerFault };
 
+    /// Takes back a part that was answered, so that a later one may lie in its memory.
+    fn reuse(&mut self, part: Self::Part)
+        ensures reading { reading self.new ≡ reading self.old }
+        ensures answered { (total : ScriptOf Told → Output) (parts : List Told) (before after : Option (List ℕ)) →
+            HasAnswered self.old total parts before after → HasAnswered self.new total parts before after };
+
     /// Writes what the mode answers at the end of the input, or at its fault.
     fn end<W: Sink>(
         &mut self,
@@ -141,7 +147,10 @@ pub(super) fn run_by_part<M: PartByPart + Drop, R: Source, W: Sink>(
     loop {
         let found = next_part(&mut mode, reader, writer)?;
         match found {
-            Ok(Some(part)) => mode.answer(&part, writer)?,
+            Ok(Some(part)) => {
+                mode.answer(&part, writer)?;
+                mode.reuse(part);
+            }
             Ok(None) => return mode.end(None, writer),
             Err(fault) => match ToolFault::from(fault) {
                 ToolFault::Script(fault) => return mode.end(Some(fault), writer),

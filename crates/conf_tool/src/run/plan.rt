@@ -109,6 +109,11 @@ impl PartByPart for Planning {
         Ok(())
     }
 
+    fn reuse(&mut self, line: Vec<u8>) {
+        let _ = &*self;
+        drop(line);
+    }
+
     fn end<W: Sink>(
         &mut self,
         fault: Option<FileFault>,

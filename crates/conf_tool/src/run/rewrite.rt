@@ -162,6 +162,10 @@ impl PartByPart for Rewriting {
         )
     }
 
+    fn reuse(&mut self, item: Item) {
+        self.items.reuse(item);
+    }
+
     fn end<W: Sink>(
         &mut self,
         fault: Option<FileFault>,

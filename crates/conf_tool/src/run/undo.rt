@@ -191,6 +191,10 @@ impl PartByPart for Undoing {
         Ok(())
     }
 
+    fn reuse(&mut self, item: Item) {
+        self.items.reuse(item);
+    }
+
     fn end<W: Sink>(
         &mut self,
         fault: Option<FileFault>,

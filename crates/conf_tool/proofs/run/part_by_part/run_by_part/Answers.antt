@@ -51,14 +51,14 @@ answer-requires g c = (
 pub loop-mode-preserved : goal.loop-mode-preserved
 loop-mode-preserved g c =
     let reads = rw (c.in-Ok-Some.is, c.in-Ok-Some.field-0-is) at c.in_ok-found.ensures.reads in
-    let same = sym c.in_ok-answer-in-Ok-Some.ensures.reading in
+    let same = sym (c.reuse.ensures.reading ∙ c.in_ok-answer-in-Ok-Some.ensures.reading) in
     let mode = g.M.PartByPart in
     let parts = c.loop-mode.invariant.parts ++ mode.told c.in-Ok-Some.part ∷ [] in
     record {
       parts = parts;
       reached = subst (λ (s : ReaderState). Reached {A = mode.Told} mode.coming (g.R.Source.remaining c.args.reader.now) (g.R.Source.remaining c.next_part.new.reader) s parts) same
           (reached-next _ _ _ _ _ _ _ _ _ _ _ _ c.next_part.ensures.in_turn c.loop-mode.invariant.reached reads);
-      answered = λ total begun. c.in_ok-answer-in-Ok-Some.ensures.answered _ _ _ (c.next_part.ensures.kept _ _ _ (c.loop-mode.invariant.answered total begun));
+      answered = λ total begun. c.reuse.ensures.answered _ _ _ _ (c.in_ok-answer-in-Ok-Some.ensures.answered _ _ _ (c.next_part.ensures.kept _ _ _ (c.loop-mode.invariant.answered total begun)));
       counted = subst (λ (s : ReaderState). s.place.lines ≤ longest_input) same reads.counted;
       unread = reads.read c.loop-mode.invariant.reached.open_end ∙ or-false _ ∙ c.loop-mode.invariant.unread;
       unwritten = c.in_ok-answer-in-Ok-Some.ensures.write ∙ or-false _ ∙ c.in_ok-found.ensures.write ∙ or-false _ ∙ c.loop-mode.invariant.unwritten;
