@@ -23,7 +23,7 @@ use crate::laws::found_text_stands;
 use crate::parameter::Parameter;
 use crate::reply::Reply;
 use crate::session::Session;
-use crate::spare_changers::SpareChangers;
+use crate::spare::Spare;
 use dd_file::item::{Argument, Directive};
 use quorum_sets::NoMemory;
 use std::alloc::Global;
@@ -92,11 +92,12 @@ fn parameters_of(command: Command) -> &'static [Parameter]
     }
 }
 
-/// Carries out a directive. A changer that is spare becomes the next one, where a step is made.
+/// Carries out a directive. A changer that is spare becomes the next one, where a step is made, and a long text is written
+/// into the spare one.
 pub(crate) fn run_directive(
     alloc: Global,
     session: &Session,
-    spare: &mut SpareChangers,
+    spare: &mut Spare,
     directive: &Directive,
 ) -> Result<Reply, NoMemory>
     ensures reply { IfOk result (λ reply. reply ≡ says.reply_to session.now directive.now) }
@@ -117,7 +118,7 @@ pub(crate) fn run_directive(
 fn run_command(
     alloc: Global,
     session: &Session,
-    spare: &mut SpareChangers,
+    spare: &mut Spare,
     command: Command,
     input: &[u8],
     arguments: &[Argument],
@@ -131,11 +132,11 @@ fn run_command(
         Command::LeaveJoint => leave_joint::run(alloc, changer, spare, input),
         Command::ConfChange => change::run(alloc, changer, spare, input, arguments),
         Command::ConfState => conf_state::run(alloc, changer, input, arguments),
-        Command::Restore => restore::run(alloc, changer, input, arguments),
+        Command::Restore => restore::run(alloc, changer, spare, input, arguments),
         Command::Undo => undo::run(alloc, session, spare, input, arguments),
         Command::Ack => ack::run(alloc, changer, input, arguments),
         Command::CommitIndex => commit_index::run(alloc, changer, input, arguments),
-        Command::Committed => committed::run(alloc, input, arguments),
+        Command::Committed => committed::run(alloc, spare, input, arguments),
         Command::Vote => vote::run(alloc, input, arguments),
         Command::Unknown => unknown::run(alloc, input),
     }

@@ -15,7 +15,7 @@ mod reply;
 mod reply_texts;
 pub mod session;
 pub mod session_ids;
-mod spare_changers;
+mod spare;
 pub mod undo_fault;
 
 pub use session::Session;

@@ -12,6 +12,7 @@ ghost use Rattle.conf_session.specs.Undo as says;
 
 use crate::given::Given;
 use crate::session_ids::SessionIds;
+use crate::spare::Spare;
 use crate::undo_fault::{UndoFault, undo_fault_text};
 use ascii_text::append::append_number;
 use conf_change::{
@@ -95,16 +96,18 @@ pub(crate) fn index_line(alloc: Global, index: u64) -> Result<Vec<u8>, NoMemory>
     end_line(text)
 }
 
-/// The chart of the ids of both sets, and the index that the two commit.
+/// The chart of the ids of both sets, and the index that the two commit, in a spare text.
 pub(crate) fn committed_lines(
     alloc: Global,
+    spare: &mut Spare,
     incoming: &SessionIds,
     outgoing: &SessionIds,
     acks: &Given<u64>,
 ) -> Result<Vec<u8>, NoMemory>
     ensures { IfOk result (λ text. text.items ≡ line (committed_text (pair incoming.now outgoing.now) (given_in acks.now))) }
 {
-    let mut text = Vec::with_capacity(alloc, usual_chart_room(incoming, outgoing))?;
+    let mut text = spare.take_text(alloc);
+    text.reserve(usual_chart_room(incoming, outgoing))?;
     joint_chart(&mut text, incoming, outgoing, acks)?;
     append_index(&mut text, joint_committed(alloc, incoming, outgoing, acks)?)?;
     end_line(text)
@@ -128,14 +131,15 @@ fn append_index(text: &mut Vec<u8>, index: u64) -> Result<(), NoMemory>
     Ok(())
 }
 
-/// A configuration, and behind it each member with its progress, in ascending order of the ids.
+/// A configuration, and behind it each member with its progress, in ascending order of the ids, in a spare text.
 pub(crate) fn tracker_lines(
     alloc: Global,
+    spare: &mut Spare,
     tracker: &Tracker<SessionIds>,
 ) -> Result<Vec<u8>, NoMemory>
     ensures { IfOk result (λ text. text.items ≡ tracker_text tracker.now) }
 {
-    let mut text = Vec::new(alloc);
+    let mut text = spare.take_text(alloc);
     append_tracker(&mut text, tracker)?;
     Ok(text)
 }

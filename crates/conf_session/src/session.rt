@@ -14,7 +14,7 @@ use crate::effect::Effect;
 use crate::history::History;
 use crate::laws::{answer_keeps_session, kept_lead_to_now};
 use crate::session_ids::SessionIds;
-use crate::spare_changers::SpareChangers;
+use crate::spare::Spare;
 use crate::undo_fault::UndoFault;
 use conf_change::{Changer, Config, Floor};
 use conf_plan::laws::undo_of_run;
@@ -29,7 +29,7 @@ use std::mem::replace;
 #[derive(Drop)]
 pub struct Session {
     changer: BoxedChanger,
-    spare: SpareChangers,
+    spare: Spare,
     history: History,
     alloc: Global,
 }
@@ -61,7 +61,7 @@ impl Session {
     {
         Ok(Session {
             changer: BoxedChanger::new(alloc, Changer::new_with_floor(alloc, 0, floor))?,
-            spare: SpareChangers::new(),
+            spare: Spare::new(alloc),
             history: History::new(alloc, history)?,
             alloc,
         })
@@ -125,12 +125,20 @@ impl Session {
         ensures unchanged { OnErr result (self.new ≡ self.old) }
     {
         answer_keeps_session();
-        let mut spare = replace(&mut self.spare, SpareChangers::new());
+        let mut spare = replace(&mut self.spare, Spare::new(self.alloc));
         let reply = run_directive(self.alloc, self, &mut spare, directive)?;
         self.spare = spare;
         let (found, effect) = reply.into_parts();
         self.take_on(effect);
         Ok(found)
+    }
+
+    /// Takes back a text that was found and is done with, so that a later one is written into its memory (own). It takes
+    /// none.
+    pub fn reuse(&mut self, found: Vec<u8>)
+        ensures { self.new ≡ self.old }
+    {
+        self.spare.put_back_text(found);
     }
 
     // Takes on what a directive makes of it. No memory is taken.
@@ -146,7 +154,7 @@ impl Session {
             Effect::Stepped(after) => {
                 let mut before = replace(&mut self.changer, after);
                 self.history.keep(before.take_config());
-                self.spare.put_back(before);
+                self.spare.put_back_changer(before);
             }
             Effect::Restored(after) => {
                 self.changer = after;
@@ -154,7 +162,7 @@ impl Session {
             }
             Effect::Undone(after, count) => {
                 let before = replace(&mut self.changer, after);
-                self.spare.put_back(before);
+                self.spare.put_back_changer(before);
                 self.history.forget(count);
             }
         }

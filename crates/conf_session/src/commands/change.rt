@@ -8,7 +8,7 @@ use crate::arguments::argument_of;
 use crate::parameter::{Parameter, has_only};
 use crate::reply::Reply;
 use crate::session_ids::SessionIds;
-use crate::spare_changers::SpareChangers;
+use crate::spare::Spare;
 use conf_change::{Change, Changer, Transition, read_changes, taken};
 use dd_file::item::Argument;
 use quorum_sets::NoMemory;
@@ -18,7 +18,7 @@ use std::alloc::Global;
 pub(super) fn run(
     alloc: Global,
     changer: &Changer<SessionIds>,
-    spare: &mut SpareChangers,
+    spare: &mut Spare,
     input: &[u8],
     arguments: &[Argument],
 ) -> Result<Reply, NoMemory>
@@ -33,7 +33,7 @@ pub(super) fn run(
 fn change_with(
     alloc: Global,
     changer: &Changer<SessionIds>,
-    spare: &mut SpareChangers,
+    spare: &mut Spare,
     arguments: &[Argument],
     changes: &[Change],
 ) -> Result<Reply, NoMemory>

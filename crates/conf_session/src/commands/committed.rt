@@ -8,22 +8,29 @@ use crate::named_quorum::NamedQuorum;
 use crate::quorum_arguments::Quorum;
 use crate::reply::Reply;
 use crate::reply_texts::committed_lines;
+use crate::spare::Spare;
 use dd_file::item::Argument;
 use quorum_sets::NoMemory;
 use std::alloc::Global;
 
 /// Prints them, where there is no input and each id has an index.
-pub(super) fn run(alloc: Global, input: &[u8], arguments: &[Argument]) -> Result<Reply, NoMemory>
+pub(super) fn run(
+    alloc: Global,
+    spare: &mut Spare,
+    input: &[u8],
+    arguments: &[Argument],
+) -> Result<Reply, NoMemory>
     ensures { IfOk result (λ reply. reply ≡ on_committed input.now arguments.now) }
 {
     let mut quorum = Quorum::new(alloc);
     let mut named = NamedQuorum::new(alloc);
-    run_with(alloc, &mut quorum, &mut named, input, arguments)
+    run_with(alloc, spare, &mut quorum, &mut named, input, arguments)
 }
 
 // The same, with a quorum to read, and lists for what is named.
 fn run_with(
     alloc: Global,
+    spare: &mut Spare,
     quorum: &mut Quorum<u64>,
     named: &mut NamedQuorum<u64>,
     input: &[u8],
@@ -38,5 +45,12 @@ fn run_with(
     if let Some(fault) = tell_quorum_fault(alloc, quorum, named, input, arguments)? {
         return Ok(fault);
     }
-    Ok(Reply::told(committed_lines(alloc, &quorum.incoming, &quorum.outgoing, &quorum.given)?))
+    let found = committed_lines(
+        alloc,
+        spare,
+        &quorum.incoming,
+        &quorum.outgoing,
+        &quorum.given,
+    )?;
+    Ok(Reply::told(found))
 }

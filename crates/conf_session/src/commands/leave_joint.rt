@@ -5,7 +5,7 @@ ghost use Rattle.conf_session.specs.Commands as says;
 use super::telling::{tell_no_input, tell_step, tell_token};
 use crate::reply::Reply;
 use crate::session_ids::SessionIds;
-use crate::spare_changers::SpareChangers;
+use crate::spare::Spare;
 use conf_change::{Change, Changer, Taken, read_changes};
 use quorum_sets::NoMemory;
 use std::alloc::Global;
@@ -14,7 +14,7 @@ use std::alloc::Global;
 pub(super) fn run(
     alloc: Global,
     changer: &Changer<SessionIds>,
-    spare: &mut SpareChangers,
+    spare: &mut Spare,
     input: &[u8],
 ) -> Result<Reply, NoMemory>
     ensures { IfOk result (λ reply. reply ≡ says.on_leave_joint changer.now input.now) }
@@ -28,7 +28,7 @@ pub(super) fn run(
 fn leave_with(
     alloc: Global,
     changer: &Changer<SessionIds>,
-    spare: &mut SpareChangers,
+    spare: &mut Spare,
     changes: &[Change],
 ) -> Result<Reply, NoMemory>
     ensures { IfOk result (λ reply. reply ≡ says.leave_with changer.now changes.now) }

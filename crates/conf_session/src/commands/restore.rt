@@ -10,6 +10,7 @@ use crate::effect::Effect;
 use crate::reply::Reply;
 use crate::reply_texts::tracker_lines;
 use crate::session_ids::SessionIds;
+use crate::spare::Spare;
 use conf_change::{Changer, ConfState, ConfStateFault, RestoreFault, laws, read_conf_state};
 use dd_file::item::Argument;
 use quorum_sets::NoMemory;
@@ -19,13 +20,14 @@ use std::alloc::Global;
 pub(super) fn run(
     alloc: Global,
     changer: &Changer<SessionIds>,
+    spare: &mut Spare,
     input: &[u8],
     arguments: &[Argument],
 ) -> Result<Reply, NoMemory>
     ensures { IfOk result (λ reply. reply ≡ says.on_restore changer.now input.now arguments.now) }
 {
     match read_conf_state(alloc, input) {
-        Ok(state) => restore_with(alloc, changer, arguments, &state),
+        Ok(state) => restore_with(alloc, changer, spare, arguments, &state),
         Err(ConfStateFault::BadConfState) => tell(alloc, b"bad conf state", b""),
         Err(ConfStateFault::NoMemory) => Err(NoMemory),
     }
@@ -34,6 +36,7 @@ pub(super) fn run(
 fn restore_with(
     alloc: Global,
     changer: &Changer<SessionIds>,
+    spare: &mut Spare,
     arguments: &[Argument],
     state: &ConfState,
 ) -> Result<Reply, NoMemory>
@@ -44,17 +47,21 @@ fn restore_with(
     }
     laws::restored_is_described();
     match Changer::restore_with_floor(alloc, state, changer.last_index(), changer.floor()) {
-        Ok(after) => tell_restored(alloc, after),
+        Ok(after) => tell_restored(alloc, spare, after),
         Err(RestoreFault::NotAConfiguration) => tell(alloc, b"not a configuration", b""),
         Err(RestoreFault::NoMemory) => Err(NoMemory),
     }
 }
 
 // Tells the changer that begins again.
-fn tell_restored(alloc: Global, after: Changer<SessionIds>) -> Result<Reply, NoMemory>
+fn tell_restored(
+    alloc: Global,
+    spare: &mut Spare,
+    after: Changer<SessionIds>,
+) -> Result<Reply, NoMemory>
     ensures { IfOk result (λ reply. reply ≡ begun_again after) }
 {
-    let found = tracker_lines(alloc, after.tracker())?;
+    let found = tracker_lines(alloc, spare, after.tracker())?;
     let boxed = BoxedChanger::new(alloc, after)?;
     Ok(Reply::new(found, Effect::Restored(boxed)))
 }

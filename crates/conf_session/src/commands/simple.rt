@@ -5,7 +5,7 @@ ghost use Rattle.conf_session.specs.Commands.{on_simple};
 use super::telling::{tell_step, tell_token};
 use crate::reply::Reply;
 use crate::session_ids::SessionIds;
-use crate::spare_changers::SpareChangers;
+use crate::spare::Spare;
 use conf_change::{Changer, Taken, read_changes};
 use quorum_sets::NoMemory;
 use std::alloc::Global;
@@ -14,7 +14,7 @@ use std::alloc::Global;
 pub(super) fn run(
     alloc: Global,
     changer: &Changer<SessionIds>,
-    spare: &mut SpareChangers,
+    spare: &mut Spare,
     input: &[u8],
 ) -> Result<Reply, NoMemory>
     ensures { IfOk result (λ reply. reply ≡ on_simple changer.now input.now) }

@@ -14,7 +14,7 @@ use crate::effect::Effect;
 use crate::reply::Reply;
 use crate::reply_texts::{bad_token_line, line_of, refused_line, tracker_lines};
 use crate::session_ids::SessionIds;
-use crate::spare_changers::SpareChangers;
+use crate::spare::Spare;
 use conf_change::{Change, Changer, Refused, Taken, TokenFault};
 use dd_file::item::Argument;
 use quorum_sets::NoMemory;
@@ -79,27 +79,27 @@ pub(super) fn tell_arguments(
 pub(super) fn tell_step(
     alloc: Global,
     changer: &Changer<SessionIds>,
-    spare: &mut SpareChangers,
+    spare: &mut Spare,
     taken: Taken,
     changes: &[Change],
 ) -> Result<Reply, NoMemory>
     ensures { IfOk result (λ reply. reply ≡ says.on_step changer.now (step_of taken changes.now)) }
 {
-    let mut next = spare.take(alloc)?;
+    let mut next = spare.take_changer(alloc)?;
     match next.become_next(changer, taken, changes) {
-        Ok(()) => tell_stepped(alloc, next),
+        Ok(()) => tell_stepped(alloc, spare, next),
         Err(refused) => {
-            spare.put_back(next);
+            spare.put_back_changer(next);
             tell_refused(alloc, refused)
         }
     }
 }
 
 // Tells the changer after an accepted step.
-fn tell_stepped(alloc: Global, after: BoxedChanger) -> Result<Reply, NoMemory>
+fn tell_stepped(alloc: Global, spare: &mut Spare, after: BoxedChanger) -> Result<Reply, NoMemory>
     ensures { IfOk result (λ reply. reply ≡ stepped after) }
 {
-    let found = tracker_lines(alloc, after.changer().tracker())?;
+    let found = tracker_lines(alloc, spare, after.changer().tracker())?;
     Ok(Reply::new(found, Effect::Stepped(after)))
 }
 

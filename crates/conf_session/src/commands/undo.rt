@@ -19,7 +19,7 @@ use crate::reply::Reply;
 use crate::reply_texts::{append_tracker, undo_fault_line, usual_room};
 use crate::session::Session;
 use crate::session_ids::SessionIds;
-use crate::spare_changers::SpareChangers;
+use crate::spare::Spare;
 use crate::undo_fault::UndoFault;
 use conf_change::laws::one_changer_after_a_step;
 use conf_change::{Changer, Step, Taken, Tracker};
@@ -33,7 +33,7 @@ use std::mem::replace;
 pub(super) fn run(
     alloc: Global,
     session: &Session,
-    spare: &mut SpareChangers,
+    spare: &mut Spare,
     input: &[u8],
     arguments: &[Argument],
 ) -> Result<Reply, NoMemory>
@@ -63,7 +63,7 @@ fn steps_of(arguments: &[Argument]) -> usize
 fn undo(
     alloc: Global,
     session: &Session,
-    spare: &mut SpareChangers,
+    spare: &mut Spare,
     count: usize,
 ) -> Result<Reply, NoMemory>
     requires { 1 ≤ count }
@@ -82,7 +82,7 @@ fn undo(
 fn take_back(
     alloc: Global,
     session: &Session,
-    spare: &mut SpareChangers,
+    spare: &mut Spare,
     count: usize,
     plan: &Plan,
 ) -> Result<Reply, NoMemory>
@@ -90,7 +90,7 @@ fn take_back(
     ensures { IfOk result (λ reply. reply ≡ undone session.now count plan.now) }
 {
     let after = after_plan(alloc, session.changer(), spare, plan)?;
-    tell_undone(alloc, after, count, plan)
+    tell_undone(alloc, spare, after, count, plan)
 }
 
 // The changer after the steps of a plan. Each step reads the changer of before it and makes the next one of a spare one, so
@@ -98,7 +98,7 @@ fn take_back(
 fn after_plan(
     alloc: Global,
     before: &Changer<SessionIds>,
-    spare: &mut SpareChangers,
+    spare: &mut Spare,
     plan: &Plan,
 ) -> Result<BoxedChanger, NoMemory>
     ensures { IfOk result (λ after. after_steps before.now plan.now ≡ Some after) }
@@ -110,7 +110,7 @@ fn after_plan(
     for place in 1..plan.len() {
         if let Some(step) = plan.step(place) {
             let next = next_of(alloc, after.changer(), spare, step)?;
-            spare.put_back(replace(&mut after, next));
+            spare.put_back_changer(replace(&mut after, next));
         }
     }
     Ok(after)
@@ -121,13 +121,13 @@ fn after_plan(
 fn next_of(
     alloc: Global,
     before: &Changer<SessionIds>,
-    spare: &mut SpareChangers,
+    spare: &mut Spare,
     step: &Step,
 ) -> Result<BoxedChanger, NoMemory>
     ensures { IfOk result (λ next. changer_after before.now step.now ≡ Ok next) }
 {
     one_changer_after_a_step();
-    let mut next = spare.take(alloc)?;
+    let mut next = spare.take_changer(alloc)?;
     match next.become_next(before, taken_by(step), step.changes()) {
         Ok(()) => Ok(next),
         Err(_) => Err(NoMemory),
@@ -148,25 +148,31 @@ fn taken_by(step: &Step) -> Taken
 // Tells the plan, and the changer after it.
 fn tell_undone(
     alloc: Global,
+    spare: &mut Spare,
     after: BoxedChanger,
     count: usize,
     plan: &Plan,
 ) -> Result<Reply, NoMemory>
     ensures { IfOk result (λ reply. reply ≡ undone_by after count plan.now) }
 {
-    let found = undone_text(alloc, plan, after.changer().tracker())?;
+    let found = undone_text(alloc, spare, plan, after.changer().tracker())?;
     Ok(Reply::new(found, Effect::Undone(after, count)))
 }
 
 // The room that the text of a plan mostly needs.
 const USUAL_PLAN_ROOM: usize = 128;
 
-// The steps of the plan, and behind them where they lead.
-fn undone_text(alloc: Global, plan: &Plan, after: &Tracker<SessionIds>) -> Result<Vec<u8>, NoMemory>
+// The steps of the plan, and behind them where they lead, in a spare text.
+fn undone_text(
+    alloc: Global,
+    spare: &mut Spare,
+    plan: &Plan,
+    after: &Tracker<SessionIds>,
+) -> Result<Vec<u8>, NoMemory>
     ensures { IfOk result (λ text. text.items ≡ plan_text plan.now ++ tracker_text after.now) }
 {
-    let room = usual_room(after).saturating_add(USUAL_PLAN_ROOM);
-    let mut text = Vec::with_capacity(alloc, room)?;
+    let mut text = spare.take_text(alloc);
+    text.reserve(usual_room(after).saturating_add(USUAL_PLAN_ROOM))?;
     print_plan(&mut text, plan)?;
     append_tracker(&mut text, after)?;
     Ok(text)

@@ -187,7 +187,8 @@ impl PartByPart for Undoing {
     // What a directive expects is not looked at, and nothing is written yet.
     fn answer<W: Sink>(&mut self, item: &Item, writer: &mut W) -> Result<(), ToolFault> {
         let _ = &*writer;
-        run_item(self.alloc, &mut self.session, item)?;
+        let found = run_item(self.alloc, &mut self.session, item)?;
+        self.session.reuse(found);
         Ok(())
     }
 
