@@ -59,14 +59,18 @@ fn is_item(item: &Item, wanted: &'static [u8], expected: &[u8]) -> bool {
     expects & is_written(item, wanted)
 }
 
-// Whether a reader gives the items, as far as it finds memory, and whether it does. Once it found none it finds none.
+// Whether a reader gives the items, as far as it finds memory, and whether it does. Each is given back, so that the next
+// is read into its memory. Once it found none it finds none.
 fn gives_items(reader: &mut Reader) -> (bool, bool) {
     let mut source = FromRead::new(SCRIPT);
     let mut is_so = true;
     let mut has_memory = true;
     for (wanted, expected) in &ITEMS {
         match next_item(reader, &mut source) {
-            Ok(Some(item)) => is_so &= has_memory & is_item(&item, *wanted, *expected),
+            Ok(Some(item)) => {
+                is_so &= has_memory & is_item(&item, *wanted, *expected);
+                reader.reuse(item);
+            }
             Err(FileFault::NoMemory) => has_memory = false,
             _ => is_so = false,
         }

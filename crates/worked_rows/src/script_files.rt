@@ -87,6 +87,42 @@ fn show_argument(rt: &impl Runtime, shown: &mut Vec<u8>, argument: &Argument) {
     }
 }
 
+// The values of the first argument of a directive, as they are walked.
+fn values_of(rt: &impl Runtime, head: &str) -> Vec<u8> {
+    let mut source = FromRead::new(head.as_bytes());
+    let mut items = Reader::new(rt.alloc()).expect(rt, "a reader");
+    let mut shown = Vec::new(rt.alloc());
+    if let Some(Item::Directive(directive)) = items.next(&mut source).expect(rt, "an item") {
+        if let Some(argument) = directive.arg(0) {
+            let mut values = argument.values();
+            while let Some(value) = values.next() {
+                show_line(rt, &mut shown, value);
+            }
+        }
+    }
+    shown
+}
+
+// Heads of directives, and the values of their first argument: of a list, of one value with commas in it, and of none.
+static VALUES: [(&str, &str); 8] = [
+    ("committed cfg=(1, 2 ,3)", "<1><2><3>"),
+    ("committed cfg=( 10 )", "<10>"),
+    ("committed cfg=(,)", "<><>"),
+    ("committed cfg=()", ""),
+    ("committed cfg=( \t)", ""),
+    ("committed cfg=1,2", "<1,2>"),
+    ("committed cfg=", "<>"),
+    ("committed cfg", ""),
+];
+
+#[test]
+fn walks_values(rt: HostRuntime) {
+    for (head, want) in &VALUES {
+        let shown = values_of(&rt, *head);
+        assert!(rt; shown.as_slice() == want.as_bytes(), "at {head}");
+    }
+}
+
 // The line and the command, each argument with its values in brackets, the input and what is expected.
 fn show_directive(rt: &impl Runtime, shown: &mut Vec<u8>, directive: &Directive) {
     show(rt, shown, &[b'0' + (directive.line() % 10) as u8, b':']);
@@ -249,13 +285,13 @@ fn reads_items(rt: HostRuntime) {
     }
 }
 
-// The next item with an h before it where it was in hand; nothing at the end.
+// The next item, which is shown with an h before it where it was in hand; nothing at the end.
 fn show_held_item<R: Source>(
     rt: &impl Runtime,
     shown: &mut Vec<u8>,
     reader: &mut Reader,
     source: &mut R,
-) {
+) -> Option<Item> {
     let held = reader.next_held(source);
     if held.is_some() {
         show(rt, shown, b"h");
@@ -264,21 +300,38 @@ fn show_held_item<R: Source>(
         Some(found) => found,
         None => reader.next(source),
     };
-    if let Some(item) = found.expect(rt, "an item or the end") {
-        show_item(rt, shown, &item);
-    }
+    let item = found.expect(rt, "an item or the end")?;
+    show_item(rt, shown, &item);
+    Some(item)
 }
+
+// A script, and what is shown of it where the first read gives it whole.
+const HELD_SCRIPT: &[u8] = b"# a\nb\n\n----\n1\n\n\nc\n----\n2\n";
+
+const HELD_ITEMS: &[u8] = b"lines:<# a>|h2:b//1\n|hlines:<>|8:c//2\n|";
 
 #[test]
 fn tells_items_in_hand(rt: HostRuntime) {
-    let mut source = FromRead::new(b"# a\nb\n\n----\n1\n\n\nc\n----\n2\n".as_slice());
+    let mut source = FromRead::new(HELD_SCRIPT);
     let mut reader = Reader::new(rt.alloc()).expect(&rt, "a reader");
     let mut shown = Vec::new(rt.alloc());
     for _ in 0..9 {
-        show_held_item(&rt, &mut shown, &mut reader, &mut source);
+        let _item = show_held_item(&rt, &mut shown, &mut reader, &mut source);
     }
-    let wanted = b"lines:<# a>|h2:b//1\n|hlines:<>|8:c//2\n|".as_slice();
-    assert!(rt; shown.as_slice() == wanted);
+    assert!(rt; shown.as_slice() == HELD_ITEMS);
+}
+
+#[test]
+fn reads_into_items_that_are_given_back(rt: HostRuntime) {
+    let mut source = FromRead::new(HELD_SCRIPT);
+    let mut reader = Reader::new(rt.alloc()).expect(&rt, "a reader");
+    let mut shown = Vec::new(rt.alloc());
+    for _ in 0..9 {
+        if let Some(item) = show_held_item(&rt, &mut shown, &mut reader, &mut source) {
+            reader.reuse(item);
+        }
+    }
+    assert!(rt; shown.as_slice() == HELD_ITEMS);
 }
 
 // Lines, a line of input for each, and what is made of it: a directive, if there is one, and a comment of the line.
