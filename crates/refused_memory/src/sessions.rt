@@ -135,7 +135,7 @@ fn is_same_session(session: &Session, other: &Session) -> bool {
     is_so
 }
 
-// Whether a directive finds a text; where the session found no memory it is its copy from before.
+// Whether a directive finds a text, which the session then takes back; where it found no memory it is its copy from before.
 fn is_found(session: &mut Session, copy: &Session, directive: &Directive, wanted: &[u8]) -> bool {
     let mut answer = session.step(directive);
     let mut stays = true;
@@ -143,12 +143,23 @@ fn is_found(session: &mut Session, copy: &Session, directive: &Directive, wanted
         stays = is_same_session(session, copy);
         answer = session.step(directive);
     }
-    stays & answer.is_ok_and(|found| found.as_slice() == wanted)
+    match answer {
+        Ok(found) => {
+            let is_so = found.as_slice() == wanted;
+            session.reuse(found);
+            stays & is_so
+        }
+        Err(_) => false,
+    }
 }
 
-// Gives a directive to the copy too.
-fn follows(copy: &mut Session, directive: &Directive) -> bool {
-    copy.step(directive).is_ok() || copy.step(directive).is_ok()
+// Whether the copy, which takes no text back, finds it too.
+fn follows(copy: &mut Session, directive: &Directive, wanted: &[u8]) -> bool {
+    let mut answer = copy.step(directive);
+    if answer.is_err() {
+        answer = copy.step(directive);
+    }
+    answer.is_ok_and(|found| found.as_slice() == wanted)
 }
 
 fn is_row(alloc: Global, session: &mut Session, copy: &mut Session, row: Row) -> bool {
@@ -156,7 +167,7 @@ fn is_row(alloc: Global, session: &mut Session, copy: &mut Session, row: Row) ->
     match twice(FileFault::NoMemory, || first_item(alloc, text)) {
         Ok(Some(Item::Directive(directive))) => {
             is_found(session, copy, &directive, wanted)
-                & follows(copy, &directive)
+                & follows(copy, &directive, wanted)
                 & is_same_session(session, copy)
         }
         _ => false,
