@@ -6,7 +6,7 @@ use Rattle.std.specs.Str.{all_ascii_digits}
 use Rattle.std.specs.Str.Parse.{AllDigits, digits_value}
 use Rattle.std.proofs.lemmas.Bool.{lt-ltb, ltb-true, le-leb, leb-true, and_parts, and_from, true≢false}
 use Rattle.std.proofs.lemmas.Option.{cond_some}
-use Rattle.std.proofs.lemmas.Str.Parse.{IsNumeralModel, numerals_by_value, tells_all_ascii_digits, digits_value-take-le, digit_at}
+use Rattle.std.proofs.lemmas.Str.Parse.{IsNumeralModel, numerals_by_value, tells_digits, tells_all_ascii_digits, digits_value_short, digits_value-take-le, digit_at}
 use Rattle.std.proofs.lemmas.Int.Digits.{digits_value_more}
 use Rattle.std.proofs.lemmas.Str.{digit_value_digit}
 use Rattle.ascii_text.specs.Words.{has_bytes}
@@ -57,6 +57,10 @@ IsInRange-digit byte digit = let range = and_parts (leb 48 byte) (leb byte 57) d
 
 pub digit_value-lt : (byte : ℕ) → is_ascii_digit byte ≡ true → digit_value byte < 10
 digit_value-lt byte digit = let range = IsInRange-digit byte digit in omega (arith, range.0, range.1, digit_value_digit byte range)
+
+-- few digits spell a small number
+pub digits_value-few : (digits : List ℕ) (k : ℕ) → AllDigits 10 digits → length digits ≤ k → digits_value 10 digits < 10 ^ k
+digits_value-few = digits_value_short (numerals_by_value _ tells_digits)
 
 -- one digit more
 pub digits_value-take_more : (digits : List ℕ) (i : ℕ) → i < length digits → is_ascii_digit (get_or digits i 0) ≡ true → digits_value 10 (take (i + 1) digits) ≡ digits_value 10 (take i digits) * 10 + (get_or digits i 0 - 48)

@@ -4,5 +4,7 @@ pub mod Counts
 pub mod MajorityPlace
 pub mod CommittedIndex
 pub mod ChartBars
+pub mod BarTexts
+pub mod IndexColumn
 pub mod VoteResults
 pub mod Overlap

@@ -6,4 +6,5 @@ pub mod Counting
 pub mod Committed
 pub mod Votes
 pub mod Chart
+pub mod ChartRows
 pub mod Overlap

@@ -1,13 +1,18 @@
 //! The chart of who has acknowledged which index, for a reader. Its form is own.
-ghost use Rattle.std.specs.Prelude.{◌≡◌, ◌<◌, ◌≤◌, ◌^◌, ◌++◌, length, take, flat_map, OnOk, OnErr};
+ghost use Rattle.std.specs.Prelude.{◌≡◌, ◌<◌, ◌≤◌, ◌^◌, ◌++◌, ℕ, List, length, map, take, flat_map, OnOk, OnErr};
 ghost use Rattle.quorum_sets.specs.Ids.{ascending, union};
-ghost use Rattle.quorum_sets.specs.Chart.{IsRanking, bar_text, row_text, chart_row, chart_text};
+ghost use Rattle.quorum_sets.specs.Committed.{Acks};
+ghost use Rattle.quorum_sets.specs.Chart.{row_text, chart_row, chart_text};
+ghost use Rattle.quorum_sets.specs.ChartRows.{with_acked, IsRanked};
 
+use crate::acked_ids::look_up;
 use crate::acknowledgement::AckSource;
-use crate::append::{append, append_in_five_places, append_times};
+use crate::append::{append, append_times};
+use crate::bars::append_bar;
+use crate::index_column::append_index;
 use crate::member_set::MemberSet;
 use crate::no_memory::NoMemory;
-use crate::ranking::Ranking;
+use crate::ranking::{rank, width_of_bar};
 use ascii_text::append::append_number;
 use smallvec::SmallVec;
 
@@ -22,7 +27,8 @@ pub fn chart<S: MemberSet, A: AckSource>(
     ensures ok { OnOk result (text.new.items ≡ text.old.items ++ chart_text (ascending (S.ids set.now)) (A.acks acks.now)) }
     ensures err { OnErr result (text.new.items ≡ text.old.items) }
 {
-    let mut ids = SmallVec::with_capacity(*text.allocator(), set.len())?;
+    let mut ids = SmallVec::new(*text.allocator());
+    ids.reserve(set.len())?;
     add_ids(&mut ids, set)?;
     append_whole(text, ids.as_slice(), acks)
 }
@@ -37,8 +43,8 @@ pub fn joint_chart<S: MemberSet, A: AckSource>(
     ensures ok { OnOk result (text.new.items ≡ text.old.items ++ chart_text (ascending (union (S.ids incoming.now) (S.ids outgoing.now))) (A.acks acks.now)) }
     ensures err { OnErr result (text.new.items ≡ text.old.items) }
 {
-    let most = incoming.len().saturating_add(outgoing.len());
-    let mut ids = SmallVec::with_capacity(*text.allocator(), most)?;
+    let mut ids = SmallVec::new(*text.allocator());
+    ids.reserve(incoming.len().saturating_add(outgoing.len()))?;
     add_ids(&mut ids, incoming)?;
     add_ids(&mut ids, outgoing)?;
     ids.as_mut_slice().sort_unstable();
@@ -78,27 +84,29 @@ fn append_chart<A: AckSource>(text: &mut Vec<u8>, ids: &[u64], acks: &A) -> Resu
     if ids.is_empty() {
         return append(text, b"<empty majority quorum>");
     }
-    let ranking = Ranking::new(*text.allocator(), ids, acks)?;
+    let mut acked = SmallVec::new(*text.allocator());
+    look_up(&mut acked, ids, acks)?;
+    let mut ranking = SmallVec::new(*text.allocator());
+    rank(&mut ranking, acked.as_slice())?;
     append_times(text, b' ', ids.len())?;
     append(text, b"    idx\n")?;
-    append_rows(text, ids, acks, &ranking)
+    append_rows(text, acked.as_slice(), ranking.as_slice())
 }
 
 // Appends the line of each id.
-fn append_rows<A: AckSource>(
+fn append_rows(
     text: &mut Vec<u8>,
-    ids: &[u64],
-    acks: &A,
-    ranking: &Ranking,
+    acked: &[(u64, Option<u64>)],
+    ranking: &[(u64, u64)],
 ) -> Result<(), NoMemory>
-    requires { IsRanking ids.now (A.acks acks.now) ranking.now.rows.items }
-    ensures ok { OnOk result (text.new.items ≡ text.old.items ++ flat_map (chart_row ids.now (A.acks acks.now)) ids.now) }
+    requires { length ranking.now ≡ length acked.now }
+    ensures ok { (ids : List ℕ) (acks : Acks) → acked.now ≡ map (with_acked acks) ids → IsRanked ids acks ranking.now
+        → OnOk result (text.new.items ≡ text.old.items ++ flat_map (chart_row ids acks) ids) }
     ensures extends { take (length text.old.items) text.new.items ≡ text.old.items }
 {
-    for id in ids {
-        let acked = acks.acked(*id);
-        let width = ranking.bar_width(acked.unwrap_or(0), *id);
-        append_row(text, ids.len(), *id, acked, width)?;
+    for (id, index) in acked {
+        let width = width_of_bar(ranking, index.unwrap_or(0), *id);
+        append_row(text, acked.len(), *id, *index, width)?;
     }
     Ok(())
 }
@@ -117,34 +125,7 @@ fn append_row(
     ensures extends { take (length text.old.items) text.new.items ≡ text.old.items }
 {
     append_bar(text, n, acked, width)?;
-    append(text, b" ")?;
-    append_in_five_places(text, acked.unwrap_or(0))?;
-    append(text, b"    (id=")?;
+    append_index(text, acked.unwrap_or(0))?;
     append_number(text, id)?;
     append(text, b")\n")
-}
-
-// Appends the bar of one of `n` ids, or that its index is unknown.
-fn append_bar(
-    text: &mut Vec<u8>,
-    n: usize,
-    acked: Option<u64>,
-    width: usize,
-) -> Result<(), NoMemory>
-    requires small { n < 2 ^ 63 }
-    requires within { width ≤ n }
-    ensures ok { OnOk result (text.new.items ≡ text.old.items ++ bar_text n acked width) }
-    ensures extends { take (length text.old.items) text.new.items ≡ text.old.items }
-{
-    match acked {
-        Some(_) => {
-            append_times(text, b'x', width)?;
-            append(text, b">")?;
-            append_times(text, b' ', n - width)
-        }
-        None => {
-            append(text, b"?")?;
-            append_times(text, b' ', n)
-        }
-    }
 }

@@ -1,4 +1,4 @@
-//! The one loop that counts the ids of a set. Quorums, votes and differences are such counts.
+//! Counting the ids of a set that pass a test, as a quorum wants it.
 ghost use Rattle.std.specs.Prelude.{◌≡◌, ℕ, Bool};
 ghost use Rattle.quorum_sets.specs.Ids.{count_of, on_most};
 ghost use Rattle.quorum_sets.specs.Counting.{Decides};

@@ -4,12 +4,15 @@
 //! section 4.3 of Ongaro's dissertation. Each call works over any [`MemberSet`].
 #![tactic(auto)]
 
+mod acked_ids;
 mod acknowledgement;
 mod append;
+mod bars;
 mod charting;
 mod commit;
 mod counting;
 mod difference;
+mod index_column;
 mod inline_ids;
 pub mod laws;
 mod looking;

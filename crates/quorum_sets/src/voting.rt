@@ -1,9 +1,10 @@
 //! The result of a vote, as etcd's package `quorum` counts it.
 ghost use Rattle.std.specs.Prelude.{◌≡◌};
+ghost use Rattle.quorum_sets.specs.Ids.{count_of};
 ghost use Rattle.quorum_sets.specs.Voters.{pair};
-ghost use Rattle.quorum_sets.specs.Votes.{vote_result, joint_vote_result, both};
+ghost use Rattle.quorum_sets.specs.Votes.{is_yes, may_be_yes, vote_result, joint_vote_result, both};
 
-use crate::counting::most_pass;
+use crate::majority::quorum;
 use crate::member_set::MemberSet;
 use crate::vote_source::VoteSource;
 
@@ -22,12 +23,44 @@ pub enum VoteResult {
 pub fn vote<S: MemberSet, V: VoteSource>(set: &S, votes: &V) -> VoteResult
     ensures { result ≡ vote_result (S.ids set.now) (V.votes votes.now) }
 {
-    if set.len() == 0 || most_pass(set, |id| votes.voted(id).unwrap_or(false)) {
+    let len = set.len();
+    if len == 0 {
+        return VoteResult::VoteWon;
+    }
+    let tally = count_votes(set, votes);
+    if tally.said_yes >= quorum(len) {
         VoteResult::VoteWon
-    } else if most_pass(set, |id| votes.voted(id).unwrap_or(true)) {
+    } else if tally.may_say_yes >= quorum(len) {
         VoteResult::VotePending
     } else {
         VoteResult::VoteLost
+    }
+}
+
+// How many ids of a set said yes, and how many said yes or have not voted.
+#[derive(Clone, Copy)]
+struct Tally {
+    said_yes: usize,
+    may_say_yes: usize,
+}
+
+// Asks each id once, and counts for both. No branch is taken by what it said.
+fn count_votes<S: MemberSet, V: VoteSource>(set: &S, votes: &V) -> Tally
+    ensures said_yes { result.said_yes ≡ count_of (is_yes (V.votes votes.now)) (S.ids set.now) }
+    ensures may_say_yes { result.may_say_yes ≡ count_of (may_be_yes (V.votes votes.now)) (S.ids set.now) }
+{
+    let mut said_yes = 0;
+    let mut may_say_yes = 0;
+    for place in 0..set.len() {
+        if let Some(id) = set.at(place) {
+            let said = votes.voted(id);
+            said_yes += usize::from(said.unwrap_or(false));
+            may_say_yes += usize::from(said.unwrap_or(true));
+        }
+    }
+    Tally {
+        said_yes,
+        may_say_yes,
     }
 }
 

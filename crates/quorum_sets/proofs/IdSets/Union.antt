@@ -34,7 +34,7 @@ any-dedup q [] = refl
 any-dedup q (x ∷ xs) = any-dedup_from q x xs
 
 -- a list that is written over whole
-pub refill-whole : (xs ws : List ℕ) → length ws ≡ length xs → refill (length xs) xs ws ≡ ws
+pub refill-whole : {X : Type 0} (xs ws : List X) → length ws ≡ length xs → refill (length xs) xs ws ≡ ws
 refill-whole xs ws e =
     ap (take (length xs)) (ap (λ rest. ws ++ rest) (drop_all (length ws) xs (omega (arith, e))) ∙ append-nil ws) ∙ take_all (length xs) ws (omega (arith, e))
 

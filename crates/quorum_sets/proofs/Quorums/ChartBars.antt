@@ -4,13 +4,13 @@ use Rattle.std.specs.Prelude.{nat_lt, nat_eq, count_by}
 use Rattle.std.specs.declared.cmp.Ordering.TheVariants.{Less, Equal, Greater}
 use Rattle.std.specs.Ordering.{nat_cmp, ordering_then, is_lt}
 use Rattle.std.specs.List.{list_any, Contains}
-use Rattle.std.specs.List.Sorted.{IsSorted, IsPartitionPoint, IsPartitionedBy}
+use Rattle.std.specs.List.Sorted.{IsPermutation, IsSorted, IsPartitionPoint, IsPartitionedBy}
 use Rattle.std.proofs.lemmas.Bool.{lt-ltb, ltb-true, ltb-false, eqb-true, eq-eqb, and_parts, and_from, cases_lt, false_from_ne_true, cond-true, cond-false}
 use Rattle.std.proofs.lemmas.Cmp.{nat_cmp_total, on_total, then_total}
 use Rattle.std.proofs.lemmas.List.{length-map, get_or-map, get_or_default}
 use Rattle.std.proofs.lemmas.List.Folds.{fold-map, list_any_at, Any-from_list_any}
 use Rattle.std.proofs.lemmas.List.Sums.{sum_by-cons}
-use Rattle.std.proofs.lemmas.List.Sorted.{ranks_by, sorted_far, length_permutation, Contains-permutation, list_any-IsPermutation, sum_by-IsPermutation, IsPartitionedBy-ltb}
+use Rattle.std.proofs.lemmas.List.Sorted.{ranks_by, sorted_far, Contains-permutation, list_any-IsPermutation, sum_by-IsPermutation, IsPartitionedBy-ltb}
 use Rattle.quorum_sets.specs.Committed.{Acks, acked_index}
 use Rattle.quorum_sets.specs.Chart.{IsRanking, ranked, is_tied, bar_width}
 
@@ -36,19 +36,16 @@ ranking-partitioned ids acks rows index ranking =
     IsPartitionedBy-ltb (λ r. r.0) rows index (λ j k d before within. (row_order rows ranking.rises j k d before within).0)
 
 -- ---- the rows against the ids
-pub IsRanking-len : (ids : List ℕ) (acks : Acks) (rows : List (ℕ × ℕ)) → IsRanking ids acks rows → length rows ≡ length ids
-IsRanking-len ids acks rows ranking = length_permutation (map (ranked acks) ids) rows ranking.same ∙ length-map ids (ranked acks)
-
-count-rows : (p : ℕ × ℕ → Bool) (ids : List ℕ) (acks : Acks) (rows : List (ℕ × ℕ)) → IsRanking ids acks rows → count_by p rows ≡ count_by (λ id. p (ranked acks id)) ids
-count-rows p ids acks rows ranking =
-    sum_by-IsPermutation (λ r. cond (p r) 1 0) (map (ranked acks) ids) rows ranking.same ∙ fold-map (λ a r. a + cond (p r) 1 0) (ranked acks) 0 ids
+count-rows : (p : ℕ × ℕ → Bool) (ids : List ℕ) (acks : Acks) (rows : List (ℕ × ℕ)) → IsPermutation (map (ranked acks) ids) rows → count_by p rows ≡ count_by (λ id. p (ranked acks id)) ids
+count-rows p ids acks rows same =
+    sum_by-IsPermutation (λ r. cond (p r) 1 0) (map (ranked acks) ids) rows same ∙ fold-map (λ a r. a + cond (p r) 1 0) (ranked acks) 0 ids
 
 any-map : {X Y : Type 0} (p : Y → Bool) (f : X → Y) (xs : List X) → list_any p (map f xs) ≡ list_any (λ x. p (f x)) xs
 any-map p f [] = refl
 any-map p f (x ∷ xs) = ap (λ b. p (f x) || b) (any-map p f xs)
 
-any-rows : (p : ℕ × ℕ → Bool) (ids : List ℕ) (acks : Acks) (rows : List (ℕ × ℕ)) → IsRanking ids acks rows → list_any p rows ≡ list_any (λ id. p (ranked acks id)) ids
-any-rows p ids acks rows ranking = sym (list_any-IsPermutation p (map (ranked acks) ids) rows ranking.same) ∙ any-map p (ranked acks) ids
+any-rows : (p : ℕ × ℕ → Bool) (ids : List ℕ) (acks : Acks) (rows : List (ℕ × ℕ)) → IsPermutation (map (ranked acks) ids) rows → list_any p rows ≡ list_any (λ id. p (ranked acks id)) ids
+any-rows p ids acks rows same = sym (list_any-IsPermutation p (map (ranked acks) ids) rows same) ∙ any-map p (ranked acks) ids
 
 has_row : (ids : List ℕ) (acks : Acks) (rows : List (ℕ × ℕ)) (id : ℕ) → IsRanking ids acks rows → Contains ids id → Contains rows (ranked acks id)
 has_row ids acks rows id ranking among =
@@ -103,7 +100,7 @@ IsFirst-at_place ids acks rows id place ranking among parted =
       id_below = (let low = order.1 (same ∙ sym index_there) in omega arith);
     }
 
-abbrev ties : ℕ → ℕ → ℕ × ℕ → Bool
+abbrev pub ties : ℕ → ℕ → ℕ × ℕ → Bool
 ties index id row = nat_lt row.1 id && nat_eq row.0 index
 
 pub width-first : (ids : List ℕ) (acks : Acks) (rows : List (ℕ × ℕ)) (id place : ℕ) → IsRanking ids acks rows → Contains ids id → place ≤ length rows → Parts (acked_index acks id) rows place → (get_or rows place (ranked acks id)).1 ≡ id → place ≡ bar_width ids acks id
@@ -111,7 +108,7 @@ width-first ids acks rows id place ranking among within parted leads =
     let index : ℕ = acked_index acks id in
     let first = IsFirst-at_place ids acks rows id place ranking among parted in
     let alone : is_tied ids acks id ≡ false = false_from_ne_true _ (λ tied.
-    let other = Any-from_list_any (ties index id) rows (any-rows (ties index id) ids acks rows ranking ∙ tied) in
+    let other = Any-from_list_any (ties index id) rows (any-rows (ties index id) ids acks rows ranking.same ∙ tied) in
     let parts = and_parts _ _ other.4 in
     let less = ltb-true other.1.1 id parts.0 in
     let index_is : other.1.0 ≡ index = eqb-true other.1.0 index parts.1 in
@@ -123,7 +120,7 @@ width-first ids acks rows id place ranking among within parted leads =
     let low = order.1 (first.index_is ∙ sym there) in
     absurd (omega arith)) in
     sym (count_by-partition (λ r. nat_lt r.0 index) rows place within parted)
-    ∙ count-rows (λ r. nat_lt r.0 index) ids acks rows ranking
+    ∙ count-rows (λ r. nat_lt r.0 index) ids acks rows ranking.same
     ∙ sym (cond-false (is_tied ids acks id) 0 _ alone)
 
 pub width-later : (ids : List ℕ) (acks : Acks) (rows : List (ℕ × ℕ)) (id place : ℕ) → IsRanking ids acks rows → Contains ids id → Parts (acked_index acks id) rows place → ((get_or rows place (ranked acks id)).1 ≡ id → ⊥) → 0 ≡ bar_width ids acks id
@@ -132,6 +129,10 @@ width-later ids acks rows id place ranking among parted follows =
     let first = IsFirst-at_place ids acks rows id place ranking among parted in
     let below : (get_or rows place (ranked acks id)).1 < id = omega (arith, follows) in
     let tied : is_tied ids acks id ≡ true =
-    sym (any-rows (ties index id) ids acks rows ranking)
+    sym (any-rows (ties index id) ids acks rows ranking.same)
     ∙ list_any_at (ties index id) rows place (ranked acks id) first.within (and_from _ _ (lt-ltb _ _ below) (eq-eqb _ _ first.index_is)) in
     sym (cond-true (is_tied ids acks id) 0 _ tied)
+
+-- ---- the same by a count over the rows, in any order
+pub width-counted : (ids : List ℕ) (acks : Acks) (rows : List (ℕ × ℕ)) (id : ℕ) → IsPermutation (map (ranked acks) ids) rows → cond (list_any (ties (acked_index acks id) id) rows) 0 (count_by (λ r. nat_lt r.0 (acked_index acks id)) rows) ≡ bar_width ids acks id
+width-counted ids acks rows id same = λ i. cond (any-rows (ties (acked_index acks id) id) ids acks rows same i) 0 (count-rows (λ r. nat_lt r.0 (acked_index acks id)) ids acks rows same i)

@@ -1,8 +1,9 @@
 -- Counting the ids of a list, one more at a time.
-use Rattle.std.proofs.Common.{◌≡◌, ℕ, ◌+◌, ◌≤◌, Bool, true, false, cond, List, [], ◌∷◌, refl, arith, take, sym, ap, ◌∙◌, get_or, slice_get}
+use mir.Val.{bool_byte}
+use Rattle.std.proofs.Common.{◌≡◌, ℕ, ◌+◌, ◌≤◌, Bool, true, false, cond, List, [], ◌∷◌, refl, arith, take, sym, ap, ◌∙◌, get_or, slice_get, length-take}
 use Rattle.std.specs.Prelude.{Some, count_by}
 use Rattle.std.proofs.lemmas.Option.{slice_get_within, get_or_from_slice_get}
-use Rattle.std.proofs.lemmas.List.Sums.{count_by_more_yes, count_by_more_no, sum_by-cons}
+use Rattle.std.proofs.lemmas.List.Sums.{count_by_more_yes, count_by_more_no, count_by-le-length, sum_by-cons}
 
 at : (test : ℕ → Bool) (xs : List ℕ) (k x : ℕ) (b : Bool) → slice_get xs k ≡ Some x → test x ≡ b → test (get_or xs k 0) ≡ b
 at test xs k x b here is = ap test (get_or_from_slice_get xs k x 0 here) ∙ is
@@ -16,6 +17,15 @@ count_by-one_more test xs k x n here passes so_far =
 pub count_by-no_more : (test : ℕ → Bool) (xs : List ℕ) (k x n : ℕ) → slice_get xs k ≡ Some x → test x ≡ false → n ≡ count_by test (take k xs) → n ≡ count_by test (take (k + 1) xs)
 count_by-no_more test xs k x n here fails so_far =
     so_far ∙ sym (count_by_more_no test xs k 0 (slice_get_within xs k x here) (at test xs k x false here fails))
+
+-- the answer of the test is counted
+pub count_by-answer : (test : ℕ → Bool) (xs : List ℕ) (k x n : ℕ) (answer : Bool) → slice_get xs k ≡ Some x → test x ≡ answer → n ≡ count_by test (take k xs) → n + bool_byte answer ≡ count_by test (take (k + 1) xs)
+count_by-answer test xs k x n true here passes so_far = count_by-one_more test xs k x n here passes so_far
+count_by-answer test xs k x n false here fails so_far = let same = count_by-no_more test xs k x n here fails so_far in omega arith
+
+-- no more are counted than were asked
+pub count_by-within : (test : ℕ → Bool) (xs : List ℕ) (k n : ℕ) → n ≡ count_by test (take k xs) → n ≤ k
+count_by-within test xs k n so_far = omega (arith, count_by-le-length test (take k xs), length-take k xs)
 
 one_or_none : (a b : Bool) → (a ≡ true → b ≡ true) → cond a 1 0 ≤ cond b 1 0
 one_or_none false b passes = omega arith
