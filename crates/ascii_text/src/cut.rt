@@ -7,5 +7,10 @@ pub fn place_of(text: &[u8], byte: u8) -> usize
     ensures place { result ≡ position_or_len (λ b. b == byte) text.now }
     ensures within { result ≤ length text.now }
 {
-    text.iter().take_while(|b| **b != byte).count()
+    for (place, other) in text.iter().enumerate() {
+        if *other == byte {
+            return place;
+        }
+    }
+    text.len()
 }
