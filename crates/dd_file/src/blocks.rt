@@ -10,9 +10,9 @@ use crate::room::append;
 use crate::writing::write_front;
 use std::alloc::{AllocError, Global};
 
-const BLOCK_BYTES: usize = 4096;
+const BLOCK_BYTES: usize = 16_384;
 
-/// A sink that keeps what it is given until it has a block of 4,096 bytes, and then writes that on. Whoever is done
+/// A sink that keeps what it is given until it has a block of 16,384 bytes, and then writes that on. Whoever is done
 /// calls `flush`. After a fault it asks its writer no more.
 #[derive(Drop)]
 pub struct Blocks<W> {
@@ -21,8 +21,8 @@ pub struct Blocks<W> {
     /// How many bytes of the block are written on already, where a fault came in between.
     written: usize,
     ghost written_within: { written ≤ vec_len block },
-    ghost block_within: { vec_len block ≤ 4096 },
-    ghost room: { 4096 ≤ vec_capacity block },
+    ghost block_within: { vec_len block ≤ 16384 },
+    ghost room: { 16384 ≤ vec_capacity block },
 }
 
 impl<W: Sink> Blocks<W> {
