@@ -38,6 +38,18 @@ impl RawLines {
         }
     }
 
+    /// No lines, which will lie in the memory of this text. That is taken out of it.
+    pub(crate) fn over(alloc: Global, text: &mut Vec<u8>) -> RawLines
+        requires { text.old.items ≡ [] }
+        ensures lines { result ≡ [] }
+        ensures text { text.new.items ≡ [] }
+    {
+        RawLines {
+            text: replace(text, Vec::new(alloc)),
+            ends: SmallVec::new(alloc),
+        }
+    }
+
     /// Adds a copy of a line behind the others.
     pub(crate) fn push(&mut self, line: &[u8]) -> Result<(), AllocError>
         ensures ok { OnOk result (self.new ≡ self.old ++ line.now ∷ []) }
@@ -108,14 +120,6 @@ impl RawLines {
         let start = self.start(count);
         self.text.truncate(start);
         self.ends.truncate(count);
-    }
-
-    /// Gives the lines out with their memory, and has none from then on.
-    pub(crate) fn take(&mut self, alloc: Global) -> RawLines
-        ensures taken { result ≡ self.old }
-        ensures empty { self.new ≡ [] }
-    {
-        replace(self, RawLines::new(alloc))
     }
 
     pub(crate) fn into_text(self) -> Vec<u8>

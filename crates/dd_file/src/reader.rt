@@ -22,8 +22,8 @@ pub struct Reader {
     alloc: Global,
     lines: Lines,
     fault: Option<FileFault>,
-    /// No lines, in the memory of lines that are done with.
-    spare: RawLines,
+    /// No text, in the memory of one that is done with.
+    spare: Vec<u8>,
 }
 
 impl Model for Reader {
@@ -34,7 +34,7 @@ impl Model for Reader {
 
     ghost view = { λ a. record a.lines { fault = a.fault } };
 
-    ghost invariant = { λ a. (a.fault ≡ None → a.lines.fault ≡ None) × (a.spare ≡ []) };
+    ghost invariant = { λ a. (a.fault ≡ None → a.lines.fault ≡ None) × (a.spare.items ≡ []) };
 }
 
 impl Reader {
@@ -47,7 +47,7 @@ impl Reader {
             alloc,
             lines: Lines::new(alloc)?,
             fault: None,
-            spare: RawLines::new(alloc),
+            spare: Vec::new(alloc),
         })
     }
 
@@ -63,7 +63,7 @@ impl Reader {
         if self.lines.is_over() {
             return Ok(None);
         }
-        let raw_lines = self.spare.take(self.alloc);
+        let raw_lines = RawLines::over(self.alloc, &mut self.spare);
         let found = read_item(self.alloc, raw_lines, &mut self.lines, reader);
         self.fault = fault_in(&found);
         found
@@ -77,7 +77,7 @@ impl Reader {
         if !self.can_tell() {
             return None;
         }
-        let raw_lines = self.spare.take(self.alloc);
+        let raw_lines = RawLines::over(self.alloc, &mut self.spare);
         let answer = held_item(self.alloc, raw_lines, &mut self.lines, reader)?;
         self.fault = fault_in(&answer);
         Some(answer)
@@ -87,9 +87,9 @@ impl Reader {
     pub fn reuse(&mut self, item: Item)
         ensures { self.new ≡ self.old }
     {
-        let mut raw_lines = item.into_raw_lines();
-        raw_lines.truncate(0);
-        self.spare = raw_lines;
+        let mut text = item.into_raw_lines().into_text();
+        text.clear();
+        self.spare = text;
     }
 
     /// Whether what is held is told item by item: there is no fault, the end was not met, and the limit is not passed in it.
