@@ -87,18 +87,32 @@ fn show_argument(rt: &impl Runtime, shown: &mut Vec<u8>, argument: &Argument) {
     }
 }
 
-// The values of the first argument of a directive, as they are walked.
+// The values of an argument, as they are walked, and nothing behind the last one.
+fn show_values(rt: &impl Runtime, shown: &mut Vec<u8>, argument: &Argument) {
+    let mut values = argument.values();
+    for _ in 0..9 {
+        if let Some(value) = values.next() {
+            show_line(rt, shown, value);
+        }
+    }
+}
+
+// The values of the first argument of a directive.
+fn show_first_values(rt: &impl Runtime, shown: &mut Vec<u8>, item: &Item) {
+    if let Item::Directive(directive) = item {
+        if let Some(argument) = directive.arg(0) {
+            show_values(rt, shown, argument);
+        }
+    }
+}
+
 fn values_of(rt: &impl Runtime, head: &str) -> Vec<u8> {
     let mut source = FromRead::new(head.as_bytes());
     let mut items = Reader::new(rt.alloc()).expect(rt, "a reader");
     let mut shown = Vec::new(rt.alloc());
-    if let Some(Item::Directive(directive)) = items.next(&mut source).expect(rt, "an item") {
-        if let Some(argument) = directive.arg(0) {
-            let mut values = argument.values();
-            while let Some(value) = values.next() {
-                show_line(rt, &mut shown, value);
-            }
-        }
+    let item = items.next(&mut source).expect(rt, "an item");
+    if let Some(item) = &item {
+        show_first_values(rt, &mut shown, item);
     }
     shown
 }
