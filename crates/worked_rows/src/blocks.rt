@@ -5,10 +5,10 @@ use dd_file::blocks::Blocks;
 use dd_file::device::Sink;
 use dd_file::writing::write_all;
 
-// Writes 10,500 bytes in parts, and answers whether a fault was told.
+// Writes 42,000 bytes in parts, and answers whether a fault was told.
 fn write_parts<W: Sink>(writer: &mut W) -> bool {
     let mut is_told = false;
-    for _ in 0..1_500 {
+    for _ in 0..6_000 {
         is_told |= write_all(writer, b"1234567").is_err();
     }
     is_told
@@ -16,7 +16,7 @@ fn write_parts<W: Sink>(writer: &mut W) -> bool {
 
 // Whether a device takes so many bytes in three calls, a block in each, and a fault is told where it stops before the end.
 fn takes(rt: &impl Runtime, room: usize, stop: Stop) -> bool {
-    let device = taking(rt.alloc(), 20_000, room, stop);
+    let device = taking(rt.alloc(), 80_000, room, stop);
     let mut blocks = Blocks::new(rt.alloc(), device).expect(rt, "a block");
     let was_told = write_parts(&mut blocks);
     let is_told = blocks.flush().is_err();
@@ -26,18 +26,18 @@ fn takes(rt: &impl Runtime, room: usize, stop: Stop) -> bool {
         & (device.calls == 3)
         & (was_told == failed)
         & (is_told == failed)
-        & (failed == (room < 10_500))
+        & (failed == (room < 42_000))
 }
 
 #[test]
 fn writes_a_block_at_a_time(rt: HostRuntime) {
-    assert!(rt; takes(&rt, 10_500, Stop::Fault));
+    assert!(rt; takes(&rt, 42_000, Stop::Fault));
 }
 
 #[test]
 fn nothing_is_written_after_a_fault(rt: HostRuntime) {
-    assert!(rt; takes(&rt, 5_000, Stop::Fault));
-    assert!(rt; takes(&rt, 5_000, Stop::TakesNone));
+    assert!(rt; takes(&rt, 20_000, Stop::Fault));
+    assert!(rt; takes(&rt, 20_000, Stop::TakesNone));
 }
 
 // Whether two bytes that wait reach the device when they are written on.
