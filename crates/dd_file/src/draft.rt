@@ -273,6 +273,7 @@ impl Draft {
     }
 
     /// The directive of the parts so far.
+    #[inline(always)]
     fn into_directive(self) -> Option<Item>
         ensures { result ≡ option_map (drafted self) self.command }
     {

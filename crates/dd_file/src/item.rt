@@ -123,6 +123,7 @@ impl Model for Directive {
 impl Directive {
     /// The directive that begins at a line, counted from 1. The first `heads` of its raw lines are its head, and the
     /// others its input.
+    #[inline(always)]
     pub(crate) fn new(
         line: usize,
         command: Command,
@@ -274,6 +275,7 @@ impl Item {
     }
 
     /// Those lines, and nothing else of the item.
+    #[inline(always)]
     pub(crate) fn into_raw_lines(self) -> RawLines
         ensures { result ≡ raw_lines_of self }
     {

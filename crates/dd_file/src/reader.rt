@@ -71,6 +71,8 @@ impl Reader {
 
     /// The next item where all its lines are in hand, so that no reader is asked. Nothing is done where what is held
     /// does not tell: no item ends in it, or the end was met or a fault, or the limit may be passed in it (own).
+    // Written out where it is called, as what it calls is, so that an item is built where it stays.
+    #[inline(always)]
     pub fn next_held<R: Source>(&mut self, reader: &R) -> Option<Result<Option<Item>, FileFault>>
         ensures { HeldReadsOn R.remaining R.has_failed (λ item. item) (next_item longest_input) IsItemFault is_item_in_hand self.old self.new reader.now result }
     {
@@ -84,6 +86,7 @@ impl Reader {
     }
 
     /// Takes back an item that is done with, so that a later one is read into its memory (own).
+    #[inline(always)]
     pub fn reuse(&mut self, item: Item)
         ensures { self.new ≡ self.old }
     {
@@ -141,6 +144,7 @@ fn read_item<R: Source>(
 }
 
 /// Reads the lines of one item into the memory of these, off what is held, where all of them are there. Else nothing is taken.
+#[inline(always)]
 fn held_item<R: Source>(
     alloc: Global,
     raw_lines: RawLines,

@@ -118,6 +118,7 @@ impl PartByPart for Checking {
         Ok(())
     }
 
+    #[inline(always)]
     fn reuse(&mut self, item: Item) {
         self.items.reuse(item);
     }

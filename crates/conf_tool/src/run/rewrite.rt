@@ -163,6 +163,7 @@ impl PartByPart for Rewriting {
         )
     }
 
+    #[inline(always)]
     fn reuse(&mut self, item: Item) {
         self.items.reuse(item);
     }

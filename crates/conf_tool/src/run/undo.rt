@@ -192,6 +192,7 @@ impl PartByPart for Undoing {
         Ok(())
     }
 
+    #[inline(always)]
     fn reuse(&mut self, item: Item) {
         self.items.reuse(item);
     }
