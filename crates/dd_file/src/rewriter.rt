@@ -1,6 +1,8 @@
 //! Writing a script again, with what was found.
 ghost use Rattle.std.specs.Prelude.{◌≡◌, ◌⊎◌, ℕ, List, [], ◌∷◌, ◌++◌, ◌==◌, Option, IsOk, IsErr, OnOk, OnErr, IfOk, true, false, map, if◌then◌else◌};
+ghost use Rattle.std.specs.Io.KnownBytes.{Appends};
 ghost use Rattle.ascii_text.specs.Lines.{newline, text_of, without_last};
+ghost use Rattle.dd_file.specs.Device.{AppendsPart};
 ghost use Rattle.dd_file.specs.RewriterState.{CanKeep, WantsFound, HasWritten, Continues, BreaksOff, Finishes, FinishesPart};
 ghost use Rattle.dd_file.specs.Rewritten.{kept_text, found_text, opening, closing, has_blank_line, is_output, is_directive, newlines_at_end};
 
@@ -36,18 +38,24 @@ fn count_newlines(newlines: u8, bytes: &[u8]) -> u8
     }
 }
 
-/// The newline that is held back where so many end the text.
-fn held_newline(newlines: u8) -> &'static [u8]
-    ensures { result.now ≡ (if newlines == 0 then [] else newline) }
-{
-    if newlines == 0 { b"" } else { b"\n" }
-}
-
 /// The newline that is written at the end, where it was held back and none stands before it.
 fn last_newline(newlines: u8) -> &'static [u8]
     ensures { result.now ≡ (if newlines == 1 then newline else []) }
 {
     if newlines == 1 { b"\n" } else { b"" }
+}
+
+/// Writes the newline that is held back where so many end the text.
+fn write_held_newline<W: Sink>(writer: &mut W, newlines: u8) -> Result<(), WriteFault>
+    ensures ok { OnOk result (Appends (W.contents writer.old) (W.contents writer.new) (if newlines == 0 then [] else newline)) }
+    ensures err { OnErr result (AppendsPart (W.contents writer.old) (W.contents writer.new) (if newlines == 0 then [] else newline)) }
+    ensures failed { OnErr result (W.has_failed writer.new ≡ true) }
+    ensures sound { OnOk result (W.has_failed writer.new ≡ W.has_failed writer.old) }
+{
+    if newlines == 0 {
+        return Ok(());
+    }
+    write_all(writer, b"\n")
 }
 
 /// Writes more text behind so many newlines, holds a newline at its end back, and answers how many end it then.
@@ -60,7 +68,7 @@ fn write_text<W: Sink>(writer: &mut W, newlines: u8, text: &[u8]) -> Result<u8, 
     if text.is_empty() {
         return Ok(newlines);
     }
-    write_all(writer, held_newline(newlines))?;
+    write_held_newline(writer, newlines)?;
     write_all(writer, without_end(text, b'\n'))?;
     Ok(count_newlines(newlines, text))
 }
