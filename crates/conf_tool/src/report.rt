@@ -1,11 +1,12 @@
 //! What the mode `check` reports: each directive that found another text than it expects, and how many there were.
-ghost use Rattle.std.specs.Prelude.{◌≡◌, ◌≤◌, ◌<◌, ◌+◌, ◌^◌, ◌++◌, decimal, nat_lt, OnOk, if◌then◌else◌};
+ghost use Rattle.std.specs.Prelude.{◌≡◌, ◌≤◌, ◌<◌, ◌+◌, ◌^◌, [], ◌∷◌, ◌++◌, decimal, nat_lt, OnOk, if◌then◌else◌};
+ghost use Rattle.ascii_text.specs.Lines.{newline, without_last};
 ghost use Rattle.conf_tool.specs.Outputs.{status_of};
 ghost use Rattle.conf_tool.specs.Reports.{marked, difference_text, counts_line};
 
 use crate::status::Status;
 use ascii_text::append::append_number;
-use ascii_text::lines::{next_piece, without_end};
+use ascii_text::lines::{is_whole, next_piece};
 use dd_file::item::Directive;
 use quorum_sets::NoMemory;
 
@@ -76,8 +77,8 @@ pub(crate) fn append_difference(
     text.extend_from_slice(b": ")?;
     text.extend_from_slice(directive.command())?;
     text.push(b'\n')?;
-    append_marked(text, b"- ", directive.expected())?;
-    append_marked(text, b"+ ", found)
+    append_marked(text, b'-', directive.expected())?;
+    append_marked(text, b'+', found)
 }
 
 // Appends a count in decimal.
@@ -88,16 +89,26 @@ fn append_count(text: &mut Vec<u8>, count: usize) -> Result<(), NoMemory>
     Ok(())
 }
 
-// Appends each line of some bytes behind a sign.
-fn append_marked(text: &mut Vec<u8>, sign: &[u8], bytes: &[u8]) -> Result<(), NoMemory>
-    ensures { OnOk result (text.new.items ≡ text.old.items ++ marked sign.now bytes.now) }
+// Appends each line of some bytes behind a sign and a space.
+fn append_marked(text: &mut Vec<u8>, sign: u8, bytes: &[u8]) -> Result<(), NoMemory>
+    ensures { OnOk result (text.new.items ≡ text.old.items ++ marked (sign ∷ 32 ∷ []) bytes.now) }
 {
     let mut rest = bytes;
     while let Some((piece, behind)) = next_piece(rest) {
-        text.extend_from_slice(sign)?;
-        text.extend_from_slice(without_end(piece, b'\n'))?;
-        text.push(b'\n')?;
+        text.extend_from_slice(&[sign, b' '])?;
+        append_line(text, piece)?;
         rest = behind;
+    }
+    Ok(())
+}
+
+// Appends a piece as a line: with its newline, or with one where it has none.
+fn append_line(text: &mut Vec<u8>, piece: &[u8]) -> Result<(), NoMemory>
+    ensures { OnOk result (text.new.items ≡ text.old.items ++ (without_last 10 piece.now ++ newline)) }
+{
+    text.extend_from_slice(piece)?;
+    if !is_whole(piece) {
+        text.push(b'\n')?;
     }
     Ok(())
 }

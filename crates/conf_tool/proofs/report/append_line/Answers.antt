@@ -1,0 +1,15 @@
+use Rattle.std.proofs.Common.{[], ◌∷◌, ◌++◌, append_assoc, sym, ap, ◌∙◌}
+use Rattle.conf_tool.proofs.ModeOutput.MarkedLines.{whole-line, bare-line}
+use Rattle.conf_tool.proofs.report.append_line.Goals as goal
+
+pub returns-in_ok-push : goal.returns-in_ok-push
+returns-in_ok-push c =
+    let before = c.args.text.now.items in
+    let piece = c.args.piece.now in
+    c.in_ok-push.ensures.items ∙ ap (λ t. t ++ 10 ∷ []) c.in_ok-extend_from_slice.ensures.items ∙ append_assoc before piece (10 ∷ [])
+    ∙ ap (λ t. before ++ (t ++ 10 ∷ [])) (sym (bare-line piece (sym c.is_whole.ensures ∙ c.if-not-is_whole.true)))
+
+pub returns-else-not-is_whole : goal.returns-else-not-is_whole
+returns-else-not-is_whole c =
+    let before = c.args.text.now.items in
+    c.in_ok-extend_from_slice.ensures.items ∙ ap (λ t. before ++ t) (sym (whole-line c.args.piece.now (sym c.is_whole.ensures ∙ c.if-not-is_whole.false)))
