@@ -137,7 +137,7 @@ fn run_command(
         Command::Ack => ack::run(alloc, changer, input, arguments),
         Command::CommitIndex => commit_index::run(alloc, changer, input, arguments),
         Command::Committed => committed::run(alloc, spare, input, arguments),
-        Command::Vote => vote::run(alloc, input, arguments),
+        Command::Vote => vote::run(alloc, spare, input, arguments),
         Command::Unknown => unknown::run(alloc, input),
     }
 }

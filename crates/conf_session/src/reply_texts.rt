@@ -42,6 +42,19 @@ pub(crate) fn line_of(alloc: Global, front: &[u8], back: &[u8]) -> Result<Vec<u8
     end_line(text)
 }
 
+/// A text as a line, in a spare text.
+pub(crate) fn spare_line(
+    alloc: Global,
+    spare: &mut Spare,
+    bytes: &[u8],
+) -> Result<Vec<u8>, NoMemory>
+    ensures { IfOk result (λ text. text.items ≡ line bytes.now) }
+{
+    let mut text = spare.take_text(alloc);
+    text.extend_from_slice(bytes)?;
+    end_line(text)
+}
+
 // The room that a line of one fault, one number or one member mostly needs.
 const USUAL_LINE_ROOM: usize = 64;
 

@@ -5,26 +5,33 @@ ghost use Rattle.conf_session.specs.Commands.{on_vote};
 ghost use Rattle.conf_session.specs.QuorumArguments.{vote_text};
 
 use super::reading::tell_quorum_fault;
-use super::telling::tell;
 use crate::named_quorum::NamedQuorum;
 use crate::quorum_arguments::Quorum;
 use crate::reply::Reply;
+use crate::reply_texts::spare_line;
+use crate::spare::Spare;
 use dd_file::item::Argument;
 use quorum_sets::{NoMemory, VoteResult, joint_vote};
 use std::alloc::Global;
 
 /// Prints it, where there is no input and each id has a vote or `_`.
-pub(super) fn run(alloc: Global, input: &[u8], arguments: &[Argument]) -> Result<Reply, NoMemory>
+pub(super) fn run(
+    alloc: Global,
+    spare: &mut Spare,
+    input: &[u8],
+    arguments: &[Argument],
+) -> Result<Reply, NoMemory>
     ensures { IfOk result (λ reply. reply ≡ on_vote input.now arguments.now) }
 {
     let mut quorum = Quorum::new(alloc);
     let mut named = NamedQuorum::new(alloc);
-    run_with(alloc, &mut quorum, &mut named, input, arguments)
+    run_with(alloc, spare, &mut quorum, &mut named, input, arguments)
 }
 
 // The same, with a quorum to read, and lists for what is named.
 fn run_with(
     alloc: Global,
+    spare: &mut Spare,
     quorum: &mut Quorum<bool>,
     named: &mut NamedQuorum<bool>,
     input: &[u8],
@@ -40,7 +47,7 @@ fn run_with(
         return Ok(fault);
     }
     let result = joint_vote(&quorum.incoming, &quorum.outgoing, &quorum.given);
-    tell(alloc, name_of(result), b"")
+    Ok(Reply::told(spare_line(alloc, spare, name_of(result))?))
 }
 
 // The name of a result.

@@ -1,12 +1,10 @@
-use Rattle.std.proofs.Common.{◌≡◌, ◌++◌, [], sym, ap, ◌∙◌}
+use Rattle.std.proofs.Common.{◌≡◌, sym, ap, ◌∙◌}
 use Rattle.std.specs.Prelude.{unwrap_or}
-use Rattle.std.proofs.lemmas.List.{append-nil}
 use Rattle.quorum_sets.specs.Voters.{pair}
 use Rattle.quorum_sets.specs.Votes.{joint_vote_result}
 use Rattle.conf_session.specs.Reply.{told}
-use Rattle.conf_session.specs.Commands.{on_vote}
+use Rattle.conf_session.specs.declared.effect.Effect.TheVariants.{Nothing}
 use Rattle.conf_session.specs.QuorumArguments.{voters_given, votes_given, vote_text}
-use Rattle.conf_session.proofs.CommandReplies.{same-reply}
 use Rattle.conf_session.proofs.commands.vote.run_with.Goals as goal
 
 pub returns : goal.returns
@@ -20,5 +18,5 @@ returns c =
     let votes = read.given none in
     let result = vote_text (joint_vote_result (voters_given arguments) (votes_given arguments)) in
     let found : name ≡ result = c.name_of.ensures ∙ ap vote_text (c.joint_vote-result.ensures ∙ (λ i. joint_vote_result (voters i) (votes i))) in
-    same-reply c.tell.result (told (name ++ [])) (on_vote c.args.input.now arguments)
-    (ap told (append-nil name ∙ found) ∙ sym (read.fault (told result) ∙ ap (λ fault. unwrap_or fault (told result)) none)) c.tell.ensures
+    c.told.ensures ∙ (λ i. record { found = c.in_ok-spare_line.ensures i; effect = Nothing }) ∙ ap told found
+    ∙ sym (read.fault (told result) ∙ ap (λ fault. unwrap_or fault (told result)) none)
