@@ -6,4 +6,5 @@ pub mod TrimmedEnd
 pub mod LoneKey
 pub mod ListedValues
 pub mod KeptArgument
+pub mod WordFront
 pub mod Keys

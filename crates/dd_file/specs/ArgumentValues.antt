@@ -1,5 +1,5 @@
 -- An argument as it is kept, and the values of it that are left while they are walked.
-use Rattle.std.specs.Prelude.{ℕ, Bool, true, ◌&&◌, ◌==◌, List, [], ◌∷◌, map, length, unwrap_or, is_some, Option, Some, None, if◌then◌else◌}
+use Rattle.std.specs.Prelude.{ℕ, Bool, true, ◌&&◌, ◌==◌, List, [], ◌∷◌, map, length, unwrap_or, is_some}
 use Rattle.std.specs.List.{list_any}
 use Rattle.ascii_text.specs.WhiteSpace.{trimmed}
 use Rattle.dd_file.specs.Parts.{behind}
@@ -34,7 +34,3 @@ abbrev pub values_left : Left → List ℕ → List (List ℕ)
 values_left Nothing rest = []
 values_left Plain rest = rest ∷ []
 values_left Listed rest = map trimmed (cut_at_commas rest)
-
--- what was found, if anything was
-abbrev pub found_if : {X : Type 0} → Bool → X → Option X
-found_if found x = if found then Some x else None

@@ -1,13 +1,12 @@
 //! The arguments of a directive: a key with values, by a grammar that is own.
-ghost use Rattle.std.specs.Prelude.{◌≡◌, ◌++◌, ◌≤◌, [], ◌∷◌, length, is_some, option_map, IfOk};
+ghost use Rattle.std.specs.Prelude.{◌≡◌, ◌+◌, ◌≤◌, ◌∷◌, true, false, length, drop, is_some, None, IfSome, MatchOption};
 ghost use Rattle.std.specs.List.{list_all, prefix_len};
-ghost use Rattle.dd_file.specs.ArgumentValues.{says_argument, ends_at_closing, found_if};
-ghost use Rattle.dd_file.specs.Words.{is_key_byte, is_key, is_plain, values_of, argument_of};
+ghost use Rattle.dd_file.specs.ArgumentValues.{says_argument};
+ghost use Rattle.dd_file.specs.WordParts.{is_plain_byte, ends_word, word_front};
+ghost use Rattle.dd_file.specs.Words.{is_key_byte, is_key, word_len, values_of, argument_of};
 
-use crate::item::Argument;
 use ascii_text::cut::place_of;
 use ascii_text::white_space::is_space;
-use std::alloc::{AllocError, Global};
 
 /// Whether a key may have the byte: ASCII letters, digits and `-_/,.`.
 fn is_key_byte(b: u8) -> bool
@@ -31,66 +30,87 @@ pub(crate) fn is_key(word: &[u8]) -> bool
 }
 
 /// How many bytes that a key may have come first.
-fn key_len(word: &[u8]) -> usize
+pub(crate) fn key_len(word: &[u8]) -> usize
     ensures len { result ≡ prefix_len is_key_byte word.now }
     ensures within { result ≤ length word.now }
 {
     word.iter().take_while(|b| is_key_byte(**b)).count()
 }
 
-/// Whether the bytes can be a value without parentheses round it.
-fn is_plain(bytes: &[u8]) -> bool
-    ensures { result ≡ is_plain bytes.now }
+/// How many bytes that a value without parentheses round it may have come first.
+fn plain_len(text: &[u8]) -> usize
+    ensures len { result ≡ prefix_len is_plain_byte text.now }
+    ensures within { result ≤ length text.now }
 {
-    bytes
-        .iter()
-        .all(|b| !(is_space(*b) || *b == b'(' || *b == b')'))
+    text.iter().take_while(|b| is_plain_byte(**b)).count()
 }
 
-/// Whether the first closing parenthesis is the last byte.
-fn ends_at_closing(inside: &[u8]) -> bool
-    ensures { result ≡ ends_at_closing inside.now }
+/// Whether a value without parentheses round it may have the byte: no white space, and no parenthesis.
+fn is_plain_byte(b: u8) -> bool
+    ensures { result ≡ is_plain_byte b }
 {
-    place_of(inside, b')') + 1 == inside.len()
+    !(is_space(b) || b == b'(' || b == b')')
 }
 
-/// Whether a text says values, as it may stand behind `=`: a list in parentheses, or one plain value.
-fn has_values(text: &[u8]) -> bool
-    ensures { result ≡ is_some (values_of text.now) }
+/// Whether no more of a word stands at a place of a text: the text ends there, or white space follows.
+fn ends_word(text: &[u8], place: usize) -> bool
+    requires { place ≤ length text.now }
+    ensures { result ≡ ends_word (drop place text.now) }
 {
-    match text.split_first() {
-        Some((b'(', inside)) => ends_at_closing(inside),
-        _ => is_plain(text),
+    match text.get(place) {
+        Some(b) => is_space(*b),
+        None => true,
     }
 }
 
-/// Whether a word says an argument: a key alone, or a key, `=` and values.
-fn says_argument(word: &[u8], key_len: usize) -> bool
-    requires { key_len ≡ prefix_len is_key_byte word.now }
-    ensures { result ≡ says_argument word.now }
+/// How long a list in parentheses is, by what stands behind the first one. None where more of its word follows, or none closes it.
+fn listed_len(inside: &[u8]) -> Option<usize>
+    ensures { MatchOption result (is_some (values_of (word_front (40 ∷ inside.now))) ≡ false)
+        (λ len. (len + 1 ≡ word_len false (40 ∷ inside.now)) × (is_some (values_of (word_front (40 ∷ inside.now))) ≡ true)) }
+{
+    let place = place_of(inside, b')');
+    if place == inside.len() {
+        return None;
+    }
+    if !ends_word(inside, place + 1) {
+        return None;
+    }
+    Some(place + 1)
+}
+
+/// How long the values are that a text begins with, as they may stand behind `=`: a list in parentheses, or one plain
+/// value. None where its first word says no values.
+fn values_len(text: &[u8]) -> Option<usize>
+    ensures { MatchOption result (is_some (values_of (word_front text.now)) ≡ false)
+        (λ len. (len ≡ word_len false text.now) × (is_some (values_of (word_front text.now)) ≡ true)) }
+{
+    let Some((first, inside)) = text.split_first() else {
+        return Some(0);
+    };
+    if *first == b'(' {
+        return Some(listed_len(inside)? + 1);
+    }
+    let len = plain_len(text);
+    if !ends_word(text, len) {
+        return None;
+    }
+    Some(len)
+}
+
+/// How long the first word of a text is that begins with one, where it says an argument: a key alone, or a key, `=` and
+/// values. So much of the text is the key.
+pub(crate) fn argument_len(text: &[u8], key_len: usize) -> Option<usize>
+    requires { key_len ≡ prefix_len is_key_byte text.now }
+    ensures argument { MatchOption result (argument_of (word_front text.now) ≡ None)
+        (λ len. (len ≡ word_len false text.now) × (says_argument (word_front text.now) ≡ true)) }
+    ensures key { IfSome result (λ len. key_len ≡ prefix_len is_key_byte (word_front text.now)) }
 {
     if key_len == 0 {
-        return false;
+        return None;
     }
-    match word.get(key_len) {
-        None => true,
-        Some(b'=') => has_values(&word[key_len + 1..]),
-        Some(_) => false,
+    match text.get(key_len) {
+        None => Some(key_len),
+        Some(b'=') => Some(key_len + 1 + values_len(&text[key_len + 1..])?),
+        Some(b) => { if is_space(*b) { Some(key_len) } else { None } }
     }
-}
-
-/// Puts what a word says behind other arguments. Answers whether it says one.
-pub(crate) fn push_argument(
-    arguments: &mut Vec<Argument>,
-    alloc: Global,
-    word: &[u8],
-) -> Result<bool, AllocError>
-    ensures { IfOk result (λ found. found_if found arguments.new.items ≡ option_map (λ argument. arguments.old.items ++ argument ∷ []) (argument_of word.now)) }
-{
-    let key_len = key_len(word);
-    if !says_argument(word, key_len) {
-        return Ok(false);
-    }
-    arguments.push(Argument::new(alloc, word, key_len)?)?;
-    Ok(true)
 }

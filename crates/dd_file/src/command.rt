@@ -2,9 +2,9 @@
 ghost use Rattle.std.specs.Prelude.{◌≡◌, IfOk, option_map};
 ghost use Rattle.dd_file.specs.Words.{is_command_name, words_of, arguments_of, command_of};
 
-use crate::arguments::{is_key, push_argument};
+use crate::arguments::{argument_len, is_key, key_len};
 use crate::item::Argument;
-use crate::words::next_word;
+use crate::words::{from_word, next_word};
 use smallvec::SmallVec;
 use std::alloc::{AllocError, Global};
 use std::marker::Model;
@@ -43,10 +43,13 @@ fn parse_arguments(alloc: Global, text: &[u8]) -> Result<Option<Vec<Argument>>, 
 {
     let mut arguments = Vec::new(alloc);
     let mut rest = text;
-    while let Some((word, behind)) = next_word(rest) {
-        if !push_argument(&mut arguments, alloc, word)? {
+    while let Some(begun) = from_word(rest) {
+        let key_len = key_len(begun);
+        let Some(len) = argument_len(begun, key_len) else {
             return Ok(None);
-        }
+        };
+        let (word, behind) = begun.split_at(len);
+        arguments.push(Argument::new(alloc, word, key_len)?)?;
         rest = behind;
     }
     Ok(Some(arguments))

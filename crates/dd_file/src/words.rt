@@ -1,5 +1,5 @@
 //! The words of a directive's text: white space parts them, but not between parentheses.
-ghost use Rattle.std.specs.Prelude.{◌≡◌, ◌<◌, ◌≤◌, false, [], ◌∷◌, length, IfSome, MatchOption};
+ghost use Rattle.std.specs.Prelude.{◌≡◌, ◌<◌, ◌≤◌, false, [], ◌∷◌, length, take, drop, IfSome, MatchOption};
 ghost use Rattle.std.specs.List.{prefix_len};
 ghost use Rattle.dd_file.specs.WordParts.{is_outside};
 ghost use Rattle.dd_file.specs.Words.{word_len, words_of};
@@ -36,15 +36,26 @@ fn word_len(text: &[u8]) -> usize
     }
 }
 
+/// The text from its first word on. White space alone has no word.
+pub(crate) fn from_word(text: &[u8]) -> Option<&[u8]>
+    ensures words { MatchOption result (words_of text.now ≡ [])
+        (λ begun. words_of text.now ≡ take (word_len false begun.now) begun.now ∷ words_of (drop (word_len false begun.now) begun.now)) }
+    ensures some { IfSome result (λ begun. 0 < word_len false begun.now) }
+    ensures within { IfSome result (λ begun. length begun.now ≤ length text.now) }
+{
+    let begun = without_leading_space(text);
+    if begun.is_empty() {
+        return None;
+    }
+    Some(begun)
+}
+
 /// The first word of a text, and what stands behind it. White space alone has no word.
 pub(crate) fn next_word(text: &[u8]) -> Option<(&[u8], &[u8])>
     ensures words { MatchOption result (words_of text.now ≡ [])
         (λ found. words_of text.now ≡ found.0.now ∷ words_of found.1.now) }
     ensures shorter { IfSome result (λ found. length found.1.now < length text.now) }
 {
-    let begun = without_leading_space(text);
-    if begun.is_empty() {
-        return None;
-    }
+    let begun = from_word(text)?;
     Some(begun.split_at(word_len(begun)))
 }

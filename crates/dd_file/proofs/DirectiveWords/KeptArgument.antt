@@ -1,32 +1,14 @@
 -- What a word says as an argument, from the end of its key on.
-use Rattle.std.proofs.Common.{◌≡◌, ℕ, ◌+◌, ◌≤◌, ◌<◌, suc, Bool, true, false, List, [], ◌∷◌, length, take, drop, get_or, refl, sym, ◌∙◌, ap, arith, rules}
+use Rattle.std.proofs.Common.{◌≡◌, ℕ, ◌+◌, ◌≤◌, ◌<◌, Bool, true, false, List, [], ◌∷◌, length, take, drop, get_or, refl, sym, ◌∙◌, ap, arith, rules}
 use Rattle.std.specs.Prelude.{◌==◌, Option, Some, None, is_some, option_map, unwrap_or}
 use Rattle.std.proofs.lemmas.List.{drop_more, take_all, length-drop}
-use Rattle.std.proofs.Math.ListN.{drop_of_length-le}
 use Rattle.dd_file.specs.ArgumentValues.{says_argument, argument_in, says_values, values_behind}
 use Rattle.dd_file.specs.Words.{ArgumentText, is_equals, with_key, values_of, argument_of}
 use Rattle.dd_file.proofs.DirectiveWords.LoneKey.{key_len, argument_of-no_key, argument_of-alone, argument_of-values, argument_of-other}
 
--- ---- a key and nothing behind it
-pub argument_of-whole : (word : List ℕ) (n : ℕ) → n ≡ key_len word → (n ≡ 0 → ⊥) → length word ≤ n → Some (with_key (take n word) []) ≡ argument_of word
-argument_of-whole word n is some all =
-    let full : (length word == 0) ≡ false = filled word n some is in
-    ap (λ k. Some (with_key k [])) (take_all n word all) ∙ argument_of-alone word full (sym (ap (λ m. drop m word) is) ∙ drop_of_length-le word all) where
-      filled : (w : List ℕ) (m : ℕ) → (m ≡ 0 → ⊥) → m ≡ key_len w → (length w == 0) ≡ false
-      filled [] m h e = absurd (h e)
-      filled (b ∷ bs) m h e = search rules
-
--- ---- a key and more behind it
--- what stands behind the key
+-- ---- what stands behind the key
 pub behind-key : (word : List ℕ) (n b : ℕ) → n ≡ key_len word → n < length word → b ≡ get_or word n 0 → drop (key_len word) word ≡ b ∷ drop (n + 1) word
 behind-key word n b is lt found = ap (λ m. drop m word) (sym is) ∙ drop_more word n 0 lt ∙ ap (λ x. x ∷ drop (n + 1) word) (sym found)
-
--- what stands behind `=` tells of the word
-pub argument_of-said : (word : List ℕ) (n b : ℕ) → n ≡ key_len word → (n ≡ 0 → ⊥) → n < length word → b ≡ get_or word n 0 → is_equals b ≡ true →
-    option_map (with_key (take n word)) (values_of (drop (n + 1) word)) ≡ argument_of word
-argument_of-said word n b is some lt found equals =
-    let full : (key_len word == 0) ≡ false = let no : key_len word ≡ 0 → ⊥ = λ e. some (is ∙ e) in search rules in
-    ap (λ m. option_map (with_key (take m word)) (values_of (drop (n + 1) word))) is ∙ argument_of-values word b (drop (n + 1) word) full (behind-key word n b is lt found) equals
 
 pub is_some-option_map : {X Y : Type 0} (f : X → Y) (o : Option X) → is_some (option_map f o) ≡ is_some o
 is_some-option_map f None = refl

@@ -23,7 +23,7 @@ word_len-outside (x ∷ xs) = at (is_space x) (is_opening x) refl refl (word_len
   at true d c e ih = omega arith
 
 -- between parentheses, up to the closing one
-word_len-inside : (text : List ℕ) → word_len true text ≡ position_or_len is_closing text + word_len false (drop (position_or_len is_closing text) text)
+pub word_len-inside : (text : List ℕ) → word_len true text ≡ position_or_len is_closing text + word_len false (drop (position_or_len is_closing text) text)
 word_len-inside [] = refl
 word_len-inside (x ∷ xs) = at (is_closing x) refl (word_len-inside xs) where
   n : ℕ

@@ -1,4 +1,4 @@
-use Rattle.std.proofs.Common.{◌≡◌, ◌+◌, ◌-◌, ◌≤◌, ℕ, List, true, false, [], ◌∷◌, length, map, take, drop, refl, sym, ap, subst, ◌∙◌, arith, rules}
+use Rattle.std.proofs.Common.{take, sym, ap, ◌∙◌}
 use Rattle.dd_file.specs.Words.{ArgumentText}
 use Rattle.dd_file.proofs.DirectiveWords.KeptArgument.{argument_in-key}
 use Rattle.dd_file.proofs.item.Argument.key.Goals as goal

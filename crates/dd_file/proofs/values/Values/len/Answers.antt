@@ -1,4 +1,4 @@
-use Rattle.std.proofs.Common.{◌≡◌, ◌+◌, ◌-◌, ◌≤◌, ◌<◌, ℕ, List, true, false, [], ◌∷◌, length, map, take, drop, refl, sym, ap, subst, ◌∙◌, arith, rules}
+use Rattle.std.proofs.Common.{◌+◌, length, sym, ap, ◌∙◌}
 use Rattle.ascii_text.specs.WhiteSpace.{trimmed}
 use Rattle.std.proofs.lemmas.List.{length-map}
 use Rattle.dd_file.specs.ArgumentValues.{values_left}
