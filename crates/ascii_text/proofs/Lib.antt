@@ -4,3 +4,4 @@ mod WordLemmas
 mod LineEnds
 mod Pieces
 mod NumberLemmas
+mod Digits

@@ -2,6 +2,8 @@
 ghost use Rattle.std.specs.Prelude.{◌≡◌, ◌==◌, ◌≤◌, length};
 ghost use Rattle.std.specs.List.{position_or_len};
 
+use memchr::memchr;
+
 /// The place of the first such byte, or the length of the text.
 pub fn place_of(text: &[u8], byte: u8) -> usize
     ensures place { result ≡ position_or_len (λ b. b == byte) text.now }
@@ -13,4 +15,15 @@ pub fn place_of(text: &[u8], byte: u8) -> usize
         }
     }
     text.len()
+}
+
+/// The same for a byte that mostly stands far off: it is looked for a run of bytes at a time.
+pub fn far_place_of(text: &[u8], byte: u8) -> usize
+    ensures place { result ≡ position_or_len (λ b. b == byte) text.now }
+    ensures within { result ≤ length text.now }
+{
+    match memchr(byte, text) {
+        Some(place) => place,
+        None => text.len(),
+    }
 }

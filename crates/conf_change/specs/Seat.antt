@@ -1,9 +1,10 @@
 -- What an id is in a configuration, and after the last word on it.
 use Rattle.std.specs.Prelude.{ℕ, Bool, ◌||◌, Option}
 use Rattle.quorum_sets.specs.Ids.{has}
-use Rattle.conf_change.specs.Configuration.{Configuration}
+use Rattle.conf_change.specs.Configuration.{Configuration, is_member}
 use Rattle.conf_change.specs.Change.{is_incoming_after, is_learner_after, is_next_after}
 use Rattle.conf_change.specs.declared.change.Kind.{Kind}
+use Rattle.conf_change.specs.declared.seat.Membership.{Membership}
 use Rattle.conf_change.specs.declared.seat.Seat.{Seat}
 
 -- what an id is in a configuration
@@ -22,3 +23,7 @@ seat_after seat word = record {
 -- a voter of either kind, or a learner
 abbrev pub is_member_seat : Seat → Bool
 is_member_seat seat = seat.incoming || seat.outgoing || seat.learner
+
+-- whether an id is a member of a configuration, and whether it is a learner there
+abbrev pub membership_in : Configuration → ℕ → Membership
+membership_in c id = record { member = is_member c id; learner = has c.learners id }

@@ -65,6 +65,7 @@ impl<S: MemberSet> Changer<S> {
     }
 
     // A changer that begins with a tracker.
+    #[inline(always)]
     pub(crate) fn begin(tracker: Tracker<S>, last_index: u64) -> Changer<S>
         requires { IsSound tracker }
         ensures begun { result ≡ changer_of tracker last_index }
@@ -125,6 +126,7 @@ impl<S: MemberSet> Changer<S> {
     }
 
     /// Takes the configuration out of a changer that is done with. Nobody is in it then.
+    #[inline(always)]
     pub fn take_config(&mut self) -> Config<S>
         ensures config { result ≡ self.old.tracker.config }
         ensures left { self.new ≡ new_changer self.old.tracker.floor self.old.last_index }

@@ -8,7 +8,7 @@ ghost use Rattle.conf_change.specs.ConfStateLine.{SpellsNumbers, StandsForConfSt
 
 use crate::append::{append, append_numbers, keep_whole};
 use crate::conf_state_form::{ConfState, ConfStateFault};
-use ascii_text::cut::place_of;
+use ascii_text::cut::{far_place_of, place_of};
 use ascii_text::number::read_number;
 use ascii_text::white_space::trimmed;
 use quorum_sets::NoMemory;
@@ -122,7 +122,7 @@ fn read_field<'a>(
     let text = text
         .strip_prefix(prefix)
         .ok_or(ConfStateFault::BadConfState)?;
-    let (numbers, rest) = text.split_at(place_of(text, b']'));
+    let (numbers, rest) = text.split_at(far_place_of(text, b']'));
     Ok((read_numbers(alloc, numbers)?, rest))
 }
 

@@ -61,6 +61,7 @@ pub enum Invariant {
 
 impl<S: MemberSet> Config<S> {
     // Nobody is in it.
+    #[inline(always)]
     pub(crate) fn empty(alloc: Global) -> Config<S>
         ensures { result ≡ empty_configuration }
     {

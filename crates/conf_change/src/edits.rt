@@ -3,49 +3,58 @@ ghost use Rattle.std.specs.Prelude.{◌≡◌, ◌≢◌, [], ◌∷◌, ◌++�
 ghost use Rattle.quorum_sets.specs.Ids.{ids_of, ascending};
 ghost use Rattle.conf_change.specs.Change.{result_of};
 ghost use Rattle.conf_change.specs.Outcome.{after_leave};
+ghost use Rattle.conf_change.specs.Seat.{membership_in};
 ghost use Rattle.conf_change.specs.declared.change.Change.{Change};
 
 use crate::change::{Change, Kind};
 use crate::config::Config;
+use crate::seat::Membership;
 use quorum_sets::{MemberSet, NoMemory};
 use smallvec::SmallVec;
 
-// Makes one change. After want of memory the configuration is as it was.
-pub(crate) fn apply<S: MemberSet>(config: &mut Config<S>, change: Change) -> Result<(), NoMemory>
+// Makes one change, and answers what its id is then. After want of memory the configuration is as it was.
+pub(crate) fn apply<S: MemberSet>(
+    config: &mut Config<S>,
+    change: Change,
+) -> Result<Membership, NoMemory>
     ensures ok { OnOk result (config.new ≡ result_of config.old (change ∷ [])) }
     ensures err { OnErr result (config.new ≡ config.old) }
+    ensures membership { IfOk result (λ id_is. id_is ≡ membership_in config.new change.id) }
 {
-    if change.id == 0 {
-        return Ok(());
-    }
     match change.kind {
-        Kind::Voter => make_voter(config, change.id)?,
-        Kind::Learner => make_learner(config, change.id)?,
-        Kind::Remove => take_out(config, change.id),
-        Kind::Update => {}
+        _ if change.id == 0 => Ok(Membership::of(config, change.id)),
+        Kind::Voter => make_voter(config, change.id),
+        Kind::Learner => make_learner(config, change.id),
+        Kind::Remove => Ok(take_out(config, change.id)),
+        Kind::Update => Ok(Membership::of(config, change.id)),
     }
-    Ok(())
 }
 
 // Makes the id an incoming voter.
-fn make_voter<S: MemberSet>(config: &mut Config<S>, id: u64) -> Result<(), NoMemory>
+fn make_voter<S: MemberSet>(config: &mut Config<S>, id: u64) -> Result<Membership, NoMemory>
     requires { id ≢ 0 }
     ensures ok { OnOk result (let change : Change = record { kind = Kind.Voter; id = id } in config.new ≡ result_of config.old (change ∷ [])) }
     ensures err { OnErr result (config.new ≡ config.old) }
+    ensures membership { IfOk result (λ id_is. id_is ≡ membership_in config.new id) }
 {
     config.incoming.insert(id)?;
     config.learners.remove(id);
     config.learners_next.remove(id);
-    Ok(())
+    Ok(Membership {
+        member: true,
+        learner: false,
+    })
 }
 
 // Makes the id a learner. One that is still an outgoing voter waits among the next learners.
-fn make_learner<S: MemberSet>(config: &mut Config<S>, id: u64) -> Result<(), NoMemory>
+fn make_learner<S: MemberSet>(config: &mut Config<S>, id: u64) -> Result<Membership, NoMemory>
     requires { id ≢ 0 }
     ensures ok { OnOk result (let change : Change = record { kind = Kind.Learner; id = id } in config.new ≡ result_of config.old (change ∷ [])) }
     ensures err { OnErr result (config.new ≡ config.old) }
+    ensures membership { IfOk result (λ id_is. id_is ≡ membership_in config.new id) }
 {
-    if config.outgoing.contains(id) {
+    let waits = config.outgoing.contains(id);
+    if waits {
         config.learners_next.insert(id)?;
         config.learners.remove(id);
     } else {
@@ -53,17 +62,25 @@ fn make_learner<S: MemberSet>(config: &mut Config<S>, id: u64) -> Result<(), NoM
         config.learners_next.remove(id);
     }
     config.incoming.remove(id);
-    Ok(())
+    Ok(Membership {
+        member: true,
+        learner: !waits,
+    })
 }
 
 // Takes the id out; an outgoing voter stays one until the joint configuration is left.
-fn take_out<S: MemberSet>(config: &mut Config<S>, id: u64)
+fn take_out<S: MemberSet>(config: &mut Config<S>, id: u64) -> Membership
     requires { id ≢ 0 }
-    ensures { let change : Change = record { kind = Kind.Remove; id = id } in config.new ≡ result_of config.old (change ∷ []) }
+    ensures out { let change : Change = record { kind = Kind.Remove; id = id } in config.new ≡ result_of config.old (change ∷ []) }
+    ensures membership { result ≡ membership_in config.new id }
 {
     config.incoming.remove(id);
     config.learners.remove(id);
     config.learners_next.remove(id);
+    Membership {
+        member: config.outgoing.contains(id),
+        learner: false,
+    }
 }
 
 // Makes a configuration what another one is when it is not joint any more: the outgoing voters are gone, and the next
@@ -75,19 +92,11 @@ pub(crate) fn leave<S: MemberSet>(
     ensures { OnOk result (config.new ≡ after_leave before.now) }
 {
     let alloc = before.incoming.allocator();
-    copy_ids(&mut config.incoming, &before.incoming)?;
+    config.incoming.try_clone_from(&before.incoming)?;
     config.outgoing = S::empty(alloc);
     config.learners = union(&before.learners, &before.learners_next)?;
     config.learners_next = S::empty(alloc);
     config.auto_leave = false;
-    Ok(())
-}
-
-// Makes a set the same as another one.
-pub(crate) fn copy_ids<S: MemberSet>(set: &mut S, other: &S) -> Result<(), NoMemory>
-    ensures { OnOk result (S.ids set.new ≡ S.ids other.now) }
-{
-    *set = other.try_clone()?;
     Ok(())
 }
 

@@ -3,16 +3,14 @@ ghost use Rattle.std.specs.Prelude.{◌≡◌, ℕ, true, length, ◌==◌, Some
 ghost use Rattle.std.specs.Ordering.{nat_cmp};
 ghost use Rattle.std.specs.FinMap as finite;
 ghost use Rattle.smallvec.specs.SmallVec.{HasRoomFor};
-ghost use Rattle.quorum_sets.specs.Ids.{has};
 ghost use Rattle.quorum_sets.specs.Cut.{IsCut};
 ghost use Rattle.quorum_sets.specs.Rising.{IsRising, StandsAt, GoesTo};
-ghost use Rattle.conf_change.specs.Configuration.{is_member};
 ghost use Rattle.conf_change.specs.Progress.{fresh_progress, with_mark};
 ghost use Rattle.conf_change.specs.TrackerEdits.{entry_of};
 
-use crate::config::Config;
 use crate::progress::Progress;
-use quorum_sets::{MemberSet, NoMemory};
+use crate::seat::Membership;
+use quorum_sets::NoMemory;
 use smallvec::SmallVec;
 
 // The progress of the id.
@@ -37,22 +35,21 @@ pub(crate) fn set_progress_of(members: &mut [(u64, Progress)], id: u64, progress
     }
 }
 
-// Gives an id the progress that it is to have in a configuration: a member keeps what it has or begins afresh, with its
-// mark, and anybody else has none.
-pub(crate) fn follow<S: MemberSet>(
+// Gives an id the progress that it is to have where it is this in a configuration: a member keeps what it has or begins
+// afresh, with its mark, and anybody else has none.
+pub(crate) fn follow(
     members: &mut SmallVec<(u64, Progress), 1>,
-    config: &Config<S>,
     id: u64,
+    id_is: Membership,
     next_index: u64,
 ) -> Result<(), NoMemory>
     requires { IsRising (map (λ m. m.0) members.old.items) }
     ensures rising { IsRising (map (λ m. m.0) members.new.items) }
-    ensures entries { OnOk result ((q : ℕ) → finite.get (finite.from_entries {R = nat_cmp} members.new.items) q ≡ (if q == id then entry_of next_index (is_member config.now id) (has config.now.learners id) (finite.get (finite.from_entries {R = nat_cmp} members.old.items) id) else finite.get (finite.from_entries {R = nat_cmp} members.old.items) q)) }
+    ensures entries { OnOk result ((q : ℕ) → finite.get (finite.from_entries {R = nat_cmp} members.new.items) q ≡ (if q == id then entry_of next_index id_is.member id_is.learner (finite.get (finite.from_entries {R = nat_cmp} members.old.items) id) else finite.get (finite.from_entries {R = nat_cmp} members.old.items) q)) }
     ensures room { HasRoomFor members.old 1 → IsOk result }
 {
-    let learner = config.learners.contains(id);
-    if learner || config.incoming.contains(id) || config.outgoing.contains(id) {
-        keep_or_begin(members, id, learner, next_index)?;
+    if id_is.member {
+        keep_or_begin(members, id, id_is.learner, next_index)?;
     } else {
         take_out(members, id);
     }

@@ -1,8 +1,10 @@
 //! What an id is in a configuration.
 ghost use Rattle.std.specs.Prelude.{◌≡◌};
-ghost use Rattle.conf_change.specs.Seat.{seat_after, is_member_seat};
+ghost use Rattle.conf_change.specs.Seat.{seat_after, is_member_seat, membership_in};
 
 use crate::change::Kind;
+use crate::config::Config;
+use quorum_sets::MemberSet;
 
 /// In which of the four sets of a configuration an id is.
 #[derive(Clone, Copy, Debug)]
@@ -36,5 +38,25 @@ impl Seat {
         ensures { result ≡ is_member_seat self }
     {
         self.incoming || self.outgoing || self.learner
+    }
+}
+
+/// Whether an id is a member of a configuration, and whether it is a learner there.
+#[derive(Clone, Copy)]
+pub(crate) struct Membership {
+    pub(crate) member: bool,
+    pub(crate) learner: bool,
+}
+
+impl Membership {
+    // What the id is in a configuration.
+    pub(crate) fn of<S: MemberSet>(config: &Config<S>, id: u64) -> Membership
+        ensures { result ≡ membership_in config.now id }
+    {
+        let learner = config.learners.contains(id);
+        Membership {
+            member: config.incoming.contains(id) || config.outgoing.contains(id) || learner,
+            learner,
+        }
     }
 }

@@ -35,6 +35,7 @@ fn append_config<S: MemberSet>(text: &mut Vec<u8>, config: &Config<S>) -> Result
 }
 
 // Appends a name and a set, unless the set is empty.
+#[inline(always)]
 fn append_any<S: MemberSet>(text: &mut Vec<u8>, name: &[u8], set: &S) -> Result<(), NoMemory>
     ensures ok { OnOk result (text.new.items ≡ text.old.items ++ where_there (not (is_empty (S.ids set.now))) (name.now ++ set_text (S.ids set.now))) }
     ensures extends { Extends text.old.items text.new.items }
@@ -45,7 +46,8 @@ fn append_any<S: MemberSet>(text: &mut Vec<u8>, name: &[u8], set: &S) -> Result<
     Ok(())
 }
 
-// Appends a name and a set.
+// Appends a name and a set. It is written out where it is called, so that the length of the name is known.
+#[inline(always)]
 fn append_set<S: MemberSet>(text: &mut Vec<u8>, name: &[u8], set: &S) -> Result<(), NoMemory>
     ensures ok { OnOk result (text.new.items ≡ text.old.items ++ (name.now ++ set_text (S.ids set.now))) }
     ensures extends { Extends text.old.items text.new.items }

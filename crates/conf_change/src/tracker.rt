@@ -59,6 +59,7 @@ impl<S: MemberSet> Model for Tracker<S> {
 
 impl<S: MemberSet> Tracker<S> {
     // Nobody is in it.
+    #[inline(always)]
     pub(crate) fn new(alloc: Global, floor: Floor) -> Tracker<S>
         ensures { result ≡ nobody floor }
     {
@@ -71,6 +72,7 @@ impl<S: MemberSet> Tracker<S> {
     }
 
     // The tracker of a configuration and its members' progress.
+    #[inline(always)]
     pub(crate) fn begin(
         alloc: Global,
         floor: Floor,
@@ -103,6 +105,7 @@ impl<S: MemberSet> Tracker<S> {
     }
 
     // Takes the configuration out, and lets everybody go.
+    #[inline(always)]
     pub(crate) fn take_config(&mut self) -> Config<S>
         ensures config { result ≡ self.old.config }
         ensures left { self.new ≡ nobody self.old.floor }
@@ -186,8 +189,8 @@ impl<S: MemberSet> Tracker<S> {
         ensures err { OnErr result (self.new ≡ self.old) }
     {
         self.members.reserve(1)?;
-        edits::apply(&mut self.config, change)?;
-        let Ok(()) = follow(&mut self.members, &self.config, change.id, next_index) else {
+        let id_is = edits::apply(&mut self.config, change)?;
+        let Ok(()) = follow(&mut self.members, change.id, id_is, next_index) else {
             unreachable!()
         };
         Ok(())
@@ -201,6 +204,7 @@ impl<S: MemberSet> Tracker<S> {
     }
 
     // The tracker that nobody is in, with the same floor.
+    #[inline(always)]
     pub(crate) fn nobody(&self) -> Tracker<S>
         ensures { result ≡ nobody self.now.floor }
     {
@@ -246,10 +250,13 @@ impl<S: MemberSet> Tracker<S> {
     ) -> Result<(), NoMemory>
         ensures { OnOk result (self.new ≡ beginning before.now (S.ids outgoing.now) auto_leave) }
     {
-        edits::copy_ids(&mut self.config.incoming, &before.config.incoming)?;
-        edits::copy_ids(&mut self.config.outgoing, outgoing)?;
-        edits::copy_ids(&mut self.config.learners, &before.config.learners)?;
-        edits::copy_ids(&mut self.config.learners_next, &before.config.learners_next)?;
+        let config = &before.config;
+        self.config.incoming.try_clone_from(&config.incoming)?;
+        self.config.outgoing.try_clone_from(outgoing)?;
+        self.config.learners.try_clone_from(&config.learners)?;
+        self.config
+            .learners_next
+            .try_clone_from(&config.learners_next)?;
         self.config.auto_leave = auto_leave;
         self.floor = before.floor;
         copy_members(&mut self.members, before.members.as_slice(), more)
@@ -365,8 +372,8 @@ fn make_each<S: MemberSet>(
         (tracker_of floor config.old (finite.from_entries members.old.items)) (tracker_of floor config.new (finite.from_entries members.new.items))) }
 {
     for change in changes {
-        edits::apply(config, *change)?;
-        follow(members, config, change.id, next_index)?;
+        let id_is = edits::apply(config, *change)?;
+        follow(members, change.id, id_is, next_index)?;
     }
     Ok(())
 }

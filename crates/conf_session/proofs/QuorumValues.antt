@@ -1,15 +1,17 @@
 -- What the values of quorum arguments give, place by place.
-use Rattle.std.proofs.Common.{◌≡◌, ℕ, ◌+◌, ◌≤◌, ◌==◌, Bool, true, false, cond, not, List, [], ◌∷◌, ◌++◌, length, filter, filter_map, map, take, drop, refl, sym, ap, ◌∙◌, inl, inr, arith}
+use Rattle.std.proofs.Common.{◌≡◌, ℕ, ◌+◌, ◌<◌, ◌≤◌, ◌==◌, ◌&&◌, get_or, Bool, true, false, cond, not, List, [], ◌∷◌, ◌++◌, length, filter, filter_map, map, take, drop, refl, sym, ap, ◌∙◌, inl, inr, arith}
 use Rattle.std.specs.Prelude.{◌||◌, Option, Some, None, option_map, option_to_list, slice_get}
-use Rattle.std.specs.List.{find, list_any, zip}
+use Rattle.std.specs.List.{find, list_any, zip, position_or_len}
 use Rattle.std.specs.Ordering.{nat_cmp}
 use Rattle.std.specs.Cmp.{nat_cmp_total, unsigned_tied, eq_by_cmp_equiv, nat_eq_equiv}
 use Rattle.std.specs.Ordering.{eq_by_cmp}
 use Rattle.std.specs.BTreeSet.{BTreeSet, Updates, contains}
 use Rattle.std.specs.FinMap as finite
-use Rattle.std.proofs.lemmas.List.{append-nil, drop_more, drop_all}
+use Rattle.std.proofs.lemmas.List.{append-nil, drop_more, drop_all, take_more, length-take-le}
+use Rattle.std.proofs.lemmas.List.Folds.{position_or_len_push}
+use Rattle.std.proofs.lemmas.List.Sums.{prefix_len-le-length}
 use Rattle.std.proofs.lemmas.Option.{slice_get_within, slice_get_cases, get_or_from_slice_get}
-use Rattle.std.proofs.lemmas.Bool.{eqb-true}
+use Rattle.std.proofs.lemmas.Bool.{eqb-true, false_from_ne_true}
 use Rattle.std.proofs.lemmas.List.Elements.{filter-append, filter_map-append}
 use Rattle.quorum_sets.proofs.Offered.{take-one_more}
 use Rattle.conf_session.specs.NamedQuorum.{map_said}
@@ -102,26 +104,10 @@ pub old-there : (ids : List ℕ) (i id : ℕ) → slice_get ids i ≡ Some id �
 old-there ids i id e some =
     sym (ap each_once (take-one_more ids i id e) ∙ once-more (take i ids) id ∙ ap (λ b. each_once (take i ids) ++ cond b [] (id ∷ [])) some ∙ append-nil (each_once (take i ids)))
 
--- ---- what was seen is what is there once
-or-again : (a b r : Bool) → a ≡ b → (a || (b || r)) ≡ (a || r)
-or-again true b r e = refl
-or-again false b r e = rw (sym e) refl
-
-or-more : (a b r s : Bool) → (a || r) ≡ (a || s) → (a || (b || r)) ≡ (a || (b || s))
-or-more true b r s e = refl
-or-more false b r s e = ap (λ x. b || x) e
-
-any-kept : (q x : ℕ) (ys : List ℕ) → ((x == q) || list_any (λ y. y == q) (filter (λ other. not (other == x)) ys)) ≡ ((x == q) || list_any (λ y. y == q) ys)
-any-kept q x [] = refl
-any-kept q x (y ∷ ys) = at (y == x) refl (any-kept q x ys) where
-  at : (same : Bool) → (y == x) ≡ same → ((x == q) || list_any (λ y. y == q) (filter (λ other. not (other == x)) ys)) ≡ ((x == q) || list_any (λ y. y == q) ys) →
-      ((x == q) || list_any (λ y. y == q) (filter (λ other. not (other == x)) (y ∷ ys))) ≡ ((x == q) || list_any (λ y. y == q) (y ∷ ys))
-  at true e rest = rw e (rest ∙ sym (or-again (x == q) (y == q) (list_any (λ y. y == q) ys) (ap (λ z. z == q) (sym (eqb-true y x e)))))
-  at false e rest = rw e (or-more (x == q) (y == q) _ _ rest)
-
-pub any-once : (q : ℕ) (xs : List ℕ) → list_any (λ y. y == q) (each_once xs) ≡ list_any (λ other. q == other) xs
-any-once q [] = refl
-any-once q (x ∷ xs) = any-kept q x (each_once xs) ∙ (λ i. nat_eq_equiv.symm x q i || any-once q xs i)
+-- ---- whether an id is there, asked from either side
+pub any-either : (q : ℕ) (xs : List ℕ) → list_any (λ y. y == q) xs ≡ list_any (λ other. q == other) xs
+any-either q [] = refl
+any-either q (x ∷ xs) = λ i. nat_eq_equiv.symm x q i || any-either q xs i
 
 -- ---- what is given, entry by entry
 -- an id with what is said of it, if something is known
@@ -162,6 +148,26 @@ pub said-by-values : {V : Type 0} (says : List ℕ → Option V) (ids : List ℕ
 said-by-values says [] values = refl
 said-by-values says (id ∷ ids) [] = refl
 said-by-values says (id ∷ ids) (value ∷ values) = ap (λ given. with_given given id (says value)) (said-by-values says ids values)
+
+-- one more entry: the place goes on while no entry before was the id's
+pub place-further : {V : Type 0} (id : ℕ) (list : List (ℕ × V)) (k place : ℕ) (y : ℕ × V) (before : Bool) (byte : Bool → ℕ) → byte true ≡ 1 → byte false ≡ 0
+    → k < length list → y ≡ get_or list k y → place ≡ position_or_len (λ e. e.0 == id) (take k list) → before ≡ (place == k)
+    → let now = before && not (y.0 == id) in (place + byte now ≡ position_or_len (λ e. e.0 == id) (take (k + 1) list)) × (now ≡ (place + byte now == k + 1))
+place-further {V = V} id list k place y before byte one none within item so_far same =
+    let p : ℕ × V → Bool = λ e. e.0 == id in
+    let passed = length-take-le k list (omega arith) in
+    let few = prefix_len-le-length (λ e. not (p e)) (take k list) in
+    let step = at before (y.0 == id) (sym same) (omega arith) in
+    let more =
+    ap (position_or_len p) (take_more list k y within ∙ ap (λ x. take k list ++ x ∷ []) (sym item)) ∙ position_or_len_push p (take k list) y
+    ∙ (λ i. cond (sym so_far i == passed i) (passed i + cond (y.0 == id) 0 1) (sym so_far i)) ∙ ap (λ b. cond b (k + cond (y.0 == id) 0 1) place) (sym same) in
+    (step.0 ∙ sym more, step.1)
+  where
+    at : (b c : Bool) → (place == k) ≡ b → place ≤ k → (place + byte (b && not c) ≡ cond b (k + cond c 0 1) place) × ((b && not c) ≡ (place + byte (b && not c) == k + 1))
+    at true true e le = let here = eqb-true place k e in (omega (arith, none, here), sym (false_from_ne_true _ (λ f. absurd (omega (arith, none, here, eqb-true _ _ f)))))
+    at true false e le = let here = eqb-true place k e in (omega (arith, one, here), sym (ap (λ n. n == k + 1) (omega (arith, one, here)) ∙ nat_eq_equiv.refl (k + 1)))
+    at false true e le = (omega (arith, none), sym (false_from_ne_true _ (λ f. absurd (omega (arith, none, le, eqb-true _ _ f)))))
+    at false false e le = (omega (arith, none), sym (false_from_ne_true _ (λ f. absurd (omega (arith, none, le, eqb-true _ _ f)))))
 
 -- what a list of entries has at an id
 pub get-entry : {V : Type 0} (id : ℕ) (entries : List (ℕ × V)) → finite.get (finite.from_entries {R = nat_cmp} entries) id ≡ option_map (λ e. e.1) (find (λ e. e.0 == id) entries)

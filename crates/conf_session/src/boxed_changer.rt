@@ -67,6 +67,7 @@ impl BoxedChanger {
     }
 
     /// Takes the configuration out of a changer that is done with.
+    #[inline(always)]
     pub(crate) fn take_config(&mut self) -> Config<SessionIds>
         ensures { result ≡ self.old.tracker.config }
     {

@@ -1,6 +1,6 @@
 //! What ids are given: their votes, or the indexes that they acknowledged.
-ghost use Rattle.std.specs.Prelude.{◌≡◌, ◌==◌, option_copied};
-ghost use Rattle.std.specs.List.{find};
+ghost use Rattle.std.specs.Prelude.{◌≡◌, ◌==◌};
+ghost use Rattle.std.specs.List.{find, position_or_len};
 ghost use Rattle.conf_session.specs.Given.{given_in};
 
 use crate::parameter::{Parameter, is_unknown};
@@ -97,15 +97,13 @@ impl GivenValue for bool {
     }
 
     fn read(value: &[u8]) -> Option<Option<bool>> {
-        if value == b"y".as_slice() {
-            Some(Some(true))
-        } else if value == b"n".as_slice() {
-            Some(Some(false))
-        } else if is_unknown(value) {
-            Some(None)
-        } else {
-            None
+        // No branch is taken by which of the three it is.
+        let is_yes = value == b"y".as_slice();
+        let is_known = is_yes | (value == b"n".as_slice());
+        if !(is_known | is_unknown(value)) {
+            return None;
         }
+        Some(if is_known { Some(is_yes) } else { None })
     }
 }
 
@@ -157,10 +155,23 @@ impl<V: GivenValue> Given<V> {
 }
 
 // The first entry of the id.
-fn entry_of<V: GivenValue>(list: &[(u64, V)], id: u64) -> Option<&(u64, V)>
-    ensures { option_copied result ≡ find (λ entry. entry.0 == id) list.now }
+fn entry_of<V: GivenValue>(list: &[(u64, V)], id: u64) -> Option<(u64, V)>
+    ensures { result ≡ find (λ entry. entry.0 == id) list.now }
 {
-    list.iter().find(|entry| entry.0 == id)
+    list.get(place_of(list, id)).copied()
+}
+
+// The place of the first entry of the id, or the length of the list. It takes no branch by what the ids are.
+fn place_of<V: GivenValue>(list: &[(u64, V)], id: u64) -> usize
+    ensures { result ≡ position_or_len (λ entry. entry.0 == id) list.now }
+{
+    let mut place = 0;
+    let mut is_before = true;
+    for (other, _) in list {
+        is_before &= *other != id;
+        place += usize::from(is_before);
+    }
+    place
 }
 
 impl AckSource for Given<u64> {

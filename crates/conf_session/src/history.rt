@@ -57,6 +57,7 @@ impl History {
     }
 
     /// Keeps a newer one. The oldest goes where there would be too many.
+    #[inline(always)]
     pub(crate) fn keep(&mut self, config: Config<SessionIds>)
         ensures { self.new ≡ with_newer self.old config }
     {

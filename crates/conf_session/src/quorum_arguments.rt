@@ -106,38 +106,51 @@ fn give_each_once<V: GivenValue>(
     ensures given { IfOk result (λ each. each ≡ true → given_in given.new ≡ map_said (each_once ids.now) said.now.items) }
 {
     let said = said.as_slice();
-    let mut each = SmallVec::new(alloc);
-    match given {
-        Given::Few(list) => give_each_of_few(list, &mut each, ids, said)?,
-        Given::Many(map) => {
-            push_each_of_many(&mut each, ids)?;
-            give_many(map, each.as_slice(), said)?;
-        }
-    }
-    Ok(said.len() == each.len())
+    let count = match given {
+        Given::Few(list) => give_each_of_few(list, ids, said)?,
+        Given::Many(map) => give_each_of_many(map, alloc, ids, said)?,
+    };
+    Ok(said.len() == count)
 }
 
-// Puts in the ids, each once, and gives them what is said. Each is looked for among those that came before.
+// Gives each of the ids, in the order in which they come first, what is said, and answers how many they are. Each is
+// looked for among those that came before.
 fn give_each_of_few<V: GivenValue>(
     list: &mut SmallVec<(u64, V), FEW>,
-    each: &mut SmallVec<u64, FEW>,
     ids: &[u64],
     said: &[Option<V>],
-) -> Result<(), NoMemory>
-    requires list { list.old.items ≡ [] }
-    requires each { each.old.items ≡ [] }
-    ensures each { OnOk result (each.new.items ≡ each_once ids.now) }
+) -> Result<usize, NoMemory>
+    requires { list.old.items ≡ [] }
+    ensures count { IfOk result (λ count. count ≡ length (each_once ids.now)) }
     ensures given { OnOk result (finite.from_entries {R = nat_cmp} list.new.items ≡ map_said (each_once ids.now) said.now) }
 {
-    for id in ids {
-        if !each.as_slice().contains(id) {
-            if let Some(one) = said.get(each.len()) {
+    let mut count = 0;
+    for (place, id) in ids.iter().enumerate() {
+        if !ids[..place].contains(id) {
+            if let Some(one) = said.get(count) {
                 push_given(list, *id, *one)?;
             }
-            each.push(*id)?;
+            count += 1;
         }
     }
-    Ok(())
+    Ok(count)
+}
+
+// The same in a tree.
+fn give_each_of_many<V: GivenValue>(
+    map: &mut BTreeMap<u64, V>,
+    alloc: Global,
+    ids: &[u64],
+    said: &[Option<V>],
+) -> Result<usize, NoMemory>
+    requires { map.old.entries ≡ [] }
+    ensures count { IfOk result (λ count. count ≡ length (each_once ids.now)) }
+    ensures given { OnOk result (finite.from_entries {R = nat_cmp} map.new.entries ≡ map_said (each_once ids.now) said.now) }
+{
+    let mut each = SmallVec::new(alloc);
+    push_each_of_many(&mut each, ids)?;
+    give_many(map, each.as_slice(), said)?;
+    Ok(each.len())
 }
 
 // Puts what the id is given behind the others, if that is known.

@@ -4,7 +4,7 @@ ghost use Rattle.std.specs.List.{prefix_len};
 ghost use Rattle.dd_file.specs.WordParts.{is_outside};
 ghost use Rattle.dd_file.specs.Words.{word_len, words_of};
 
-use ascii_text::cut::place_of;
+use ascii_text::cut::far_place_of;
 use ascii_text::white_space::{is_space, without_leading_space};
 
 /// Whether the byte is outside of parentheses and ends no word there: white space ends one.
@@ -32,7 +32,7 @@ fn word_len(text: &[u8]) -> usize
         let Some(b'(') = text.get(len) else {
             return len;
         };
-        len += place_of(&text[len..], b')');
+        len += far_place_of(&text[len..], b')');
     }
 }
 

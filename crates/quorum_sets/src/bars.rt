@@ -36,7 +36,7 @@ fn append_known(text: &mut Vec<u8>, n: usize, width: usize) -> Result<(), NoMemo
     if n <= FEW {
         let bars: &[u8] = b"xxxxxxxxxxxxxxxx>                ";
         let start = FEW - width;
-        return append(text, &bars[start..start + n + 1]);
+        return append_front(text, &bars[start..start + FEW + 1], n + 1);
     }
     append_times(text, b'x', width)?;
     append(text, b">")?;
@@ -50,8 +50,21 @@ fn append_unknown(text: &mut Vec<u8>, n: usize) -> Result<(), NoMemory>
     ensures extends { take (length text.old.items) text.new.items ≡ text.old.items }
 {
     if n <= FEW {
-        return append(text, &b"?                "[..n + 1]);
+        return append_front(text, b"?                ", n + 1);
     }
     append(text, b"?")?;
     append_times(text, b' ', n)
+}
+
+// Appends the front of a part. The whole of it is copied, which takes no call where its length is known.
+#[inline(always)]
+fn append_front(text: &mut Vec<u8>, part: &[u8], len: usize) -> Result<(), NoMemory>
+    requires { len ≤ length part.now }
+    ensures ok { OnOk result (text.new.items ≡ text.old.items ++ take len part.now) }
+    ensures extends { take (length text.old.items) text.new.items ≡ text.old.items }
+{
+    let end = text.len() + len;
+    append(text, part)?;
+    text.truncate(end);
+    Ok(())
 }

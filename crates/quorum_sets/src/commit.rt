@@ -1,5 +1,5 @@
 //! The committed index: how far a majority has acknowledged the log.
-ghost use Rattle.std.specs.Prelude.{◌≡◌, ◌+◌, ◌*◌, ◌<◌, ◌≤◌, length, nat_le, nat_lt, count_by, IfOk, IsOk};
+ghost use Rattle.std.specs.Prelude.{◌≡◌, ◌+◌, ◌*◌, ◌<◌, ◌≤◌, length, nat_le, nat_lt, count_by, [], IfOk, IsOk, OnOk};
 ghost use Rattle.quorum_sets.specs.Ids.{size};
 ghost use Rattle.quorum_sets.specs.Voters.{pair};
 ghost use Rattle.quorum_sets.specs.Committed.{acked_indexes, greatest_index, IsCommitted, IsJointCommitted, committed_index, joint_committed_index};
@@ -23,7 +23,8 @@ pub fn committed<S: MemberSet, A: AckSource>(
     ensures index { IfOk result (λ k. k ≡ committed_index (S.ids set.now) (A.acks acks.now)) }
     ensures no_memory { size (S.ids set.now) ≤ 8 → IsOk result }
 {
-    let mut indexes = gathered(alloc, set, acks)?;
+    let mut indexes = SmallVec::new(alloc);
+    gather(&mut indexes, set, acks)?;
     Ok(majority_index(indexes.as_mut_slice()))
 }
 
@@ -45,22 +46,25 @@ pub fn joint_committed<S: MemberSet, A: AckSource>(
     Ok(first.min(second))
 }
 
-// The acknowledged index of each id of the set. Its memory is taken before the walk.
-fn gathered<S: MemberSet, A: AckSource>(
-    alloc: Global,
+// Fills an empty list with the acknowledged index of each id of the set. Its memory is taken before the walk. The list is the
+// caller's, since one that is returned is copied.
+fn gather<S: MemberSet, A: AckSource>(
+    indexes: &mut SmallVec<u64, 8>,
     set: &S,
     acks: &A,
-) -> Result<SmallVec<u64, 8>, NoMemory>
-    ensures items { IfOk result (λ indexes. indexes.items ≡ acked_indexes (S.ids set.now) (A.acks acks.now)) }
+) -> Result<(), NoMemory>
+    requires empty { indexes.old.items ≡ [] }
+    requires room { 8 ≤ indexes.old.capacity }
+    ensures items { OnOk result (indexes.new.items ≡ acked_indexes (S.ids set.now) (A.acks acks.now)) }
     ensures no_memory { size (S.ids set.now) ≤ 8 → IsOk result }
 {
-    let mut indexes = SmallVec::with_capacity(alloc, set.len())?;
+    indexes.reserve(set.len())?;
     for place in 0..set.len() {
         if let Some(id) = set.at(place) {
             indexes.push_reserved(acks.acked(id).unwrap_or(0));
         }
     }
-    Ok(indexes)
+    Ok(())
 }
 
 // The index at the place of the majority, counted from the top. It leaves the indexes sorted.

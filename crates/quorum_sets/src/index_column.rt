@@ -8,7 +8,7 @@ use ascii_text::append::append_number;
 use itoa::write_digits;
 
 // Appends an index in five places, with what stands before and behind it in its row. The digits are written into the
-// places, so that a single append serves.
+// places where they stay, so that a single append serves.
 pub(crate) fn append_index(text: &mut Vec<u8>, index: u64) -> Result<(), NoMemory>
     ensures ok { OnOk result (text.new.items ≡ text.old.items ++ (codes " " ++ in_five_places index ++ codes "    (id=")) }
     ensures extends { take (length text.old.items) text.new.items ≡ text.old.items }
@@ -16,9 +16,10 @@ pub(crate) fn append_index(text: &mut Vec<u8>, index: u64) -> Result<(), NoMemor
     if index >= 100_000 {
         return append_wide(text, index);
     }
-    let mut column = *b"          (id=";
-    write_digits(index, &mut column, 6);
-    append(text, &column)
+    let end = text.len() + 6;
+    append(text, b"          (id=")?;
+    write_digits(index, text.as_mut_slice(), end);
+    Ok(())
 }
 
 // Appends an index that takes more than the five places.

@@ -1,6 +1,6 @@
 //! A set of ids as a sorted list, which lies in the value while it is short.
-ghost use Rattle.std.specs.Prelude.{◌≡◌, ◌<◌, ◌≤◌, true, not, length, insert, IfOk, OnOk, OnErr, IsOk, MatchResult};
-ghost use Rattle.quorum_sets.specs.Ids.{has, with_id, size, ids_of};
+ghost use Rattle.std.specs.Prelude.{◌≡◌, ◌<◌, ◌≤◌, true, not, length, insert, remove, IfOk, OnOk, OnErr, IsOk, MatchResult};
+ghost use Rattle.quorum_sets.specs.Ids.{no_ids, has, with_id, size, ids_of};
 ghost use Rattle.smallvec.specs.SmallVec.{small_vec_len, HasRoomFor};
 ghost use Rattle.quorum_sets.specs.Cut.{IsCut};
 ghost use Rattle.quorum_sets.specs.Rising.{IsRising, StandsAt, GoesTo};
@@ -36,6 +36,7 @@ impl Model for InlineIds {
 impl MemberSet for InlineIds {
     ghost ids = { λ set. set };
 
+    #[inline(always)]
     fn empty(alloc: Global) -> InlineIds {
         InlineIds {
             list: SmallVec::new(alloc),
@@ -69,6 +70,19 @@ impl MemberSet for InlineIds {
         Ok(InlineIds { list })
     }
 
+    fn try_clone_from(&mut self, other: &InlineIds) -> Result<(), NoMemory>
+        ensures ok { OnOk result (self.new ≡ other.now) }
+        ensures err { OnErr result (self.new ≡ no_ids) }
+        ensures few { size other.now ≤ 8 → IsOk result }
+    {
+        self.list.clear();
+        // To copy nothing takes time too.
+        if !other.list.is_empty() {
+            self.list.extend_from_slice(other.list.as_slice())?;
+        }
+        Ok(())
+    }
+
     fn insert(&mut self, id: u64) -> Result<bool, NoMemory>
         ensures changed { IfOk result (λ changed. changed ≡ not (has self.old id)) }
         ensures ok { OnOk result (self.new ≡ with_id self.old id) }
@@ -83,10 +97,14 @@ impl MemberSet for InlineIds {
     }
 
     fn remove(&mut self, id: u64) -> bool {
+        // Learners are few, and next learners mostly none.
+        if self.list.is_empty() {
+            return false;
+        }
         let Ok(place) = place_of(self.list.as_slice(), id) else {
             return false;
         };
-        self.list.remove(place);
+        take_from(&mut self.list, place);
         true
     }
 
@@ -181,4 +199,14 @@ fn put_in(list: &mut SmallVec<u64, 8>, place: usize, id: u64) -> Result<(), NoMe
         list.insert(place, id)?;
     }
     Ok(())
+}
+
+// Takes the id at a place out. It stays a call, so that a set that lacks the id costs no more than the look-up.
+#[inline(never)]
+fn take_from(list: &mut SmallVec<u64, 8>, place: usize)
+    requires { place < small_vec_len list.old }
+    ensures items { list.new.items ≡ remove list.old.items place }
+    ensures capacity { list.new.capacity ≡ list.old.capacity }
+{
+    list.remove(place);
 }

@@ -7,6 +7,7 @@ use crate::member_set::MemberSet;
 /// Whether the set has the id. It is looked for at the place and behind it, to where the place moves; so a walk over ids in
 /// rising order passes the set once. An id that is not above those before the place is searched for, and nothing else
 /// rests on the place.
+#[inline(always)]
 pub fn has_next<S: MemberSet>(set: &S, place: &mut usize, id: u64) -> bool
     ensures { result ≡ has (S.ids set.now) id }
 {
@@ -20,6 +21,7 @@ pub fn has_next<S: MemberSet>(set: &S, place: &mut usize, id: u64) -> bool
 }
 
 // Moves the place to the first id from there on that is not below this one, and tells whether it is this one.
+#[inline(always)]
 fn finds<S: MemberSet>(set: &S, place: &mut usize, id: u64) -> bool
     ensures found { result ≡ true → has (S.ids set.now) id ≡ true }
     ensures below { result ≡ false → (k : ℕ) → place.new ≤ k → k < size (S.ids set.now) → id < get_or (ascending (S.ids set.now)) k 0 }

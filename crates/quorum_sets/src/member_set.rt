@@ -5,7 +5,8 @@ ghost use Rattle.quorum_sets.specs.Ids.{Ids, no_ids, has, with_id, without_id, a
 use crate::no_memory::NoMemory;
 use std::alloc::Global;
 
-/// A finite set of ids, however it is kept. Only `of_list`, `try_clone` and `insert` take memory.
+/// A finite set of ids, however it is kept. Only `of_list`, `try_clone`, `try_clone_from`
+/// and `insert` take memory.
 pub trait MemberSet: Drop {
     /// The ids that the set has.
     ghost ids: { Self → Ids };
@@ -24,6 +25,11 @@ pub trait MemberSet: Drop {
     /// The same set once more.
     fn try_clone(&self) -> Result<Self, NoMemory>
         ensures { IfOk result (λ copy. ids copy ≡ ids self.now) };
+
+    /// Becomes the same set as another one, over the memory that it has. After `NoMemory` it has no id.
+    fn try_clone_from(&mut self, other: &Self) -> Result<(), NoMemory>
+        ensures ok { OnOk result (ids self.new ≡ ids other.now) }
+        ensures err { OnErr result (ids self.new ≡ no_ids) };
 
     /// Puts the id into the set, and tells whether the set changed. After `NoMemory` the set is as
     /// before.

@@ -55,6 +55,12 @@ impl MemberSet for TreeIds {
         Ok(TreeIds { tree, ..*self })
     }
 
+    fn try_clone_from(&mut self, other: &TreeIds) -> Result<(), NoMemory> {
+        self.tree.clear();
+        self.tree = other.tree.clone()?;
+        Ok(())
+    }
+
     fn insert(&mut self, id: u64) -> Result<bool, NoMemory> {
         Ok(self.tree.insert(id)?)
     }

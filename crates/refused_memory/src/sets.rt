@@ -38,6 +38,17 @@ fn is_copied<S: MemberSet>(set: &S, ids: &[u64]) -> bool {
     }
 }
 
+// Whether a set with other ids becomes another one; where it found no memory it has none.
+fn becomes<S: MemberSet>(copy: &mut S, set: &S, ids: &[u64]) -> bool {
+    let mut answer = copy.try_clone_from(set);
+    let mut is_left_empty = true;
+    if answer.is_err() {
+        is_left_empty = copy.len() == 0;
+        answer = copy.try_clone_from(set);
+    }
+    is_left_empty & (answer == Ok(())) & has_ids(copy, ids)
+}
+
 // Whether a set takes an id in that it had not; where it found no memory it has the ids of before.
 fn takes_in<S: MemberSet>(set: &mut S, before: &[u64], id: u64, after: &[u64]) -> bool {
     let mut answer = set.insert(id);
@@ -71,14 +82,15 @@ static INSERTED: [(&[u64], u64, &[u64]); 4] = [
 ];
 
 fn is_set<S: MemberSet>(alloc: Global, before: &[u64], id: u64, after: &[u64]) -> bool {
-    match ids::<S>(alloc, before) {
-        Ok(mut set) => {
+    match (ids::<S>(alloc, before), ids::<S>(alloc, after)) {
+        (Ok(mut set), Ok(mut copy)) => {
             is_copied(&set, before)
+                & becomes(&mut copy, &set, before)
                 & takes_in(&mut set, before, id, after)
                 & is_copied(&set, after)
                 & loses(&mut set, id, before)
         }
-        Err(_) => false,
+        _ => false,
     }
 }
 

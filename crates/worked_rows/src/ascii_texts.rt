@@ -1,6 +1,6 @@
 //! White space, words, lines and numbers in texts.
 use ascii_text::append::append_number;
-use ascii_text::cut::place_of;
+use ascii_text::cut::{far_place_of, place_of};
 use ascii_text::lines::{is_whole, line_of, next_piece, piece_len, without_end};
 use ascii_text::number::read_number;
 use ascii_text::white_space::{
@@ -83,6 +83,10 @@ fn finds_the_place_of_a_byte(rt: HostRuntime) {
     assert!(rt; place_of(b"a] b]", b']') == 1);
     assert!(rt; place_of(b"a", b']') == 1);
     assert!(rt; place_of(b"", b']') == 0);
+    assert!(rt; far_place_of(b"a] b]", b']') == 1);
+    assert!(rt; far_place_of(b"(1, 22, 333, 4444, 55555)", b')') == 24);
+    assert!(rt; far_place_of(b"a", b']') == 1);
+    assert!(rt; far_place_of(b"", b']') == 0);
 }
 
 // A piece, its line, and whether it ends in a newline.

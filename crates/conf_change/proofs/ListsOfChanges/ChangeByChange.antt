@@ -11,6 +11,7 @@ use Rattle.quorum_sets.specs.Ids.{Ids, has, is_empty}
 use Rattle.quorum_sets.specs.Rising.{IsRising}
 use Rattle.conf_change.specs.Configuration.{Configuration, is_member, is_joint}
 use Rattle.conf_change.specs.Change.{is_update, is_removal, is_incoming_after, is_learner_after, result_of, removes}
+use Rattle.conf_change.specs.Seat.{membership_in}
 use Rattle.conf_change.specs.TrackerState.{TrackerState, ProgressMap}
 use Rattle.conf_change.specs.TrackerEdits.{beginning, entry_of, entry_in, progress_left, progress_left_by_word, Applies, IsDue}
 use Rattle.conf_change.specs.Changer.{IsSound, tracker_of}
@@ -19,6 +20,7 @@ use Rattle.conf_change.specs.declared.floor.Floor.{Floor}
 use Rattle.conf_change.specs.declared.change.Kind.{Kind}
 use Rattle.conf_change.specs.declared.change.Kind.TheVariants.{Voter, Learner, Remove, Update}
 use Rattle.conf_change.specs.declared.progress.Progress.{Progress}
+use Rattle.conf_change.specs.declared.seat.Membership.{Membership}
 use Rattle.conf_change.proofs.ListsOfChanges.ResultOfEach.{has-incoming_after, has-learners_after, result_of-push, last_word-one, result_of-none}
 use Rattle.conf_change.proofs.Configurations.Validity.{ValidByMember-from_is_valid, has-none_in_empty}
 
@@ -267,6 +269,13 @@ MadeSoFar-one_more next_index start first changes k d now after members members'
           applied_more next_index (take k changes) (get_or changes k d) (tracker_at floor start first) (tracker_at floor now members) (tracker_at floor after members')
           due.nobody (made_so_far.so_far floor) is refl follows;
     })
+
+-- ---- the entry of one id, by what it is told to be
+pub Follows-told : (next_index id : ℕ) (c : Configuration) (id_is : Membership) (before after : ProgressMap) → id_is ≡ membership_in c id
+    → ((q : ℕ) → finite.get after q ≡ cond (q == id) (entry_of next_index id_is.member id_is.learner (finite.get before id)) (finite.get before q))
+    → Follows next_index id c before after
+Follows-told next_index id c id_is before after is entries =
+    λ q. entries q ∙ ap (λ m. cond (q == id) (entry_of next_index m.member m.learner (finite.get before id)) (finite.get before q)) is
 
 -- ---- one change alone
 pub Applies-one : (next_index : ℕ) (x : Change) (before after : TrackerState) → IsSound before

@@ -51,7 +51,7 @@ part-preserved c =
     let at = c.in-Some-eq40.ensures.lookup in
     let opens : is_opening c.in-Some-eq40.field-0.now ≡ true = search rules in
     record {
-      so_far = parts text len n c.place_of-len.result c.in-Some-eq40.field-0.now c.part.invariant.so_far (c.outside_len-len.ensures.len ∙ ap (prefix_len is_outside) (take_rest text len)) at.3.0 (at.4 (omega arith) 0) opens
-          (c.place_of-len.ensures.place ∙ ap (position_or_len is_closing) (take_rest text (len + n)));
-      within = omega (arith, c.place_of-len.ensures.within, ap length (take_rest text (len + n)), length-drop (len + n) text, at.3.0);
+      so_far = parts text len n c.far_place_of-len.result c.in-Some-eq40.field-0.now c.part.invariant.so_far (c.outside_len-len.ensures.len ∙ ap (prefix_len is_outside) (take_rest text len)) at.3.0 (at.4 (omega arith) 0) opens
+          (c.far_place_of-len.ensures.place ∙ ap (position_or_len is_closing) (take_rest text (len + n)));
+      within = omega (arith, c.far_place_of-len.ensures.within, ap length (take_rest text (len + n)), length-drop (len + n) text, at.3.0);
     }

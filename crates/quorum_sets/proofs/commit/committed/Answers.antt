@@ -7,5 +7,5 @@ returns-clause-index g c =
     let ids = g.S.MemberSet.ids c.args.set.now in
     let acks = g.A.AckSource.acks c.args.acks.now in
     let found = c.majority_index.ensures in
-    let fits = IsCommitted-from_indexes ids acks _ _ (c.as_mut_slice.ensures.value ∙ c.in_ok-indexes.ensures.items) found.of_none found.reached found.not_passed in
+    let fits = IsCommitted-from_indexes ids acks _ _ (c.as_mut_slice.ensures.value ∙ c.in_ok-gather.ensures.items) found.of_none found.reached found.not_passed in
     IsCommitted-alone ids acks _ _ fits (IsCommitted-committed_index ids acks)

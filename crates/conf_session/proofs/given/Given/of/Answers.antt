@@ -1,5 +1,5 @@
 use Rattle.std.proofs.Common.{◌==◌, ◌∙◌, ap, sym}
-use Rattle.std.specs.Prelude.{option_copied, option_map}
+use Rattle.std.specs.Prelude.{option_map}
 use Rattle.std.specs.List.{find}
 use Rattle.std.specs.FinMap as finite
 use Rattle.quorum_sets.proofs.Offered.{lookup-from_entries}
@@ -10,13 +10,13 @@ use Rattle.conf_session.proofs.given.Given.of.Goals as goal
 pub returns-in-Some : goal.returns-in-Some
 returns-in-Some g c =
     let id = c.args.id in
-    let found = ap (find (λ e. e.0 == id)) (sym c.as_slice.ensures) ∙ sym c.entry_of.ensures ∙ ap option_copied c.in-Some.is in
+    let found = ap (find (λ e. e.0 == id)) (sym c.as_slice.ensures) ∙ sym c.entry_of.ensures ∙ c.in-Some.is in
     sym (ap (λ given. finite.get (given_in given) id) c.in-Few.is ∙ get-entry id c.in-Few.list.items ∙ ap (option_map (λ e. e.1)) found)
 
 pub returns-in-None : goal.returns-in-None
 returns-in-None g c =
     let id = c.args.id in
-    let found = ap (find (λ e. e.0 == id)) (sym c.as_slice.ensures) ∙ sym c.entry_of.ensures ∙ ap option_copied c.in-None.is in
+    let found = ap (find (λ e. e.0 == id)) (sym c.as_slice.ensures) ∙ sym c.entry_of.ensures ∙ c.in-None.is in
     sym (ap (λ given. finite.get (given_in given) id) c.in-Few.is ∙ get-entry id c.in-Few.list.items ∙ ap (option_map (λ e. e.1)) found)
 
 pub returns-in-Many : goal.returns-in-Many

@@ -1,7 +1,7 @@
 use Rattle.std.proofs.Common.{◌≡◌, ◌≤◌, length, map, take}
 use Rattle.quorum_sets.specs.Ids.{ascending, size}
 use Rattle.quorum_sets.specs.Committed.{acked_index}
-use Rattle.quorum_sets.proofs.commit.gathered.Given as goal
+use Rattle.quorum_sets.proofs.commit.gather.Given as goal
 
 abbrev pub invariant-loop-place : goal.invariant-loop-place
 invariant-loop-place g l = record {

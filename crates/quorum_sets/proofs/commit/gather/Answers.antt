@@ -3,8 +3,8 @@ use Rattle.std.specs.Prelude.{unwrap_or}
 use Rattle.quorum_sets.specs.Committed.{acked_index}
 use Rattle.quorum_sets.proofs.ListPlaces.{slice_get-not_past}
 use Rattle.quorum_sets.proofs.Quorums.MajorityPlace.{map_more-item}
-use Rattle.quorum_sets.proofs.commit.gathered.Goals as goal
-use Rattle.quorum_sets.proofs.commit.gathered.Goals.{in-Some, in_default}
+use Rattle.quorum_sets.proofs.commit.gather.Goals as goal
+use Rattle.quorum_sets.proofs.commit.gather.Goals.{in-Some, in_default}
 
 pub loop-place-preserved : goal.loop-place-preserved
 loop-place-preserved g c = elim c.match-at.branch [
