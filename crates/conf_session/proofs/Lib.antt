@@ -8,5 +8,6 @@ mod InputLines
 mod SameAnswer
 mod Kept
 mod QuorumValues
+mod EachOnce
 mod NamedQuorumRead
 mod QuorumParameters

@@ -1,7 +1,8 @@
 //! The quorum that the arguments of a command name, and what its ids are given.
-ghost use Rattle.std.specs.Prelude.{◌≡◌, true, [], ◌++◌, length, nat_eq, option_map, option_to_list, IfOk, OnOk};
+ghost use Rattle.std.specs.Prelude.{◌≡◌, ℕ, List, true, not, [], ◌++◌, length, filter, nat_eq, option_map, option_to_list, IfOk, OnOk};
 ghost use Rattle.std.specs.Ordering.{nat_cmp};
 ghost use Rattle.std.specs.FinMap as finite;
+ghost use Rattle.quorum_sets.specs.Ids.{has, ids_of};
 ghost use Rattle.conf_session.specs.Given.{entries_in, given_in};
 ghost use Rattle.conf_session.specs.NamedQuorum.{map_said};
 ghost use Rattle.conf_session.specs.QuorumArguments.{number_given, each_once, with_given};
@@ -27,8 +28,41 @@ pub(crate) fn number_given(parameter: Parameter, arguments: &[Argument]) -> u64
     }
 }
 
+// Puts in the ids of a first list and then a second, each once, in the order in which they come first. The sets are those
+// of the two lists. Both are as long as their lists only where neither list names an id twice, and then no tree is needed.
+fn push_each_of_many(
+    each: &mut SmallVec<u64, FEW>,
+    ids: &[u64],
+    incoming: &SessionIds,
+    outgoing: &SessionIds,
+) -> Result<(), NoMemory>
+    requires empty { each.old.items ≡ [] }
+    requires sets { (front : List ℕ) × (back : List ℕ) × (ids.now ≡ front ++ back) × (incoming.now ≡ ids_of front) × (outgoing.now ≡ ids_of back) }
+    ensures { OnOk result (each.new.items ≡ each_once ids.now) }
+{
+    if incoming.len() + outgoing.len() == ids.len() {
+        let (front, back) = ids.split_at(incoming.len());
+        each.extend_from_slice(front)?;
+        push_others(each, back, incoming)
+    } else {
+        push_each_by_tree(each, ids)
+    }
+}
+
+// Puts those of the ids behind the others that the set does not have.
+fn push_others(each: &mut SmallVec<u64, FEW>, ids: &[u64], set: &SessionIds) -> Result<(), NoMemory>
+    ensures { OnOk result (each.new.items ≡ each.old.items ++ filter (λ id. not (has set.now id)) ids.now) }
+{
+    for id in ids {
+        if !set.contains(*id) {
+            each.push(*id)?;
+        }
+    }
+    Ok(())
+}
+
 // Puts in the ids, each once, in the order in which they come first. Each is looked for in a tree.
-fn push_each_of_many(each: &mut SmallVec<u64, FEW>, ids: &[u64]) -> Result<(), NoMemory>
+fn push_each_by_tree(each: &mut SmallVec<u64, FEW>, ids: &[u64]) -> Result<(), NoMemory>
     requires { each.old.items ≡ [] }
     ensures { OnOk result (each.new.items ≡ each_once ids.now) }
 {
@@ -88,6 +122,8 @@ impl<V: GivenValue> Quorum<V> {
             &mut self.given,
             alloc,
             named.incoming.as_slice(),
+            &self.incoming,
+            &self.outgoing,
             &named.said,
         )
     }
@@ -99,16 +135,19 @@ fn give_each_once<V: GivenValue>(
     given: &mut Given<V>,
     alloc: Global,
     ids: &[u64],
+    incoming: &SessionIds,
+    outgoing: &SessionIds,
     said: &SmallVec<Option<V>, FEW>,
 ) -> Result<bool, NoMemory>
-    requires { entries_in given.old ≡ [] }
+    requires empty { entries_in given.old ≡ [] }
+    requires sets { (front : List ℕ) × (back : List ℕ) × (ids.now ≡ front ++ back) × (incoming.now ≡ ids_of front) × (outgoing.now ≡ ids_of back) }
     ensures one_each { IfOk result (λ each. each ≡ nat_eq (length said.now.items) (length (each_once ids.now))) }
     ensures given { IfOk result (λ each. each ≡ true → given_in given.new ≡ map_said (each_once ids.now) said.now.items) }
 {
     let said = said.as_slice();
     let count = match given {
         Given::Few(list) => give_each_of_few(list, ids, said)?,
-        Given::Many(map) => give_each_of_many(map, alloc, ids, said)?,
+        Given::Many(map) => give_each_of_many(map, alloc, ids, incoming, outgoing, said)?,
     };
     Ok(said.len() == count)
 }
@@ -141,14 +180,17 @@ fn give_each_of_many<V: GivenValue>(
     map: &mut BTreeMap<u64, V>,
     alloc: Global,
     ids: &[u64],
+    incoming: &SessionIds,
+    outgoing: &SessionIds,
     said: &[Option<V>],
 ) -> Result<usize, NoMemory>
-    requires { map.old.entries ≡ [] }
+    requires empty { map.old.entries ≡ [] }
+    requires sets { (front : List ℕ) × (back : List ℕ) × (ids.now ≡ front ++ back) × (incoming.now ≡ ids_of front) × (outgoing.now ≡ ids_of back) }
     ensures count { IfOk result (λ count. count ≡ length (each_once ids.now)) }
     ensures given { OnOk result (finite.from_entries {R = nat_cmp} map.new.entries ≡ map_said (each_once ids.now) said.now) }
 {
     let mut each = SmallVec::new(alloc);
-    push_each_of_many(&mut each, ids)?;
+    push_each_of_many(&mut each, ids, incoming, outgoing)?;
     give_many(map, each.as_slice(), said)?;
     Ok(each.len())
 }

@@ -1,27 +1,22 @@
-use Rattle.std.proofs.Common.{◌≡◌, true, false, ◌++◌, [], ◌∷◌, not, take, ◌==◌, ◌∙◌, ap, sym, get_or, rules}
-use Rattle.std.specs.Prelude.{Some, slice_get}
-use Rattle.std.specs.List.{list_any}
-use Rattle.std.proofs.lemmas.Option.{slice_get-get_or}
-use Rattle.conf_session.proofs.QuorumValues.{seen-here, new-there, old-there, not-one, not-none}
+use Rattle.std.proofs.Common.{◌≡◌, ◌+◌, ◌++◌, not, length, filter, take, drop, ◌∙◌, ap, sym, arith}
+use Rattle.std.proofs.lemmas.Result.{on_ok_weaker}
+use Rattle.quorum_sets.specs.Ids.{has, size}
+use Rattle.conf_session.proofs.EachOnce.{sets-le, each_once-by_sets}
 use Rattle.conf_session.proofs.quorum_arguments.push_each_of_many.Goals as goal
-use Rattle.conf_session.proofs.quorum_arguments.push_each_of_many.Goals.{then-branch+in_ok-push, else-branch}
 
-pub loop-id-preserved : goal.loop-id-preserved
-loop-id-preserved c =
+pub overflow_add-len : goal.overflow_add-len
+overflow_add-len c =
+    let fits = sets-le c.args.ids.now c.args.incoming.now c.args.outgoing.now c.requires.sets in
+    omega (arith, fits, c.len.ensures, c.len-2.ensures)
+
+pub returns-in_ok-extend_from_slice : goal.returns-in_ok-extend_from_slice
+returns-in_ok-extend_from_slice c =
     let ids = c.args.ids.now in
-    let i = c.loop-id.id-index in
-    let id = get_or ids i 0 in
-    let here : slice_get ids i ≡ Some id = slice_get-get_or ids i 0 c.loop-id-test.true in
-    let seen : c.in_ok-insert.field-0 ≡ not (list_any (λ other. id == other) (take i ids)) = c.in_ok-insert.ensures.added ∙ ap not (c.loop-id.invariant.1 id) in (
-      elim c.if-branch.branch [
-        | then-branch+in_ok-push w ↦
-            let none : list_any (λ other. id == other) (take i ids) ≡ false = not-one _ (sym seen ∙ w.if-branch.true) in
-            let items : c.if-branch.each.items ≡ c.loop-id.each.items ++ id ∷ [] = rw w.each-is (search rules) in
-            items ∙ ap (λ xs. xs ++ id ∷ []) c.loop-id.invariant.0 ∙ new-there ids i id here none
-        | else-branch w ↦
-            let some : list_any (λ other. id == other) (take i ids) ≡ true = not-none _ (sym seen ∙ w.if-branch.false) in
-            let items : c.if-branch.each.items ≡ c.loop-id.each.items = rw w.each-is (search rules) in
-            items ∙ c.loop-id.invariant.0 ∙ old-there ids i id here some
-      ],
-      seen-here ids i id c.loop-id.seen c.insert.new.self here c.loop-id.invariant.1 c.in_ok-insert.ensures.updates,
-    )
+    let incoming = c.args.incoming.now in
+    let full : size incoming + size c.args.outgoing.now ≡ length ids = (λ i. sym c.len.ensures i + sym c.len-2.ensures i) ∙ c.if-len-ids.true in
+    let front : c.extend_from_slice.new.self.items ≡ take (size incoming) ids =
+    c.in_ok-extend_from_slice.ensures.ok ∙ (λ i. c.requires.empty i ++ c.split_at.ensures.front i) ∙ ap (λ n. take n ids) c.len-then-len-ids.ensures in
+    let back : c.split_at.result.1.now ≡ drop (size incoming) ids = c.split_at.ensures.back ∙ ap (λ n. drop n ids) c.len-then-len-ids.ensures in
+    on_ok_weaker c.push_others.result
+    (λ pushed. pushed ∙ (λ i. front i ++ filter (λ id. not (has incoming id)) (back i)) ∙ each_once-by_sets ids incoming c.args.outgoing.now c.requires.sets full)
+    c.push_others.ensures

@@ -1,0 +1,96 @@
+-- The ids of one list and then another, each once, where neither names an id twice.
+use Rattle.std.proofs.Common.{◌≡◌, ℕ, ◌+◌, ◌≤◌, ◌==◌, Bool, true, false, cond, not, List, [], ◌∷◌, ◌++◌, length, filter, take, drop, refl, sym, ap, ◌∙◌, arith, length-append}
+use Rattle.std.specs.Prelude.{◌||◌}
+use Rattle.std.specs.List.{list_any, AllByRecursion, IsDistinct}
+use Rattle.std.specs.Set.{distinct_count}
+use Rattle.std.specs.Ordering.{nat_cmp, eq_by_cmp}
+use Rattle.std.specs.Cmp.{nat_cmp_total, unsigned_tied, eq_by_cmp_equiv, nat_eq_equiv}
+use Rattle.std.specs.FinMap as finite
+use Rattle.std.proofs.Math.Seq.{take-append_seam, drop-append_seam}
+use Rattle.std.proofs.lemmas.List.Elements.{filter-append}
+use Rattle.std.proofs.lemmas.Map.Keys.{IsDistinct-from_sorted}
+use Rattle.std.proofs.lemmas.Map.Made.{distinct_count-le, IsDistinct-from_count, length-from_keys}
+use Rattle.quorum_sets.specs.Ids.{Ids, has, ascending, size, ids_of}
+use Rattle.quorum_sets.proofs.Offered.{ascending-is_sorted, has-ids_of}
+use Rattle.conf_session.specs.QuorumArguments.{each_once}
+
+-- ---- how many ids the set of a list has
+abbrev same : ℕ → ℕ → Bool
+same = eq_by_cmp nat_cmp
+
+size-ids_of : (ids : List ℕ) → size (ids_of ids) ≡ distinct_count same ids
+size-ids_of ids =
+    length-from_keys (eq_by_cmp_equiv nat_cmp_total) (ascending (ids_of ids)) ids
+    (IsDistinct-from_sorted nat_cmp (ascending (ids_of ids)) (ascending-is_sorted (ids_of ids)))
+    (λ q. sym (finite.contains_key-keys (ids_of ids) q) ∙ has-ids_of ids q ∙ sym (λ i. list_any (λ id. unsigned_tied q id i) ids))
+
+pub size-ids_of-le : (ids : List ℕ) → size (ids_of ids) ≤ length ids
+size-ids_of-le ids = let few = distinct_count-le same ids in omega (arith, few, size-ids_of ids)
+
+-- ---- a list that names no id twice
+others-kept : (id : ℕ) (ids : List ℕ) → AllByRecursion (λ other. same id other ≡ false) ids → filter (λ other. not (other == id)) ids ≡ ids
+others-kept id [] apart = refl
+others-kept id (x ∷ ids) apart =
+    ap (λ b. cond (not b) (x ∷ filter (λ other. not (other == id)) ids) (filter (λ other. not (other == id)) ids)) (nat_eq_equiv.symm x id ∙ sym (unsigned_tied id x) ∙ apart.0)
+    ∙ ap (λ t. x ∷ t) (others-kept id ids apart.1)
+
+each_once-distinct : (ids : List ℕ) → IsDistinct same ids → each_once ids ≡ ids
+unfolding IsDistinct
+each_once-distinct [] distinct = refl
+each_once-distinct (id ∷ ids) distinct =
+    ap (λ t. id ∷ filter (λ other. not (other == id)) t) (each_once-distinct ids distinct.1) ∙ ap (λ t. id ∷ t) (others-kept id ids distinct.0)
+
+each_once-full : (ids : List ℕ) → size (ids_of ids) ≡ length ids → each_once ids ≡ ids
+each_once-full ids full = each_once-distinct ids (IsDistinct-from_count (eq_by_cmp_equiv nat_cmp_total) ids (sym (size-ids_of ids) ∙ full))
+
+-- ---- one list and then another
+all-kept : (ids : List ℕ) → filter (λ id. true) ids ≡ ids
+all-kept [] = refl
+all-kept (id ∷ ids) = ap (λ t. id ∷ t) (all-kept ids)
+
+kept-twice : (id : ℕ) (test : ℕ → Bool) (ids : List ℕ) → filter (λ other. not (other == id)) (filter (λ other. not (test other)) ids) ≡ filter (λ other. not ((other == id) || test other)) ids
+kept-twice id test [] = refl
+kept-twice id test (x ∷ ids) = at (x == id) (test x) refl ∙ ap (λ t. cond (not ((x == id) || test x)) (x ∷ t) t) (kept-twice id test ids) where
+  at : (a b : Bool) → (x == id) ≡ a
+      → filter (λ other. not (other == id)) (cond (not b) (x ∷ filter (λ other. not (test other)) ids) (filter (λ other. not (test other)) ids))
+      ≡ cond (not (a || b)) (x ∷ filter (λ other. not (other == id)) (filter (λ other. not (test other)) ids)) (filter (λ other. not (other == id)) (filter (λ other. not (test other)) ids))
+  at true true e = refl
+  at false true e = refl
+  at true false e = rw e refl
+  at false false e = rw e refl
+
+each_once-append : (front back : List ℕ) → each_once (front ++ back) ≡ each_once front ++ filter (λ id. not (list_any (λ x. id == x) front)) (each_once back)
+each_once-append [] back = sym (all-kept (each_once back))
+each_once-append (id ∷ front) back =
+    let others : List ℕ → List ℕ = filter (λ other. not (other == id)) in
+    ap (λ t. id ∷ others t) (each_once-append front back)
+    ∙ ap (λ t. id ∷ t) (filter-append (λ other. not (other == id)) (each_once front) (filter (λ id. not (list_any (λ x. id == x) front)) (each_once back))
+    ∙ ap (λ t. others (each_once front) ++ t) (kept-twice id (λ other. list_any (λ x. other == x) front) (each_once back)))
+
+-- the sets are as long as the lists
+each_once-sets : (front back : List ℕ) → size (ids_of front) ≡ length front → size (ids_of back) ≡ length back → front ++ filter (λ id. not (has (ids_of front) id)) back ≡ each_once (front ++ back)
+each_once-sets front back first second =
+    sym (each_once-append front back ∙ (λ i. each_once-full front first i ++ filter (λ id. not (sym (has-ids_of front id) i)) (each_once-full back second i)))
+
+-- the ids are those of two lists, whose sets are these
+abbrev pub NamesBoth : List ℕ → Ids → Ids → Type 0
+NamesBoth ids incoming outgoing = (front : List ℕ) × (back : List ℕ) × (ids ≡ front ++ back) × (incoming ≡ ids_of front) × (outgoing ≡ ids_of back)
+
+pub sets-le : (ids : List ℕ) (incoming outgoing : Ids) → NamesBoth ids incoming outgoing → size incoming + size outgoing ≤ length ids
+sets-le ids incoming outgoing (front, back, named, first, second) =
+    omega (arith, size-ids_of-le front, size-ids_of-le back, ap size first, ap size second, ap length named, length-append front back)
+
+pub each_once-by_sets : (ids : List ℕ) (incoming outgoing : Ids) → NamesBoth ids incoming outgoing → size incoming + size outgoing ≡ length ids →
+    take (size incoming) ids ++ filter (λ id. not (has incoming id)) (drop (size incoming) ids) ≡ each_once ids
+each_once-by_sets ids incoming outgoing (front, back, named, first, second) full =
+    let fits = size-ids_of-le front in
+    let fits_behind = size-ids_of-le back in
+    let long = ap length named ∙ length-append front back in
+    let first_size = ap size first in
+    let second_size = ap size second in
+    let whole : size (ids_of front) ≡ length front = omega (arith, full, fits, fits_behind, long, first_size, second_size) in
+    let whole_behind : size (ids_of back) ≡ length back = omega (arith, full, fits, fits_behind, long, first_size, second_size) in
+    let seam : size incoming ≡ length front = first_size ∙ whole in
+    (λ i. take (seam i) (named i) ++ filter (λ id. not (has (first i) id)) (drop (seam i) (named i)))
+    ∙ (λ i. take-append_seam front back i ++ filter (λ id. not (has (ids_of front) id)) (drop-append_seam front back i))
+    ∙ each_once-sets front back whole whole_behind ∙ sym (ap each_once named)
