@@ -12,8 +12,8 @@ use std::alloc::{AllocError, Global};
 
 const BLOCK_BYTES: usize = 16_384;
 
-/// A sink that keeps what it is given until it has a block of 16,384 bytes, and then writes that on. Whoever is done
-/// calls `flush`. After a fault it asks its writer no more.
+/// A sink that keeps what it is given until it has a block of 16,384 bytes, and then writes that on, and with it what is left of
+/// longer bytes. Whoever is done calls `flush`. After a fault it asks its writer no more.
 #[derive(Drop)]
 pub struct Blocks<W> {
     writer: W,
@@ -67,7 +67,8 @@ impl<W: Sink> Blocks<W> {
         Ok(())
     }
 
-    /// Takes a front part of bytes that the block has no room for, and writes the block on first where it is full.
+    /// Takes a front part of bytes that the block has no room for, and writes the block on first where it is full. Bytes for
+    /// another whole block then go on as they are.
     #[cold]
     fn write_part(&mut self, bytes: &[u8]) -> Result<usize, DeviceFault>
         requires { 0 < length bytes.now }
@@ -77,6 +78,9 @@ impl<W: Sink> Blocks<W> {
     {
         if self.block.len() == BLOCK_BYTES {
             self.pass_on()?;
+            if bytes.len() >= BLOCK_BYTES {
+                return self.writer.write(bytes);
+            }
         }
         let count = bytes.len().min(BLOCK_BYTES - self.block.len());
         append(&mut self.block, &bytes[..count]);
