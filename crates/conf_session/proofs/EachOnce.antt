@@ -12,7 +12,7 @@ use Rattle.std.proofs.lemmas.Map.Keys.{IsDistinct-from_sorted}
 use Rattle.std.proofs.lemmas.Map.Made.{distinct_count-le, IsDistinct-from_count, length-from_keys}
 use Rattle.quorum_sets.specs.Ids.{Ids, has, ascending, size, ids_of}
 use Rattle.quorum_sets.proofs.Offered.{ascending-is_sorted, has-ids_of}
-use Rattle.conf_session.specs.QuorumArguments.{each_once}
+use Rattle.conf_session.specs.QuorumArguments.{each_once, NamesBoth}
 
 -- ---- how many ids the set of a list has
 abbrev same : ℕ → ℕ → Bool
@@ -24,7 +24,7 @@ size-ids_of ids =
     (IsDistinct-from_sorted nat_cmp (ascending (ids_of ids)) (ascending-is_sorted (ids_of ids)))
     (λ q. sym (finite.contains_key-keys (ids_of ids) q) ∙ has-ids_of ids q ∙ sym (λ i. list_any (λ id. unsigned_tied q id i) ids))
 
-pub size-ids_of-le : (ids : List ℕ) → size (ids_of ids) ≤ length ids
+size-ids_of-le : (ids : List ℕ) → size (ids_of ids) ≤ length ids
 size-ids_of-le ids = let few = distinct_count-le same ids in omega (arith, few, size-ids_of ids)
 
 -- ---- a list that names no id twice
@@ -59,7 +59,7 @@ kept-twice id test (x ∷ ids) = at (x == id) (test x) refl ∙ ap (λ t. cond (
   at true false e = rw e refl
   at false false e = rw e refl
 
-each_once-append : (front back : List ℕ) → each_once (front ++ back) ≡ each_once front ++ filter (λ id. not (list_any (λ x. id == x) front)) (each_once back)
+pub each_once-append : (front back : List ℕ) → each_once (front ++ back) ≡ each_once front ++ filter (λ id. not (list_any (λ x. id == x) front)) (each_once back)
 each_once-append [] back = sym (all-kept (each_once back))
 each_once-append (id ∷ front) back =
     let others : List ℕ → List ℕ = filter (λ other. not (other == id)) in
@@ -71,10 +71,6 @@ each_once-append (id ∷ front) back =
 each_once-sets : (front back : List ℕ) → size (ids_of front) ≡ length front → size (ids_of back) ≡ length back → front ++ filter (λ id. not (has (ids_of front) id)) back ≡ each_once (front ++ back)
 each_once-sets front back first second =
     sym (each_once-append front back ∙ (λ i. each_once-full front first i ++ filter (λ id. not (sym (has-ids_of front id) i)) (each_once-full back second i)))
-
--- the ids are those of two lists, whose sets are these
-abbrev pub NamesBoth : List ℕ → Ids → Ids → Type 0
-NamesBoth ids incoming outgoing = (front : List ℕ) × (back : List ℕ) × (ids ≡ front ++ back) × (incoming ≡ ids_of front) × (outgoing ≡ ids_of back)
 
 pub sets-le : (ids : List ℕ) (incoming outgoing : Ids) → NamesBoth ids incoming outgoing → size incoming + size outgoing ≤ length ids
 sets-le ids incoming outgoing (front, back, named, first, second) =

@@ -7,7 +7,7 @@ mod ToldReplies
 mod InputLines
 mod SameAnswer
 mod Kept
-mod QuorumValues
 mod EachOnce
+mod QuorumValues
 mod NamedQuorumRead
 mod QuorumParameters

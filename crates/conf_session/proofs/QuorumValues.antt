@@ -1,5 +1,5 @@
 -- What the values of quorum arguments give, place by place.
-use Rattle.std.proofs.Common.{◌≡◌, ℕ, ◌+◌, ◌<◌, ◌≤◌, ◌==◌, ◌&&◌, get_or, Bool, true, false, cond, not, List, [], ◌∷◌, ◌++◌, length, filter, filter_map, map, take, drop, refl, sym, ap, ◌∙◌, inl, inr, arith}
+use Rattle.std.proofs.Common.{◌≡◌, ℕ, ◌+◌, ◌<◌, ◌≤◌, ◌==◌, ◌&&◌, get_or, Bool, true, false, cond, not, List, [], ◌∷◌, ◌++◌, length, filter_map, map, take, drop, refl, sym, ap, ◌∙◌, inl, inr, arith}
 use Rattle.std.specs.Prelude.{◌||◌, Option, Some, None, option_map, option_to_list, slice_get}
 use Rattle.std.specs.List.{find, list_any, zip, position_or_len}
 use Rattle.std.specs.Ordering.{nat_cmp}
@@ -12,10 +12,11 @@ use Rattle.std.proofs.lemmas.List.Folds.{position_or_len_push}
 use Rattle.std.proofs.lemmas.List.Sums.{prefix_len-le-length}
 use Rattle.std.proofs.lemmas.Option.{slice_get_within, slice_get_cases, get_or_from_slice_get}
 use Rattle.std.proofs.lemmas.Bool.{eqb-true, false_from_ne_true}
-use Rattle.std.proofs.lemmas.List.Elements.{filter-append, filter_map-append}
+use Rattle.std.proofs.lemmas.List.Elements.{filter_map-append}
 use Rattle.quorum_sets.proofs.Offered.{take-one_more}
 use Rattle.conf_session.specs.NamedQuorum.{map_said}
 use Rattle.conf_session.specs.QuorumArguments.{each_once, with_given, map_given}
+use Rattle.conf_session.proofs.EachOnce.{each_once-append}
 
 tied : (id q : ℕ) → eq_by_cmp nat_cmp id q ≡ (q == id)
 tied id q = (eq_by_cmp_equiv nat_cmp_total).symm id q ∙ unsigned_tied q id
@@ -33,22 +34,12 @@ not_within xs i e = elim (slice_get_cases xs i).1 [
 ]
 
 -- ---- each id once
-other-kept : (x y : ℕ) (same : Bool) → (x == y) ≡ same → filter (λ other. not (other == y)) (x ∷ []) ≡ cond same [] (x ∷ [])
-other-kept x y true e = rw e refl
-other-kept x y false e = rw e refl
+kept-alone : (x : ℕ) (there : Bool) → cond (not there) (x ∷ []) [] ≡ cond there [] (x ∷ [])
+kept-alone x true = refl
+kept-alone x false = refl
 
-kept-step : (x y : ℕ) (same there : Bool) → (x == y) ≡ same → filter (λ other. not (other == y)) (cond there [] (x ∷ [])) ≡ cond (same || there) [] (x ∷ [])
-kept-step x y true true e = refl
-kept-step x y false true e = refl
-kept-step x y true false e = other-kept x y true e
-kept-step x y false false e = other-kept x y false e
-
-pub once-more : (xs : List ℕ) (x : ℕ) → each_once (xs ++ x ∷ []) ≡ each_once xs ++ cond (list_any (λ id. x == id) xs) [] (x ∷ [])
-once-more [] x = refl
-once-more (y ∷ xs) x =
-    ap (λ t. y ∷ filter (λ other. not (other == y)) t) (once-more xs x)
-    ∙ ap (λ t. y ∷ t) (filter-append (λ other. not (other == y)) (each_once xs) (cond (list_any (λ id. x == id) xs) [] (x ∷ []))
-    ∙ ap (λ t. filter (λ other. not (other == y)) (each_once xs) ++ t) (kept-step x y (x == y) (list_any (λ id. x == id) xs) refl))
+once-more : (xs : List ℕ) (x : ℕ) → each_once (xs ++ x ∷ []) ≡ each_once xs ++ cond (list_any (λ id. x == id) xs) [] (x ∷ [])
+once-more xs x = each_once-append xs (x ∷ []) ∙ ap (λ t. each_once xs ++ t) (kept-alone x (list_any (λ id. x == id) xs))
 
 pub drop-here : {X : Type 0} (xs : List X) (i : ℕ) (x : X) → slice_get xs i ≡ Some x → drop i xs ≡ x ∷ drop (i + 1) xs
 drop-here xs i x e = drop_more xs i x (slice_get_within xs i x e) ∙ ap (λ y. y ∷ drop (i + 1) xs) (get_or_from_slice_get xs i x x e)

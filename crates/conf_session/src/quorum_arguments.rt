@@ -1,11 +1,11 @@
 //! The quorum that the arguments of a command name, and what its ids are given.
-ghost use Rattle.std.specs.Prelude.{◌≡◌, ℕ, List, true, not, [], ◌++◌, length, filter, nat_eq, option_map, option_to_list, IfOk, OnOk};
+ghost use Rattle.std.specs.Prelude.{◌≡◌, true, not, [], ◌++◌, length, filter, nat_eq, option_map, option_to_list, IfOk, OnOk};
 ghost use Rattle.std.specs.Ordering.{nat_cmp};
 ghost use Rattle.std.specs.FinMap as finite;
-ghost use Rattle.quorum_sets.specs.Ids.{has, ids_of};
+ghost use Rattle.quorum_sets.specs.Ids.{has};
 ghost use Rattle.conf_session.specs.Given.{entries_in, given_in};
 ghost use Rattle.conf_session.specs.NamedQuorum.{map_said};
-ghost use Rattle.conf_session.specs.QuorumArguments.{number_given, each_once, with_given};
+ghost use Rattle.conf_session.specs.QuorumArguments.{number_given, each_once, NamesBoth, with_given};
 
 use crate::arguments::argument_of;
 use crate::given::{FEW, Given, GivenValue};
@@ -37,7 +37,7 @@ fn push_each_of_many(
     outgoing: &SessionIds,
 ) -> Result<(), NoMemory>
     requires empty { each.old.items ≡ [] }
-    requires sets { (front : List ℕ) × (back : List ℕ) × (ids.now ≡ front ++ back) × (incoming.now ≡ ids_of front) × (outgoing.now ≡ ids_of back) }
+    requires sets { NamesBoth ids.now incoming.now outgoing.now }
     ensures { OnOk result (each.new.items ≡ each_once ids.now) }
 {
     if incoming.len() + outgoing.len() == ids.len() {
@@ -140,7 +140,7 @@ fn give_each_once<V: GivenValue>(
     said: &SmallVec<Option<V>, FEW>,
 ) -> Result<bool, NoMemory>
     requires empty { entries_in given.old ≡ [] }
-    requires sets { (front : List ℕ) × (back : List ℕ) × (ids.now ≡ front ++ back) × (incoming.now ≡ ids_of front) × (outgoing.now ≡ ids_of back) }
+    requires sets { NamesBoth ids.now incoming.now outgoing.now }
     ensures one_each { IfOk result (λ each. each ≡ nat_eq (length said.now.items) (length (each_once ids.now))) }
     ensures given { IfOk result (λ each. each ≡ true → given_in given.new ≡ map_said (each_once ids.now) said.now.items) }
 {
@@ -185,7 +185,7 @@ fn give_each_of_many<V: GivenValue>(
     said: &[Option<V>],
 ) -> Result<usize, NoMemory>
     requires empty { map.old.entries ≡ [] }
-    requires sets { (front : List ℕ) × (back : List ℕ) × (ids.now ≡ front ++ back) × (incoming.now ≡ ids_of front) × (outgoing.now ≡ ids_of back) }
+    requires sets { NamesBoth ids.now incoming.now outgoing.now }
     ensures count { IfOk result (λ count. count ≡ length (each_once ids.now)) }
     ensures given { OnOk result (finite.from_entries {R = nat_cmp} map.new.entries ≡ map_said (each_once ids.now) said.now) }
 {

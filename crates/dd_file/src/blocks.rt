@@ -12,8 +12,8 @@ use std::alloc::{AllocError, Global};
 
 const BLOCK_BYTES: usize = 16_384;
 
-/// A sink that keeps what it is given until it has a block of 16,384 bytes, and then writes that on, and with it what is left of
-/// longer bytes. Whoever is done calls `flush`. After a fault it asks its writer no more.
+/// A sink that keeps what it is given until it has a block of 16,384 bytes, and then writes that on. Whoever is done
+/// calls `flush`. After a fault it asks its writer no more.
 #[derive(Drop)]
 pub struct Blocks<W> {
     writer: W,
@@ -67,8 +67,8 @@ impl<W: Sink> Blocks<W> {
         Ok(())
     }
 
-    /// Takes a front part of bytes that the block has no room for, and writes the block on first where it is full. Bytes for
-    /// another whole block then go on as they are.
+    /// Takes a front part of bytes that the block has no room for, and writes the block on first where it is full. Behind it,
+    /// bytes that would fill another block are written as they are, without a copy.
     #[cold]
     fn write_part(&mut self, bytes: &[u8]) -> Result<usize, DeviceFault>
         requires { 0 < length bytes.now }
