@@ -1,18 +1,17 @@
 -- The ids of one list and then another, each once, where neither names an id twice.
-use Rattle.std.proofs.Common.{◌≡◌, ℕ, ◌+◌, ◌≤◌, ◌==◌, Bool, true, false, cond, not, List, [], ◌∷◌, ◌++◌, length, filter, take, drop, refl, sym, ap, ◌∙◌, arith, length-append}
+use Rattle.std.proofs.Common.{◌≡◌, ℕ, ◌==◌, Bool, true, false, cond, not, List, [], ◌∷◌, ◌++◌, length, filter, refl, sym, ap, ◌∙◌}
 use Rattle.std.specs.Prelude.{◌||◌}
 use Rattle.std.specs.List.{list_any, AllByRecursion, IsDistinct}
 use Rattle.std.specs.Set.{distinct_count}
 use Rattle.std.specs.Ordering.{nat_cmp, eq_by_cmp}
 use Rattle.std.specs.Cmp.{nat_cmp_total, unsigned_tied, eq_by_cmp_equiv, nat_eq_equiv}
 use Rattle.std.specs.FinMap as finite
-use Rattle.std.proofs.Math.Seq.{take-append_seam, drop-append_seam}
 use Rattle.std.proofs.lemmas.List.Elements.{filter-append}
 use Rattle.std.proofs.lemmas.Map.Keys.{IsDistinct-from_sorted}
-use Rattle.std.proofs.lemmas.Map.Made.{distinct_count-le, IsDistinct-from_count, length-from_keys}
-use Rattle.quorum_sets.specs.Ids.{Ids, has, ascending, size, ids_of}
+use Rattle.std.proofs.lemmas.Map.Made.{IsDistinct-from_count, length-from_keys}
+use Rattle.quorum_sets.specs.Ids.{has, ascending, size, ids_of}
 use Rattle.quorum_sets.proofs.Offered.{ascending-is_sorted, has-ids_of}
-use Rattle.conf_session.specs.QuorumArguments.{each_once, NamesBoth}
+use Rattle.conf_session.specs.QuorumArguments.{each_once}
 
 -- ---- how many ids the set of a list has
 abbrev same : ℕ → ℕ → Bool
@@ -23,9 +22,6 @@ size-ids_of ids =
     length-from_keys (eq_by_cmp_equiv nat_cmp_total) (ascending (ids_of ids)) ids
     (IsDistinct-from_sorted nat_cmp (ascending (ids_of ids)) (ascending-is_sorted (ids_of ids)))
     (λ q. sym (finite.contains_key-keys (ids_of ids) q) ∙ has-ids_of ids q ∙ sym (λ i. list_any (λ id. unsigned_tied q id i) ids))
-
-size-ids_of-le : (ids : List ℕ) → size (ids_of ids) ≤ length ids
-size-ids_of-le ids = let few = distinct_count-le same ids in omega (arith, few, size-ids_of ids)
 
 -- ---- a list that names no id twice
 others-kept : (id : ℕ) (ids : List ℕ) → AllByRecursion (λ other. same id other ≡ false) ids → filter (λ other. not (other == id)) ids ≡ ids
@@ -68,25 +64,6 @@ each_once-append (id ∷ front) back =
     ∙ ap (λ t. others (each_once front) ++ t) (kept-twice id (λ other. list_any (λ x. other == x) front) (each_once back)))
 
 -- the sets are as long as the lists
-each_once-sets : (front back : List ℕ) → size (ids_of front) ≡ length front → size (ids_of back) ≡ length back → front ++ filter (λ id. not (has (ids_of front) id)) back ≡ each_once (front ++ back)
+pub each_once-sets : (front back : List ℕ) → size (ids_of front) ≡ length front → size (ids_of back) ≡ length back → front ++ filter (λ id. not (has (ids_of front) id)) back ≡ each_once (front ++ back)
 each_once-sets front back first second =
     sym (each_once-append front back ∙ (λ i. each_once-full front first i ++ filter (λ id. not (sym (has-ids_of front id) i)) (each_once-full back second i)))
-
-pub sets-le : (ids : List ℕ) (incoming outgoing : Ids) → NamesBoth ids incoming outgoing → size incoming + size outgoing ≤ length ids
-sets-le ids incoming outgoing (front, back, named, first, second) =
-    omega (arith, size-ids_of-le front, size-ids_of-le back, ap size first, ap size second, ap length named, length-append front back)
-
-pub each_once-by_sets : (ids : List ℕ) (incoming outgoing : Ids) → NamesBoth ids incoming outgoing → size incoming + size outgoing ≡ length ids →
-    take (size incoming) ids ++ filter (λ id. not (has incoming id)) (drop (size incoming) ids) ≡ each_once ids
-each_once-by_sets ids incoming outgoing (front, back, named, first, second) full =
-    let fits = size-ids_of-le front in
-    let fits_behind = size-ids_of-le back in
-    let long = ap length named ∙ length-append front back in
-    let first_size = ap size first in
-    let second_size = ap size second in
-    let whole : size (ids_of front) ≡ length front = omega (arith, full, fits, fits_behind, long, first_size, second_size) in
-    let whole_behind : size (ids_of back) ≡ length back = omega (arith, full, fits, fits_behind, long, first_size, second_size) in
-    let seam : size incoming ≡ length front = first_size ∙ whole in
-    (λ i. take (seam i) (named i) ++ filter (λ id. not (has (first i) id)) (drop (seam i) (named i)))
-    ∙ (λ i. take-append_seam front back i ++ filter (λ id. not (has (ids_of front) id)) (drop-append_seam front back i))
-    ∙ each_once-sets front back whole whole_behind ∙ sym (ap each_once named)

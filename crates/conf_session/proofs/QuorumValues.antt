@@ -95,11 +95,6 @@ pub old-there : (ids : List ℕ) (i id : ℕ) → slice_get ids i ≡ Some id �
 old-there ids i id e some =
     sym (ap each_once (take-one_more ids i id e) ∙ once-more (take i ids) id ∙ ap (λ b. each_once (take i ids) ++ cond b [] (id ∷ [])) some ∙ append-nil (each_once (take i ids)))
 
--- ---- whether an id is there, asked from either side
-pub any-either : (q : ℕ) (xs : List ℕ) → list_any (λ y. y == q) xs ≡ list_any (λ other. q == other) xs
-any-either q [] = refl
-any-either q (x ∷ xs) = λ i. nat_eq_equiv.symm x q i || any-either q xs i
-
 -- ---- what is given, entry by entry
 -- an id with what is said of it, if something is known
 abbrev pub entry_said : {V : Type 0} → ℕ × Option V → Option (ℕ × V)

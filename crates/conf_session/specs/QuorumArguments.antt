@@ -1,8 +1,8 @@
 -- The quorum that arguments name, and what its ids are given.
-use Rattle.std.specs.Prelude.{◌≡◌, ℕ, Bool, true, false, not, ◌==◌, List, [], ◌∷◌, ◌++◌, length, filter, filter_map, Option, Some, None, option_map, unwrap_or, codes, bytes_eq, decimal, nat_eq, if◌then◌else◌}
+use Rattle.std.specs.Prelude.{ℕ, Bool, true, false, not, ◌==◌, List, [], ◌∷◌, ◌++◌, length, filter, filter_map, Option, Some, None, option_map, unwrap_or, codes, bytes_eq, decimal, nat_eq, if◌then◌else◌}
 use Rattle.std.specs.Ordering.{nat_cmp}
 use Rattle.std.specs.FinMap as finite
-use Rattle.quorum_sets.specs.Ids.{Ids, ascending, union, ids_of}
+use Rattle.quorum_sets.specs.Ids.{ascending, union, ids_of}
 use Rattle.quorum_sets.specs.Voters.{Voters}
 use Rattle.quorum_sets.specs.Committed.{Acks, greatest_index, joint_committed_index}
 use Rattle.quorum_sets.specs.Chart.{chart_text}
@@ -52,10 +52,6 @@ voters_given arguments = record { incoming = ids_of (numbers_given Incoming argu
 abbrev pub each_once : List ℕ → List ℕ
 each_once [] = []
 each_once (id ∷ ids) = id ∷ filter (λ other. not (other == id)) (each_once ids)
-
--- the ids are those of one list and then another, whose sets are these
-abbrev pub NamesBoth : List ℕ → Ids → Ids → Type 0
-NamesBoth ids incoming outgoing = (front : List ℕ) × (back : List ℕ) × (ids ≡ front ++ back) × (incoming ≡ ids_of front) × (outgoing ≡ ids_of back)
 
 -- the ids that are given values: those of the first set, then those of the second
 abbrev pub ids_given : List ArgumentText → List ℕ

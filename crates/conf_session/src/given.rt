@@ -1,11 +1,15 @@
 //! What ids are given: their votes, or the indexes that they acknowledged.
-ghost use Rattle.std.specs.Prelude.{◌≡◌, ◌==◌};
+ghost use Rattle.std.specs.Prelude.{◌≡◌, ◌==◌, [], ◌++◌, option_map, option_to_list, OnOk};
 ghost use Rattle.std.specs.List.{find, position_or_len};
+ghost use Rattle.std.specs.Ordering.{nat_cmp};
+ghost use Rattle.std.specs.FinMap as finite;
 ghost use Rattle.conf_session.specs.Given.{given_in};
+ghost use Rattle.conf_session.specs.NamedQuorum.{map_said};
+ghost use Rattle.conf_session.specs.QuorumArguments.{with_given};
 
 use crate::parameter::{Parameter, is_unknown};
 use ascii_text::number::read_number;
-use quorum_sets::{AckSource, VoteSource};
+use quorum_sets::{AckSource, NoMemory, VoteSource};
 use smallvec::SmallVec;
 use std::alloc::Global;
 use std::collections::BTreeMap;
@@ -119,9 +123,10 @@ pub(crate) enum Given<V: GivenValue> {
 }
 
 impl<V: GivenValue> Given<V> {
-    ghost use Rattle.std.specs.Prelude.{◌≡◌, []};
+    ghost use Rattle.std.specs.Prelude.{◌≡◌, [], OnOk};
     ghost use Rattle.std.specs.FinMap as finite;
     ghost use Rattle.conf_session.specs.Given.{entries_in, given_in};
+    ghost use Rattle.conf_session.specs.NamedQuorum.{map_said};
 
     /// Nothing.
     pub(crate) fn none(alloc: Global) -> Given<V>
@@ -140,6 +145,22 @@ impl<V: GivenValue> Given<V> {
         }
     }
 
+    /// Gives each of the ids what is said at its place, where nothing is given yet.
+    pub(crate) fn give(
+        &mut self,
+        ids: &[u64],
+        said: &SmallVec<Option<V>, FEW>,
+    ) -> Result<(), NoMemory>
+        requires { entries_in self.old ≡ [] }
+        ensures { OnOk result (given_in self.new ≡ map_said ids.now said.now.items) }
+    {
+        let said = said.as_slice();
+        match self {
+            Given::Few(list) => give_few(list, ids, said),
+            Given::Many(map) => give_many(map, ids, said),
+        }
+    }
+
     /// What the id is given, if that is known.
     fn of(&self, id: u64) -> Option<V>
         ensures { result ≡ finite.get (given_in self.now) id }
@@ -152,6 +173,68 @@ impl<V: GivenValue> Given<V> {
             Given::Many(map) => map.get(&id).copied(),
         }
     }
+}
+
+// Gives each of the ids what is said at its place, in a list.
+fn give_few<V: GivenValue>(
+    list: &mut SmallVec<(u64, V), FEW>,
+    ids: &[u64],
+    said: &[Option<V>],
+) -> Result<(), NoMemory>
+    requires { list.old.items ≡ [] }
+    ensures { OnOk result (finite.from_entries {R = nat_cmp} list.new.items ≡ map_said ids.now said.now) }
+{
+    for (place, id) in ids.iter().enumerate() {
+        if let Some(one) = said.get(place) {
+            push_given(list, *id, *one)?;
+        }
+    }
+    Ok(())
+}
+
+// The same in a tree.
+fn give_many<V: GivenValue>(
+    map: &mut BTreeMap<u64, V>,
+    ids: &[u64],
+    said: &[Option<V>],
+) -> Result<(), NoMemory>
+    requires { map.old.entries ≡ [] }
+    ensures { OnOk result (finite.from_entries {R = nat_cmp} map.new.entries ≡ map_said ids.now said.now) }
+{
+    for place in (0..ids.len()).rev() {
+        if let Some(one) = said.get(place) {
+            insert_given(map, ids[place], *one)?;
+        }
+    }
+    Ok(())
+}
+
+// Puts what the id is given behind the others, if that is known.
+fn push_given<V: GivenValue>(
+    list: &mut SmallVec<(u64, V), FEW>,
+    id: u64,
+    one: Option<V>,
+) -> Result<(), NoMemory>
+    ensures { OnOk result (list.new.items ≡ list.old.items ++ option_to_list (option_map (λ value. (id, value)) one)) }
+{
+    if let Some(value) = one {
+        list.push((id, value))?;
+    }
+    Ok(())
+}
+
+// Puts in what the id is given, if that is known.
+fn insert_given<V: GivenValue>(
+    map: &mut BTreeMap<u64, V>,
+    id: u64,
+    one: Option<V>,
+) -> Result<(), NoMemory>
+    ensures { OnOk result (finite.from_entries {R = nat_cmp} map.new.entries ≡ with_given (finite.from_entries map.old.entries) id one) }
+{
+    if let Some(value) = one {
+        map.insert(id, value)?;
+    }
+    Ok(())
 }
 
 // The first entry of the id.

@@ -1,17 +1,21 @@
 //! What the arguments of a quorum name, read where they are looked at.
-ghost use Rattle.std.specs.Prelude.{◌≡◌, true, ◌++◌, map, filter_map, option_to_list, IfOk};
+ghost use Rattle.std.specs.Prelude.{◌≡◌, true, not, [], ◌++◌, map, filter, filter_map, option_to_list, IfOk, OnOk};
 ghost use Rattle.std.specs.List.{list_all};
+ghost use Rattle.quorum_sets.specs.Ids.{has};
 ghost use Rattle.ascii_text.specs.Number.{number_in};
 ghost use Rattle.conf_session.specs.Parameter as says;
+ghost use Rattle.conf_session.specs.QuorumArguments.{each_once};
 
 use crate::arguments::has_key;
 use crate::given::{FEW, GivenValue};
 use crate::parameter::{Parameter, has_only};
+use crate::session_ids::SessionIds;
 use ascii_text::number::read_number;
 use dd_file::item::Argument;
-use quorum_sets::NoMemory;
+use quorum_sets::{MemberSet, NoMemory};
 use smallvec::SmallVec;
 use std::alloc::Global;
+use std::collections::BTreeSet;
 
 /// The ids of `cfg` and those of `cfgj`, as they are named, and what the values of the last argument say.
 #[derive(Drop)]
@@ -23,9 +27,10 @@ pub(crate) struct NamedQuorum<V: GivenValue> {
 
 impl<V: GivenValue> NamedQuorum<V> {
     ghost use Rattle.std.specs.Prelude.{◌≡◌, true, [], ◌++◌, map, None, option_map, IfOk, OnOk};
+    ghost use Rattle.quorum_sets.specs.Ids.{ids_of};
     ghost use Rattle.conf_session.specs.Arguments.{bad_argument, missing_argument, is_allowed};
     ghost use Rattle.conf_session.specs.Commands.{parameters_of};
-    ghost use Rattle.conf_session.specs.QuorumArguments.{numbers_given, numbers_of, values_given};
+    ghost use Rattle.conf_session.specs.QuorumArguments.{each_once, numbers_given, numbers_of, values_given};
     ghost use Rattle.conf_session.specs.NamedQuorum.{values_of};
 
     /// Nothing is named.
@@ -63,13 +68,24 @@ impl<V: GivenValue> NamedQuorum<V> {
         Ok(None)
     }
 
-    /// Puts the ids of `cfgj` behind those of `cfg`.
-    pub(crate) fn join(&mut self) -> Result<(), NoMemory>
-        ensures ids { OnOk result (self.new.incoming.items ≡ self.old.incoming.items ++ self.old.outgoing.items) }
+    /// Makes the ids of `cfg` those of both, each once, in the order in which they come first. The sets are those of the
+    /// two lists.
+    pub(crate) fn join(
+        &mut self,
+        incoming: &SessionIds,
+        outgoing: &SessionIds,
+    ) -> Result<(), NoMemory>
+        requires incoming { incoming.now ≡ ids_of self.old.incoming.items }
+        requires outgoing { outgoing.now ≡ ids_of self.old.outgoing.items }
+        ensures ids { OnOk result (self.new.incoming.items ≡ each_once (self.old.incoming.items ++ self.old.outgoing.items)) }
         ensures said { self.new.said ≡ self.old.said }
     {
-        self.incoming.extend_from_slice(self.outgoing.as_slice())?;
-        Ok(())
+        // A set is as long as its list only where this names no id twice.
+        if incoming.len() == self.incoming.len() && outgoing.len() == self.outgoing.len() {
+            push_others(&mut self.incoming, self.outgoing.as_slice(), incoming)
+        } else {
+            join_by_tree(&mut self.incoming, self.outgoing.as_slice())
+        }
     }
 
     // Takes what an argument names, and tells whether it may stand.
@@ -90,6 +106,43 @@ impl<V: GivenValue> NamedQuorum<V> {
             Ok(false)
         }
     }
+}
+
+// Puts those of the ids behind the others that the set does not have.
+fn push_others(each: &mut SmallVec<u64, FEW>, ids: &[u64], set: &SessionIds) -> Result<(), NoMemory>
+    ensures { OnOk result (each.new.items ≡ each.old.items ++ filter (λ id. not (has set.now id)) ids.now) }
+{
+    for id in ids {
+        if !set.contains(*id) {
+            each.push(*id)?;
+        }
+    }
+    Ok(())
+}
+
+// Puts other ids behind these, and leaves of all of them each once, in the order in which they come first.
+fn join_by_tree(ids: &mut SmallVec<u64, FEW>, others: &[u64]) -> Result<(), NoMemory>
+    ensures { OnOk result (ids.new.items ≡ each_once (ids.old.items ++ others.now)) }
+{
+    ids.extend_from_slice(others)?;
+    let mut each = SmallVec::new(*ids.allocator());
+    push_each_by_tree(&mut each, ids.as_slice())?;
+    *ids = each;
+    Ok(())
+}
+
+// Puts in the ids, each once, in the order in which they come first. Each is looked for in a tree.
+fn push_each_by_tree(each: &mut SmallVec<u64, FEW>, ids: &[u64]) -> Result<(), NoMemory>
+    requires { each.old.items ≡ [] }
+    ensures { OnOk result (each.new.items ≡ each_once ids.now) }
+{
+    let mut seen = BTreeSet::new(*each.allocator());
+    for id in ids {
+        if seen.insert(*id)? {
+            each.push(*id)?;
+        }
+    }
+    Ok(())
 }
 
 // Puts the ids of an argument behind the others, and tells whether each of its values is one; `zero` says none.

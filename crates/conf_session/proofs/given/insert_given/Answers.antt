@@ -1,5 +1,5 @@
 use Rattle.quorum_sets.proofs.Offered.{from_entries-inserted}
-use Rattle.conf_session.proofs.quorum_arguments.insert_given.Goals as goal
+use Rattle.conf_session.proofs.given.insert_given.Goals as goal
 
 pub returns-in_ok-insert : goal.returns-in_ok-insert
 returns-in_ok-insert g c =

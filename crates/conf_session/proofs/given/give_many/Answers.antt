@@ -4,7 +4,7 @@ use Rattle.std.proofs.lemmas.Option.{slice_get-get_or}
 use Rattle.conf_change.proofs.Offered.{item-copied}
 use Rattle.conf_session.specs.QuorumArguments.{with_given}
 use Rattle.conf_session.proofs.QuorumValues.{said-here, said-past}
-use Rattle.conf_session.proofs.quorum_arguments.give_many.Goals as goal
+use Rattle.conf_session.proofs.given.give_many.Goals as goal
 
 pub loop-place-preserved-in-Continue-1 : goal.loop-place-preserved-in-Continue-1
 loop-place-preserved-in-Continue-1 g c =

@@ -3,8 +3,8 @@ use Rattle.std.specs.Prelude.{Some, slice_get}
 use Rattle.std.specs.List.{list_any}
 use Rattle.std.proofs.lemmas.Option.{slice_get-get_or}
 use Rattle.conf_session.proofs.QuorumValues.{seen-here, new-there, old-there, not-one, not-none}
-use Rattle.conf_session.proofs.quorum_arguments.push_each_by_tree.Goals as goal
-use Rattle.conf_session.proofs.quorum_arguments.push_each_by_tree.Goals.{then-branch+in_ok-push, else-branch}
+use Rattle.conf_session.proofs.named_quorum.push_each_by_tree.Goals as goal
+use Rattle.conf_session.proofs.named_quorum.push_each_by_tree.Goals.{then-branch+in_ok-push, else-branch}
 
 pub loop-id-preserved : goal.loop-id-preserved
 loop-id-preserved c =

@@ -3,7 +3,7 @@ use Rattle.std.specs.Ordering.{nat_cmp}
 use Rattle.std.specs.List.{list_any}
 use Rattle.std.specs.BTreeSet.{contains}
 use Rattle.conf_session.specs.QuorumArguments.{each_once}
-use Rattle.conf_session.proofs.quorum_arguments.push_each_by_tree.Given as goal
+use Rattle.conf_session.proofs.named_quorum.push_each_by_tree.Given as goal
 
 abbrev pub invariant-loop-id : goal.invariant-loop-id
 invariant-loop-id l =
