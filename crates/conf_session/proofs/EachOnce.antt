@@ -14,7 +14,7 @@ use Rattle.quorum_sets.proofs.Offered.{ascending-is_sorted, has-ids_of}
 use Rattle.conf_session.specs.QuorumArguments.{each_once}
 
 -- ---- how many ids the set of a list has
-abbrev same : ℕ → ℕ → Bool
+abbrev pub same : ℕ → ℕ → Bool
 same = eq_by_cmp nat_cmp
 
 size-ids_of : (ids : List ℕ) → size (ids_of ids) ≡ distinct_count same ids
@@ -67,3 +67,35 @@ each_once-append (id ∷ front) back =
 pub each_once-sets : (front back : List ℕ) → size (ids_of front) ≡ length front → size (ids_of back) ≡ length back → front ++ filter (λ id. not (has (ids_of front) id)) back ≡ each_once (front ++ back)
 each_once-sets front back first second =
     sym (each_once-append front back ∙ (λ i. each_once-full front first i ++ filter (λ id. not (sym (has-ids_of front id) i)) (each_once-full back second i)))
+
+-- ---- ids, each once, are told apart
+abbrev IsApart : ℕ → List ℕ → Type 0
+IsApart id = AllByRecursion (λ other. same id other ≡ false)
+
+others-apart : (id : ℕ) (ids : List ℕ) → IsApart id (filter (λ other. not (other == id)) ids)
+others-apart id [] = tt
+others-apart id (x ∷ ids) = at (x == id) refl (others-apart id ids) where
+  at : (b : Bool) → (x == id) ≡ b → IsApart id (filter (λ other. not (other == id)) ids)
+      → IsApart id (cond (not b) (x ∷ filter (λ other. not (other == id)) ids) (filter (λ other. not (other == id)) ids))
+  at true is rest = rest
+  at false is rest = (unsigned_tied id x ∙ nat_eq_equiv.symm id x ∙ is, rest)
+
+apart-filter : (id : ℕ) (p : ℕ → Bool) (ids : List ℕ) → IsApart id ids → IsApart id (filter p ids)
+apart-filter id p [] apart = apart
+apart-filter id p (x ∷ ids) apart = at (p x) (apart-filter id p ids apart.1) where
+  at : (b : Bool) → IsApart id (filter p ids) → IsApart id (cond b (x ∷ filter p ids) (filter p ids))
+  at true rest = (apart.0, rest)
+  at false rest = rest
+
+distinct-filter : (p : ℕ → Bool) (ids : List ℕ) → IsDistinct same ids → IsDistinct same (filter p ids)
+unfolding IsDistinct
+distinct-filter p [] distinct = distinct
+distinct-filter p (x ∷ ids) distinct = at (p x) (distinct-filter p ids distinct.1) where
+  at : (b : Bool) → IsDistinct same (filter p ids) → IsDistinct same (cond b (x ∷ filter p ids) (filter p ids))
+  at true rest = (apart-filter x p ids distinct.0, rest)
+  at false rest = rest
+
+pub IsDistinct-each_once : (ids : List ℕ) → IsDistinct same (each_once ids)
+unfolding IsDistinct
+IsDistinct-each_once [] = tt
+IsDistinct-each_once (id ∷ ids) = (others-apart id (each_once ids), distinct-filter (λ other. not (other == id)) (each_once ids) (IsDistinct-each_once ids))

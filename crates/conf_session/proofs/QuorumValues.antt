@@ -1,7 +1,7 @@
 -- What the values of quorum arguments give, place by place.
-use Rattle.std.proofs.Common.{◌≡◌, ℕ, ◌+◌, ◌<◌, ◌≤◌, ◌==◌, ◌&&◌, get_or, Bool, true, false, cond, not, List, [], ◌∷◌, ◌++◌, length, filter_map, map, take, drop, refl, sym, ap, ◌∙◌, inl, inr, arith}
-use Rattle.std.specs.Prelude.{◌||◌, Option, Some, None, option_map, option_to_list, slice_get}
-use Rattle.std.specs.List.{find, list_any, zip, position_or_len}
+use Rattle.std.proofs.Common.{◌≡◌, ℕ, ◌+◌, ◌<◌, ◌≤◌, ◌==◌, ◌&&◌, get_or, Bool, true, false, cond, not, List, [], ◌∷◌, ◌++◌, length, filter_map, map, take, drop, refl, sym, ap, ◌∙◌, inl, inr, arith, subst, suc}
+use Rattle.std.specs.Prelude.{◌||◌, Option, Some, None, option_to_list, slice_get}
+use Rattle.std.specs.List.{list_any, position_or_len, AllByRecursion, IsDistinct}
 use Rattle.std.specs.Ordering.{nat_cmp}
 use Rattle.std.specs.Cmp.{nat_cmp_total, unsigned_tied, eq_by_cmp_equiv, nat_eq_equiv}
 use Rattle.std.specs.Ordering.{eq_by_cmp}
@@ -12,11 +12,10 @@ use Rattle.std.proofs.lemmas.List.Folds.{position_or_len_push}
 use Rattle.std.proofs.lemmas.List.Sums.{prefix_len-le-length}
 use Rattle.std.proofs.lemmas.Option.{slice_get_within, slice_get_cases, get_or_from_slice_get}
 use Rattle.std.proofs.lemmas.Bool.{eqb-true, false_from_ne_true}
-use Rattle.std.proofs.lemmas.List.Elements.{filter_map-append}
 use Rattle.quorum_sets.proofs.Offered.{take-one_more}
 use Rattle.conf_session.specs.NamedQuorum.{map_said}
 use Rattle.conf_session.specs.QuorumArguments.{each_once, with_given, map_given}
-use Rattle.conf_session.proofs.EachOnce.{each_once-append}
+use Rattle.conf_session.proofs.EachOnce.{same, each_once-append}
 
 tied : (id q : ℕ) → eq_by_cmp nat_cmp id q ≡ (q == id)
 tied id q = (eq_by_cmp_equiv nat_cmp_total).symm id q ∙ unsigned_tied q id
@@ -95,39 +94,42 @@ pub old-there : (ids : List ℕ) (i id : ℕ) → slice_get ids i ≡ Some id �
 old-there ids i id e some =
     sym (ap each_once (take-one_more ids i id e) ∙ once-more (take i ids) id ∙ ap (λ b. each_once (take i ids) ++ cond b [] (id ∷ [])) some ∙ append-nil (each_once (take i ids)))
 
--- ---- what is given, entry by entry
--- an id with what is said of it, if something is known
-abbrev pub entry_said : {V : Type 0} → ℕ × Option V → Option (ℕ × V)
-entry_said named = option_map (λ value. (named.0, value)) named.1
+-- ---- what is given, by id
+-- what is said at a place
+abbrev pub said_there : {V : Type 0} → Option (Option V) → Option V
+said_there None = None
+said_there (Some one) = one
 
-pub entries-map_said : {V : Type 0} (ids : List ℕ) (said : List (Option V)) → finite.from_entries {R = nat_cmp} (filter_map entry_said (zip ids said)) ≡ map_said ids said
-entries-map_said [] said = refl
-entries-map_said (id ∷ ids) [] = refl
-entries-map_said (id ∷ ids) (None ∷ said) = entries-map_said ids said
-entries-map_said (id ∷ ids) (Some v ∷ said) = ap (λ map. finite.insert map id v) (entries-map_said ids said)
+get-absent : {V : Type 0} (id : ℕ) (ids : List ℕ) (said : List (Option V)) → AllByRecursion (λ other. same id other ≡ false) ids → finite.get (map_said ids said) id ≡ None
+get-absent id [] said apart = finite.get-empty nat_cmp id
+get-absent id (x ∷ ids) [] apart = finite.get-empty nat_cmp id
+get-absent id (x ∷ ids) (None ∷ said) apart = get-absent id ids said apart.1
+get-absent id (x ∷ ids) (Some v ∷ said) apart =
+    finite.get-insert nat_cmp_total (map_said ids said) x v id ∙ ap (λ b. cond b (Some v) (finite.get (map_said ids said) id)) apart.0 ∙ get-absent id ids said apart.1
 
--- one id more, of which something is said, or nothing
-zip-more : {X : Type 0} (ids : List ℕ) (said : List X) (id : ℕ) (one : X) → slice_get said (length ids) ≡ Some one → zip (ids ++ id ∷ []) said ≡ zip ids said ++ (id, one) ∷ []
-zip-more [] [] id one e = cc
-zip-more [] (x ∷ said) id one e = let same : x ≡ one = cc in ap (λ y. (id, y) ∷ []) same
-zip-more (i ∷ ids) [] id one e = cc
-zip-more (i ∷ ids) (x ∷ said) id one e = ap (λ t. (i, x) ∷ t) (zip-more ids said id one e)
+given-there : {V : Type 0} (map : finite.FinMap nat_cmp V) (x id : ℕ) (one : Option V) → same id x ≡ true → finite.get map id ≡ None → one ≡ finite.get (with_given map x one) id
+given-there map x id None is none = sym none
+given-there map x id (Some v) is none = sym (finite.get-insert nat_cmp_total map x v id ∙ ap (λ b. cond b (Some v) (finite.get map id)) is)
 
-zip-full : {X : Type 0} (ids : List ℕ) (said : List X) (id : ℕ) → slice_get said (length ids) ≡ None → zip (ids ++ id ∷ []) said ≡ zip ids said
-zip-full [] [] id e = refl
-zip-full [] (x ∷ said) id e = cc
-zip-full (i ∷ ids) [] id e = refl
-zip-full (i ∷ ids) (x ∷ said) id e = ap (λ t. (i, x) ∷ t) (zip-full ids said id e)
+given-elsewhere : {V : Type 0} (map : finite.FinMap nat_cmp V) (x id : ℕ) (one : Option V) → same id x ≡ false → finite.get map id ≡ finite.get (with_given map x one) id
+given-elsewhere map x id None is = refl
+given-elsewhere map x id (Some v) is = sym (finite.get-insert nat_cmp_total map x v id ∙ ap (λ b. cond b (Some v) (finite.get map id)) is)
 
-pub entries-more : {V : Type 0} (ids : List ℕ) (said : List (Option V)) (id : ℕ) (one : Option V) → slice_get said (length ids) ≡ Some one →
-    filter_map entry_said (zip (ids ++ id ∷ []) said) ≡ filter_map entry_said (zip ids said) ++ option_to_list (entry_said (id, one))
-entries-more ids said id one e =
-    ap (filter_map entry_said) (zip-more ids said id one e) ∙ filter_map-append entry_said (zip ids said) ((id, one) ∷ [])
-    ∙ ap (λ t. filter_map entry_said (zip ids said) ++ t) (one-known entry_said (id, one))
-
-pub entries-full : {V : Type 0} (ids : List ℕ) (said : List (Option V)) (id : ℕ) → slice_get said (length ids) ≡ None →
-    filter_map entry_said (zip (ids ++ id ∷ []) said) ≡ filter_map entry_said (zip ids said)
-entries-full ids said id e = ap (filter_map entry_said) (zip-full ids said id e)
+pub get-said : {V : Type 0} (id : ℕ) (ids : List ℕ) (said : List (Option V)) → IsDistinct same ids → length said ≡ length ids →
+    said_there (slice_get said (position_or_len (λ other. other == id) ids)) ≡ finite.get (map_said ids said) id
+unfolding IsDistinct
+get-said id [] [] distinct each = sym (finite.get-empty nat_cmp id)
+get-said id [] (one ∷ said) distinct each = cc
+get-said id (x ∷ ids) [] distinct each = cc
+get-said {V = V} id (x ∷ ids) (one ∷ said) distinct each = at (x == id) refl (get-said id ids said distinct.1 (omega (arith, each))) where
+  at : (b : Bool) → (x == id) ≡ b → said_there (slice_get said (position_or_len (λ other. other == id) ids)) ≡ finite.get (map_said ids said) id
+      → said_there (slice_get (one ∷ said) (cond (not b) (1 + position_or_len (λ other. other == id) ids) 0)) ≡ finite.get (with_given (map_said ids said) x one) id
+  at true is rest =
+      given-there (map_said ids said) x id one (unsigned_tied id x ∙ nat_eq_equiv.symm id x ∙ is)
+      (get-absent id ids said (subst (λ k. AllByRecursion (λ other. same k other ≡ false) ids) (eqb-true x id is) distinct.0))
+  at false is rest =
+      let next : 1 + position_or_len (λ other. other == id) ids ≡ suc (position_or_len (λ other. other == id) ids) = omega arith in
+      ap (λ place. said_there (slice_get (one ∷ said) place)) next ∙ rest ∙ given-elsewhere (map_said ids said) x id one (unsigned_tied id x ∙ nat_eq_equiv.symm id x ∙ is)
 
 -- what is said by values
 pub said-by-values : {V : Type 0} (says : List ℕ → Option V) (ids : List ℕ) (values : List (List ℕ)) → map_said ids (map says values) ≡ map_given says ids values
@@ -135,18 +137,19 @@ said-by-values says [] values = refl
 said-by-values says (id ∷ ids) [] = refl
 said-by-values says (id ∷ ids) (value ∷ values) = ap (λ given. with_given given id (says value)) (said-by-values says ids values)
 
--- one more entry: the place goes on while no entry before was the id's
-pub place-further : {V : Type 0} (id : ℕ) (list : List (ℕ × V)) (k place : ℕ) (y : ℕ × V) (before : Bool) (byte : Bool → ℕ) → byte true ≡ 1 → byte false ≡ 0
-    → k < length list → y ≡ get_or list k y → place ≡ position_or_len (λ e. e.0 == id) (take k list) → before ≡ (place == k)
-    → let now = before && not (y.0 == id) in (place + byte now ≡ position_or_len (λ e. e.0 == id) (take (k + 1) list)) × (now ≡ (place + byte now == k + 1))
-place-further {V = V} id list k place y before byte one none within item so_far same =
-    let p : ℕ × V → Bool = λ e. e.0 == id in
+-- one more id: the place goes on while none before was this one
+pub place-further : (id : ℕ) (list : List ℕ) (k place : ℕ) (before : Bool) (byte : Bool → ℕ) → byte true ≡ 1 → byte false ≡ 0
+    → k < length list → place ≡ position_or_len (λ other. other == id) (take k list) → before ≡ (place == k)
+    → let now = before && not (get_or list k 0 == id) in (place + byte now ≡ position_or_len (λ other. other == id) (take (k + 1) list)) × (now ≡ (place + byte now == k + 1))
+place-further id list k place before byte one none within so_far same =
+    let p : ℕ → Bool = λ other. other == id in
+    let y = get_or list k 0 in
     let passed = length-take-le k list (omega arith) in
-    let few = prefix_len-le-length (λ e. not (p e)) (take k list) in
-    let step = at before (y.0 == id) (sym same) (omega arith) in
+    let few = prefix_len-le-length (λ other. not (p other)) (take k list) in
+    let step = at before (y == id) (sym same) (omega arith) in
     let more =
-    ap (position_or_len p) (take_more list k y within ∙ ap (λ x. take k list ++ x ∷ []) (sym item)) ∙ position_or_len_push p (take k list) y
-    ∙ (λ i. cond (sym so_far i == passed i) (passed i + cond (y.0 == id) 0 1) (sym so_far i)) ∙ ap (λ b. cond b (k + cond (y.0 == id) 0 1) place) (sym same) in
+    ap (position_or_len p) (take_more list k 0 within) ∙ position_or_len_push p (take k list) y
+    ∙ (λ i. cond (sym so_far i == passed i) (passed i + cond (y == id) 0 1) (sym so_far i)) ∙ ap (λ b. cond b (k + cond (y == id) 0 1) place) (sym same) in
     (step.0 ∙ sym more, step.1)
   where
     at : (b c : Bool) → (place == k) ≡ b → place ≤ k → (place + byte (b && not c) ≡ cond b (k + cond c 0 1) place) × ((b && not c) ≡ (place + byte (b && not c) == k + 1))
@@ -154,17 +157,6 @@ place-further {V = V} id list k place y before byte one none within item so_far 
     at true false e le = let here = eqb-true place k e in (omega (arith, one, here), sym (ap (λ n. n == k + 1) (omega (arith, one, here)) ∙ nat_eq_equiv.refl (k + 1)))
     at false true e le = (omega (arith, none), sym (false_from_ne_true _ (λ f. absurd (omega (arith, none, le, eqb-true _ _ f)))))
     at false false e le = (omega (arith, none), sym (false_from_ne_true _ (λ f. absurd (omega (arith, none, le, eqb-true _ _ f)))))
-
--- what a list of entries has at an id
-pub get-entry : {V : Type 0} (id : ℕ) (entries : List (ℕ × V)) → finite.get (finite.from_entries {R = nat_cmp} entries) id ≡ option_map (λ e. e.1) (find (λ e. e.0 == id) entries)
-get-entry {V = V} id entries = finite.get-from_entries nat_cmp_total entries id ∙ alike entries where
-  at : (a b : Bool) (v : V) (e : ℕ × V) (x : Option V) (f : Option (ℕ × V)) → a ≡ b → e.1 ≡ v → x ≡ option_map (λ e. e.1) f → cond a (Some v) x ≡ option_map (λ e. e.1) (cond b (Some e) f)
-  at true b v e x f same is rest = rw (sym same) (ap Some (sym is))
-  at false b v e x f same is rest = rw (sym same) rest
-
-  alike : (entries : List (ℕ × V)) → finite.find nat_cmp id entries ≡ option_map (λ e. e.1) (find (λ e. e.0 == id) entries)
-  alike [] = refl
-  alike (e ∷ entries) = at _ _ e.1 e _ _ (unsigned_tied id e.0 ∙ nat_eq_equiv.symm id e.0) refl (alike entries)
 
 pub not-one : (b : Bool) → not b ≡ true → b ≡ false
 not-one true e = cc

@@ -1,15 +1,11 @@
--- Values by id, as they are kept.
-use Rattle.std.specs.Prelude.{ℕ, List}
+-- What ids are given.
 use Rattle.std.specs.Ordering.{nat_cmp}
 use Rattle.std.specs.FinMap as finite
+use Rattle.conf_session.specs.NamedQuorum.{map_said}
 use Rattle.conf_session.specs.declared.given.Given.{Given}
 use Rattle.conf_session.specs.declared.given.Given.TheVariants.{Few, Many}
 
--- the values as they are kept, each behind its id
-abbrev pub entries_in : {V : Type 0} → Given V → List (ℕ × V)
-entries_in (Few list) = list.items
-entries_in (Many map) = map.entries
-
--- what the ids are given
+-- what the ids are given: few of them what is said at their places, and more as it is kept by id
 abbrev pub given_in : {V : Type 0} → Given V → finite.FinMap nat_cmp V
-given_in given = finite.from_entries (entries_in given)
+given_in (Few few) = map_said few.ids.now few.said.now
+given_in (Many map) = finite.from_entries map.entries

@@ -4,8 +4,8 @@ pub mod SessionState
 pub mod Parameter
 pub mod Arguments
 pub mod QuorumArguments
-pub mod Given
 pub mod NamedQuorum
+pub mod Given
 pub mod Reply
 pub mod Undo
 pub mod Commands

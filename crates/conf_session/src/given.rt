@@ -1,9 +1,9 @@
 //! What ids are given: their votes, or the indexes that they acknowledged.
-ghost use Rattle.std.specs.Prelude.{◌≡◌, ◌==◌, [], ◌++◌, option_map, option_to_list, OnOk};
-ghost use Rattle.std.specs.List.{find, position_or_len};
-ghost use Rattle.std.specs.Ordering.{nat_cmp};
+ghost use Rattle.std.specs.Prelude.{◌≡◌, ◌==◌, [], length, OnOk};
+ghost use Rattle.std.specs.List.{IsDistinct, position_or_len};
+ghost use Rattle.std.specs.Ordering.{nat_cmp, eq_by_cmp};
 ghost use Rattle.std.specs.FinMap as finite;
-ghost use Rattle.conf_session.specs.Given.{given_in};
+ghost use Rattle.std.proofs.Props.{props};
 ghost use Rattle.conf_session.specs.NamedQuorum.{map_said};
 ghost use Rattle.conf_session.specs.QuorumArguments.{with_given};
 
@@ -114,51 +114,47 @@ impl GivenValue for bool {
 /// Up to so many ids are looked for one after another.
 pub(crate) const FEW: usize = 16;
 
-/// Values by id.
+/// What ids are given.
 #[derive(Drop)]
-pub(crate) enum Given<V: GivenValue> {
-    /// Those of few ids.
-    Few(SmallVec<(u64, V), FEW>),
+pub(crate) enum Given<'a, V: Drop> {
+    Few(FewGiven<'a, V>),
+    /// What ids that are not few are given, by id.
     Many(BTreeMap<u64, V>),
 }
 
-impl<V: GivenValue> Given<V> {
-    ghost use Rattle.std.specs.Prelude.{◌≡◌, [], OnOk};
+/// Ids, each once, and what is said of each at its place.
+#[derive(Drop)]
+pub(crate) struct FewGiven<'a, V: Drop> {
+    ids: &'a [u64],
+    said: &'a [Option<V>],
+    ghost once: { IsDistinct (eq_by_cmp nat_cmp) ids.now } by { Prim.hlevel props },
+    ghost each: { length said.now ≡ length ids.now },
+}
+
+impl<'a, V: GivenValue> Given<'a, V> {
+    ghost use Rattle.std.specs.Prelude.{◌≡◌, length, IfOk};
+    ghost use Rattle.std.specs.List.{IsDistinct};
+    ghost use Rattle.std.specs.Ordering.{nat_cmp, eq_by_cmp};
     ghost use Rattle.std.specs.FinMap as finite;
-    ghost use Rattle.conf_session.specs.Given.{entries_in, given_in};
+    ghost use Rattle.conf_session.specs.Given.{given_in};
     ghost use Rattle.conf_session.specs.NamedQuorum.{map_said};
 
-    /// Nothing.
-    pub(crate) fn none(alloc: Global) -> Given<V>
-        ensures { entries_in result ≡ [] }
+    /// Gives each of the ids what is said at its place. It takes memory only where they are not few.
+    pub(crate) fn new(
+        alloc: Global,
+        ids: &'a [u64],
+        said: &'a [Option<V>],
+    ) -> Result<Given<'a, V>, NoMemory>
+        requires once { IsDistinct (eq_by_cmp nat_cmp) ids.now }
+        requires each { length said.now ≡ length ids.now }
+        ensures { IfOk result (λ given. given_in given ≡ map_said ids.now said.now) }
     {
-        Given::Few(SmallVec::new(alloc))
-    }
-
-    /// Makes ready for so many ids, where nothing is given yet.
-    pub(crate) fn make_room(&mut self, alloc: Global, ids: usize)
-        requires { entries_in self.old ≡ [] }
-        ensures { entries_in self.new ≡ [] }
-    {
-        if ids > FEW {
-            *self = Given::Many(BTreeMap::new(alloc));
+        if ids.len() <= FEW {
+            return Ok(Given::Few(FewGiven { ids, said }));
         }
-    }
-
-    /// Gives each of the ids what is said at its place, where nothing is given yet.
-    pub(crate) fn give(
-        &mut self,
-        ids: &[u64],
-        said: &SmallVec<Option<V>, FEW>,
-    ) -> Result<(), NoMemory>
-        requires { entries_in self.old ≡ [] }
-        ensures { OnOk result (given_in self.new ≡ map_said ids.now said.now.items) }
-    {
-        let said = said.as_slice();
-        match self {
-            Given::Few(list) => give_few(list, ids, said),
-            Given::Many(map) => give_many(map, ids, said),
-        }
+        let mut map = BTreeMap::new(alloc);
+        give_many(&mut map, ids, said)?;
+        Ok(Given::Many(map))
     }
 
     /// What the id is given, if that is known.
@@ -166,33 +162,38 @@ impl<V: GivenValue> Given<V> {
         ensures { result ≡ finite.get (given_in self.now) id }
     {
         match self {
-            Given::Few(list) => match entry_of(list.as_slice(), id) {
-                Some(entry) => Some(entry.1),
-                None => None,
-            },
+            Given::Few(few) => said_of(few.ids, few.said, id),
             Given::Many(map) => map.get(&id).copied(),
         }
     }
 }
 
-// Gives each of the ids what is said at its place, in a list.
-fn give_few<V: GivenValue>(
-    list: &mut SmallVec<(u64, V), FEW>,
-    ids: &[u64],
-    said: &[Option<V>],
-) -> Result<(), NoMemory>
-    requires { list.old.items ≡ [] }
-    ensures { OnOk result (finite.from_entries {R = nat_cmp} list.new.items ≡ map_said ids.now said.now) }
+// What is said at the place of the id.
+fn said_of<V: GivenValue>(ids: &[u64], said: &[Option<V>], id: u64) -> Option<V>
+    requires once { IsDistinct (eq_by_cmp nat_cmp) ids.now }
+    requires each { length said.now ≡ length ids.now }
+    ensures { result ≡ finite.get (map_said ids.now said.now) id }
 {
-    for (place, id) in ids.iter().enumerate() {
-        if let Some(one) = said.get(place) {
-            push_given(list, *id, *one)?;
-        }
+    match said.get(place_of(ids, id)) {
+        Some(one) => *one,
+        None => None,
     }
-    Ok(())
 }
 
-// The same in a tree.
+// The place of the id, or the length of the list. It takes no branch by what the ids are.
+fn place_of(ids: &[u64], id: u64) -> usize
+    ensures { result ≡ position_or_len (λ other. other == id) ids.now }
+{
+    let mut place = 0;
+    let mut is_before = true;
+    for other in ids {
+        is_before &= *other != id;
+        place += usize::from(is_before);
+    }
+    place
+}
+
+// Gives each of the ids what is said at its place, in a tree.
 fn give_many<V: GivenValue>(
     map: &mut BTreeMap<u64, V>,
     ids: &[u64],
@@ -205,20 +206,6 @@ fn give_many<V: GivenValue>(
         if let Some(one) = said.get(place) {
             insert_given(map, ids[place], *one)?;
         }
-    }
-    Ok(())
-}
-
-// Puts what the id is given behind the others, if that is known.
-fn push_given<V: GivenValue>(
-    list: &mut SmallVec<(u64, V), FEW>,
-    id: u64,
-    one: Option<V>,
-) -> Result<(), NoMemory>
-    ensures { OnOk result (list.new.items ≡ list.old.items ++ option_to_list (option_map (λ value. (id, value)) one)) }
-{
-    if let Some(value) = one {
-        list.push((id, value))?;
     }
     Ok(())
 }
@@ -237,27 +224,9 @@ fn insert_given<V: GivenValue>(
     Ok(())
 }
 
-// The first entry of the id.
-fn entry_of<V: GivenValue>(list: &[(u64, V)], id: u64) -> Option<(u64, V)>
-    ensures { result ≡ find (λ entry. entry.0 == id) list.now }
-{
-    list.get(place_of(list, id)).copied()
-}
+impl<'a> AckSource for Given<'a, u64> {
+    ghost use Rattle.conf_session.specs.Given.{given_in};
 
-// The place of the first entry of the id, or the length of the list. It takes no branch by what the ids are.
-fn place_of<V: GivenValue>(list: &[(u64, V)], id: u64) -> usize
-    ensures { result ≡ position_or_len (λ entry. entry.0 == id) list.now }
-{
-    let mut place = 0;
-    let mut is_before = true;
-    for (other, _) in list {
-        is_before &= *other != id;
-        place += usize::from(is_before);
-    }
-    place
-}
-
-impl AckSource for Given<u64> {
     ghost acks = { given_in };
 
     fn acked(&self, id: u64) -> Option<u64> {
@@ -265,7 +234,9 @@ impl AckSource for Given<u64> {
     }
 }
 
-impl VoteSource for Given<bool> {
+impl<'a> VoteSource for Given<'a, bool> {
+    ghost use Rattle.conf_session.specs.Given.{given_in};
+
     ghost votes = { given_in };
 
     fn voted(&self, id: u64) -> Option<bool> {

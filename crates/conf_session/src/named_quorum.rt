@@ -7,7 +7,7 @@ ghost use Rattle.conf_session.specs.Parameter as says;
 ghost use Rattle.conf_session.specs.QuorumArguments.{each_once};
 
 use crate::arguments::has_key;
-use crate::given::{FEW, GivenValue};
+use crate::given::{FEW, Given, GivenValue};
 use crate::parameter::{Parameter, has_only};
 use crate::session_ids::SessionIds;
 use ascii_text::number::read_number;
@@ -26,12 +26,15 @@ pub(crate) struct NamedQuorum<V: GivenValue> {
 }
 
 impl<V: GivenValue> NamedQuorum<V> {
-    ghost use Rattle.std.specs.Prelude.{◌≡◌, true, [], ◌++◌, map, None, option_map, IfOk, OnOk};
+    ghost use Rattle.std.specs.Prelude.{◌≡◌, true, [], ◌++◌, length, map, nat_eq, None, option_map, IfOk, OnOk};
+    ghost use Rattle.std.specs.List.{IsDistinct};
+    ghost use Rattle.std.specs.Ordering.{nat_cmp, eq_by_cmp};
     ghost use Rattle.quorum_sets.specs.Ids.{ids_of};
     ghost use Rattle.conf_session.specs.Arguments.{bad_argument, missing_argument, is_allowed};
     ghost use Rattle.conf_session.specs.Commands.{parameters_of};
     ghost use Rattle.conf_session.specs.QuorumArguments.{each_once, numbers_given, numbers_of, values_given};
-    ghost use Rattle.conf_session.specs.NamedQuorum.{values_of};
+    ghost use Rattle.conf_session.specs.Given.{given_in};
+    ghost use Rattle.conf_session.specs.NamedQuorum.{values_of, map_said};
 
     /// Nothing is named.
     pub(crate) fn new(alloc: Global) -> NamedQuorum<V>
@@ -86,6 +89,22 @@ impl<V: GivenValue> NamedQuorum<V> {
         } else {
             join_by_tree(&mut self.incoming, self.outgoing.as_slice())
         }
+    }
+
+    /// Whether something is said of each of the ids of `cfg`, and no more.
+    pub(crate) fn says_one_each(&self) -> bool
+        ensures { result ≡ nat_eq (length self.now.said.items) (length self.now.incoming.items) }
+    {
+        self.said.len() == self.incoming.len()
+    }
+
+    /// Gives each of the ids of `cfg` what is said at its place.
+    pub(crate) fn given(&self, alloc: Global) -> Result<Given<'_, V>, NoMemory>
+        requires once { IsDistinct (eq_by_cmp nat_cmp) self.now.incoming.items }
+        requires each { length self.now.said.items ≡ length self.now.incoming.items }
+        ensures { IfOk result (λ given. given_in given ≡ map_said self.now.incoming.items self.now.said.items) }
+    {
+        Given::new(alloc, self.incoming.as_slice(), self.said.as_slice())
     }
 
     // Takes what an argument names, and tells whether it may stand.

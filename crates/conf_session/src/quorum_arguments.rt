@@ -3,7 +3,7 @@ ghost use Rattle.std.specs.Prelude.{◌≡◌};
 ghost use Rattle.conf_session.specs.QuorumArguments.{number_given};
 
 use crate::arguments::argument_of;
-use crate::given::{Given, GivenValue};
+use crate::given::GivenValue;
 use crate::named_quorum::NamedQuorum;
 use crate::parameter::{Parameter, number_from};
 use crate::session_ids::SessionIds;
@@ -21,53 +21,39 @@ pub(crate) fn number_given(parameter: Parameter, arguments: &[Argument]) -> u64
     }
 }
 
-/// Both sets of a quorum, and what its ids are given.
+/// Both sets of a quorum.
 #[derive(Drop)]
-pub(crate) struct Quorum<V: GivenValue> {
+pub(crate) struct Quorum {
     pub(crate) incoming: SessionIds,
     pub(crate) outgoing: SessionIds,
-    pub(crate) given: Given<V>,
 }
 
-impl<V: GivenValue> Quorum<V> {
-    ghost use Rattle.std.specs.Prelude.{◌≡◌, true, [], ◌++◌, length, nat_eq, IfOk};
+impl Quorum {
+    ghost use Rattle.std.specs.Prelude.{◌≡◌, ◌++◌, OnOk};
     ghost use Rattle.quorum_sets.specs.Ids.{ids_of};
-    ghost use Rattle.conf_session.specs.Given.{entries_in, given_in};
-    ghost use Rattle.conf_session.specs.NamedQuorum.{map_said};
     ghost use Rattle.conf_session.specs.QuorumArguments.{each_once};
 
     /// The quorum without ids.
-    pub(crate) fn new(alloc: Global) -> Quorum<V>
-        ensures { entries_in result.given ≡ [] }
-    {
+    pub(crate) fn new(alloc: Global) -> Quorum {
         Quorum {
             incoming: SessionIds::empty(alloc),
             outgoing: SessionIds::empty(alloc),
-            given: Given::none(alloc),
         }
     }
 
-    /// Takes on the sets whose ids are named, and tells whether something is said of each of these ids, and no more. Where
-    /// it is, they are given that. The ids are joined then.
-    pub(crate) fn read(
+    /// Takes on the sets whose ids are named. The ids are joined then.
+    pub(crate) fn read<V: GivenValue>(
         &mut self,
         alloc: Global,
         named: &mut NamedQuorum<V>,
-    ) -> Result<bool, NoMemory>
-        requires { entries_in self.old.given ≡ [] }
-        ensures one_each { IfOk result (λ each. each ≡ nat_eq (length named.old.said.items) (length (each_once (named.old.incoming.items ++ named.old.outgoing.items)))) }
-        ensures incoming { IfOk result (λ each. self.new.incoming ≡ ids_of named.old.incoming.items) }
-        ensures outgoing { IfOk result (λ each. self.new.outgoing ≡ ids_of named.old.outgoing.items) }
-        ensures given { IfOk result (λ each. each ≡ true → given_in self.new.given ≡ map_said (each_once (named.old.incoming.items ++ named.old.outgoing.items)) named.old.said.items) }
+    ) -> Result<(), NoMemory>
+        ensures incoming { OnOk result (self.new.incoming ≡ ids_of named.old.incoming.items) }
+        ensures outgoing { OnOk result (self.new.outgoing ≡ ids_of named.old.outgoing.items) }
+        ensures ids { OnOk result (named.new.incoming.items ≡ each_once (named.old.incoming.items ++ named.old.outgoing.items)) }
+        ensures said { named.new.said ≡ named.old.said }
     {
         self.incoming = SessionIds::of_list(alloc, named.incoming.as_slice())?;
         self.outgoing = SessionIds::of_list(alloc, named.outgoing.as_slice())?;
-        named.join(&self.incoming, &self.outgoing)?;
-        if named.said.len() != named.incoming.len() {
-            return Ok(false);
-        }
-        self.given.make_room(alloc, named.incoming.len());
-        self.given.give(named.incoming.as_slice(), &named.said)?;
-        Ok(true)
+        named.join(&self.incoming, &self.outgoing)
     }
 }

@@ -115,7 +115,7 @@ pub(crate) fn committed_lines(
     spare: &mut Spare,
     incoming: &SessionIds,
     outgoing: &SessionIds,
-    acks: &Given<u64>,
+    acks: &Given<'_, u64>,
 ) -> Result<Vec<u8>, NoMemory>
     ensures { IfOk result (λ text. text.items ≡ line (committed_text (pair incoming.now outgoing.now) (given_in acks.now))) }
 {

@@ -1,6 +1,5 @@
 //! `committed`: the chart and the committed index of a quorum, where its ids have acknowledged these indexes.
 ghost use Rattle.std.specs.Prelude.{◌≡◌, [], IfOk};
-ghost use Rattle.conf_session.specs.Given.{entries_in};
 ghost use Rattle.conf_session.specs.Commands.{on_committed};
 
 use super::reading::tell_quorum_fault;
@@ -31,12 +30,11 @@ pub(super) fn run(
 fn run_with(
     alloc: Global,
     spare: &mut Spare,
-    quorum: &mut Quorum<u64>,
+    quorum: &mut Quorum,
     named: &mut NamedQuorum<u64>,
     input: &[u8],
     arguments: &[Argument],
 ) -> Result<Reply, NoMemory>
-    requires none { entries_in quorum.old.given ≡ [] }
     requires incoming { named.old.incoming.items ≡ [] }
     requires outgoing { named.old.outgoing.items ≡ [] }
     requires said { named.old.said.items ≡ [] }
@@ -45,12 +43,7 @@ fn run_with(
     if let Some(fault) = tell_quorum_fault(alloc, quorum, named, input, arguments)? {
         return Ok(fault);
     }
-    let found = committed_lines(
-        alloc,
-        spare,
-        &quorum.incoming,
-        &quorum.outgoing,
-        &quorum.given,
-    )?;
+    let given = named.given(alloc)?;
+    let found = committed_lines(alloc, spare, &quorum.incoming, &quorum.outgoing, &given)?;
     Ok(Reply::told(found))
 }

@@ -1,6 +1,5 @@
 //! `vote`: how the vote of a quorum stands, where its ids have voted so.
 ghost use Rattle.std.specs.Prelude.{◌≡◌, [], IfOk};
-ghost use Rattle.conf_session.specs.Given.{entries_in};
 ghost use Rattle.conf_session.specs.Commands.{on_vote};
 ghost use Rattle.conf_session.specs.QuorumArguments.{vote_text};
 
@@ -32,12 +31,11 @@ pub(super) fn run(
 fn run_with(
     alloc: Global,
     spare: &mut Spare,
-    quorum: &mut Quorum<bool>,
+    quorum: &mut Quorum,
     named: &mut NamedQuorum<bool>,
     input: &[u8],
     arguments: &[Argument],
 ) -> Result<Reply, NoMemory>
-    requires none { entries_in quorum.old.given ≡ [] }
     requires incoming { named.old.incoming.items ≡ [] }
     requires outgoing { named.old.outgoing.items ≡ [] }
     requires said { named.old.said.items ≡ [] }
@@ -46,7 +44,8 @@ fn run_with(
     if let Some(fault) = tell_quorum_fault(alloc, quorum, named, input, arguments)? {
         return Ok(fault);
     }
-    let result = joint_vote(&quorum.incoming, &quorum.outgoing, &quorum.given);
+    let given = named.given(alloc)?;
+    let result = joint_vote(&quorum.incoming, &quorum.outgoing, &given);
     Ok(Reply::told(spare_line(alloc, spare, name_of(result))?))
 }
 

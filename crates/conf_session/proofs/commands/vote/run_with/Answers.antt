@@ -1,11 +1,25 @@
-use Rattle.std.proofs.Common.{◌≡◌, sym, ap, ◌∙◌}
+use Rattle.std.proofs.Common.{◌≡◌, ◌++◌, arith, subst, sym, ap, ◌∙◌}
 use Rattle.std.specs.Prelude.{unwrap_or}
+use Rattle.std.specs.List.{IsDistinct}
 use Rattle.quorum_sets.specs.Voters.{pair}
 use Rattle.quorum_sets.specs.Votes.{joint_vote_result}
 use Rattle.conf_session.specs.Reply.{told}
 use Rattle.conf_session.specs.declared.effect.Effect.TheVariants.{Nothing}
-use Rattle.conf_session.specs.QuorumArguments.{voters_given, votes_given, vote_text}
+use Rattle.conf_session.specs.declared.parameter.Parameter.TheVariants.{Incoming, Outgoing, Votes}
+use Rattle.conf_session.specs.Given.{given_in}
+use Rattle.conf_session.specs.NamedQuorum.{map_said}
+use Rattle.conf_session.specs.QuorumArguments.{ids_given, numbers_given, values_given, vote_in, voters_given, votes_given, vote_text}
+use Rattle.conf_session.proofs.EachOnce.{same, IsDistinct-each_once}
+use Rattle.conf_session.proofs.QuorumValues.{said-by-values}
 use Rattle.conf_session.proofs.commands.vote.run_with.Goals as goal
+
+pub given-requires : goal.given-requires
+given-requires c =
+    let arguments = c.args.arguments.now in
+    let read = c.in_ok-fault.ensures in
+    let none = c.in_default.is in
+    let each = IsDistinct-each_once (numbers_given Incoming arguments ++ numbers_given Outgoing arguments) in
+    (omega arith, (subst (IsDistinct same) (sym (read.ids none)) each, read.each none))
 
 pub returns : goal.returns
 returns c =
@@ -15,7 +29,8 @@ returns c =
     let read = c.in_ok-fault.ensures in
     let none = c.in_default.is in
     let voters : pair quorum.incoming quorum.outgoing ≡ voters_given arguments = λ i. pair (read.incoming none i) (read.outgoing none i) in
-    let votes = read.given none in
+    let votes : given_in c.in_ok-given.given ≡ votes_given arguments =
+    c.in_ok-given.ensures ∙ (λ i. map_said (read.ids none i) (read.said none i)) ∙ said-by-values vote_in (ids_given arguments) (values_given Votes arguments) in
     let result = vote_text (joint_vote_result (voters_given arguments) (votes_given arguments)) in
     let found : name ≡ result = c.name_of.ensures ∙ ap vote_text (c.joint_vote-result.ensures ∙ (λ i. joint_vote_result (voters i) (votes i))) in
     c.told.ensures ∙ (λ i. record { found = c.in_ok-spare_line.ensures i; effect = Nothing }) ∙ ap told found
