@@ -1,6 +1,6 @@
 -- What the values of quorum arguments give, place by place.
-use Rattle.std.proofs.Common.{◌≡◌, ℕ, ◌+◌, ◌<◌, ◌≤◌, ◌==◌, ◌&&◌, get_or, Bool, true, false, cond, not, List, [], ◌∷◌, ◌++◌, length, filter_map, map, take, drop, refl, sym, ap, ◌∙◌, inl, inr, arith, subst, suc}
-use Rattle.std.specs.Prelude.{◌||◌, Option, Some, None, option_to_list, slice_get}
+use Rattle.std.proofs.Common.{◌≡◌, ℕ, ◌+◌, ◌<◌, ◌≤◌, ◌==◌, ◌&&◌, get_or, Bool, true, false, cond, not, List, [], ◌∷◌, ◌++◌, length, map, take, drop, refl, sym, ap, ◌∙◌, inl, inr, arith, subst, suc}
+use Rattle.std.specs.Prelude.{◌||◌, Option, Some, None, slice_get}
 use Rattle.std.specs.List.{list_any, position_or_len, AllByRecursion, IsDistinct}
 use Rattle.std.specs.Ordering.{nat_cmp}
 use Rattle.std.specs.Cmp.{nat_cmp_total, unsigned_tied, eq_by_cmp_equiv, nat_eq_equiv}
@@ -19,12 +19,6 @@ use Rattle.conf_session.proofs.EachOnce.{same, each_once-append}
 
 tied : (id q : ℕ) → eq_by_cmp nat_cmp id q ≡ (q == id)
 tied id q = (eq_by_cmp_equiv nat_cmp_total).symm id q ∙ unsigned_tied q id
-
-one-known : {X Y : Type 0} (h : X → Option Y) (x : X) → filter_map h (x ∷ []) ≡ option_to_list (h x)
-one-known {Y = Y} h x = at (h x) refl where
-  at : (o : Option Y) → h x ≡ o → filter_map h (x ∷ []) ≡ option_to_list o
-  at None e = rw e refl
-  at (Some y) e = rw e refl
 
 not_within : {X : Type 0} (xs : List X) (i : ℕ) → slice_get xs i ≡ None → length xs ≤ i
 not_within xs i e = elim (slice_get_cases xs i).1 [
@@ -65,7 +59,7 @@ said-past ids said i k next e =
         let past : length xs ≤ i = not_within xs i e in (drop_all i xs past, drop_all k xs (omega arith))
 
 -- ---- what a set has seen
-pub any-here : (ids : List ℕ) (i id q : ℕ) → slice_get ids i ≡ Some id → list_any (λ other. q == other) (take (i + 1) ids) ≡ ((q == id) || list_any (λ other. q == other) (take i ids))
+any-here : (ids : List ℕ) (i id q : ℕ) → slice_get ids i ≡ Some id → list_any (λ other. q == other) (take (i + 1) ids) ≡ ((q == id) || list_any (λ other. q == other) (take i ids))
 any-here ids i id q e = ap (list_any (λ other. q == other)) (take-one_more ids i id e) ∙ any-behind (take i ids) where
   or-swap : (a b c : Bool) → (a || (b || c)) ≡ (b || (a || c))
   or-swap true true c = refl
