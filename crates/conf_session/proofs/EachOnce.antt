@@ -1,5 +1,5 @@
--- The ids of one list and then another, each once, where neither names an id twice.
-use Rattle.std.proofs.Common.{◌≡◌, ℕ, ◌==◌, Bool, true, false, cond, not, List, [], ◌∷◌, ◌++◌, length, filter, refl, sym, ap, ◌∙◌}
+-- Ids, each once: those of one list and then another, and that they are told apart.
+use Rattle.std.proofs.Common.{◌≡◌, ℕ, ◌==◌, Bool, true, false, cond, not, List, [], ◌∷◌, ◌++◌, length, filter, refl, sym, ap, ◌∙◌, subst}
 use Rattle.std.specs.Prelude.{◌||◌}
 use Rattle.std.specs.List.{list_any, AllByRecursion, IsDistinct}
 use Rattle.std.specs.Set.{distinct_count}
@@ -11,7 +11,9 @@ use Rattle.std.proofs.lemmas.Map.Keys.{IsDistinct-from_sorted}
 use Rattle.std.proofs.lemmas.Map.Made.{IsDistinct-from_count, length-from_keys}
 use Rattle.quorum_sets.specs.Ids.{has, ascending, size, ids_of}
 use Rattle.quorum_sets.proofs.Offered.{ascending-is_sorted, has-ids_of}
-use Rattle.conf_session.specs.QuorumArguments.{each_once}
+use Rattle.dd_file.specs.Words.{ArgumentText}
+use Rattle.conf_session.specs.QuorumArguments.{numbers_given, each_once, ids_given}
+use Rattle.conf_session.specs.declared.parameter.Parameter.TheVariants.{Incoming, Outgoing}
 
 -- ---- how many ids the set of a list has
 abbrev pub same : ℕ → ℕ → Bool
@@ -24,7 +26,11 @@ size-ids_of ids =
     (λ q. sym (finite.contains_key-keys (ids_of ids) q) ∙ has-ids_of ids q ∙ sym (λ i. list_any (λ id. unsigned_tied q id i) ids))
 
 -- ---- a list that names no id twice
-others-kept : (id : ℕ) (ids : List ℕ) → AllByRecursion (λ other. same id other ≡ false) ids → filter (λ other. not (other == id)) ids ≡ ids
+-- the id is none of these
+abbrev pub IsApart : ℕ → List ℕ → Type 0
+IsApart id = AllByRecursion (λ other. same id other ≡ false)
+
+others-kept : (id : ℕ) (ids : List ℕ) → IsApart id ids → filter (λ other. not (other == id)) ids ≡ ids
 others-kept id [] apart = refl
 others-kept id (x ∷ ids) apart =
     ap (λ b. cond (not b) (x ∷ filter (λ other. not (other == id)) ids) (filter (λ other. not (other == id)) ids)) (nat_eq_equiv.symm x id ∙ sym (unsigned_tied id x) ∙ apart.0)
@@ -69,9 +75,6 @@ each_once-sets front back first second =
     sym (each_once-append front back ∙ (λ i. each_once-full front first i ++ filter (λ id. not (sym (has-ids_of front id) i)) (each_once-full back second i)))
 
 -- ---- ids, each once, are told apart
-abbrev IsApart : ℕ → List ℕ → Type 0
-IsApart id = AllByRecursion (λ other. same id other ≡ false)
-
 others-apart : (id : ℕ) (ids : List ℕ) → IsApart id (filter (λ other. not (other == id)) ids)
 others-apart id [] = tt
 others-apart id (x ∷ ids) = at (x == id) refl (others-apart id ids) where
@@ -99,3 +102,7 @@ pub IsDistinct-each_once : (ids : List ℕ) → IsDistinct same (each_once ids)
 unfolding IsDistinct
 IsDistinct-each_once [] = tt
 IsDistinct-each_once (id ∷ ids) = (others-apart id (each_once ids), distinct-filter (λ other. not (other == id)) (each_once ids) (IsDistinct-each_once ids))
+
+-- the ids that are given values are
+pub IsDistinct-given : (arguments : List ArgumentText) (ids : List ℕ) → ids ≡ ids_given arguments → IsDistinct same ids
+IsDistinct-given arguments ids is = subst (IsDistinct same) (sym is) (IsDistinct-each_once (numbers_given Incoming arguments ++ numbers_given Outgoing arguments))

@@ -1,7 +1,7 @@
 -- What the values of quorum arguments give, place by place.
 use Rattle.std.proofs.Common.{◌≡◌, ℕ, ◌+◌, ◌<◌, ◌≤◌, ◌==◌, ◌&&◌, get_or, Bool, true, false, cond, not, List, [], ◌∷◌, ◌++◌, length, map, take, drop, refl, sym, ap, ◌∙◌, inl, inr, arith, subst, suc}
 use Rattle.std.specs.Prelude.{◌||◌, Option, Some, None, slice_get}
-use Rattle.std.specs.List.{list_any, position_or_len, AllByRecursion, IsDistinct}
+use Rattle.std.specs.List.{list_any, position_or_len, IsDistinct}
 use Rattle.std.specs.Ordering.{nat_cmp}
 use Rattle.std.specs.Cmp.{nat_cmp_total, unsigned_tied, eq_by_cmp_equiv, nat_eq_equiv}
 use Rattle.std.specs.Ordering.{eq_by_cmp}
@@ -15,7 +15,7 @@ use Rattle.std.proofs.lemmas.Bool.{eqb-true, false_from_ne_true}
 use Rattle.quorum_sets.proofs.Offered.{take-one_more}
 use Rattle.conf_session.specs.NamedQuorum.{map_said}
 use Rattle.conf_session.specs.QuorumArguments.{each_once, with_given, map_given}
-use Rattle.conf_session.proofs.EachOnce.{same, each_once-append}
+use Rattle.conf_session.proofs.EachOnce.{same, IsApart, each_once-append}
 
 tied : (id q : ℕ) → eq_by_cmp nat_cmp id q ≡ (q == id)
 tied id q = (eq_by_cmp_equiv nat_cmp_total).symm id q ∙ unsigned_tied q id
@@ -94,7 +94,7 @@ abbrev pub said_there : {V : Type 0} → Option (Option V) → Option V
 said_there None = None
 said_there (Some one) = one
 
-get-absent : {V : Type 0} (id : ℕ) (ids : List ℕ) (said : List (Option V)) → AllByRecursion (λ other. same id other ≡ false) ids → finite.get (map_said ids said) id ≡ None
+get-absent : {V : Type 0} (id : ℕ) (ids : List ℕ) (said : List (Option V)) → IsApart id ids → finite.get (map_said ids said) id ≡ None
 get-absent id [] said apart = finite.get-empty nat_cmp id
 get-absent id (x ∷ ids) [] apart = finite.get-empty nat_cmp id
 get-absent id (x ∷ ids) (None ∷ said) apart = get-absent id ids said apart.1
@@ -120,7 +120,7 @@ get-said {V = V} id (x ∷ ids) (one ∷ said) distinct each = at (x == id) refl
       → said_there (slice_get (one ∷ said) (cond (not b) (1 + position_or_len (λ other. other == id) ids) 0)) ≡ finite.get (with_given (map_said ids said) x one) id
   at true is rest =
       given-there (map_said ids said) x id one (unsigned_tied id x ∙ nat_eq_equiv.symm id x ∙ is)
-      (get-absent id ids said (subst (λ k. AllByRecursion (λ other. same k other ≡ false) ids) (eqb-true x id is) distinct.0))
+      (get-absent id ids said (subst (λ k. IsApart k ids) (eqb-true x id is) distinct.0))
   at false is rest =
       let next : 1 + position_or_len (λ other. other == id) ids ≡ suc (position_or_len (λ other. other == id) ids) = omega arith in
       ap (λ place. said_there (slice_get (one ∷ said) place)) next ∙ rest ∙ given-elsewhere (map_said ids said) x id one (unsigned_tied id x ∙ nat_eq_equiv.symm id x ∙ is)

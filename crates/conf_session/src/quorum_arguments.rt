@@ -30,11 +30,14 @@ pub(crate) struct Quorum {
 
 impl Quorum {
     ghost use Rattle.std.specs.Prelude.{◌≡◌, ◌++◌, OnOk};
-    ghost use Rattle.quorum_sets.specs.Ids.{ids_of};
+    ghost use Rattle.quorum_sets.specs.Ids.{no_ids, ids_of};
     ghost use Rattle.conf_session.specs.QuorumArguments.{each_once};
 
     /// The quorum without ids.
-    pub(crate) fn new(alloc: Global) -> Quorum {
+    pub(crate) fn new(alloc: Global) -> Quorum
+        ensures incoming { result.incoming ≡ no_ids }
+        ensures outgoing { result.outgoing ≡ no_ids }
+    {
         Quorum {
             incoming: SessionIds::empty(alloc),
             outgoing: SessionIds::empty(alloc),

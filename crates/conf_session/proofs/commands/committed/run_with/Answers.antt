@@ -1,25 +1,22 @@
-use Rattle.std.proofs.Common.{◌≡◌, ◌++◌, arith, subst, sym, ap, ◌∙◌}
+use Rattle.std.proofs.Common.{◌≡◌, arith, sym, ap, ◌∙◌}
 use Rattle.std.specs.Prelude.{unwrap_or}
-use Rattle.std.specs.List.{IsDistinct}
 use Rattle.ascii_text.specs.Number.{number_in}
 use Rattle.quorum_sets.specs.Voters.{pair}
 use Rattle.conf_session.specs.Reply.{told}
 use Rattle.conf_session.specs.declared.effect.Effect.TheVariants.{Nothing}
-use Rattle.conf_session.specs.declared.parameter.Parameter.TheVariants.{Incoming, Outgoing, Indexes}
+use Rattle.conf_session.specs.declared.parameter.Parameter.TheVariants.{Indexes}
 use Rattle.conf_session.specs.Given.{given_in}
 use Rattle.conf_session.specs.NamedQuorum.{map_said}
-use Rattle.conf_session.specs.QuorumArguments.{ids_given, numbers_given, values_given, voters_given, acks_given, committed_text}
-use Rattle.conf_session.proofs.EachOnce.{same, IsDistinct-each_once}
+use Rattle.conf_session.specs.QuorumArguments.{ids_given, values_given, voters_given, acks_given, committed_text}
+use Rattle.conf_session.proofs.EachOnce.{IsDistinct-given}
 use Rattle.conf_session.proofs.QuorumValues.{said-by-values}
 use Rattle.conf_session.proofs.commands.committed.run_with.Goals as goal
 
 pub given-requires : goal.given-requires
 given-requires c =
-    let arguments = c.args.arguments.now in
     let read = c.in_ok-fault.ensures in
     let none = c.in_default.is in
-    let each = IsDistinct-each_once (numbers_given Incoming arguments ++ numbers_given Outgoing arguments) in
-    (omega arith, (subst (IsDistinct same) (sym (read.ids none)) each, read.each none))
+    (omega arith, (IsDistinct-given c.args.arguments.now _ (read.ids none), read.each none))
 
 pub returns : goal.returns
 returns c =
