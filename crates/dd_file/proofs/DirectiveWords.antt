@@ -1,7 +1,6 @@
 -- The words of a directive: its command, its arguments and their values.
 
 pub mod FirstWord
-pub mod WordParts
 pub mod TrimmedEnd
 pub mod LoneKey
 pub mod ListedValues

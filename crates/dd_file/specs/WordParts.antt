@@ -1,11 +1,7 @@
--- The parts of a word: outside of parentheses and between them.
-use Rattle.std.specs.Prelude.{ℕ, Bool, true, false, not, ◌&&◌, ◌||◌, List, [], ◌∷◌, take}
+-- The first word of a text, and the values in it.
+use Rattle.std.specs.Prelude.{ℕ, Bool, true, false, not, ◌||◌, List, [], ◌∷◌, take}
 use Rattle.ascii_text.specs.WhiteSpace.{is_space}
 use Rattle.dd_file.specs.Words.{is_opening, is_closing, word_len}
-
--- the byte stands outside of parentheses, and the word goes on behind it there
-abbrev pub is_outside : ℕ → Bool
-is_outside b = not (is_space b) && not (is_opening b)
 
 -- the byte may stand in a value without parentheses round it
 abbrev pub is_plain_byte : ℕ → Bool

@@ -1,9 +1,9 @@
 //! The arguments of a directive: a key with values, by a grammar that is own.
 ghost use Rattle.std.specs.Prelude.{◌≡◌, ◌+◌, ◌≤◌, ◌∷◌, true, false, length, drop, is_some, None, IfSome, MatchOption};
-ghost use Rattle.std.specs.List.{list_all, prefix_len};
+ghost use Rattle.std.specs.List.{prefix_len};
 ghost use Rattle.dd_file.specs.ArgumentValues.{says_argument};
 ghost use Rattle.dd_file.specs.WordParts.{is_plain_byte, ends_word, word_front};
-ghost use Rattle.dd_file.specs.Words.{is_key_byte, is_key, word_len, values_of, argument_of};
+ghost use Rattle.dd_file.specs.Words.{is_key_byte, word_len, values_of, argument_of};
 
 use ascii_text::cut::far_place_of;
 use ascii_text::white_space::is_space;
@@ -13,20 +13,6 @@ fn is_key_byte(b: u8) -> bool
     ensures { result ≡ is_key_byte b }
 {
     b.is_ascii_alphanumeric() || matches!(b, b'-' | b'_' | b'/' | b',' | b'.')
-}
-
-/// Whether a key may have each of the bytes.
-fn has_key_bytes(word: &[u8]) -> bool
-    ensures { result ≡ list_all is_key_byte word.now }
-{
-    word.iter().all(|b| is_key_byte(*b))
-}
-
-/// Whether a word is a key: one or more bytes that a key may have.
-pub(crate) fn is_key(word: &[u8]) -> bool
-    ensures { result ≡ is_key word.now }
-{
-    !word.is_empty() && has_key_bytes(word)
 }
 
 /// How many bytes that a key may have come first.
@@ -53,7 +39,7 @@ fn is_plain_byte(b: u8) -> bool
 }
 
 /// Whether no more of a word stands at a place of a text: the text ends there, or white space follows.
-fn ends_word(text: &[u8], place: usize) -> bool
+pub(crate) fn ends_word(text: &[u8], place: usize) -> bool
     requires { place ≤ length text.now }
     ensures { result ≡ ends_word (drop place text.now) }
 {

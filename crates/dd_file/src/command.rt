@@ -1,10 +1,11 @@
 //! The command of a directive with its arguments.
-ghost use Rattle.std.specs.Prelude.{◌≡◌, IfOk, option_map};
-ghost use Rattle.dd_file.specs.Words.{is_command_name, words_of, arguments_of, command_of};
+ghost use Rattle.std.specs.Prelude.{◌≡◌, true, false, IfOk, MatchOption, option_map};
+ghost use Rattle.dd_file.specs.WordParts.{word_front};
+ghost use Rattle.dd_file.specs.Words.{word_len, is_command_name, words_of, arguments_of, command_of};
 
-use crate::arguments::{argument_len, is_key, key_len};
+use crate::arguments::{argument_len, ends_word, key_len};
 use crate::item::Argument;
-use crate::words::{from_word, next_word};
+use crate::words::from_word;
 use smallvec::SmallVec;
 use std::alloc::{AllocError, Global};
 use std::marker::Model;
@@ -30,11 +31,23 @@ impl Model for Command {
     ghost invariant = { λ a. has_keys a.arguments.items ≡ true };
 }
 
-/// Whether a word can be a command: `subtest` begins no directive.
-fn is_command_name(word: &[u8]) -> bool
-    ensures { result ≡ is_command_name word.now }
+/// How long the first word of a text is that begins with one, where it can be a command: a key, and not `subtest`, which
+/// begins no directive.
+fn name_len(text: &[u8]) -> Option<usize>
+    ensures { MatchOption result (is_command_name (word_front text.now) ≡ false)
+        (λ len. (len ≡ word_len false text.now) × (is_command_name (word_front text.now) ≡ true)) }
 {
-    is_key(word) && word != b"subtest".as_slice()
+    let len = key_len(text);
+    if len == 0 {
+        return None;
+    }
+    if !ends_word(text, len) {
+        return None;
+    }
+    if &text[..len] == b"subtest".as_slice() {
+        return None;
+    }
+    Some(len)
 }
 
 /// What the words of a text say as arguments, if each says one.
@@ -59,12 +72,13 @@ fn parse_arguments(alloc: Global, text: &[u8]) -> Result<Option<Vec<Argument>>, 
 pub(crate) fn parse_command(alloc: Global, text: &[u8]) -> Result<Option<Command>, AllocError>
     ensures { IfOk result (λ found. found ≡ command_of text.now) }
 {
-    let Some((name, behind)) = next_word(text) else {
+    let Some(begun) = from_word(text) else {
         return Ok(None);
     };
-    if !is_command_name(name) {
+    let Some(len) = name_len(begun) else {
         return Ok(None);
-    }
+    };
+    let (name, behind) = begun.split_at(len);
     match parse_arguments(alloc, behind)? {
         Some(arguments) => Ok(Some(Command {
             name: Name::from_slice(alloc, name)?,

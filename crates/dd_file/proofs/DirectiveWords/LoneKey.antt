@@ -18,6 +18,13 @@ length-front : (word : List ℕ) → length (take (key_len word) word) ≡ key_l
 length-front word = length-prefix_len is_key_byte word
 
 -- no byte of a key comes first
+pub is_key-none : (word : List ℕ) → key_len word ≡ 0 → is_key word ≡ false
+is_key-none [] none = refl
+is_key-none (b ∷ bs) none = at (is_key_byte b) refl none where
+  at : (c : Bool) → is_key_byte b ≡ c → cond c (1 + key_len bs) 0 ≡ 0 → is_key (b ∷ bs) ≡ false
+  at true e h = absurd (omega (arith, h))
+  at false e h = ap (λ c. some (b ∷ bs) && (c && list_all is_key_byte bs)) e ∙ and-false (some (b ∷ bs))
+
 pub argument_of-no_key : (word : List ℕ) → key_len word ≡ 0 → None ≡ argument_of word
 argument_of-no_key [] none = refl
 argument_of-no_key (b ∷ bs) none = at (is_key_byte b) refl none where
@@ -27,12 +34,10 @@ argument_of-no_key (b ∷ bs) none = at (is_key_byte b) refl none where
   at : (c : Bool) → is_key_byte b ≡ c → cond c (1 + key_len bs) 0 ≡ 0 → None ≡ argument_of (b ∷ bs)
   at true e h = absurd (omega (arith, h))
   at false e h =
-      sym (ap (λ c. cond (some (b ∷ bs) && (c && list_all is_key_byte bs)) (Some (with_key (b ∷ bs) [])) (found (is_key (up_to is_equals (b ∷ bs))))) e
-      ∙ ap (λ c. cond c (Some (with_key (b ∷ bs) [])) (found (is_key (up_to is_equals (b ∷ bs))))) (and-false (some (b ∷ bs)))
-      ∙ ap found (front (is_equals b))) where
+      sym (ap (λ c. cond c (Some (with_key (b ∷ bs) [])) (found (is_key (up_to is_equals (b ∷ bs))))) (is_key-none (b ∷ bs) none) ∙ ap found (front (is_equals b))) where
         front : (d : Bool) → is_key (cond d [] (b ∷ up_to is_equals bs)) ≡ false
         front true = refl
-        front false = ap (λ c. some (b ∷ up_to is_equals bs) && (c && list_all is_key_byte (up_to is_equals bs))) e ∙ and-false (some (b ∷ up_to is_equals bs))
+        front false = is_key-none (b ∷ up_to is_equals bs) (ap (λ c. cond c (1 + key_len (up_to is_equals bs)) 0) e)
 
 -- a word of key bytes alone
 all-keys : (word : List ℕ) → drop (key_len word) word ≡ [] → list_all is_key_byte word ≡ true
@@ -42,10 +47,12 @@ all-keys (b ∷ bs) h = at (is_key_byte b) refl h (all-keys bs) where
   at true e k ih = let one : 1 + key_len bs ≡ suc (key_len bs) = omega arith in ap (λ c. c && list_all is_key_byte bs) e ∙ ih (sym (ap (λ n. drop n (b ∷ bs)) one) ∙ k)
   at false e k ih = cc
 
+pub is_key-alone : (word : List ℕ) → (length word == 0) ≡ false → drop (key_len word) word ≡ [] → is_key word ≡ true
+is_key-alone word some whole = ap (λ c. not c && list_all is_key_byte word) some ∙ all-keys word whole
+
 pub argument_of-alone : (word : List ℕ) → (length word == 0) ≡ false → drop (key_len word) word ≡ [] → Some (with_key word []) ≡ argument_of word
 argument_of-alone word some whole =
-    let key : is_key word ≡ true = ap (λ c. not c && list_all is_key_byte word) some ∙ all-keys word whole in
-    sym (ap (λ c. cond c (Some (with_key word [])) (cond (is_key (up_to is_equals word)) (option_map (with_key (up_to is_equals word)) (values_of (behind is_equals word))) None)) key)
+    sym (ap (λ c. cond c (Some (with_key word [])) (cond (is_key (up_to is_equals word)) (option_map (with_key (up_to is_equals word)) (values_of (behind is_equals word))) None)) (is_key-alone word some whole))
 
 -- a word with another byte behind the bytes of a key
 pub record KeyThen (word : List ℕ) (b : ℕ) (text : List ℕ) : Type 0 where
@@ -89,10 +96,13 @@ key-then (x ∷ xs) b text h = at (is_key_byte x) refl h (key-then xs b text) wh
         other = λ is. ap (λ d. list_all is_key_byte (cond d [] (x ∷ up_to is_equals xs))) (ap is_equals first ∙ is) ∙ ap (λ c. c && list_all is_key_byte (up_to is_equals xs)) e;
       }
 
--- what a word says, by what it says where its bytes are not all of a key
-parted : (word : List ℕ) → list_all is_key_byte word ≡ false →
+pub is_key-more : (word : List ℕ) (b : ℕ) (text : List ℕ) → drop (key_len word) word ≡ b ∷ text → is_key word ≡ false
+is_key-more word b text cut = ap (λ c. not (length word == 0) && c) (key-then word b text cut).some ∙ and-false (not (length word == 0))
+
+-- what a word says that is no key
+parted : (word : List ℕ) → is_key word ≡ false →
     argument_of word ≡ cond (is_key (up_to is_equals word)) (option_map (with_key (up_to is_equals word)) (values_of (behind is_equals word))) None
-parted word full = ap (λ c. cond c (Some (with_key word [])) (cond (is_key (up_to is_equals word)) (option_map (with_key (up_to is_equals word)) (values_of (behind is_equals word))) None)) (ap (λ c. not (length word == 0) && c) full ∙ and-false (not (length word == 0)))
+parted word more = ap (λ c. cond c (Some (with_key word [])) (cond (is_key (up_to is_equals word)) (option_map (with_key (up_to is_equals word)) (values_of (behind is_equals word))) None)) more
 
 -- a key, and `=` behind it
 pub argument_of-values : (word : List ℕ) (b : ℕ) (text : List ℕ) → (key_len word == 0) ≡ false → drop (key_len word) word ≡ b ∷ text → is_equals b ≡ true →
@@ -101,7 +111,7 @@ argument_of-values word b text some cut is =
     let r = key-then word b text cut in
     let len : (length (take (key_len word) word) == 0) ≡ false = rw (length-front word) some in
     let key : is_key (up_to is_equals word) ≡ true = ap is_key (r.equals is).0 ∙ ap (λ c. not c && list_all is_key_byte (take (key_len word) word)) len ∙ r.keys in
-    sym (parted word r.some
+    sym (parted word (is_key-more word b text cut)
     ∙ ap (λ c. cond c (option_map (with_key (up_to is_equals word)) (values_of (behind is_equals word))) None) key
     ∙ ap (λ k. option_map (with_key k) (values_of (behind is_equals word))) (r.equals is).0
     ∙ ap (λ t. option_map (with_key (take (key_len word) word)) (values_of t)) (r.equals is).1)
@@ -111,4 +121,4 @@ pub argument_of-other : (word : List ℕ) (b : ℕ) (text : List ℕ) → drop (
 argument_of-other word b text cut is =
     let r = key-then word b text cut in
     let no_key : is_key (up_to is_equals word) ≡ false = ap (λ c. not (length (up_to is_equals word) == 0) && c) (r.other is) ∙ and-false (not (length (up_to is_equals word) == 0)) in
-    sym (parted word r.some ∙ ap (λ c. cond c (option_map (with_key (up_to is_equals word)) (values_of (behind is_equals word))) None) no_key)
+    sym (parted word (is_key-more word b text cut) ∙ ap (λ c. cond c (option_map (with_key (up_to is_equals word)) (values_of (behind is_equals word))) None) no_key)

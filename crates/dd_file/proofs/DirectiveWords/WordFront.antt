@@ -11,11 +11,10 @@ use Rattle.ascii_text.specs.WhiteSpace.{is_space}
 use Rattle.dd_file.specs.ArgumentValues.{says_argument, ends_at_closing}
 use Rattle.dd_file.specs.Parts.{up_to}
 use Rattle.dd_file.specs.WordParts.{is_plain_byte, ends_word, word_front}
-use Rattle.dd_file.specs.Words.{is_key_byte, is_opening, is_closing, is_equals, inside_after, word_len, is_plain, listed, with_key, values_of, argument_of}
-use Rattle.dd_file.proofs.DirectiveWords.LoneKey.{key_len, argument_of-alone, argument_of-values, argument_of-other}
+use Rattle.dd_file.specs.Words.{is_key_byte, is_key, is_opening, is_closing, is_equals, inside_after, word_len, is_plain, listed, with_key, values_of, argument_of}
+use Rattle.dd_file.proofs.DirectiveWords.LoneKey.{key_len, is_key-none, is_key-alone, is_key-more, argument_of-alone, argument_of-values, argument_of-other}
 use Rattle.dd_file.proofs.DirectiveWords.KeptArgument.{is_some-option_map}
 use Rattle.dd_file.proofs.DirectiveWords.ListedValues.{ends_at_closing-place}
-use Rattle.dd_file.proofs.DirectiveWords.WordParts.{word_len-inside}
 use Rattle.dd_file.proofs.DirectiveWords.FirstWord.{word_len-bound}
 
 -- ---- the bytes that come first
@@ -130,13 +129,27 @@ cut-front : (text tail : List ℕ) → drop (key_len text) text ≡ tail → dro
 cut-front text tail cut = ap (λ k. drop k (word_front text)) (front-key text).first ∙ (front-key text).behind ∙ ap word_front cut
 
 -- a key alone
+len-alone : (text : List ℕ) → ends_word (drop (key_len text) text) ≡ true → key_len text ≡ word_len false text
+len-alone text ends = omega (arith, (front-key text).len, word_len-ends (drop (key_len text) text) ends)
+
+cut-alone : (text : List ℕ) → ends_word (drop (key_len text) text) ≡ true → drop (key_len (word_front text)) (word_front text) ≡ []
+cut-alone text ends = cut-front text (drop (key_len text) text) refl ∙ word_front-ends (drop (key_len text) text) ends
+
+pub key-alone : (text : List ℕ) → (key_len text ≡ 0 → ⊥) → ends_word (drop (key_len text) text) ≡ true → (key_len text ≡ word_len false text) × (is_key (word_front text) ≡ true)
+key-alone text some ends = (len-alone text ends, is_key-alone (word_front text) (filled (word_front text) (keyed text some)) (cut-alone text ends))
+
 pub argument-alone : (text : List ℕ) → (key_len text ≡ 0 → ⊥) → ends_word (drop (key_len text) text) ≡ true → (key_len text ≡ word_len false text) × (says_argument (word_front text) ≡ true)
-argument-alone text some ends =
-    let word : List ℕ = word_front text in
-    let cut : drop (key_len word) word ≡ [] = cut-front text (drop (key_len text) text) refl ∙ word_front-ends (drop (key_len text) text) ends in (
-      omega (arith, (front-key text).len, word_len-ends (drop (key_len text) text) ends),
-      sym (ap is_some (argument_of-alone word (filled word (keyed text some)) cut)),
-    )
+argument-alone text some ends = (len-alone text ends, sym (ap is_some (argument_of-alone (word_front text) (filled (word_front text) (keyed text some)) (cut-alone text ends))))
+
+-- more than a key
+pub key-none : (text : List ℕ) → key_len text ≡ 0 → is_key (word_front text) ≡ false
+key-none text none = is_key-none (word_front text) ((front-key text).first ∙ none)
+
+pub key-more : (text : List ℕ) → ends_word (drop (key_len text) text) ≡ false → is_key (word_front text) ≡ false
+key-more text goes = at (drop (key_len text) text) refl goes where
+  at : (tail : List ℕ) → drop (key_len text) text ≡ tail → ends_word tail ≡ false → is_key (word_front text) ≡ false
+  at [] cut goes = cc
+  at (b ∷ rest) cut goes = is_key-more (word_front text) b _ (cut-front text (b ∷ rest) cut ∙ word_front-goes_on b rest goes)
 
 -- a key, and `=` behind it
 pub argument-said : (text rest : List ℕ) → (key_len text ≡ 0 → ⊥) → drop (key_len text) text ≡ 61 ∷ rest →
@@ -233,6 +246,28 @@ values-not_plain b bs is goes = at (drop n text) refl goes where
     begun false space = let whole = word_front-goes_on b bs space in ap (λ w. is_some (values_of w)) whole ∙ plain-none b (take (word_len (inside_after false b) bs) bs) is (sym (ap (list_all is_plain_byte) whole) ∙ odd)
 
 -- a list in parentheses
+word_len-inside : (text : List ℕ) → word_len true text ≡ position_or_len is_closing text + word_len false (drop (position_or_len is_closing text) text)
+word_len-inside [] = refl
+word_len-inside (x ∷ xs) = at (is_closing x) refl (word_len-inside xs) where
+  n : ℕ
+  n = position_or_len is_closing xs
+
+  each : (s : Bool) → cond (s && false) 0 (suc (word_len (inside_after true x) xs)) ≡ suc (word_len (inside_after true x) xs)
+  each true = refl
+  each false = refl
+
+  opens : (d : Bool) → (d || true) ≡ true
+  opens true = refl
+  opens false = refl
+
+  at : (c : Bool) → is_closing x ≡ c → word_len true xs ≡ n + word_len false (drop n xs) →
+      word_len true (x ∷ xs) ≡ cond (not c) (1 + n) 0 + word_len false (drop (cond (not c) (1 + n) 0) (x ∷ xs))
+  at false c ih =
+      let one : 1 + n ≡ suc n = omega arith in
+      let more : suc (n + word_len false (drop n xs)) ≡ 1 + n + word_len false (drop n xs) = omega arith in
+      each (is_space x) ∙ ap (λ i. suc (word_len (is_opening x || not i) xs)) c ∙ ap (λ i. suc (word_len i xs)) (opens (is_opening x)) ∙ ap suc ih ∙ more ∙ ap (λ m. 1 + n + word_len false (drop m (x ∷ xs))) (sym one)
+  at true c ih = let is : x ≡ 41 = search rules in rw is (omega arith)
+
 listed-says : (inside : List ℕ) → is_some (values_of (40 ∷ inside)) ≡ ends_at_closing inside
 listed-says inside = at (ends_at_closing inside) where
   at : (c : Bool) → is_some (cond c (Some (listed (up_to is_closing inside))) None) ≡ c

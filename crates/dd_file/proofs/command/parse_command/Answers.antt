@@ -1,7 +1,11 @@
-use Rattle.std.proofs.Common.{sym}
+use Rattle.std.proofs.Common.{false, sym, arith}
 use Rattle.dd_file.specs.Words.{words_of}
 use Rattle.dd_file.proofs.DirectiveWords.Keys.{arguments_of-keys}
+use Rattle.dd_file.proofs.DirectiveWords.FirstWord.{word_len-bound}
 use Rattle.dd_file.proofs.command.parse_command.Goals as goal
 
+pub split_at-requires : goal.split_at-requires
+split_at-requires c = omega (arith, c.in-Some-name_len.ensures.0, word_len-bound false c.in-Some.begun.now)
+
 pub invariant_of-result : goal.invariant_of-result
-invariant_of-result c = arguments_of-keys (words_of c.in-Some.behind.now) _ (sym (rw c.in-Some-2.is at c.in_ok-arguments.ensures))
+invariant_of-result c = arguments_of-keys (words_of c.split_at.result.1.now) _ (sym (rw c.in-Some-2.is at c.in_ok-arguments.ensures))
