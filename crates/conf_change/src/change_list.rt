@@ -1,5 +1,5 @@
 //! Reading lists of changes, as the test scripts of etcd's raft packages write them: `v1 l2 r3`.
-ghost use Rattle.std.specs.Prelude.{◌≡◌, Ok, Err, length, IfOk, IfErr, IfSome, IsSomeAnd, MatchResult};
+ghost use Rattle.std.specs.Prelude.{◌≡◌, Ok, Err, length, IfOk, OnOk, IfErr, IfSome, IsSomeAnd, MatchResult};
 ghost use Rattle.ascii_text.specs.Words.{words};
 ghost use Rattle.conf_change.specs.ChangeList.{StandsFor, IsFirstBad, bad_token, change_in, changes_in, kind_in};
 
@@ -57,14 +57,33 @@ pub fn read_changes(alloc: Global, text: &[u8]) -> Result<Vec<Change>, TokenFaul
     ensures value { IfOk result (λ changes. changes_in text.now ≡ Ok changes.items) }
     ensures fault { IfErr result (λ fault. IfSome (bad_token fault) (λ bad. changes_in text.now ≡ Err bad)) }
 {
+    let mut changes = Vec::new(alloc);
+    read_changes_into(&mut changes, text)?;
+    Ok(changes)
+}
+
+/// The same in place of what a list holds, and in its memory (own). After a fault what it holds is not told.
+pub fn read_changes_into<'a>(
+    changes: &mut Vec<Change>,
+    text: &'a [u8],
+) -> Result<(), TokenFault<'a>>
+    ensures stands { OnOk result (StandsFor text.now changes.new.items) }
+    ensures one_a_word { OnOk result (length changes.new.items ≡ length (words text.now)) }
+    ensures first_bad { IfErr result (λ fault. IfSome (bad_token fault) (IsFirstBad (words text.now))) }
+
+    // The same by the function.
+    ensures value { OnOk result (changes_in text.now ≡ Ok changes.new.items) }
+    ensures fault { IfErr result (λ fault. IfSome (bad_token fault) (λ bad. changes_in text.now ≡ Err bad)) }
+{
+    changes.clear();
     // Room for a usual list at once: a token and the space behind it have three bytes at least.
-    let mut changes = Vec::with_capacity(alloc, text.len().div_ceil(3).min(64))?;
+    changes.reserve(text.len().div_ceil(3).min(64))?;
     let mut rest = text;
     while let Some((token, behind)) = next_token(rest) {
         changes.push(read_change(token)?)?;
         rest = behind;
     }
-    Ok(changes)
+    Ok(())
 }
 
 /// The change that a token spells: a letter and a decimal number below 2^64, which may have leading zeros. This takes no

@@ -27,7 +27,7 @@ pub mod transition;
 
 pub use acknowledgement::AckFault;
 pub use change::{Change, Changes, Kind};
-pub use change_list::{TokenFault, read_change, read_changes};
+pub use change_list::{TokenFault, read_change, read_changes, read_changes_into};
 pub use changer::Changer;
 pub use conf_state_form::{ConfState, ConfStateFault, conf_state};
 pub use conf_state_line::{read_conf_state, write_conf_state};

@@ -22,8 +22,8 @@ mod vote;
 use crate::laws::found_text_stands;
 use crate::parameter::Parameter;
 use crate::reply::Reply;
+use crate::scratch::Scratch;
 use crate::session::Session;
-use crate::spare::Spare;
 use dd_file::item::{Argument, Directive};
 use quorum_sets::NoMemory;
 use std::alloc::Global;
@@ -97,7 +97,7 @@ fn parameters_of(command: Command) -> &'static [Parameter]
 pub(crate) fn run_directive(
     alloc: Global,
     session: &Session,
-    spare: &mut Spare,
+    scratch: &mut Scratch,
     directive: &Directive,
 ) -> Result<Reply, NoMemory>
     ensures reply { IfOk result (λ reply. reply ≡ says.reply_to session.now directive.now) }
@@ -108,7 +108,7 @@ pub(crate) fn run_directive(
     run_command(
         alloc,
         session,
-        spare,
+        scratch,
         command,
         directive.input(),
         directive.arguments(),
@@ -118,7 +118,7 @@ pub(crate) fn run_directive(
 fn run_command(
     alloc: Global,
     session: &Session,
-    spare: &mut Spare,
+    scratch: &mut Scratch,
     command: Command,
     input: &[u8],
     arguments: &[Argument],
@@ -127,17 +127,17 @@ fn run_command(
 {
     let changer = session.changer();
     match command {
-        Command::Simple => simple::run(alloc, changer, spare, input),
-        Command::EnterJoint => enter_joint::run(alloc, changer, spare, input, arguments),
-        Command::LeaveJoint => leave_joint::run(alloc, changer, spare, input),
-        Command::ConfChange => change::run(alloc, changer, spare, input, arguments),
+        Command::Simple => simple::run(alloc, changer, scratch, input),
+        Command::EnterJoint => enter_joint::run(alloc, changer, scratch, input, arguments),
+        Command::LeaveJoint => leave_joint::run(alloc, changer, scratch, input),
+        Command::ConfChange => change::run(alloc, changer, scratch, input, arguments),
         Command::ConfState => conf_state::run(alloc, changer, input, arguments),
-        Command::Restore => restore::run(alloc, changer, spare, input, arguments),
-        Command::Undo => undo::run(alloc, session, spare, input, arguments),
+        Command::Restore => restore::run(alloc, changer, &mut scratch.spare, input, arguments),
+        Command::Undo => undo::run(alloc, session, &mut scratch.spare, input, arguments),
         Command::Ack => ack::run(alloc, changer, input, arguments),
         Command::CommitIndex => commit_index::run(alloc, changer, input, arguments),
-        Command::Committed => committed::run(alloc, spare, input, arguments),
-        Command::Vote => vote::run(alloc, spare, input, arguments),
-        Command::Unknown => unknown::run(alloc, input),
+        Command::Committed => committed::run(alloc, &mut scratch.spare, input, arguments),
+        Command::Vote => vote::run(alloc, &mut scratch.spare, input, arguments),
+        Command::Unknown => unknown::run(alloc, &mut scratch.changes, input),
     }
 }

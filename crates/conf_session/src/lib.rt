@@ -13,6 +13,7 @@ mod parameter;
 mod quorum_arguments;
 mod reply;
 mod reply_texts;
+mod scratch;
 pub mod session;
 pub mod session_ids;
 mod spare;

@@ -13,8 +13,8 @@ use crate::commands::run_directive;
 use crate::effect::Effect;
 use crate::history::History;
 use crate::laws::{answer_keeps_session, kept_lead_to_now};
+use crate::scratch::Scratch;
 use crate::session_ids::SessionIds;
-use crate::spare::Spare;
 use crate::undo_fault::UndoFault;
 use conf_change::{Changer, Config, Floor};
 use conf_plan::laws::undo_of_run;
@@ -29,7 +29,7 @@ use std::mem::replace;
 #[derive(Drop)]
 pub struct Session {
     changer: BoxedChanger,
-    spare: Spare,
+    scratch: Scratch,
     history: History,
     alloc: Global,
 }
@@ -61,7 +61,7 @@ impl Session {
     {
         Ok(Session {
             changer: BoxedChanger::new(alloc, Changer::new_with_floor(alloc, 0, floor))?,
-            spare: Spare::new(alloc),
+            scratch: Scratch::new(alloc),
             history: History::new(alloc, history)?,
             alloc,
         })
@@ -125,9 +125,9 @@ impl Session {
         ensures unchanged { OnErr result (self.new ≡ self.old) }
     {
         answer_keeps_session();
-        let mut spare = replace(&mut self.spare, Spare::new(self.alloc));
-        let reply = run_directive(self.alloc, self, &mut spare, directive)?;
-        self.spare = spare;
+        let mut scratch = replace(&mut self.scratch, Scratch::new(self.alloc));
+        let reply = run_directive(self.alloc, self, &mut scratch, directive)?;
+        self.scratch = scratch;
         let (found, effect) = reply.into_parts();
         self.take_on(effect);
         Ok(found)
@@ -138,7 +138,7 @@ impl Session {
     pub fn reuse(&mut self, found: Vec<u8>)
         ensures { self.new ≡ self.old }
     {
-        self.spare.put_back_text(found);
+        self.scratch.spare.put_back_text(found);
     }
 
     // Takes on what a directive makes of it. No memory is taken.
@@ -154,7 +154,7 @@ impl Session {
             Effect::Stepped(after) => {
                 let mut before = replace(&mut self.changer, after);
                 self.history.keep(before.take_config());
-                self.spare.put_back_changer(before);
+                self.scratch.spare.put_back_changer(before);
             }
             Effect::Restored(after) => {
                 self.changer = after;
@@ -162,7 +162,7 @@ impl Session {
             }
             Effect::Undone(after, count) => {
                 let before = replace(&mut self.changer, after);
-                self.spare.put_back_changer(before);
+                self.scratch.spare.put_back_changer(before);
                 self.history.forget(count);
             }
         }

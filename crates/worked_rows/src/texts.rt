@@ -1,6 +1,6 @@
 //! The changes that texts hold.
 use conf_change::Kind::{Learner, Remove, Update, Voter};
-use conf_change::{Change, TokenFault, read_change, read_changes};
+use conf_change::{Change, TokenFault, read_change, read_changes, read_changes_into};
 
 static CHANGES: [(&[u8], &[Change]); 5] = [
     (b"", &[]),
@@ -38,9 +38,12 @@ static CHANGES: [(&[u8], &[Change]); 5] = [
 
 #[test]
 fn reads_changes_between_any_white_space(rt: HostRuntime) {
+    let mut list = Vec::new(rt.alloc());
     for (place, (text, wanted)) in CHANGES.iter().enumerate() {
         let found = read_changes(rt.alloc(), *text).expect(&rt, "changes");
         assert!(rt; found.as_slice() == *wanted, "row {place}");
+        read_changes_into(&mut list, *text).expect(&rt, "changes");
+        assert!(rt; list.as_slice() == *wanted, "row {place}, over the row before");
     }
 }
 

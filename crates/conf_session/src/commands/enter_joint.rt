@@ -7,9 +7,10 @@ use super::telling::{tell_arguments, tell_step, tell_token};
 use crate::arguments::argument_of;
 use crate::parameter::{Parameter, has_only};
 use crate::reply::Reply;
+use crate::scratch::Scratch;
 use crate::session_ids::SessionIds;
 use crate::spare::Spare;
-use conf_change::{Change, Changer, Taken, read_changes};
+use conf_change::{Change, Changer, Taken, read_changes_into};
 use dd_file::item::Argument;
 use quorum_sets::NoMemory;
 use std::alloc::Global;
@@ -18,14 +19,20 @@ use std::alloc::Global;
 pub(super) fn run(
     alloc: Global,
     changer: &Changer<SessionIds>,
-    spare: &mut Spare,
+    scratch: &mut Scratch,
     input: &[u8],
     arguments: &[Argument],
 ) -> Result<Reply, NoMemory>
     ensures { IfOk result (λ reply. reply ≡ says.on_enter_joint changer.now input.now arguments.now) }
 {
-    match read_changes(alloc, input) {
-        Ok(changes) => enter_with(alloc, changer, spare, arguments, changes.as_slice()),
+    match read_changes_into(&mut scratch.changes, input) {
+        Ok(()) => enter_with(
+            alloc,
+            changer,
+            &mut scratch.spare,
+            arguments,
+            scratch.changes.as_slice(),
+        ),
         Err(fault) => tell_token(alloc, fault),
     }
 }

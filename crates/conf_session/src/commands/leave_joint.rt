@@ -4,9 +4,10 @@ ghost use Rattle.conf_session.specs.Commands as says;
 
 use super::telling::{tell_no_input, tell_step, tell_token};
 use crate::reply::Reply;
+use crate::scratch::Scratch;
 use crate::session_ids::SessionIds;
 use crate::spare::Spare;
-use conf_change::{Change, Changer, Taken, read_changes};
+use conf_change::{Change, Changer, Taken, read_changes_into};
 use quorum_sets::NoMemory;
 use std::alloc::Global;
 
@@ -14,13 +15,18 @@ use std::alloc::Global;
 pub(super) fn run(
     alloc: Global,
     changer: &Changer<SessionIds>,
-    spare: &mut Spare,
+    scratch: &mut Scratch,
     input: &[u8],
 ) -> Result<Reply, NoMemory>
     ensures { IfOk result (λ reply. reply ≡ says.on_leave_joint changer.now input.now) }
 {
-    match read_changes(alloc, input) {
-        Ok(changes) => leave_with(alloc, changer, spare, changes.as_slice()),
+    match read_changes_into(&mut scratch.changes, input) {
+        Ok(()) => leave_with(
+            alloc,
+            changer,
+            &mut scratch.spare,
+            scratch.changes.as_slice(),
+        ),
         Err(fault) => tell_token(alloc, fault),
     }
 }

@@ -4,9 +4,9 @@ ghost use Rattle.conf_session.specs.Commands.{on_simple};
 
 use super::telling::{tell_step, tell_token};
 use crate::reply::Reply;
+use crate::scratch::Scratch;
 use crate::session_ids::SessionIds;
-use crate::spare::Spare;
-use conf_change::{Changer, Taken, read_changes};
+use conf_change::{Changer, Taken, read_changes_into};
 use quorum_sets::NoMemory;
 use std::alloc::Global;
 
@@ -14,13 +14,19 @@ use std::alloc::Global;
 pub(super) fn run(
     alloc: Global,
     changer: &Changer<SessionIds>,
-    spare: &mut Spare,
+    scratch: &mut Scratch,
     input: &[u8],
 ) -> Result<Reply, NoMemory>
     ensures { IfOk result (λ reply. reply ≡ on_simple changer.now input.now) }
 {
-    match read_changes(alloc, input) {
-        Ok(changes) => tell_step(alloc, changer, spare, Taken::Simple, changes.as_slice()),
+    match read_changes_into(&mut scratch.changes, input) {
+        Ok(()) => tell_step(
+            alloc,
+            changer,
+            &mut scratch.spare,
+            Taken::Simple,
+            scratch.changes.as_slice(),
+        ),
         Err(fault) => tell_token(alloc, fault),
     }
 }

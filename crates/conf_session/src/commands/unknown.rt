@@ -4,15 +4,15 @@ ghost use Rattle.conf_session.specs.Commands.{on_unknown};
 
 use super::telling::{tell, tell_token};
 use crate::reply::Reply;
-use conf_change::read_changes;
+use conf_change::{Change, read_changes_into};
 use quorum_sets::NoMemory;
 use std::alloc::Global;
 
 /// Tells that it is unknown, unless the input spells no list.
-pub(super) fn run(alloc: Global, input: &[u8]) -> Result<Reply, NoMemory>
+pub(super) fn run(alloc: Global, changes: &mut Vec<Change>, input: &[u8]) -> Result<Reply, NoMemory>
     ensures { IfOk result (λ reply. reply ≡ on_unknown input.now) }
 {
-    if let Err(fault) = read_changes(alloc, input) {
+    if let Err(fault) = read_changes_into(changes, input) {
         return tell_token(alloc, fault);
     }
     tell(alloc, b"unknown command", b"")

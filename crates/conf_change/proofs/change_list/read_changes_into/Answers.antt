@@ -6,7 +6,7 @@ use Rattle.std.proofs.lemmas.Option.{IfSome_then}
 use Rattle.ascii_text.specs.Words.{words}
 use Rattle.conf_change.specs.ChangeList.{changes_in, bad_token}
 use Rattle.conf_change.proofs.Texts.ChangeTokens.{AllZip-from_ok, IsFirstBad-from_err, length-spelled}
-use Rattle.conf_change.proofs.change_list.read_changes.Goals as goal
+use Rattle.conf_change.proofs.change_list.read_changes_into.Goals as goal
 
 pub returns-in_err-read_change-clause-first_bad : goal.returns-in_err-read_change-clause-first_bad
 returns-in_err-read_change-clause-first_bad c =
