@@ -43,7 +43,10 @@ fn reads_changes_between_any_white_space(rt: HostRuntime) {
         let found = read_changes(rt.alloc(), *text).expect(&rt, "changes");
         assert!(rt; found.as_slice() == *wanted, "row {place}");
         read_changes_into(&mut list, *text).expect(&rt, "changes");
-        assert!(rt; list.as_slice() == *wanted, "row {place}, over the row before");
+        assert!(rt;
+            list.as_slice() == *wanted,
+            "row {place}, over the row before"
+        );
     }
 }
 
