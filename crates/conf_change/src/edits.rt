@@ -1,6 +1,6 @@
 //! Edits of a configuration: one change, what is left of a joint one, and the ids of two sets. Members' progress is no matter here.
 ghost use Rattle.std.specs.Prelude.{◌≡◌, ◌≢◌, [], ◌∷◌, ◌++◌, IfOk, OnOk, OnErr};
-ghost use Rattle.quorum_sets.specs.Ids.{ids_of, ascending};
+ghost use Rattle.quorum_sets.specs.Ids.{no_ids, ids_of, ascending};
 ghost use Rattle.conf_change.specs.Change.{result_of};
 ghost use Rattle.conf_change.specs.Outcome.{after_leave};
 ghost use Rattle.conf_change.specs.Seat.{membership_in};
@@ -91,12 +91,38 @@ pub(crate) fn leave<S: MemberSet>(
 ) -> Result<(), NoMemory>
     ensures { OnOk result (config.new ≡ after_leave before.now) }
 {
-    let alloc = before.incoming.allocator();
     config.incoming.try_clone_from(&before.incoming)?;
-    config.outgoing = S::empty(alloc);
-    config.learners = union(&before.learners, &before.learners_next)?;
-    config.learners_next = S::empty(alloc);
+    let_go(&mut config.outgoing);
+    become_union(
+        &mut config.learners,
+        &before.learners,
+        &before.learners_next,
+    )?;
+    let_go(&mut config.learners_next);
     config.auto_leave = false;
+    Ok(())
+}
+
+// Lets all ids of a set go. One that has none mostly stays as it is.
+fn let_go<S: MemberSet>(set: &mut S)
+    ensures { S.ids set.new ≡ no_ids }
+{
+    if set.len() != 0 {
+        *set = S::empty(set.allocator());
+    }
+}
+
+// Makes a set that of the ids of two others, over the memory that it has where one of them has none.
+fn become_union<S: MemberSet>(set: &mut S, a: &S, b: &S) -> Result<(), NoMemory>
+    ensures { OnOk result (S.ids set.new ≡ ids_of (ascending (S.ids a.now) ++ ascending (S.ids b.now))) }
+{
+    if b.len() == 0 {
+        return set.try_clone_from(a);
+    }
+    if a.len() == 0 {
+        return set.try_clone_from(b);
+    }
+    *set = union(a, b)?;
     Ok(())
 }
 

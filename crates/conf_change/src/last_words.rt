@@ -6,7 +6,6 @@ ghost use Rattle.conf_change.specs.LastWords.{silent, own_word, and_later, IsAdd
 use crate::change::{Change, Kind};
 use crate::progress::Progress;
 use quorum_sets::NoMemory;
-use smallvec::SmallVec;
 use std::alloc::Global;
 
 /// What is said of an id: the kind of the last change that has a say on it, and whether any change removes it.
@@ -61,24 +60,23 @@ pub(crate) fn last_words(
     alloc: Global,
     members: &[(u64, Progress)],
     changes: &[Change],
-) -> Result<SmallVec<LastWord, 16>, NoMemory>
+) -> Result<Vec<LastWord>, NoMemory>
     ensures { IfOk result (λ words. ListsLastWords (map (λ m. m.0) members.now) changes.now words.items) }
 {
-    let mut each = SmallVec::new(alloc);
+    let mut each = Vec::with_capacity(alloc, members.len().saturating_add(changes.len()))?;
     add_in_turn(&mut each, members, changes)?;
     joined_by_id(alloc, each.as_mut_slice())
 }
 
 // Adds the members, of whom nothing is said, and what each change says of its id.
 fn add_in_turn(
-    words: &mut SmallVec<LastWord, 16>,
+    words: &mut Vec<LastWord>,
     members: &[(u64, Progress)],
     changes: &[Change],
 ) -> Result<(), NoMemory>
     requires { words.old.items ≡ [] }
     ensures { OnOk result (words.new.items ≡ map (λ m. silent m.0) members.now ++ map own_word changes.now) }
 {
-    words.reserve(members.len().saturating_add(changes.len()))?;
     for member in members {
         words.push(LastWord::silent(member.0))?;
     }
@@ -89,7 +87,7 @@ fn add_in_turn(
 }
 
 // What is said of each id, as one entry. The sort keeps the order of what is said of one id.
-fn joined_by_id(alloc: Global, each: &mut [LastWord]) -> Result<SmallVec<LastWord, 16>, NoMemory>
+fn joined_by_id(alloc: Global, each: &mut [LastWord]) -> Result<Vec<LastWord>, NoMemory>
     ensures { IfOk result (λ words. Joins each.old words.items) }
 {
     each.sort_by_key(alloc, |word| word.id)?;
@@ -97,12 +95,11 @@ fn joined_by_id(alloc: Global, each: &mut [LastWord]) -> Result<SmallVec<LastWor
 }
 
 // The same where the entries of one id lie together.
-fn joined(alloc: Global, each: &[LastWord]) -> Result<SmallVec<LastWord, 16>, NoMemory>
+fn joined(alloc: Global, each: &[LastWord]) -> Result<Vec<LastWord>, NoMemory>
     requires { IsNonDecreasingBy (λ w. w.id) each.now }
     ensures { IfOk result (λ words. Joins each.now words.items) }
 {
-    let mut words = SmallVec::new(alloc);
-    words.reserve(each.len())?;
+    let mut words = Vec::with_capacity(alloc, each.len())?;
     let mut last = None;
     for word in each {
         last = Some(add(&mut words, last, *word)?);
@@ -116,7 +113,7 @@ fn joined(alloc: Global, each: &[LastWord]) -> Result<SmallVec<LastWord, 16>, No
 // Adds what is said of an id that is the last one or behind it. The last entry stands apart, and goes behind the others
 // once another comes.
 fn add(
-    words: &mut SmallVec<LastWord, 16>,
+    words: &mut Vec<LastWord>,
     last: Option<LastWord>,
     word: LastWord,
 ) -> Result<LastWord, NoMemory>

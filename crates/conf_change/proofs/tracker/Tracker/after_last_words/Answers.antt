@@ -16,7 +16,7 @@ pub loop-word-preserved : goal.loop-word-preserved
 loop-word-preserved g c =
     let own = g.S.MemberSet.ids in
     let says : All (SaysOf c.args.changes.now) c.as_slice-word-items.result.now =
-    subst (λ ws. All (SaysOf c.args.changes.now) ws) (sym c.as_slice-word-items.ensures) c.in_ok-words.ensures.says in
+    subst (λ ws. All (SaysOf c.args.changes.now) ws) (sym c.as_slice-word-items.ensures.value) c.in_ok-words.ensures.says in
     walked-one_more c.args.next_index (beginning c.args.self.now (own c.args.outgoing) c.args.auto_leave) c.args.changes.now c.as_slice-word-items.result.now c.loop-word.word-index _
     (own c.loop-word.incoming) (own c.loop-word.learners) (own c.loop-word.learners_next)
     (own c.put_where.new.set) (own c.put_where-in-loop-word.new.set) (own c.put_where-in-loop-word-2.new.set)
@@ -27,14 +27,14 @@ loop-word-preserved g c =
 
 pub begin-requires : goal.begin-requires
 begin-requires g c =
-    let lists = subst (ListsLastWords (map (λ m. m.0) c.as_slice.result.now) c.args.changes.now) (sym c.as_slice-word-items.ensures) c.in_ok-words.ensures in
+    let lists = subst (ListsLastWords (map (λ m. m.0) c.as_slice.result.now) c.args.changes.now) (sym c.as_slice-word-items.ensures.value) c.in_ok-words.ensures in
     walked-rises c.args.next_index _ c.args.changes.now c.as_slice-word-items.result.now c.loop-word.word-index _ _ _ c.loop-word.members.items
     lists.rising c.loop-word-test.false c.loop-word.invariant
 
 pub returns : goal.returns
 returns g c =
     let own = g.S.MemberSet.ids in
-    let lists = subst (ListsLastWords (map (λ m. m.0) c.as_slice.result.now) c.args.changes.now) (sym c.as_slice-word-items.ensures) c.in_ok-words.ensures in
+    let lists = subst (ListsLastWords (map (λ m. m.0) c.as_slice.result.now) c.args.changes.now) (sym c.as_slice-word-items.ensures.value) c.in_ok-words.ensures in
     let P : TrackerState → Type 0 = Applies c.args.next_index c.args.changes.now (beginning c.args.self.now (own c.args.outgoing) c.args.auto_leave) in
     subst P (sym c.begin.ensures)
     (walked-applies c.args.next_index c.args.self.now c.self.inside.floor (own c.args.outgoing) c.args.auto_leave c.as_slice.result.now c.args.changes.now c.as_slice-word-items.result.now c.loop-word.word-index
