@@ -92,19 +92,19 @@ pub(crate) fn leave<S: MemberSet>(
     ensures { OnOk result (config.new ≡ after_leave before.now) }
 {
     config.incoming.try_clone_from(&before.incoming)?;
-    let_go(&mut config.outgoing);
+    clear(&mut config.outgoing);
     become_union(
         &mut config.learners,
         &before.learners,
         &before.learners_next,
     )?;
-    let_go(&mut config.learners_next);
+    clear(&mut config.learners_next);
     config.auto_leave = false;
     Ok(())
 }
 
-// Lets all ids of a set go. One that has none mostly stays as it is.
-fn let_go<S: MemberSet>(set: &mut S)
+// Takes all ids out of a set. An empty one stays as it is.
+fn clear<S: MemberSet>(set: &mut S)
     ensures { S.ids set.new ≡ no_ids }
 {
     if set.len() != 0 {
@@ -112,7 +112,7 @@ fn let_go<S: MemberSet>(set: &mut S)
     }
 }
 
-// Makes a set that of the ids of two others, over the memory that it has where one of them has none.
+// Makes a set that of the ids of two others. Where one of them is empty, that is a copy over the memory that the set has.
 fn become_union<S: MemberSet>(set: &mut S, a: &S, b: &S) -> Result<(), NoMemory>
     ensures { OnOk result (S.ids set.new ≡ ids_of (ascending (S.ids a.now) ++ ascending (S.ids b.now))) }
 {
