@@ -1,5 +1,5 @@
 //! Reading lists of changes, as the test scripts of etcd's raft packages write them: `v1 l2 r3`.
-ghost use Rattle.std.specs.Prelude.{◌≡◌, Ok, Err, length, IfOk, OnOk, IfErr, IfSome, IsSomeAnd, MatchResult};
+ghost use Rattle.std.specs.Prelude.{◌≡◌, Ok, Err, [], length, IfOk, OnOk, OnErr, IfErr, IfSome, IsSomeAnd, MatchResult};
 ghost use Rattle.ascii_text.specs.Words.{words};
 ghost use Rattle.conf_change.specs.ChangeList.{StandsFor, IsFirstBad, bad_token, change_in, changes_in, kind_in};
 
@@ -62,7 +62,7 @@ pub fn read_changes(alloc: Global, text: &[u8]) -> Result<Vec<Change>, TokenFaul
     Ok(changes)
 }
 
-/// The same in place of what a list holds, and in its memory (own). After a fault what it holds is not told.
+/// The same in place of what a list holds, and in its memory (own). After a fault the list is empty.
 pub fn read_changes_into<'a>(
     changes: &mut Vec<Change>,
     text: &'a [u8],
@@ -70,17 +70,30 @@ pub fn read_changes_into<'a>(
     ensures stands { OnOk result (StandsFor text.now changes.new.items) }
     ensures one_a_word { OnOk result (length changes.new.items ≡ length (words text.now)) }
     ensures first_bad { IfErr result (λ fault. IfSome (bad_token fault) (IsFirstBad (words text.now))) }
+    ensures left { OnErr result (changes.new.items ≡ []) }
 
     // The same by the function.
     ensures value { OnOk result (changes_in text.now ≡ Ok changes.new.items) }
     ensures fault { IfErr result (λ fault. IfSome (bad_token fault) (λ bad. changes_in text.now ≡ Err bad)) }
 {
-    changes.clear();
+    let read = read_over(changes, text);
+    if read.is_err() {
+        changes.clear();
+    }
+    read
+}
+
+// Reads over what a list holds. After a fault the changes before it may be there.
+fn read_over<'a>(list: &mut Vec<Change>, text: &'a [u8]) -> Result<(), TokenFault<'a>>
+    ensures value { OnOk result (changes_in text.now ≡ Ok list.new.items) }
+    ensures fault { IfErr result (λ fault. IfSome (bad_token fault) (λ bad. changes_in text.now ≡ Err bad)) }
+{
+    list.clear();
     // Room for a usual list at once: a token and the space behind it have three bytes at least.
-    changes.reserve(text.len().div_ceil(3).min(64))?;
+    list.reserve(text.len().div_ceil(3).min(64))?;
     let mut rest = text;
     while let Some((token, behind)) = next_token(rest) {
-        changes.push(read_change(token)?)?;
+        list.push(read_change(token)?)?;
         rest = behind;
     }
     Ok(())

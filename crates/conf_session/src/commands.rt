@@ -92,8 +92,8 @@ fn parameters_of(command: Command) -> &'static [Parameter]
     }
 }
 
-/// Carries out a directive. A changer that is spare becomes the next one, where a step is made, and a long text is written
-/// into the spare one.
+/// Carries out a directive. It reads changes into the list of those before, makes the next changer of a spare one, and writes a
+/// long text into the spare one.
 pub(crate) fn run_directive(
     alloc: Global,
     session: &Session,

@@ -51,6 +51,14 @@ fn reads_changes_between_any_white_space(rt: HostRuntime) {
 }
 
 #[test]
+fn a_fault_leaves_no_changes(rt: HostRuntime) {
+    let mut list = Vec::new(rt.alloc());
+    read_changes_into(&mut list, b"v1 l2").expect(&rt, "changes");
+    assert!(rt; read_changes_into(&mut list, b"v3 x4 v5") == Err(TokenFault::UnknownInput(b"x4")));
+    assert!(rt; list.is_empty());
+}
+
+#[test]
 fn reads_the_change_of_a_word(rt: HostRuntime) {
     assert!(rt;
         read_change(b"l007")
