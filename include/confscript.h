@@ -8,13 +8,13 @@
  *     leave-joint
  * docs/SPECIFICATION.md has both forms, and what each change does.
  *
- * Each call answers a status and a number, and keeps nothing: what it is given is read, and not written but for `out`.
- * What a caller has to keep to:
- * - A pointer is aligned, and points to as many elements as the count behind it says; it is not NULL, not even for no
- *   element. `out` overlaps nothing else that the call is given, and nobody else uses it while the call runs.
- * - malloc, realloc and free are those of one allocator, and a block is aligned as malloc of the C library aligns it.
- * - No call from a signal handler, or in the forked child of a process with threads. Otherwise any thread may call, also at
- *   the same time.
+ * Each call returns a status and a number, and keeps no state. It reads its arguments, and writes only to `out`.
+ * Nothing checks these rules for callers:
+ * - Each pointer is aligned and not NULL, even for no elements, and points to as many elements as the count after it says.
+ *   `out` overlaps nothing else that the call is given, and nobody else uses it while the call runs.
+ * - malloc, realloc and free belong to one allocator, which aligns a block as malloc of the C library does.
+ * - No call comes from a signal handler, or from the forked child of a process with threads. Otherwise any thread may call,
+ *   also at the same time as others.
  */
 #ifndef CONFSCRIPT_H
 #define CONFSCRIPT_H
@@ -26,30 +26,31 @@
 extern "C" {
 #endif
 
-/* What a call answers. A number that is not told of is 0. */
+/* What a call returns. The number is 0 unless something else is said here. */
 enum confscript_status {
-    /* The call did what it is for. The number is told at each call. */
+    /* The call did its work. Each call below says what the number is. */
     CONFSCRIPT_DONE = 0,
-    /* The text does not fit into `out`, of which nothing is written. The number is how many bytes it takes. */
+    /* The text does not fit into `out`. Nothing is written. The number is how many bytes the text takes. */
     CONFSCRIPT_TOO_SMALL = 1,
-    /* malloc or realloc gave nothing. Nothing is written. */
+    /* malloc or realloc returned NULL. Nothing is written. */
     CONFSCRIPT_NO_MEMORY = 2,
 
-    /* A text is no ConfState line. The number is 1 for the first text of the call, and 2 for the second. */
+    /* A text is not a ConfState line. The number is 1 for the first text of the call, and 2 for the second. */
     CONFSCRIPT_BAD_CONF_STATE = 3,
     /* confscript_check: a list of the line names an id twice. confscript_committed and _vote: `ids` does. */
     CONFSCRIPT_REPEATED_ID = 4,
-    /* The line names no configuration that the call takes; confscript_check tells why, unless it has members and no
-       incoming voter, which confscript_apply does not take. The number is as for CONFSCRIPT_BAD_CONF_STATE. */
+    /* The line names no configuration that the call accepts. confscript_check says why, with one exception: a valid
+       configuration with members but no incoming voter, which confscript_apply does not accept. The number is as for
+       CONFSCRIPT_BAD_CONF_STATE. */
     CONFSCRIPT_NOT_A_CONFIGURATION = 5,
-    /* There is no plan, for a configuration has no incoming voter. The number is 1 for the first, and 2 for the second. */
+    /* There is no plan, since a configuration has no incoming voter. The number is 1 for the first, and 2 for the second. */
     CONFSCRIPT_NO_VOTER = 6,
-    /* A line of the plan is no step. The number is the line's, counted from 1. */
+    /* A line of the plan is not a step. The number is that of the line, counted from 1. */
     CONFSCRIPT_BAD_LINE = 7,
     /* The plan has a fifth line. */
     CONFSCRIPT_TOO_MANY_STEPS = 8,
 
-    /* confscript_apply: a step is refused. The number is the step's, counted from 1. */
+    /* confscript_apply: a step is refused. The number is that of the step, counted from 1. */
     CONFSCRIPT_ALREADY_JOINT = 9,
     CONFSCRIPT_ZERO_VOTER_JOINT = 10,
     CONFSCRIPT_NOT_JOINT = 11,
@@ -62,7 +63,7 @@ enum confscript_status {
     CONFSCRIPT_NEXT_NOT_OUTGOING = 16,          /* a next learner is not an outgoing voter */
     CONFSCRIPT_NEXT_AND_INCOMING = 17,          /* a next learner is an incoming voter */
     CONFSCRIPT_LEARNER_AND_VOTER = 18,          /* a learner is a voter */
-    CONFSCRIPT_NOT_JOINT_BUT_NEXT = 19,         /* next learners without outgoing voters; 16 is told before it */
+    CONFSCRIPT_NOT_JOINT_BUT_NEXT = 19,         /* next learners without outgoing voters; 16 comes before it */
     CONFSCRIPT_NOT_JOINT_BUT_AUTO_LEAVE = 20,   /* auto-leave without outgoing voters */
 
     /* confscript_committed and _vote: there are more or fewer values than ids. */
@@ -71,9 +72,9 @@ enum confscript_status {
     CONFSCRIPT_BAD_VOTE = 22
 };
 
-/* The numbers that confscript_vote answers where it is done. */
+/* The number of confscript_vote, if it is done. */
 enum confscript_vote_result {
-    CONFSCRIPT_VOTE_PENDING = 0, /* it hangs on ids that have not voted */
+    CONFSCRIPT_VOTE_PENDING = 0, /* it depends on ids that have not voted */
     CONFSCRIPT_VOTE_LOST = 1,
     CONFSCRIPT_VOTE_WON = 2
 };
@@ -84,39 +85,39 @@ struct confscript_answer {
 };
 
 /*
- * The plan from the configuration of one ConfState line to that of another: at most four steps, each of which is safe to
- * take, and no other steps do it better. Both have to be valid and to have an incoming voter. Where nothing is to be done
- * the text is `nothing to do`. The lines are written to `out`, without a byte 0 behind them; the number is how many bytes
- * they have.
+ * Writes the plan from the configuration of one ConfState line to that of another: at most four steps, each of them safe
+ * to take, and no other plan is better. Both configurations must be valid and have an incoming voter. If there is nothing
+ * to do, the text is `nothing to do`. The lines are written to `out`, without a byte 0 after them. The number is how many
+ * bytes they have.
  */
 struct confscript_answer confscript_plan(const uint8_t *now, size_t now_len, const uint8_t *target, size_t target_len,
                                          uint8_t *out, size_t out_len);
 
 /*
- * What the steps of a plan make of the configuration of a ConfState line; a single change is a plan of one line. The line of
- * the configuration behind the steps is written to `out`, its lists in ascending order, without a newline or a byte 0 behind
- * it; the number is how many bytes it has. The configuration has to be valid, and to have an incoming voter or nobody in it.
+ * Takes the steps of a plan, beginning with the configuration of a ConfState line. A single change is a plan of one line.
+ * The ConfState line of the result is written to `out`, its lists in ascending order, without a newline or a byte 0 after
+ * it. The number is how many bytes it has. The first configuration must be valid, and have an incoming voter or no members.
  */
 struct confscript_answer confscript_apply(const uint8_t *state, size_t state_len, const uint8_t *plan, size_t plan_len,
                                           uint8_t *out, size_t out_len);
 
-/* What is wrong with the configuration of a ConfState line. Where nothing is, the call is done, and the number is 0. */
+/* Says what is wrong with the configuration of a ConfState line. If nothing is wrong, the call is done, with the number 0. */
 struct confscript_answer confscript_check(const uint8_t *state, size_t state_len);
 
 /*
- * The committed index of the voters in `incoming`, and of those in `outgoing` where there are any: both have to have
- * committed it. The id at each place of `ids` has acknowledged the index at that place of `acknowledged`; an id that is
- * not in `ids` counts as 0. An id that a set names twice is one voter. The number is the index; it is 2^64-1 where nobody
- * votes.
+ * Returns the committed index of the voters in `incoming`, and of those in `outgoing` if there are any: both must have
+ * committed it. The id at each place of `ids` has acknowledged the index at that place of `acknowledged`. An id that is
+ * not in `ids` counts as 0. An id that a set names twice is one voter. The number is the index. It is 2^64-1 if there are
+ * no voters.
  */
 struct confscript_answer confscript_committed(const uint64_t *incoming, size_t incoming_len, const uint64_t *outgoing,
                                               size_t outgoing_len, const uint64_t *ids, size_t ids_len,
                                               const uint64_t *acknowledged, size_t acknowledged_len);
 
 /*
- * How the vote of these voters stands: both sets have to win it. The id at each place of `ids` said yes where the byte at
- * that place of `votes` is 1, and no where it is 0; an id that is not in `ids` has not voted. The number is an
- * enum confscript_vote_result. Where nobody votes it is won.
+ * Returns the result of a vote of these voters: both sets must win it. The id at each place of `ids` said yes if the byte
+ * at that place of `votes` is 1, and no if it is 0. An id that is not in `ids` has not voted. The number is an
+ * enum confscript_vote_result. If there are no voters, the vote is won.
  */
 struct confscript_answer confscript_vote(const uint64_t *incoming, size_t incoming_len, const uint64_t *outgoing,
                                          size_t outgoing_len, const uint64_t *ids, size_t ids_len, const uint8_t *votes,
