@@ -32,7 +32,7 @@ use Rattle.conf_session.specs.Arguments.{bad_argument, missing_argument, argumen
 use Rattle.conf_session.specs.Reply.{Reply, told}
 use Rattle.conf_session.specs.Undo.{IsEarlier, LeadsBack, plan_back, undo_plan_of, undone_changer}
 use Rattle.conf_session.specs.QuorumArguments.{number_given, is_one_each}
-use Rattle.conf_session.specs.Commands.{command_in, parameters_of, with_changes, with_no_input, with_arguments, after_step, asks_auto_leave, asked_transition, leave_with, after_restored, restore_with, steps_of, after_planned, undo_last, after_ack, with_one_each, reply_of, answer}
+use Rattle.conf_session.specs.Commands.{command_in, parameters_of, with_changes, with_no_input, with_arguments, after_step, asks_auto_leave, asked_transition, on_leave_joint, after_restored, restore_with, steps_of, after_planned, undo_last, after_ack, with_one_each, reply_of, answer}
 use Rattle.conf_session.specs.declared.undo_fault.UndoFault.TheVariants.{NoVoterTarget}
 use Rattle.conf_session.specs.declared.effect.Effect.{Effect}
 use Rattle.conf_session.specs.declared.effect.Effect.TheVariants.{Nothing, Acknowledged, Stepped, Restored, Undone}
@@ -173,7 +173,7 @@ fault-due session None None reply h = h
 arguments-due : (session : SessionState) (command : Command) (arguments : List ArgumentText) (reply : Reply) → IsDue session reply.effect → IsDue session (with_arguments command arguments reply).effect
 arguments-due session command arguments reply h = fault-due session (bad_argument (parameters_of command) arguments) (missing_argument (parameters_of command) arguments) reply h
 
-leave-due : ChangeLaws → (session : SessionState) (changes : List Change) → IsDue session (leave_with session.changer changes).effect
+leave-due : ChangeLaws → (session : SessionState) (changes : List Change) → IsDue session (on_leave_joint session.changer changes).effect
 leave-due laws session [] = step-due laws session LeaveStep _ refl
 leave-due laws session (change ∷ changes) = tt
 

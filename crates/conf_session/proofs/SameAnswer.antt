@@ -1,6 +1,6 @@
 -- A directive whose input is the same but for white space at line ends is answered the same.
 use Rattle.std.proofs.Common.{◌≡◌, ℕ, Bool, true, false, List, [], ◌∷◌, map, refl, sym, ap, ◌∙◌, subst, arith}
-use Rattle.std.specs.Prelude.{Option, Some, None, codes, flat_map}
+use Rattle.std.specs.Prelude.{Option, Some, None, flat_map}
 use Rattle.std.specs.List.{list_all}
 use Rattle.dd_file.specs.DirectiveText.{DirectiveText}
 use Rattle.ascii_text.specs.WhiteSpace.{without_trailing_space, trimmed}
@@ -12,11 +12,10 @@ use Rattle.ascii_text.specs.Words.{words}
 use Rattle.conf_change.specs.ChangeList.{changes_in, changes_in_words}
 use Rattle.conf_change.specs.ConfState.{ConfStateLists}
 use Rattle.conf_change.specs.ConfStateLine.{line_in, conf_state_in}
-use Rattle.conf_change.specs.declared.step.Step.TheVariants.{Simple as SimpleStep}
 use Rattle.conf_change.proofs.Offered.{StandsForConfState-from_some}
 use Rattle.conf_session.specs.SessionState.{SessionState}
-use Rattle.conf_session.specs.Reply.{Reply, told}
-use Rattle.conf_session.specs.Commands.{command_in, with_changes, with_no_input, on_step, enter_with, leave_with, change_with, restore_with, reply_of, reply_to, answered, answer}
+use Rattle.conf_session.specs.Reply.{Reply}
+use Rattle.conf_session.specs.Commands.{command_in, with_changes, with_no_input, on_changes, restore_with, reply_of, reply_to, answered, answer}
 use Rattle.conf_session.specs.declared.commands.Command.{Command}
 use Rattle.conf_session.specs.declared.commands.Command.TheVariants.{Simple, EnterJoint, LeaveJoint, ConfChange, ConfState, Restore, Undo, Ack, CommitIndex, Committed, Vote, Unknown}
 use Rattle.conf_session.specs.Told.{is_line_byte}
@@ -51,10 +50,10 @@ no_input-same reply (b ∷ input) [] same = absurd (some-line b input (sym same)
 no_input-same reply (b ∷ input) (c ∷ other) same = refl
 
 command-same : (command : Command) (session : SessionState) (input other : List ℕ) (arguments : List ArgumentText) → ends_of input ≡ ends_of other → reply_of command session input arguments ≡ reply_of command session other arguments
-command-same Simple session input other arguments same = ap (with_changes (λ changes. on_step session.changer (SimpleStep changes))) (changes-same input other same)
-command-same EnterJoint session input other arguments same = ap (with_changes (enter_with session.changer arguments)) (changes-same input other same)
-command-same LeaveJoint session input other arguments same = ap (with_changes (leave_with session.changer)) (changes-same input other same)
-command-same ConfChange session input other arguments same = ap (with_changes (change_with session.changer arguments)) (changes-same input other same)
+command-same Simple session input other arguments same = ap (with_changes (on_changes Simple session.changer arguments)) (changes-same input other same)
+command-same EnterJoint session input other arguments same = ap (with_changes (on_changes EnterJoint session.changer arguments)) (changes-same input other same)
+command-same LeaveJoint session input other arguments same = ap (with_changes (on_changes LeaveJoint session.changer arguments)) (changes-same input other same)
+command-same ConfChange session input other arguments same = ap (with_changes (on_changes ConfChange session.changer arguments)) (changes-same input other same)
 command-same ConfState session input other arguments same = no_input-same _ input other same
 command-same Restore session input other arguments same = ap (restore_with session.changer arguments) (conf_state-same input other same)
 command-same Undo session input other arguments same = no_input-same _ input other same
@@ -62,7 +61,7 @@ command-same Ack session input other arguments same = no_input-same _ input othe
 command-same CommitIndex session input other arguments same = no_input-same _ input other same
 command-same Committed session input other arguments same = no_input-same _ input other same
 command-same Vote session input other arguments same = no_input-same _ input other same
-command-same Unknown session input other arguments same = ap (with_changes (λ changes. told (codes "unknown command"))) (changes-same input other same)
+command-same Unknown session input other arguments same = ap (with_changes (on_changes Unknown session.changer arguments)) (changes-same input other same)
 
 reply-same : (session : SessionState) (again directive : DirectiveText) → again.command ≡ directive.command → again.arguments ≡ directive.arguments → ends_of again.input ≡ ends_of directive.input →
     reply_to session again ≡ reply_to session directive

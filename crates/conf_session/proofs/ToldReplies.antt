@@ -35,7 +35,7 @@ use Rattle.conf_session.specs.Reply.{Reply, told}
 use Rattle.conf_session.specs.Undo.{undo_plan_of, undo_fault_text, undone_changer}
 use Rattle.conf_session.specs.declared.undo_fault.UndoFault.{UndoFault}
 use Rattle.conf_session.specs.QuorumArguments.{number_given, voters_given, acks_given, votes_given, is_one_each, committed_text, vote_text}
-use Rattle.conf_session.specs.Commands.{command_in, parameters_of, with_changes, with_no_input, with_arguments, after_step, asks_auto_leave, asked_transition, leave_with, after_restored, restore_with, steps_of, after_planned, after_ack, with_one_each, reply_of, reply_to}
+use Rattle.conf_session.specs.Commands.{command_in, parameters_of, with_changes, with_no_input, with_arguments, after_step, asks_auto_leave, asked_transition, on_leave_joint, after_restored, restore_with, steps_of, after_planned, after_ack, with_one_each, reply_of, reply_to}
 use Rattle.conf_session.specs.Told.{is_line_byte, is_told_line, IsTold}
 use Rattle.dd_file.specs.Words.{has_keys}
 use Rattle.conf_session.specs.declared.parameter.Parameter.{Parameter}
@@ -163,7 +163,7 @@ step-tells : (made : Result ChangerState Refused) → Tells (after_step made)
 step-tells (Ok after) = tracker-told after.tracker
 step-tells (Err refused) = tells (refused_text refused) (refused-told refused)
 
-leave-tells : (changer : ChangerState) (changes : List Change) → Tells (leave_with changer changes)
+leave-tells : (changer : ChangerState) (changes : List Change) → Tells (on_leave_joint changer changes)
 leave-tells changer [] = step-tells (changer_after changer LeaveStep)
 leave-tells changer (change ∷ changes) = tells (codes "this command takes no input") refl
 

@@ -97,27 +97,21 @@ after_step (Err refused) = told (refused_text refused)
 abbrev pub on_step : ChangerState → Step → Reply
 on_step changer step = after_step (changer_after changer step)
 
-abbrev pub on_simple : ChangerState → List ℕ → Reply
-on_simple changer input = with_changes (λ changes. on_step changer (SimpleStep changes)) (changes_in input)
+abbrev pub on_simple : ChangerState → List Change → Reply
+on_simple changer changes = on_step changer (SimpleStep changes)
 
 -- autoleave is true
 abbrev pub asks_auto_leave : List ArgumentText → Bool
 asks_auto_leave arguments = unwrap_or (option_map (λ argument. has_only (codes "true") argument.values) (argument_of AutoLeave arguments)) false
 
-abbrev pub enter_with : ChangerState → List ArgumentText → List Change → Reply
-enter_with changer arguments changes =
+abbrev pub on_enter_joint : ChangerState → List ArgumentText → List Change → Reply
+on_enter_joint changer arguments changes =
     with_arguments EnterJoint arguments (on_step changer (EnterStep (asks_auto_leave arguments) changes))
 
-abbrev pub on_enter_joint : ChangerState → List ℕ → List ArgumentText → Reply
-on_enter_joint changer input arguments = with_changes (enter_with changer arguments) (changes_in input)
-
 -- leaving takes no change
-abbrev pub leave_with : ChangerState → List Change → Reply
-leave_with changer [] = on_step changer LeaveStep
-leave_with changer (change ∷ changes) = told no_input_text
-
-abbrev pub on_leave_joint : ChangerState → List ℕ → Reply
-on_leave_joint changer input = with_changes (leave_with changer) (changes_in input)
+abbrev pub on_leave_joint : ChangerState → List Change → Reply
+on_leave_joint changer [] = on_step changer LeaveStep
+on_leave_joint changer (change ∷ changes) = told no_input_text
 
 -- how the list is taken: Auto, where transition is auto or left out
 abbrev pub transition_in : List (List ℕ) → Transition
@@ -128,12 +122,25 @@ abbrev pub asked_transition : List ArgumentText → Transition
 asked_transition arguments = unwrap_or (option_map (λ argument. transition_in argument.values) (argument_of TransitionAsked arguments)) Auto
 
 -- the change that the list takes
-abbrev pub change_with : ChangerState → List ArgumentText → List Change → Reply
-change_with changer arguments changes =
+abbrev pub on_conf_change : ChangerState → List ArgumentText → List Change → Reply
+on_conf_change changer arguments changes =
     with_arguments ConfChange arguments (on_step changer (step_taken (asked_transition arguments) changes))
 
-abbrev pub on_conf_change : ChangerState → List ℕ → List ArgumentText → Reply
-on_conf_change changer input arguments = with_changes (change_with changer arguments) (changes_in input)
+-- what is no command
+abbrev pub on_unknown : Reply
+on_unknown = told (codes "unknown command")
+
+-- what a command makes of the changes that its input lists, where it is one of these or no command
+abbrev pub on_changes : Command → ChangerState → List ArgumentText → List Change → Reply
+on_changes Simple changer arguments changes = on_simple changer changes
+on_changes EnterJoint changer arguments changes = on_enter_joint changer arguments changes
+on_changes LeaveJoint changer arguments changes = on_leave_joint changer changes
+on_changes ConfChange changer arguments changes = on_conf_change changer arguments changes
+on_changes command changer arguments changes = on_unknown
+
+-- the reply of such a command to its input
+abbrev pub over_changes : Command → ChangerState → List ℕ → List ArgumentText → Reply
+over_changes command changer input arguments = with_changes (on_changes command changer arguments) (changes_in input)
 
 abbrev pub on_conf_state : ChangerState → List ℕ → List ArgumentText → Reply
 on_conf_state changer input arguments =
@@ -199,15 +206,12 @@ on_vote input arguments =
     let found = vote_text (joint_vote_result (voters_given arguments) (votes_given arguments)) in
     with_no_input (with_arguments Vote arguments (with_one_each Votes arguments (told found))) input
 
-abbrev pub on_unknown : List ℕ → Reply
-on_unknown input = with_changes (λ changes. told (codes "unknown command")) (changes_in input)
-
 -- the reply of a command to this input and these arguments
 abbrev pub reply_of : Command → SessionState → List ℕ → List ArgumentText → Reply
-reply_of Simple session input arguments = on_simple session.changer input
-reply_of EnterJoint session input arguments = on_enter_joint session.changer input arguments
-reply_of LeaveJoint session input arguments = on_leave_joint session.changer input
-reply_of ConfChange session input arguments = on_conf_change session.changer input arguments
+reply_of Simple session input arguments = over_changes Simple session.changer input arguments
+reply_of EnterJoint session input arguments = over_changes EnterJoint session.changer input arguments
+reply_of LeaveJoint session input arguments = over_changes LeaveJoint session.changer input arguments
+reply_of ConfChange session input arguments = over_changes ConfChange session.changer input arguments
 reply_of ConfState session input arguments = on_conf_state session.changer input arguments
 reply_of Restore session input arguments = on_restore session.changer input arguments
 reply_of Undo session input arguments = on_undo session input arguments
@@ -215,7 +219,7 @@ reply_of Ack session input arguments = on_ack session.changer input arguments
 reply_of CommitIndex session input arguments = on_commit_index session.changer input arguments
 reply_of Committed session input arguments = on_committed input arguments
 reply_of Vote session input arguments = on_vote input arguments
-reply_of Unknown session input arguments = on_unknown input
+reply_of Unknown session input arguments = over_changes Unknown session.changer input arguments
 
 -- the reply to a directive
 abbrev pub reply_to : SessionState → DirectiveText → Reply

@@ -19,11 +19,14 @@ mod undo;
 mod unknown;
 mod vote;
 
+use self::telling::tell_token;
 use crate::laws::found_text_stands;
 use crate::parameter::Parameter;
 use crate::reply::Reply;
 use crate::scratch::Scratch;
 use crate::session::Session;
+use crate::session_ids::SessionIds;
+use conf_change::{Changer, read_changes_into};
 use dd_file::item::{Argument, Directive};
 use quorum_sets::NoMemory;
 use std::alloc::Global;
@@ -115,6 +118,7 @@ pub(crate) fn run_directive(
     )
 }
 
+// Carries out a command with its input and its arguments.
 fn run_command(
     alloc: Global,
     session: &Session,
@@ -127,10 +131,11 @@ fn run_command(
 {
     let changer = session.changer();
     match command {
-        Command::Simple => simple::run(alloc, changer, scratch, input),
-        Command::EnterJoint => enter_joint::run(alloc, changer, scratch, input, arguments),
-        Command::LeaveJoint => leave_joint::run(alloc, changer, scratch, input),
-        Command::ConfChange => change::run(alloc, changer, scratch, input, arguments),
+        Command::Simple
+        | Command::EnterJoint
+        | Command::LeaveJoint
+        | Command::ConfChange
+        | Command::Unknown => run_over_changes(alloc, changer, scratch, command, input, arguments),
         Command::ConfState => conf_state::run(alloc, changer, input, arguments),
         Command::Restore => restore::run(alloc, changer, &mut scratch.spare, input, arguments),
         Command::Undo => undo::run(alloc, session, &mut scratch.spare, input, arguments),
@@ -138,6 +143,31 @@ fn run_command(
         Command::CommitIndex => commit_index::run(alloc, changer, input, arguments),
         Command::Committed => committed::run(alloc, &mut scratch.spare, input, arguments),
         Command::Vote => vote::run(alloc, &mut scratch.spare, input, arguments),
-        Command::Unknown => unknown::run(alloc, &mut scratch.changes, input),
+    }
+}
+
+// Carries out a command whose input is a list of changes, or tells which word of the input spells none. The input of what
+// is no command is read as such a list all the same.
+fn run_over_changes(
+    alloc: Global,
+    changer: &Changer<SessionIds>,
+    scratch: &mut Scratch,
+    command: Command,
+    input: &[u8],
+    arguments: &[Argument],
+) -> Result<Reply, NoMemory>
+    ensures { IfOk result (λ reply. reply ≡ says.over_changes command changer.now input.now arguments.now) }
+{
+    if let Err(fault) = read_changes_into(&mut scratch.changes, input) {
+        return tell_token(alloc, fault);
+    }
+    let changes = scratch.changes.as_slice();
+    let spare = &mut scratch.spare;
+    match command {
+        Command::Simple => simple::run(alloc, changer, spare, changes),
+        Command::EnterJoint => enter_joint::run(alloc, changer, spare, arguments, changes),
+        Command::LeaveJoint => leave_joint::run(alloc, changer, spare, changes),
+        Command::ConfChange => change::run(alloc, changer, spare, arguments, changes),
+        _ => unknown::run(alloc),
     }
 }

@@ -3,48 +3,26 @@ ghost use Rattle.std.specs.Prelude.{◌≡◌, IfOk};
 ghost use Rattle.conf_session.specs.Commands as says;
 
 use super::Command;
-use super::telling::{tell_arguments, tell_step, tell_token};
+use super::telling::{tell_arguments, tell_step};
 use crate::arguments::argument_of;
 use crate::parameter::{Parameter, has_only};
 use crate::reply::Reply;
-use crate::scratch::Scratch;
 use crate::session_ids::SessionIds;
 use crate::spare::Spare;
-use conf_change::{Change, Changer, Transition, read_changes_into, taken};
+use conf_change::{Change, Changer, Transition, taken};
 use dd_file::item::Argument;
 use quorum_sets::NoMemory;
 use std::alloc::Global;
 
-/// Makes the change that the changes of the input take.
+/// Makes the change that the changes take, where the arguments are good.
 pub(super) fn run(
-    alloc: Global,
-    changer: &Changer<SessionIds>,
-    scratch: &mut Scratch,
-    input: &[u8],
-    arguments: &[Argument],
-) -> Result<Reply, NoMemory>
-    ensures { IfOk result (λ reply. reply ≡ says.on_conf_change changer.now input.now arguments.now) }
-{
-    match read_changes_into(&mut scratch.changes, input) {
-        Ok(()) => change_with(
-            alloc,
-            changer,
-            &mut scratch.spare,
-            arguments,
-            scratch.changes.as_slice(),
-        ),
-        Err(fault) => tell_token(alloc, fault),
-    }
-}
-
-fn change_with(
     alloc: Global,
     changer: &Changer<SessionIds>,
     spare: &mut Spare,
     arguments: &[Argument],
     changes: &[Change],
 ) -> Result<Reply, NoMemory>
-    ensures { IfOk result (λ reply. reply ≡ says.change_with changer.now arguments.now changes.now) }
+    ensures { IfOk result (λ reply. reply ≡ says.on_conf_change changer.now arguments.now changes.now) }
 {
     if let Some(fault) = tell_arguments(alloc, Command::ConfChange, arguments)? {
         return Ok(fault);

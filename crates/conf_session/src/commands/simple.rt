@@ -2,31 +2,22 @@
 ghost use Rattle.std.specs.Prelude.{◌≡◌, IfOk};
 ghost use Rattle.conf_session.specs.Commands.{on_simple};
 
-use super::telling::{tell_step, tell_token};
+use super::telling::tell_step;
 use crate::reply::Reply;
-use crate::scratch::Scratch;
 use crate::session_ids::SessionIds;
-use conf_change::{Changer, Taken, read_changes_into};
+use crate::spare::Spare;
+use conf_change::{Change, Changer, Taken};
 use quorum_sets::NoMemory;
 use std::alloc::Global;
 
-/// Makes the changes of the input.
+/// Makes the changes.
 pub(super) fn run(
     alloc: Global,
     changer: &Changer<SessionIds>,
-    scratch: &mut Scratch,
-    input: &[u8],
+    spare: &mut Spare,
+    changes: &[Change],
 ) -> Result<Reply, NoMemory>
-    ensures { IfOk result (λ reply. reply ≡ on_simple changer.now input.now) }
+    ensures { IfOk result (λ reply. reply ≡ on_simple changer.now changes.now) }
 {
-    match read_changes_into(&mut scratch.changes, input) {
-        Ok(()) => tell_step(
-            alloc,
-            changer,
-            &mut scratch.spare,
-            Taken::Simple,
-            scratch.changes.as_slice(),
-        ),
-        Err(fault) => tell_token(alloc, fault),
-    }
+    tell_step(alloc, changer, spare, Taken::Simple, changes)
 }
