@@ -32,7 +32,7 @@ enum confscript_status {
     CONFSCRIPT_DONE = 0,
     /* The text does not fit into `out`. Nothing is written. The number is how many bytes the text takes. */
     CONFSCRIPT_TOO_SMALL = 1,
-    /* malloc or realloc returned NULL. Nothing is written. */
+    /* Memory ran out. Nothing is written. */
     CONFSCRIPT_NO_MEMORY = 2,
 
     /* A text is not a ConfState line. The number is 1 for the first text of the call, and 2 for the second. */
@@ -107,7 +107,7 @@ struct confscript_answer confscript_check(const uint8_t *state, size_t state_len
 /*
  * Returns the committed index of the voters in `incoming`, and of those in `outgoing` if there are any: both must have
  * committed it. The id at each place of `ids` has acknowledged the index at that place of `acknowledged`. An id that is
- * not in `ids` counts as 0. An id that a set names twice is one voter. The number is the index. It is 2^64-1 if there are
+ * not in `ids` has acknowledged 0. An id that a set names twice is one voter. The number is the index. It is 2^64-1 if there are
  * no voters.
  */
 struct confscript_answer confscript_committed(const uint64_t *incoming, size_t incoming_len, const uint64_t *outgoing,
