@@ -8,3 +8,4 @@ pub mod BarTexts
 pub mod IndexColumn
 pub mod VoteResults
 pub mod Overlap
+pub mod Tolerance

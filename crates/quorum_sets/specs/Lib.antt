@@ -8,3 +8,4 @@ pub mod Votes
 pub mod Chart
 pub mod ChartRows
 pub mod Overlap
+pub mod Tolerance

@@ -1,13 +1,14 @@
 //! Laws of the definitions that the contracts cite. Each is the contract of a function without a
 //! body to run.
-ghost use Rattle.std.specs.Prelude.{◌≡◌, ℕ, false, not, ◌&&◌, ◌||◌, ◌==◌};
+ghost use Rattle.std.specs.Prelude.{◌≡◌, ℕ, true, false, not, ◌&&◌, ◌||◌, ◌==◌, Option, Some, None, is_some};
 ghost use Rattle.std.specs.Ordering.{nat_cmp};
 ghost use Rattle.std.specs.List.{list_any};
 ghost use Rattle.std.specs.List.Sorted.{IsStrictlySortedBy};
-ghost use Rattle.quorum_sets.specs.Ids.{Ids, no_ids, has, with_id, without_id, union, ascending};
+ghost use Rattle.quorum_sets.specs.Ids.{Ids, no_ids, has, with_id, without_id, union, ascending, is_empty};
 ghost use Rattle.quorum_sets.specs.Voters.{Voters, AreNeighbours};
 ghost use Rattle.quorum_sets.specs.Committed.{Acks, IsCommitted, committed_index};
 ghost use Rattle.quorum_sets.specs.Overlap.{QuorumsMeet, CommittedMeetsWon};
+ghost use Rattle.quorum_sets.specs.Tolerance.{IsMostDown, commits_without, may_be_down, least_minority};
 
 /// What the words on a set of ids say member by member: which ids a set has after a change, which
 /// two sets have together, that a set's list has just its ids and rises strictly, and that two sets with the same ids are equal.
@@ -38,4 +39,15 @@ pub fn neighbours_overlap()
 pub fn committed_meets_won()
     ensures before { (before after : Voters) → AreNeighbours before after → CommittedMeetsWon before after }
     ensures after { (before after : Voters) → AreNeighbours before after → CommittedMeetsWon after before }
+{}
+
+/// The number of ids that may be down, found by trying every set of ids, is the one that counting gives: the least surplus
+/// over a majority. Where every id counts, it is the least of n - (n/2 + 1) over the voter sets that have ids. Without incoming
+/// voters nothing commits.
+pub fn most_down_by_counting()
+    ensures fits { (voters : Voters) (uncounted : Ids) → IsMostDown voters uncounted (may_be_down voters uncounted) }
+    ensures alone { (voters : Voters) (uncounted : Ids) (answer : Option ℕ) → IsMostDown voters uncounted answer → answer ≡ may_be_down voters uncounted }
+    ensures all_count { (voters : Voters) → is_empty voters.incoming ≡ false → may_be_down voters no_ids ≡ Some (least_minority voters) }
+    ensures no_voter { (voters : Voters) (uncounted : Ids) → is_empty voters.incoming ≡ true → may_be_down voters uncounted ≡ None }
+    ensures commits { (voters : Voters) (away : Ids) → commits_without voters away ≡ is_some (may_be_down voters away) }
 {}

@@ -29,7 +29,7 @@ pub count_of-common : (a b : Ids) → count_of (has b) a ≡ count_of (has a) b
 count_of-common a b = sym (length-filter (has b) (ascending a)) ∙ ap length (kept-is_common a b) ∙ length-filter (has a) (ascending b)
 
 -- those that are not in common are the others
-count_of-rest : (a b : Ids) → count_of (has b) a + count_of (λ id. not (has b id)) a ≡ size a
+pub count_of-rest : (a b : Ids) → count_of (has b) a + count_of (λ id. not (has b id)) a ≡ size a
 count_of-rest a b =
     let yes = length-filter (has b) (ascending a) in
     let no = length-filter (λ id. not (has b id)) (ascending a) in
@@ -74,7 +74,7 @@ difference_count-within a b within =
 size-len : (ids : Ids) → size ids ≡ finite.len ids
 size-len ids = length-map (finite.entries ids) (λ e. e.0) ∙ sym (finite.len-entries ids)
 
-size-with_id : (ids : Ids) (id : ℕ) → size (with_id ids id) ≡ cond (has ids id) (size ids) (size ids + 1)
+pub size-with_id : (ids : Ids) (id : ℕ) → size (with_id ids id) ≡ cond (has ids id) (size ids) (size ids + 1)
 size-with_id ids id =
     size-len (with_id ids id) ∙ finite.len-insert nat_cmp_total ids id tt
     ∙ (λ i. cond (has ids id) (sym (size-len ids) i) (sym (size-len ids) i + 1))
