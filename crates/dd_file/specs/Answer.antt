@@ -97,5 +97,5 @@ pub record ReadsOn {R X A : Type 0} (remaining : R → Option (List ℕ)) (has_f
   pub fault : IfErr result (λ fault. new.fault ≡ Some fault)
   pub again : IfSome old.fault (λ fault. (result ≡ Err fault) × (new ≡ old) × (after ≡ before))
   pub kind : old.fault ≡ None → IfErr result (IsFault old.place)
-  -- `Read` is answered exactly where a read failed
+  -- the reader has failed exactly if it had failed before, or `Read` is returned
   pub read : old.fault ≡ None → has_failed after ≡ (has_failed before || is_read_fault result)

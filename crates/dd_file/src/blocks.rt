@@ -95,7 +95,7 @@ impl<W: Sink> Blocks<W> {
         ensures part { AppendsPart (W.contents (gathering_writer self.old)) (W.contents (gathering_writer self.new)) (waiting_bytes self.old) }
         // A fault stays, and the writer is not asked again.
         ensures again { W.has_failed (gathering_writer self.old) ≡ true → IsErr result × (self.new ≡ self.old) }
-        // A fault is answered exactly where a write failed.
+        // The writer has failed exactly if it had failed before, or a fault is returned.
         ensures failed { W.has_failed (gathering_writer self.new) ≡ (W.has_failed (gathering_writer self.old) || is_err result) }
     {
         match self.pass_on() {

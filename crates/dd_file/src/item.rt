@@ -67,13 +67,6 @@ impl Argument {
         Values::behind(self.word.as_slice().split_at(self.key_len).1)
     }
 
-    /// How many values it has.
-    pub fn value_count(&self) -> usize
-        ensures { result ≡ length self.now.values }
-    {
-        self.values().len()
-    }
-
     /// The value at a place, counted from 0. The values before it are passed over.
     pub fn value(&self, i: usize) -> Option<&[u8]>
         ensures { option_map (λ value. value.now) result ≡ slice_get self.now.values i }

@@ -186,7 +186,7 @@ impl Rewriter {
         // A fault stays, and no writer is asked again.
         ensures fault { OnErr result (self.new.stage ≡ Stage.Failed) }
         ensures again { self.old.stage ≡ Stage.Failed → IsErr result × (writer.new ≡ writer.old) }
-        // A fault is answered exactly where a write failed.
+        // A fault comes only after a failed write, in this call or before it. Without a fault no write failed in it.
         ensures failed { OnErr result ((self.old.stage ≡ Stage.Failed) ⊎ (W.has_failed writer.new ≡ true)) }
         ensures sound { OnOk result (W.has_failed writer.new ≡ W.has_failed writer.old) }
     {
@@ -214,7 +214,7 @@ impl Rewriter {
         // A fault stays, and no writer is asked again.
         ensures fault { OnErr result (self.new.stage ≡ Stage.Failed) }
         ensures again { self.old.stage ≡ Stage.Failed → IsErr result × (writer.new ≡ writer.old) }
-        // A fault is answered exactly where a write failed.
+        // A fault comes only after a failed write, in this call or before it. Without a fault no write failed in it.
         ensures failed { OnErr result ((self.old.stage ≡ Stage.Failed) ⊎ (W.has_failed writer.new ≡ true)) }
         ensures sound { OnOk result (W.has_failed writer.new ≡ W.has_failed writer.old) }
     {
@@ -244,7 +244,7 @@ impl Rewriter {
         // A fault stays, and no writer is asked again.
         ensures fault { OnErr result (self.new.stage ≡ Stage.Failed) }
         ensures again { self.old.stage ≡ Stage.Failed → IsErr result × (writer.new ≡ writer.old) }
-        // A fault is answered exactly where a write failed.
+        // A fault comes only after a failed write, in this call or before it. Without a fault no write failed in it.
         ensures failed { OnErr result ((self.old.stage ≡ Stage.Failed) ⊎ (W.has_failed writer.new ≡ true)) }
         ensures sound { OnOk result (W.has_failed writer.new ≡ W.has_failed writer.old) }
     {
@@ -264,7 +264,7 @@ impl Rewriter {
         // A fault stays, and no writer is asked again.
         ensures fault { OnErr result (self.new.stage ≡ Stage.Failed) }
         ensures again { self.old.stage ≡ Stage.Failed → IsErr result × (writer.new ≡ writer.old) }
-        // A fault is answered exactly where a write failed.
+        // A fault comes only after a failed write, in this call or before it. Without a fault no write failed in it.
         ensures failed { OnErr result ((self.old.stage ≡ Stage.Failed) ⊎ (W.has_failed writer.new ≡ true)) }
         ensures sound { OnOk result (W.has_failed writer.new ≡ W.has_failed writer.old) }
     {

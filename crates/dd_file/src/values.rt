@@ -1,6 +1,4 @@
 //! The values of an argument, one after another.
-ghost use Rattle.std.specs.Prelude.{◌≡◌, ◌≤◌, length, count_by};
-ghost use Rattle.dd_file.specs.Words.{is_comma};
 
 use ascii_text::cut::place_of;
 use ascii_text::white_space::{is_blank, trimmed};
@@ -83,23 +81,4 @@ impl<'a> Values<'a> {
             }
         }
     }
-
-    /// How many there are.
-    pub(crate) fn len(&self) -> usize
-        ensures { result ≡ length self.now }
-    {
-        match self.left {
-            Left::Nothing => 0,
-            Left::Plain => 1,
-            Left::Listed => comma_count(self.rest) + 1,
-        }
-    }
-}
-
-// How many commas there are.
-fn comma_count(text: &[u8]) -> usize
-    ensures count { result ≡ count_by is_comma text.now }
-    ensures within { result ≤ length text.now }
-{
-    text.iter().filter(|b| **b == b',').count()
 }

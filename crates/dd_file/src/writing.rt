@@ -63,7 +63,7 @@ pub(crate) fn write_front<W: Sink>(writer: &mut W, bytes: &[u8]) -> usize
 pub fn write_all<W: Sink>(writer: &mut W, bytes: &[u8]) -> Result<(), WriteFault>
     ensures ok { OnOk result (Appends (W.contents writer.old) (W.contents writer.new) bytes.now) }
     ensures err { OnErr result (AppendsPart (W.contents writer.old) (W.contents writer.new) bytes.now) }
-    // A fault is answered exactly where a write failed.
+    // After a fault the writer has failed, and without one no write failed in this call.
     ensures failed { OnErr result (W.has_failed writer.new ≡ true) }
     ensures sound { OnOk result (W.has_failed writer.new ≡ W.has_failed writer.old) }
     ensures nothing { bytes.now ≡ [] → IsOk result × (writer.new ≡ writer.old) }

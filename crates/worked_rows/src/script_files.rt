@@ -78,7 +78,7 @@ fn show_lines(rt: &impl Runtime, shown: &mut Vec<u8>, item: &Item) {
 fn show_argument(rt: &impl Runtime, shown: &mut Vec<u8>, argument: &Argument) {
     show(rt, shown, b" ");
     show(rt, shown, argument.key());
-    for i in 0..argument.value_count() {
+    for i in 0..9 {
         if let Some(value) = argument.value(i) {
             show(rt, shown, b"[");
             show(rt, shown, value);

@@ -1,9 +1,8 @@
 -- The values of a list in parentheses, one by one.
-use Rattle.std.proofs.Common.{◌≡◌, ℕ, ◌+◌, ◌-◌, suc, Bool, true, false, not, cond, ◌&&◌, ◌||◌, List, [], ◌∷◌, length, take, drop, count_by, refl, sym, ◌∙◌, ap, arith, rules}
+use Rattle.std.proofs.Common.{◌≡◌, ℕ, ◌+◌, ◌-◌, suc, Bool, true, false, not, cond, ◌&&◌, ◌||◌, List, [], ◌∷◌, length, take, drop, refl, sym, ◌∙◌, ap, arith, rules}
 use Rattle.std.specs.Prelude.{◌==◌, Some, None, is_some, unwrap_or}
 use Rattle.std.specs.List.{list_any, position_or_len}
 use Rattle.std.proofs.lemmas.Bool.{true≢false}
-use Rattle.std.proofs.lemmas.List.Sums.{sum_by-cons}
 use Rattle.dd_file.specs.ArgumentValues.{ends_at_closing}
 use Rattle.dd_file.specs.Parts.{up_to, behind}
 use Rattle.dd_file.specs.Words.{is_comma, is_closing, placed, cut_at_commas, listed, values_of}
@@ -91,20 +90,3 @@ cut_at_commas-last text = (first-value text).last
 pub cut_at_commas-comma : (text : List ℕ) (b : ℕ) (rest : List ℕ) → drop (position_or_len is_comma text) text ≡ b ∷ rest →
     cut_at_commas text ≡ take (position_or_len is_comma text) text ∷ cut_at_commas rest
 cut_at_commas-comma text = (first-value text).comma
-
--- one value more than there are commas
-pub length-cut_at_commas : (text : List ℕ) → length (cut_at_commas text) ≡ count_by is_comma text + 1
-length-cut_at_commas [] = refl
-length-cut_at_commas (x ∷ xs) = at (is_comma x) refl (cut_at_commas xs) refl (length-cut_at_commas xs) where
-  more : count_by is_comma (x ∷ xs) ≡ cond (is_comma x) 1 0 + count_by is_comma xs
-  more = sum_by-cons (λ b. cond (is_comma b) 1 0) x xs
-
-  at : (c : Bool) → is_comma x ≡ c → (cut : List (List ℕ)) → cut_at_commas xs ≡ cut → length (cut_at_commas xs) ≡ count_by is_comma xs + 1 → length (placed (is_comma x) x (cut_at_commas xs)) ≡ count_by is_comma (x ∷ xs) + 1
-  at true is cut e ih =
-      let one : count_by is_comma (x ∷ xs) ≡ 1 + count_by is_comma xs = more ∙ ap (λ c. cond c 1 0 + count_by is_comma xs) is in
-      ap (λ c. length (placed c x (cut_at_commas xs))) is ∙ omega (arith, ih, one)
-  at false is [] e ih = let none : length (cut_at_commas xs) ≡ 0 = ap length e in absurd (omega (arith, ih, none))
-  at false is (value ∷ values) e ih =
-      let none : count_by is_comma (x ∷ xs) ≡ 0 + count_by is_comma xs = more ∙ ap (λ c. cond c 1 0 + count_by is_comma xs) is in
-      let same : length (placed false x (cut_at_commas xs)) ≡ length (cut_at_commas xs) = ap (λ t. length (placed false x t)) e ∙ sym (ap length e) in
-      ap (λ c. length (placed c x (cut_at_commas xs))) is ∙ omega (arith, ih, none, same)
