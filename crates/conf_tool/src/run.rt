@@ -1,5 +1,5 @@
 //! Running a mode, over any reader and writer.
-ghost use Rattle.std.specs.Prelude.{◌≡◌, ◌||◌, true};
+ghost use Rattle.std.specs.Prelude.{◌≡◌, ◌||◌, true, false};
 ghost use Rattle.dd_file.specs.Device.{LosesFront};
 ghost use Rattle.dd_file.specs.Gathered.{gathering_writer, NothingWaits};
 ghost use Rattle.conf_tool.specs.Outputs.{output_of};
@@ -44,8 +44,8 @@ pub fn run<R: Source, W: Sink>(
     ensures output { Answers (output_of mode options) (R.remaining reader.old) (R.remaining reader.new) (W.contents writer.old) (W.contents writer.new) result }
     ensures taken { LosesFront (R.remaining reader.old) (R.remaining reader.new) }
 
-    // `Read` is answered exactly where a read failed, `Write` exactly where a write failed, and of the other faults
-    // and the statuses only the mode's own.
+    // The reader has failed exactly if it had failed before, or `Read` is returned; so it is of the writer and `Write`.
+    // Of the other faults and the statuses only the mode's own are returned.
     ensures read { R.has_failed reader.new ≡ (R.has_failed reader.old || is_read_fault result) }
     ensures write { W.has_failed writer.new ≡ (W.has_failed writer.old || is_write_fault result) }
     ensures kinds { CanAnswer mode result }
@@ -71,7 +71,8 @@ pub fn run_and_flush<R: Source, W: Sink>(
     requires range { IsInRange options }
     requires empty { NothingWaits writer.old }
 
-    // The blocks hold the output for each input that agrees with what was read, or a front part of it, ..
+    // The blocks (what their writer holds, and what waits) hold the output for each input that agrees with what was read,
+    // or a front part of it, ..
     ensures output { Answers (output_of mode options) (R.remaining reader.old) (R.remaining reader.new)
         (⟦<Blocks<W> as Sink>⟧.contents writer.old) (⟦<Blocks<W> as Sink>⟧.contents writer.new) result }
 
@@ -79,6 +80,9 @@ pub fn run_and_flush<R: Source, W: Sink>(
     ensures whole { stands_for_whole result ≡ true → NothingWaits writer.new ×
         Answers (output_of mode options) (R.remaining reader.old) (R.remaining reader.new)
         (W.contents (gathering_writer writer.old)) (W.contents (gathering_writer writer.new)) result }
+
+    // After any answer nothing waits, unless the writer has failed.
+    ensures flushed { W.has_failed (gathering_writer writer.new) ≡ false → NothingWaits writer.new }
     ensures taken { LosesFront (R.remaining reader.old) (R.remaining reader.new) }
 
     // A read that failed and want of memory are told before a write that failed.

@@ -55,7 +55,7 @@ fn write_entry<W: Sink>(
     ensures written { OnOk result (Continues rewriter.old.newlines rewriter.new.newlines (W.contents writer.old) (W.contents writer.new) (entry_text item.now found.now)) }
     ensures part { OnErr result (BreaksOff rewriter.old.newlines (W.contents writer.old) (W.contents writer.new) (entry_text item.now found.now)) }
     ensures stage { OnOk result (rewriter.new.stage ≡ Stage.Ready) }
-    // A fault is answered exactly where a write failed.
+    // After a fault the writer has failed, and without one no write failed in this call.
     ensures failed { OnErr result (W.has_failed writer.new ≡ true) }
     ensures sound { OnOk result (W.has_failed writer.new ≡ W.has_failed writer.old) }
 {
