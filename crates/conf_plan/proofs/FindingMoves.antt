@@ -4,4 +4,4 @@ pub mod OfEachId
 pub mod ResultingConfiguration
 pub mod FourSetWalk
 pub mod RisingIds
-pub mod SharedMembers
+pub mod PickedIds

@@ -4,3 +4,4 @@ mod PlannedSteps
 mod WorkedExamples
 mod BestPlan
 mod PlanText
+mod AliveOnTheWay

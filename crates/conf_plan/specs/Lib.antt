@@ -6,3 +6,6 @@ pub mod Planned
 pub mod Walking
 pub mod PlanText
 pub mod PlanCode
+pub mod Alive
+pub mod LearnersFirst
+pub mod PathBy

@@ -6,8 +6,11 @@ ghost use Rattle.conf_change.specs.Transition.{steps_taken};
 ghost use Rattle.conf_change.specs.declared.change.Change.{Change};
 ghost use Rattle.conf_change.specs.declared.step.Step.{Step};
 ghost use Rattle.conf_change.specs.declared.transition.Transition.{Transition};
+ghost use Rattle.conf_plan.specs.declared.strategy.Strategy.{Strategy};
+ghost use Rattle.conf_plan.specs.declared.strategy.Strategy.TheVariants.{Shortest, LearnersFirst};
 ghost use Rattle.conf_plan.specs.declared.text.PlanTextFault.{PlanTextFault};
 ghost use Rattle.conf_plan.specs.Best.{times_named, HasSamePart, IsBest};
+ghost use Rattle.conf_plan.specs.PathBy.{path_by, Serves};
 ghost use Rattle.conf_plan.specs.Planned.{planned};
 ghost use Rattle.conf_plan.specs.PlanSteps.{IsPlan};
 ghost use Rattle.conf_plan.specs.PlanText.{StandsForPlan, HasFault, plan_text};
@@ -34,6 +37,15 @@ pub fn planned_is_run()
 /// The plan is the best there is: the shortest run, which spares most and names each id in the fewest changes.
 pub fn planned_is_best()
     ensures { (now target : Configuration) → IsValidWithVoter now → IsValidWithVoter target → IsBest now (planned now target) target }
+{}
+
+/// The path of each strategy keeps what the strategy promises. On the way, a set of ids that is a quorum of both ends is a quorum
+/// of each configuration, and none of these tolerates fewer failures than the weaker end. The shortest path is the plan. The one
+/// on which new voters are learners first is at most one step longer, and nobody becomes a voter there who was not a learner
+/// with progress before.
+pub fn paths_serve()
+    ensures shortest { (now target : Configuration) → path_by Shortest now target ≡ planned now target }
+    ensures serves { (strategy : Strategy) (now target : Configuration) → IsValidWithVoter now → IsValidWithVoter target → Serves strategy now (path_by strategy now target) target }
 {}
 
 /// Whatever run was made, the plan is a run back, of at most four steps, and of at most three where one step is undone.

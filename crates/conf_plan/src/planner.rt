@@ -1,14 +1,17 @@
 //! Making a plan.
 ghost use Rattle.std.specs.Prelude.{◌≡◌, ◌↔◌, true, false, [], ◌∷◌, Err, IfOk, OnOk};
 ghost use Rattle.conf_change.specs.Configuration.{is_joint, is_valid, has_voter};
+ghost use Rattle.conf_plan.specs.PathBy.{from_single_by, path_by};
 ghost use Rattle.conf_plan.specs.Planned.{single_with, single_steps, entering_step, joint_steps, planned_from_single, planned};
 ghost use Rattle.conf_plan.specs.Best.{IsBest};
 ghost use Rattle.conf_plan.specs.Run.{IsValidWithVoter};
 ghost use Rattle.conf_plan.specs.Walking.{IsAdded};
 
+use crate::learners_first::add_learners_first;
 use crate::moves::moves_to;
 use crate::shared_members::shared_members;
 use crate::step_list::Plan;
+use crate::strategy::Strategy;
 use conf_change::{Changes, Config, Step, union};
 use quorum_sets::{MemberSet, NoMemory, symdiff};
 use std::alloc::Global;
@@ -57,34 +60,54 @@ pub fn plan<S: MemberSet>(
         return Err(PlanFault::NoVoterTarget);
     }
     let mut steps = Vec::new(alloc);
-    add_plan(alloc, &mut steps, now, target)?;
+    add_path(alloc, Strategy::Shortest, &mut steps, now, target)?;
     Ok(Plan::of_steps(steps))
 }
 
-// The plan from one configuration to another.
-fn add_plan<S: MemberSet>(
+// The path from one configuration to another.
+pub(crate) fn add_path<S: MemberSet>(
     alloc: Global,
+    strategy: Strategy,
     steps: &mut Vec<Step>,
     now: &Config<S>,
     target: &Config<S>,
 ) -> Result<(), NoMemory>
     requires now { IsValidWithVoter now.now }
     requires target { IsValidWithVoter target.now }
-    ensures { OnOk result (IsAdded steps.old.items (planned now.now target.now) steps.new.items) }
+    ensures { OnOk result (IsAdded steps.old.items (path_by strategy now.now target.now) steps.new.items) }
 {
     if now.same(target) {
         return Ok(());
     }
     if now.outgoing.len() == 0 {
-        return add_from_single(alloc, steps, &now.incoming, &now.learners, target);
+        return add_from_single_by(alloc, strategy, steps, &now.incoming, &now.learners, target);
     }
     steps.push(Step::LeaveJoint)?;
     let learners = union(&now.learners, &now.learners_next)?;
-    add_from_single(alloc, steps, &now.incoming, &learners, target)
+    add_from_single_by(alloc, strategy, steps, &now.incoming, &learners, target)
 }
 
 // From these voters and learners, neither joint, to a configuration.
-fn add_from_single<S: MemberSet>(
+fn add_from_single_by<S: MemberSet>(
+    alloc: Global,
+    strategy: Strategy,
+    steps: &mut Vec<Step>,
+    incoming: &S,
+    learners: &S,
+    target: &Config<S>,
+) -> Result<(), NoMemory>
+    requires start { IsValidWithVoter (single_with (S.ids incoming.now) (S.ids learners.now)) }
+    requires target { IsValidWithVoter target.now }
+    ensures { OnOk result (IsAdded steps.old.items (from_single_by strategy (single_with (S.ids incoming.now) (S.ids learners.now)) target.now) steps.new.items) }
+{
+    match strategy {
+        Strategy::Shortest => add_from_single(alloc, steps, incoming, learners, target),
+        Strategy::LearnersFirst => add_learners_first(alloc, steps, incoming, learners, target),
+    }
+}
+
+// The plan from these voters and learners, neither joint, to a configuration.
+pub(crate) fn add_from_single<S: MemberSet>(
     alloc: Global,
     steps: &mut Vec<Step>,
     incoming: &S,
@@ -150,7 +173,7 @@ fn add_entering_step<S: MemberSet>(
 }
 
 // From these voters and learners to others, neither joint.
-fn add_single_steps<S: MemberSet>(
+pub(crate) fn add_single_steps<S: MemberSet>(
     alloc: Global,
     steps: &mut Vec<Step>,
     incoming: &S,

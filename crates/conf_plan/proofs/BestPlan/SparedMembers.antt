@@ -31,7 +31,7 @@ use Rattle.conf_plan.proofs.PlannedSteps.BetweenSingle.{entered_by, simple_moves
 abbrev Keeps : ℕ → Configuration → Step → Configuration → Type 0
 Keeps q before step after = keeps_progress before step after q ≡ true
 
-keeps : (q : ℕ) (before : Configuration) (step : Step) (after : Configuration) → is_member before q ≡ true → is_member after q ≡ true → is_replaced step after q ≡ false
+pub keeps : (q : ℕ) (before : Configuration) (step : Step) (after : Configuration) → is_member before q ≡ true → is_member after q ≡ true → is_replaced step after q ≡ false
     → keeps_progress before step after q ≡ true
 keeps q before step after member stays same = and_from _ _ (and_from _ _ member stays) (not_from_false _ same)
 
@@ -75,12 +75,12 @@ wanted_kind false true i true wanted = tt
 wanted_kind false true i false wanted = refl
 wanted_kind false false i l wanted = cc
 
-moves-remove_no_wanted : (c : Configuration) (voters learners : Ids) (q : ℕ) → (has voters q || has learners q) ≡ true → removes (moves c voters learners) q ≡ false
+pub moves-remove_no_wanted : (c : Configuration) (voters learners : Ids) (q : ℕ) → (has voters q || has learners q) ≡ true → removes (moves c voters learners) q ≡ false
 moves-remove_no_wanted c voters learners q wanted =
     removes-each (kind_of_move c voters learners) _ q (wanted_kind (has voters q) (has learners q) (has c.incoming q) (has c.learners q) wanted)
 
 -- ---- from a configuration that is not joint
-is_member-single_with : (voters learners : Ids) (q : ℕ) → is_member (single_with voters learners) q ≡ (has voters q || has learners q)
+pub is_member-single_with : (voters learners : Ids) (q : ℕ) → is_member (single_with voters learners) q ≡ (has voters q || has learners q)
 is_member-single_with voters learners q = (λ i. has voters q || has-no_ids q i || has learners q) ∙ ap (λ b. b || has learners q) (or-false (has voters q))
 
 single_steps-spare : (c : Configuration) (voters learners : Ids) (q : ℕ) → IsSingle c → AreWanted voters learners → is_member c q ≡ true → (has voters q || has learners q) ≡ true
@@ -108,7 +108,7 @@ single_steps-spare c voters learners q single wanted member stays =
     voter_or_learner false false false stays = stays
 
 -- who goes out in the target keeps its progress, and the others are wanted
-entering_step-keeps : (c target : Configuration) (q : ℕ) → is_member c q ≡ true → is_member target q ≡ true → keeps_progress c (entering_step c target) target q ≡ true
+pub entering_step-keeps : (c target : Configuration) (q : ℕ) → is_member c q ≡ true → is_member target q ≡ true → keeps_progress c (entering_step c target) target q ≡ true
 entering_step-keeps c target q member stays = keeps q c (entering_step c target) target member stays (same (has target.outgoing q) refl)
   where
     voter_or_learner : (v out l n : Bool) → out ≡ false → (v || out || l) ≡ true → (v || (l || n)) ≡ true

@@ -14,7 +14,7 @@ use Rattle.conf_plan.proofs.BestPlan.FewestSteps.{planned-shortest}
 use Rattle.conf_plan.proofs.BestPlan.SparedMembers.{planned-spared, planned-sparing}
 
 -- along any run the voters overlap
-run-overlaps : (before after : Configuration) (steps : List Step) → IsRun before steps after
+pub run-overlaps : (before after : Configuration) (steps : List Step) → IsRun before steps after
     → IsRunWith (λ at step next. Overlap (voters_of at) (voters_of next)) before steps after
 run-overlaps before after [] run = run
 run-overlaps before after (step ∷ steps) run =

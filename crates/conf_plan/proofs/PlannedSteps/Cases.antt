@@ -2,6 +2,7 @@
 use Rattle.std.proofs.Common.{◌≡◌, ℕ, ◌-◌, ◌^◌, true, false, not, ◌⊎◌, inl, inr, List, [], ◌∷◌, ◌++◌, sym, ap, subst, ◌∙◌, arith, eq-eqb}
 use Rattle.std.specs.Prelude.{min, OnOk, Result, Ok, Err}
 use Rattle.std.specs.Bool.{beq}
+use Rattle.std.specs.List.{All}
 use Rattle.std.proofs.lemmas.Bool.{true≢false, false_from_ne_true, and_parts, ne_eqb, cond-true, cond-false}
 use Rattle.std.proofs.lemmas.List.{append_assoc, append-nil}
 use Rattle.std.proofs.lemmas.List.Elements.{All-append, All-nil, All-push}
@@ -12,6 +13,8 @@ use Rattle.conf_change.specs.declared.step.Step.TheVariants.{LeaveJoint}
 use Rattle.conf_change.proofs.Offered.{is_same_set-equal, is_same-equal, is_same-is_equality, is_empty-no_ids}
 use Rattle.conf_plan.specs.Run.{IsValidWithVoter}
 use Rattle.conf_plan.specs.PlanSteps.{HasWordIds, IsPlan}
+use Rattle.conf_plan.specs.PathBy.{from_single_by, path_by}
+use Rattle.conf_plan.specs.declared.strategy.Strategy.{Strategy}
 use Rattle.conf_plan.specs.Planned.{union_of, single_with, single_steps, shared_members, inserted_steps, configuration_after, entering_step, joint_steps, planned_from_single, planned}
 use Rattle.conf_plan.specs.Walking.{IsAdded}
 use Rattle.conf_plan.proofs.Runs.Chains.{configuration_after-run}
@@ -100,15 +103,15 @@ from_single-single voters learners target single others =
 
 -- ---- the plan
 
-pub planned-single : (now target : Configuration) → IsSingle now → is_same now target ≡ false
-    → planned now target ≡ planned_from_single (single_with now.incoming now.learners) target
-planned-single now target single other =
+pub path_by-single : (strategy : Strategy) (now target : Configuration) → IsSingle now → is_same now target ≡ false
+    → path_by strategy now target ≡ from_single_by strategy (single_with now.incoming now.learners) target
+path_by-single strategy now target single other =
     cond-false (is_same now target) _ _ other ∙ cond-false (is_joint now) _ _ single.single
-    ∙ ap (λ c. planned_from_single c target) (sym (single_with-own now single))
+    ∙ ap (λ c. from_single_by strategy c target) (sym (single_with-own now single))
 
-pub planned-leaving : (now target : Configuration) → is_joint now ≡ true → is_same now target ≡ false
-    → planned now target ≡ LeaveJoint ∷ planned_from_single (single_with now.incoming (union_of now.learners now.learners_next)) target
-planned-leaving now target joint other = cond-false (is_same now target) _ _ other ∙ cond-true (is_joint now) _ _ joint
+pub path_by-leaving : (strategy : Strategy) (now target : Configuration) → is_joint now ≡ true → is_same now target ≡ false
+    → path_by strategy now target ≡ LeaveJoint ∷ from_single_by strategy (single_with now.incoming (union_of now.learners now.learners_next)) target
+path_by-leaving strategy now target joint other = cond-false (is_same now target) _ _ other ∙ cond-true (is_joint now) _ _ joint
 
 pub left-is_settled : (now : Configuration) → IsValidWithVoter now → is_joint now ≡ true → IsValidWithVoter (single_with now.incoming (union_of now.learners now.learners_next))
 left-is_settled now settled joint = (after_leave-is_single now settled joint).settled
@@ -132,3 +135,6 @@ added-more before xs between ys after first second = record {
 pub added-is_plan : (now target : Configuration) (after : List Step) → IsAdded [] (planned now target) after → (after ≡ planned now target) × IsPlan after
 added-is_plan now target after added =
     (added.whole, subst IsPlan (sym added.whole) (record { at_most_four = planned-at_most_four now target; word_ids = added.word_ids }))
+
+pub added-is_path : (more after : List Step) → IsAdded [] more after → (after ≡ more) × All HasWordIds after
+added-is_path more after added = (added.whole, subst (All HasWordIds) (sym added.whole) added.word_ids)

@@ -12,15 +12,15 @@ pub of_steps-requires : goal.of_steps-requires
 of_steps-requires g c =
     let now = c.args.now.now in
     let target = c.args.target.now in
-    let P : List Step → Type 0 = λ before. IsAdded before (planned now target) c.add_plan.new.steps.items in
-    (added-is_plan now target c.add_plan.new.steps.items (subst P c.new-steps.ensures.items c.in_ok-add_plan.ensures)).1
+    let P : List Step → Type 0 = λ before. IsAdded before (planned now target) c.add_path.new.steps.items in
+    (added-is_plan now target c.add_path.new.steps.items (subst P c.new-steps.ensures.items c.in_ok-add_path.ensures)).1
 
 pub returns-clause-best : goal.returns-clause-best
 returns-clause-best g c =
     let now = c.args.now.now in
     let target = c.args.target.now in
-    let P : List Step → Type 0 = λ before. IsAdded before (planned now target) c.add_plan.new.steps.items in
-    let is = c.of_steps.ensures ∙ (added-is_plan now target c.add_plan.new.steps.items (subst P c.new-steps.ensures.items c.in_ok-add_plan.ensures)).0 in
+    let P : List Step → Type 0 = λ before. IsAdded before (planned now target) c.add_path.new.steps.items in
+    let is = c.of_steps.ensures ∙ (added-is_plan now target c.add_path.new.steps.items (subst P c.new-steps.ensures.items c.in_ok-add_path.ensures)).0 in
     subst (λ steps. IsBest now steps target) (sym is)
     (planned-is_best now target
     (record { valid = c.requires.valid_now; voter = has_voter-from_count now c.len.result (c.len.ensures ∙ ap (λ d. size d.incoming) c.now.view_is) c.if-len-eq0.false })

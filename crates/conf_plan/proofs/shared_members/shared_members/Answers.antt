@@ -1,7 +1,14 @@
-use Rattle.conf_plan.proofs.FindingMoves.SharedMembers.{shared-made}
+use Rattle.std.proofs.Common.{rules, ◌≡◌}
+use Rattle.std.proofs.lemmas.Result.{IfOk-weaker}
+use Rattle.quorum_sets.specs.Ids.{ascending, ids_where}
+use Rattle.conf_plan.specs.Planned.{is_shared}
+use Rattle.conf_plan.proofs.FindingMoves.PickedIds.{shared_members-picked}
 use Rattle.conf_plan.proofs.shared_members.shared_members.Goals as goal
 
 pub returns : goal.returns
 returns g c =
-    shared-made (g.S.MemberSet.ids c.args.incoming.now) (g.S.MemberSet.ids c.args.learners.now) (g.S.MemberSet.ids c.in_ok-members.members) (g.S.MemberSet.ids c.empty-shared.result)
-    (g.S.MemberSet.ids c.add_shared.new.shared) c.args.target.now c.in_ok-members.ensures c.empty-shared.ensures c.in_ok-add_shared.ensures
+    let target = c.args.target.now in
+    let members = g.S.MemberSet.ids c.in_ok-members.members in
+    IfOk-weaker c.picked.result (λ shared. g.S.MemberSet.ids shared ≡ ids_where (is_shared target) (ascending members)) _
+    (λ shared is. shared_members-picked (g.S.MemberSet.ids c.args.incoming.now) (g.S.MemberSet.ids c.args.learners.now) members (g.S.MemberSet.ids shared) target c.in_ok-members.ensures is)
+    (c.picked.ensures (is_shared target) (λ id answer given. search rules))

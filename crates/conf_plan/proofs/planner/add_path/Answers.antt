@@ -5,13 +5,14 @@ use Rattle.conf_change.specs.declared.step.Step.{Step}
 use Rattle.conf_change.specs.declared.step.Step.TheVariants.{LeaveJoint}
 use Rattle.conf_change.specs.Configuration.{Configuration}
 use Rattle.conf_plan.specs.Run.{IsValidWithVoter}
-use Rattle.conf_plan.specs.Planned.{union_of, single_with, planned_from_single}
+use Rattle.conf_plan.specs.PathBy.{from_single_by}
+use Rattle.conf_plan.specs.Planned.{union_of, single_with}
 use Rattle.conf_plan.specs.Walking.{IsAdded}
-use Rattle.conf_plan.proofs.PlannedSteps.Cases.{OnOk-weaker, is_joint-from_count, is_joint-not_from_count, planned-single, planned-leaving, own-is_settled, left-is_settled, added-leave, added-more}
-use Rattle.conf_plan.proofs.planner.add_plan.Goals as goal
+use Rattle.conf_plan.proofs.PlannedSteps.Cases.{OnOk-weaker, is_joint-from_count, is_joint-not_from_count, path_by-single, path_by-leaving, own-is_settled, left-is_settled, added-leave, added-more}
+use Rattle.conf_plan.proofs.planner.add_path.Goals as goal
 
-pub add_from_single-requires-clause-start : goal.add_from_single-requires-clause-start
-add_from_single-requires-clause-start g c =
+pub add_from_single_by-requires-clause-start : goal.add_from_single_by-requires-clause-start
+add_from_single_by-requires-clause-start g c =
     let now = c.args.now.now in
     let single = is_joint-not_from_count now c.len.result (c.len.ensures ∙ ap (λ d. size d.outgoing) c.now.view_is) c.if-len-eq0.true in
     subst (λ (d : Configuration). IsValidWithVoter (single_with d.incoming d.learners)) (sym c.now.view_is) (own-is_settled now (record { settled = c.requires.now; single = single }))
@@ -21,14 +22,14 @@ returns-then-len-eq0 g c =
     let now = c.args.now.now in
     let target = c.args.target.now in
     let single = is_joint-not_from_count now c.len.result (c.len.ensures ∙ ap (λ d. size d.outgoing) c.now.view_is) c.if-len-eq0.true in
-    let P : List Step → Type 0 = λ more. OnOk c.add_from_single.result (IsAdded c.args.steps.now.items more c.add_from_single.new.steps.items) in
+    let P : List Step → Type 0 = λ more. OnOk c.add_from_single_by.result (IsAdded c.args.steps.now.items more c.add_from_single_by.new.steps.items) in
     subst P
-    (ap (λ d. planned_from_single (single_with d.incoming d.learners) target) c.now.view_is
-    ∙ sym (planned-single now target (record { settled = c.requires.now; single = single }) (sym c.same.ensures.same ∙ c.if-same.false)))
-    c.add_from_single.ensures
+    (ap (λ d. from_single_by c.args.strategy (single_with d.incoming d.learners) target) c.now.view_is
+    ∙ sym (path_by-single c.args.strategy now target (record { settled = c.requires.now; single = single }) (sym c.same.ensures.same ∙ c.if-same.false)))
+    c.add_from_single_by.ensures
 
-pub add_from_single-requires-2-clause-start : goal.add_from_single-requires-2-clause-start
-add_from_single-requires-2-clause-start g c =
+pub add_from_single_by-requires-2-clause-start : goal.add_from_single_by-requires-2-clause-start
+add_from_single_by-requires-2-clause-start g c =
     let now = c.args.now.now in
     let joint = is_joint-from_count now c.len.result (c.len.ensures ∙ ap (λ d. size d.outgoing) c.now.view_is) c.if-len-eq0.false in
     subst (λ s. IsValidWithVoter (single_with (g.S.MemberSet.ids c.now.inside.incoming) s)) (sym c.in_ok-learners.ensures)
@@ -40,11 +41,11 @@ returns g c =
     let target = c.args.target.now in
     let joint = is_joint-from_count now c.len.result (c.len.ensures ∙ ap (λ d. size d.outgoing) c.now.view_is) c.if-len-eq0.false in
     let rest =
-    ap (λ s. planned_from_single (single_with (g.S.MemberSet.ids c.now.inside.incoming) s) target) c.in_ok-learners.ensures
-    ∙ ap (λ d. planned_from_single (single_with d.incoming (union_of d.learners d.learners_next)) target) c.now.view_is in
-    let P : List Step → Type 0 = λ more. IsAdded c.args.steps.now.items more c.add_from_single-2.new.steps.items in
-    OnOk-weaker c.add_from_single-2.result
+    ap (λ s. from_single_by c.args.strategy (single_with (g.S.MemberSet.ids c.now.inside.incoming) s) target) c.in_ok-learners.ensures
+    ∙ ap (λ d. from_single_by c.args.strategy (single_with d.incoming (union_of d.learners d.learners_next)) target) c.now.view_is in
+    let P : List Step → Type 0 = λ more. IsAdded c.args.steps.now.items more c.add_from_single_by-2.new.steps.items in
+    OnOk-weaker c.add_from_single_by-2.result
     (λ added.
-    subst P (ap (λ steps. LeaveJoint ∷ steps) rest ∙ sym (planned-leaving now target joint (sym c.same.ensures.same ∙ c.if-same.false)))
+    subst P (ap (λ steps. LeaveJoint ∷ steps) rest ∙ sym (path_by-leaving c.args.strategy now target joint (sym c.same.ensures.same ∙ c.if-same.false)))
     (added-more _ (LeaveJoint ∷ []) _ _ _ (added-leave _ _ c.in_ok-push.ensures.items) added))
-    c.add_from_single-2.ensures
+    c.add_from_single_by-2.ensures

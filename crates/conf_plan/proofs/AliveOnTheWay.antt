@@ -1,0 +1,8 @@
+-- What a cluster can count on while it takes the steps: quorums, failures that are tolerated, and voters that are no newcomers.
+
+pub mod Quorums
+pub mod Tolerance
+pub mod Newcomers
+pub mod ReadyVoters
+pub mod LearnersFirst
+pub mod EachStrategy

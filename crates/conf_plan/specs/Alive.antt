@@ -1,0 +1,72 @@
+-- What a cluster that takes the steps of a path can count on while it serves.
+use Rattle.std.specs.Prelude.{◌≡◌, ℕ, ◌+◌, ◌≤◌, Bool, true, false, not, ◌||◌, IsTrue, List, length}
+use Rattle.quorum_sets.specs.Ids.{Ids, no_ids, has, ids_where}
+use Rattle.quorum_sets.specs.Voters.{is_quorum}
+use Rattle.quorum_sets.specs.Overlap.{Overlap}
+use Rattle.quorum_sets.specs.Tolerance.{Endures}
+use Rattle.conf_change.specs.Configuration.{Configuration, voters_of, members}
+use Rattle.conf_change.specs.Progress.{keeps_progress}
+use Rattle.conf_change.specs.declared.step.Step.{Step}
+use Rattle.conf_plan.specs.Best.{IsBest}
+use Rattle.conf_plan.specs.Run.{IsRun, IsRunWith}
+
+-- the steps lead from the one configuration to the other, and this holds of the configuration after each of them
+abbrev pub EachOnTheWay : (Configuration → Type 0) → Configuration → List Step → Configuration → Type 0
+EachOnTheWay Holds = IsRunWith (λ before step after. Holds after)
+
+-- ---- quorums
+-- each set of ids that is a quorum of both ends is one of the configuration
+abbrev pub HasQuorumsOf : Configuration → Configuration → Configuration → Type 0
+HasQuorumsOf now target c =
+    (ids : Ids) → IsTrue (is_quorum (voters_of now) ids) → IsTrue (is_quorum (voters_of target) ids) → IsTrue (is_quorum (voters_of c) ids)
+
+-- a set of ids that is a quorum of both ends is a quorum of each configuration on the way
+abbrev pub KeepsQuorums : Configuration → List Step → Configuration → Type 0
+KeepsQuorums now steps target = EachOnTheWay (HasQuorumsOf now target) now steps target
+
+-- ---- failures
+-- as many ids as may be down in both ends may be down in the configuration
+abbrev pub IsAsTolerant : Configuration → Configuration → Configuration → Type 0
+IsAsTolerant now target c =
+    (k : ℕ) → Endures (voters_of now) no_ids k → Endures (voters_of target) no_ids k → Endures (voters_of c) no_ids k
+
+-- no configuration on the way tolerates fewer failures than the weaker end
+abbrev pub KeepsTolerance : Configuration → List Step → Configuration → Type 0
+KeepsTolerance now steps target = EachOnTheWay (IsAsTolerant now target) now steps target
+
+-- ---- empty members
+-- the members after the step that do not keep their progress in it; they begin with an empty log
+abbrev pub catching_up : Configuration → Step → Configuration → Ids
+catching_up before step after = ids_where (λ id. not (keeps_progress before step after id)) (members after)
+
+-- the id is a learner before the step, and keeps its progress in it
+pub record IsReadyLearner (before : Configuration) (step : Step) (after : Configuration) (id : ℕ) : Type 0 where
+  pub learner : has before.learners id ≡ true
+  pub kept : keeps_progress before step after id ≡ true
+
+-- each id that the step makes an incoming voter, and that was no voter before it, is ready for that
+abbrev pub MakesVotersOfReady : Configuration → Step → Configuration → Type 0
+MakesVotersOfReady before step after =
+    (id : ℕ) → has after.incoming id ≡ true → (has before.incoming id || has before.outgoing id) ≡ false → IsReadyLearner before step after id
+
+-- nobody becomes a voter who was not a learner with progress before
+abbrev pub VotersLearnFirst : Configuration → List Step → Configuration → Type 0
+VotersLearnFirst = IsRunWith MakesVotersOfReady
+
+-- ---- what each strategy promises
+-- The steps are the best plan, of which there are at most four. A quorum of both ends is one on the whole way, and no configuration there tolerates fewer failures than the weaker end.
+pub record ShortestServes (now : Configuration) (steps : List Step) (target : Configuration) : Type 0 where
+  pub best : IsBest now steps target
+  pub at_most_four : length steps ≤ 4
+  pub quorums : KeepsQuorums now steps target
+  pub tolerance : KeepsTolerance now steps target
+
+-- The steps are at most one more than any other run has, and at most five. Beside what holds of the plan, nobody becomes a voter who was not a learner with progress before.
+pub record LearnersFirstServes (now : Configuration) (steps : List Step) (target : Configuration) : Type 0 where
+  pub run : IsRun now steps target
+  pub one_more : (other : List Step) → IsRun now other target → length steps ≤ length other + 1
+  pub at_most_five : length steps ≤ 5
+  pub quorums : KeepsQuorums now steps target
+  pub tolerance : KeepsTolerance now steps target
+  pub voters : VotersLearnFirst now steps target
+  pub overlap : IsRunWith (λ before step after. Overlap (voters_of before) (voters_of after)) now steps target

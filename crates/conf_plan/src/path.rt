@@ -1,0 +1,50 @@
+//! Paths: lists of steps of any length.
+ghost use Rattle.std.specs.Prelude.{◌≡◌, length, option_copied, slice_get};
+ghost use Rattle.std.specs.List.{All};
+ghost use Rattle.conf_plan.specs.PlanSteps.{HasWordIds};
+
+use conf_change::Step;
+use std::marker::Model;
+
+/// Steps that follow one another; unlike a [`Plan`](crate::Plan), a path may have more than four.
+#[derive(Debug, Drop)]
+pub struct Path {
+    steps: Vec<Step>,
+}
+
+impl Model for Path {
+    ghost use Rattle.std.specs.Prelude.{List};
+    ghost use Rattle.std.specs.List.{All};
+    ghost use Rattle.conf_change.specs.declared.step.Step.{Step};
+    ghost use Rattle.conf_plan.specs.PlanSteps.{HasWordIds};
+
+    ghost Value = { List Step };
+
+    ghost view = { λ path. path.steps.items };
+
+    ghost invariant = { λ path. All HasWordIds path.steps.items };
+}
+
+impl Path {
+    // The path of these steps.
+    pub(crate) fn of_steps(steps: Vec<Step>) -> Path
+        requires { All HasWordIds steps.items }
+        ensures { result ≡ steps.items }
+    {
+        Path { steps }
+    }
+
+    /// How many steps it has.
+    pub fn len(&self) -> usize
+        ensures { result ≡ length self.now }
+    {
+        self.steps.len()
+    }
+
+    /// The step at an index, counted from 0.
+    pub fn step(&self, index: usize) -> Option<&Step>
+        ensures { option_copied result ≡ slice_get self.now index }
+    {
+        self.steps.get(index)
+    }
+}

@@ -1,0 +1,40 @@
+//! The ids of a set that pass a test.
+ghost use Rattle.std.specs.Prelude.{◌≡◌, ◌&&◌, ◌||◌, ℕ, Bool, IfOk, OnOk};
+ghost use Rattle.quorum_sets.specs.Counting.{Decides};
+ghost use Rattle.quorum_sets.specs.Ids.{has, ascending, ids_where};
+
+use quorum_sets::{MemberSet, NoMemory};
+use std::alloc::Global;
+
+// Those ids that pass the test, which is asked of each once, in ascending order.
+pub(crate) fn picked<S: MemberSet, F: Fn(u64) -> bool>(
+    alloc: Global,
+    ids: &S,
+    test: F,
+) -> Result<S, NoMemory>
+    requires { F.IsAlwaysCallable test }
+    ensures { (passes : ℕ → Bool) → Decides (F.post test) passes → IfOk result (λ picked. S.ids picked ≡ ids_where passes (ascending (S.ids ids.now))) }
+{
+    let mut picked = S::empty(alloc);
+    add_picked(&mut picked, ids, test)?;
+    Ok(picked)
+}
+
+// Adds those ids that pass the test, each after the last one.
+fn add_picked<S: MemberSet, F: Fn(u64) -> bool>(
+    picked: &mut S,
+    ids: &S,
+    test: F,
+) -> Result<(), NoMemory>
+    requires { F.IsAlwaysCallable test }
+    ensures { OnOk result ((passes : ℕ → Bool) → Decides (F.post test) passes → (q : ℕ) → has (S.ids picked.new) q ≡ (has (S.ids picked.old) q || (has (S.ids ids.now) q && passes q))) }
+{
+    for place in 0..ids.len() {
+        if let Some(id) = ids.at(place) {
+            if test(id) {
+                picked.insert(id)?;
+            }
+        }
+    }
+    Ok(())
+}

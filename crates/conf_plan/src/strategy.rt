@@ -1,0 +1,67 @@
+//! Paths from one configuration to another, by the strategy that a cluster which serves can afford.
+ghost use Rattle.std.specs.Prelude.{◌≡◌, ◌↔◌, true, false, Err, IfOk, OnOk};
+ghost use Rattle.conf_change.specs.Configuration.{is_valid, has_voter};
+ghost use Rattle.conf_plan.specs.PathBy.{path_by, Serves};
+
+use crate::path::Path;
+use crate::planner::add_path;
+use conf_change::Config;
+use quorum_sets::{MemberSet, NoMemory};
+use std::alloc::Global;
+use thiserror::Error;
+
+/// How a path goes from one configuration to another.
+#[derive(Clone, Copy, Debug, PartialEq, Eq)]
+pub enum Strategy {
+    /// By as few steps as possible: the path is the plan.
+    Shortest,
+    /// New voters are learners first, so that they can catch up before they vote (Ongaro's dissertation, 4.2.1).
+    LearnersFirst,
+}
+
+/// Why there is no path.
+#[derive(Clone, Copy, Debug, PartialEq, Eq, Error)]
+pub enum NoPath {
+    #[error("the current configuration has no voter")]
+    NoVoterNow,
+    #[error("the target has no voter")]
+    NoVoterTarget,
+    #[error("out of memory")]
+    NoMemory,
+}
+
+impl From<NoMemory> for NoPath {
+    ghost use Rattle.conf_plan.specs.declared.strategy.NoPath.TheVariants.{NoMemory};
+
+    ghost from_gives = { λ _ fault. fault ≡ NoMemory };
+
+    fn from(_error: NoMemory) -> NoPath {
+        NoPath::NoMemory
+    }
+}
+
+/// The path from one configuration to another by a strategy, which keeps what the strategy promises (`Serves`). Between
+/// configurations without voters there is none, which is found before any memory is taken (own).
+pub fn plan_by<S: MemberSet>(
+    alloc: Global,
+    strategy: Strategy,
+    now: &Config<S>,
+    target: &Config<S>,
+) -> Result<Path, NoPath>
+    requires valid_now { is_valid now.now ≡ true }
+    requires valid_target { is_valid target.now ≡ true }
+    ensures path { IfOk result (λ path. path ≡ path_by strategy now.now target.now) }
+    ensures serves { IfOk result (λ path. Serves strategy now.now path target.now) }
+    ensures no_voter_now { (result ≡ Err NoPath.NoVoterNow) ↔ (has_voter now.now ≡ false) }
+    ensures no_voter_target { (result ≡ Err NoPath.NoVoterTarget) ↔ ((has_voter now.now ≡ true) × (has_voter target.now ≡ false)) }
+{
+    if now.incoming.len() == 0 {
+        return Err(NoPath::NoVoterNow);
+    }
+    if target.incoming.len() == 0 {
+        return Err(NoPath::NoVoterTarget);
+    }
+    let mut steps = Vec::new(alloc);
+    add_path(alloc, strategy, &mut steps, now, target)?;
+    Ok(Path::of_steps(steps))
+}
