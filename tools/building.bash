@@ -1,0 +1,99 @@
+# What ./confscript, ./library and the other scripts at the top share: which crates crates.txt lists, which of them are built, and
+# how one is proved and built by the toolchain's own compiler. They source it, with the top of the repository in $top.
+
+# needs_rt SCRIPT: says in one line what is missing where there is no toolchain.
+needs_rt() {
+  command -v rt >/dev/null && return
+  echo "$1: the toolchain Rattle is missing (no rt on the path); 'How to get it' in README.md says where it comes from, and what needs no toolchain" >&2
+  return 1
+}
+
+# libraries_of CRATE: the libraries that crates.txt lists for a crate, its own among them and the toolchain's.
+libraries_of() {
+  sed -n "s/^$1\( staticlib\)\{0,1\}: *//p" "$top/crates.txt"
+}
+
+# is_own LIBRARY: whether a library is a crate of this repository.
+is_own() {
+  grep -q "^$1[: ]" "$top/crates.txt"
+}
+
+# crates_below CRATE: the crates of this repository below a crate, each after those that it uses; some are named more than once.
+crates_below() {
+  local library
+  for library in $(libraries_of "$1"); do
+    if is_own "$library"; then
+      crates_below "$library"
+      echo "$library"
+    fi
+  done
+}
+
+# rlib_of CRATE: where the library of a crate is built.
+rlib_of() {
+  echo "$top/crates/$1/out/rlib/$1.rlib"
+}
+
+# is_built CRATE: whether a crate was proved and built after its sources were written, and after the crates below it were built. (What
+# `rt ci` kept may be older, but the folder that it stands in is not.)
+is_built() {
+  local built sources library
+  built=$(rlib_of "$1")
+  [ -e "$built/format" ] || return 1
+  sources=("$top/crates.txt" "$top/crates/$1"/{src,specs,proofs})
+  for library in $(crates_below "$1"); do
+    [ -e "$(rlib_of "$library")/format" ] || return 1
+    sources+=("$top/crates/$library"/{src,specs,proofs} "$(rlib_of "$library")")
+  done
+  [ -z "$(find "${sources[@]}" -newer "$built" -print -quit 2>/dev/null)" ]
+}
+
+# jobs_for_machine: how many jobs a proof gets: one a processor, as far as 5 GB of free memory for the first and 2 GB for each further one go.
+jobs_for_machine() {
+  local processors memory most
+  processors=$(nproc)
+  memory=$(awk '$1 == "MemAvailable:" { print int($2 / 1000) }' /proc/meminfo)
+  most=$(((memory - 5000) / 2000 + 1))
+  [ "$most" -ge 1 ] || most=1
+  echo $((processors < most ? processors : most))
+}
+
+# rattle_build JOBS CRATE ROOT WORDS..: proves a crate from nothing, over the crates below it as they were built, and builds it.
+rattle_build() {
+  local jobs=$1 crate=$2 root=$3 kit library words
+  shift 3
+  kit=$(dirname "$(rt doc)")
+  words=(--crate-name "$crate" --extern "std=$kit/rlibs/std.rlib" -L "dependency=$kit/rlibs")
+  for library in $(libraries_of "$crate"); do
+    if is_own "$library"; then
+      words+=(--extern "$library=$(rlib_of "$library")")
+    else
+      words+=(--extern "$library=$kit/rlibs/$library.rlib")
+    fi
+  done
+  for library in $(crates_below "$crate"); do
+    words+=(-L "dependency=$(dirname "$(rlib_of "$library")")")
+  done
+  words+=(--antt-project "$kit/rattle/logic/antt-project.json" --logic-built "$kit/logic_built" --jobs "$jobs")
+  mkdir -p "$top/crates/$crate/out" || return
+  (cd "$top/crates/$crate" && exec "$kit/bin/rattle" build "$root" "${words[@]}" "$@")
+}
+
+# build_library JOBS CRATE: proves a crate and builds its library, with what the crates above read of it, unless it is built.
+build_library() {
+  is_built "$2" && return
+  rm -rf "$top/crates/$2/out/rlib"
+  mkdir -p "$top/crates/$2/out/rlib" || return
+  rattle_build "$1" "$2" src/lib.rt --links "$2=" --statements -o "$(rlib_of "$2")"
+}
+
+# logged LOGS CRATE COMMAND..: runs a command that proves a crate, with a log of its own in a folder for what the prover says.
+logged() {
+  local log=$1/$2.log crate=$2 began=$SECONDS
+  shift 2
+  if ! "$@" </dev/null >"$log" 2>&1; then
+    echo "confscript: $crate could not be built; what the prover said is in $log" >&2
+    return 1
+  fi
+  echo "confscript: $crate is proved ($((SECONDS - began)) s)" >&2
+}
