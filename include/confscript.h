@@ -11,10 +11,12 @@
  * Each call returns a status and a number, and keeps no state. It reads its arguments, and writes only to `out`.
  * Nothing checks these rules for callers:
  * - Each pointer is aligned and not NULL, even for no elements, and points to as many elements as the count after it says.
- *   `out` overlaps nothing else that the call is given, and nobody else uses it while the call runs.
+ * - `out` overlaps nothing else that the call is given, and nobody else uses it while the call runs. Nobody changes what the
+ *   other pointers point to meanwhile.
  * - malloc, realloc and free belong to one allocator, which aligns a block as malloc of the C library does.
  * - No call comes from a signal handler, or from the forked child of a process with threads. Otherwise any thread may call,
  *   also at the same time as others.
+ * - The processor is an x86-64 of level v2.
  */
 #ifndef CONFSCRIPT_H
 #define CONFSCRIPT_H
