@@ -2,12 +2,14 @@
 
 use crate::text::number;
 
+/// The kind of a change, by its letter.
 #[derive(Clone, Copy, PartialEq, Eq)]
+#[repr(u8)]
 pub enum ChangeKind {
-    Voter,
-    Learner,
-    Remove,
-    Update,
+    Voter = b'v',
+    Learner = b'l',
+    Remove = b'r',
+    Update = b'u',
 }
 
 #[derive(Clone, Copy)]
@@ -34,15 +36,6 @@ impl Change {
         };
         let id = number(digits).ok_or("bad number: ")?;
         Ok(Change { kind, id })
-    }
-
-    pub fn letter(self) -> u8 {
-        match self.kind {
-            ChangeKind::Voter => b'v',
-            ChangeKind::Learner => b'l',
-            ChangeKind::Remove => b'r',
-            ChangeKind::Update => b'u',
-        }
     }
 }
 

@@ -1,6 +1,9 @@
-//! The yardstick of `bench/run`: what docs/SPECIFICATION.md says of `lines`, `check`, `rewrite` and `undo`, as a plain
-//! Rust program. It has no options, reads and writes in blocks whatever its input is, limits no input, and does not
-//! survive memory that runs out.
+//! The yardstick of `bench/run`: the modes `lines`, `check`, `rewrite` and `undo` of docs/SPECIFICATION.md as a plain
+//! Rust program.
+//!
+//! It has what the inputs of the bench use. Left out are the options, the commands `conf-change`, `ack` and
+//! `commit-index`, expected lines between double separators, the limit of an input, and answers that go out before all
+//! of a block is there.
 
 mod arguments;
 mod change;

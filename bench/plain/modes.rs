@@ -5,7 +5,7 @@ use crate::config::{Config, StepKind};
 use crate::script::{Fault, Item, Lines};
 use crate::session::Session;
 use crate::text::{push_number, words};
-use std::io::{Read, Write};
+use std::io::{BufRead, Read, Write};
 use std::mem;
 
 const BLOCK: usize = 1 << 16;
@@ -101,10 +101,10 @@ fn report(item: &Item, found: &[u8], out: &mut Vec<u8>) {
     out.extend_from_slice(b": ");
     out.extend_from_slice(item.command());
     out.push(b'\n');
-    for (sign, text) in [(b"- ", item.expected()), (b"+ ", found)] {
-        for line in text.split_inclusive(|byte| *byte == b'\n') {
+    for (sign, mut text) in [(b"- ", item.expected()), (b"+ ", found)] {
+        while !text.is_empty() {
             out.extend_from_slice(sign);
-            out.extend_from_slice(line);
+            text.read_until(b'\n', out).expect("memory can be read");
         }
     }
 }
@@ -147,7 +147,7 @@ pub fn undo(input: impl Read, to: &mut impl Write) -> Result<bool, Fault> {
     match &plan {
         Err(reason) => {
             out.extend_from_slice(b"# ");
-            reason.write(&mut out);
+            out.extend_from_slice(reason.as_bytes());
         }
         Ok(steps) if steps.is_empty() => out.extend_from_slice(b"# nothing to do\n"),
         Ok(steps) => {

@@ -27,7 +27,7 @@ impl Step {
             if index > 0 {
                 out.push(b' ');
             }
-            out.push(change.letter());
+            out.push(change.kind as u8);
             push_number(out, change.id);
         }
     }

@@ -1,6 +1,6 @@
 //! Committed indexes, votes and charts.
 
-use crate::text::{push_aligned, push_number};
+use crate::text::{digit_count, push_number};
 
 /// What is known of each id, by ascending id.
 pub type Known<T> = Vec<(u64, Option<T>)>;
@@ -90,7 +90,8 @@ pub fn write_chart(known: &Known<u64>, out: &mut Vec<u8>) {
             }
         }
         out.push(b' ');
-        push_aligned(out, rank.0, 5);
+        pad(out, 5_usize.saturating_sub(digit_count(rank.0)), b' ');
+        push_number(out, rank.0);
         out.extend_from_slice(b"    (id=");
         push_number(out, *id);
         out.extend_from_slice(b")\n");

@@ -6,10 +6,9 @@ use crate::conf_state::{self, ConfState};
 use crate::config::{Config, StepKind};
 use crate::plan::{Step, plan, write as write_plan};
 use crate::quorum::{self, Known, Vote};
-use crate::text::{number_from_1, push_number, words};
+use crate::text::{number_from_1, words};
 use crate::tracker::Tracker;
-use std::collections::btree_map::Entry;
-use std::collections::{BTreeMap, VecDeque};
+use std::collections::VecDeque;
 use std::mem;
 
 const HISTORY: usize = 100;
@@ -53,25 +52,6 @@ fn set_once<T>(slot: &mut Option<T>, value: Option<T>) -> bool {
         *slot = value;
     }
     is_set
-}
-
-/// Why there is nothing to undo.
-pub enum NoPlan {
-    NotKept(usize),
-    NoVoter,
-}
-
-impl NoPlan {
-    pub fn write(&self, out: &mut Vec<u8>) {
-        match self {
-            NoPlan::NotKept(count) => {
-                out.extend_from_slice(b"no plan: ");
-                push_number(out, *count as u64);
-                out.extend_from_slice(b" earlier configurations are kept\n");
-            }
-            NoPlan::NoVoter => out.extend_from_slice(b"no plan: the earlier configuration has no voter\n"),
-        }
-    }
 }
 
 impl Session {
@@ -159,12 +139,14 @@ impl Session {
         Ok(())
     }
 
-    /// The plan to the configuration from before the last `count` changes.
-    pub fn undo_plan(&self, count: u64) -> Result<Vec<Step>, NoPlan> {
+    /// The plan to the configuration from before the last `count` changes, or the line that says why there is none.
+    pub fn undo_plan(&self, count: u64) -> Result<Vec<Step>, String> {
+        let kept = self.history.len();
         let index = usize::try_from(count - 1).unwrap_or(usize::MAX);
-        let target = self.history.get(index).ok_or(NoPlan::NotKept(self.history.len()))?;
+        let target =
+            self.history.get(index).ok_or_else(|| format!("no plan: {kept} earlier configurations are kept\n"))?;
         if target.incoming.is_empty() {
-            return Err(NoPlan::NoVoter);
+            return Err("no plan: the earlier configuration has no voter\n".into());
         }
         Ok(plan(&self.tracker.config, target))
     }
@@ -179,7 +161,7 @@ impl Session {
         let steps = match self.undo_plan(count) {
             Ok(steps) => steps,
             Err(reason) => {
-                reason.write(found);
+                found.extend_from_slice(reason.as_bytes());
                 return Ok(());
             }
         };
@@ -221,21 +203,21 @@ fn read_quorum<'a, T: Copy>(
     })
     .map_err(bad_argument)?;
     let (mut incoming, mut outgoing) = (incoming.unwrap_or_default(), outgoing.unwrap_or_default());
-    let mut values = values.unwrap_or_default().into_iter();
-    let mut known = BTreeMap::new();
-    for id in incoming.iter().chain(&outgoing) {
-        if let Entry::Vacant(entry) = known.entry(*id) {
-            entry.insert(values.next().ok_or("wrong number of values")?);
-        }
-    }
-    if values.next().is_some() {
+    let values = values.unwrap_or_default();
+    let mut ids: Vec<(u64, usize)> = incoming.iter().chain(&outgoing).copied().zip(0..).collect();
+    ids.sort_unstable();
+    ids.dedup_by_key(|entry| entry.0);
+    ids.sort_unstable_by_key(|entry| entry.1);
+    if ids.len() != values.len() {
         return Err("wrong number of values".into());
     }
+    let mut known: Known<T> = ids.into_iter().zip(values).map(|((id, _), value)| (id, value)).collect();
+    known.sort_unstable_by_key(|entry| entry.0);
     for set in [&mut incoming, &mut outgoing] {
         set.sort_unstable();
         set.dedup();
     }
-    Ok(NamedQuorum { incoming, outgoing, known: known.into_iter().collect() })
+    Ok(NamedQuorum { incoming, outgoing, known })
 }
 
 fn committed<'a>(arguments: &'a [u8], found: &mut Vec<u8>) -> Answer<'a> {

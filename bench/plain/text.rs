@@ -16,33 +16,34 @@ pub fn words(text: &[u8]) -> impl Iterator<Item = &[u8]> {
 
 /// The number that some decimal digits denote, if it is below 2^64.
 pub fn number(digits: &[u8]) -> Option<u64> {
-    if digits.is_empty() || !digits.iter().all(u8::is_ascii_digit) {
-        return None;
-    }
-    digits.iter().try_fold(0_u64, |number, digit| number.checked_mul(10)?.checked_add(u64::from(digit - b'0')))
+    let add = |number: u64, byte: &u8| {
+        let digit = char::from(*byte).to_digit(10)?;
+        number.checked_mul(10)?.checked_add(u64::from(digit))
+    };
+    if digits.is_empty() { None } else { digits.iter().try_fold(0, add) }
 }
 
 pub fn number_from_1(digits: &[u8]) -> Option<u64> {
     number(digits).filter(|number| *number > 0)
 }
 
-pub fn push_number(out: &mut Vec<u8>, number: u64) {
-    push_aligned(out, number, 0);
+pub fn push_number(out: &mut Vec<u8>, mut number: u64) {
+    if number < 10 {
+        out.push(b'0' + number as u8);
+        return;
+    }
+    let start = out.len();
+    let end = start + digit_count(number);
+    out.extend_from_slice(&[b'0'; 20]);
+    for digit in out[start..end].iter_mut().rev() {
+        *digit = b'0' + (number % 10) as u8;
+        number /= 10;
+    }
+    out.truncate(end);
 }
 
-/// Appends a number with spaces before it, so that it takes `width` bytes at least.
-pub fn push_aligned(out: &mut Vec<u8>, mut number: u64, width: usize) {
-    let mut digits = [b' '; 20];
-    let mut start = digits.len();
-    loop {
-        start -= 1;
-        digits[start] = b'0' + (number % 10) as u8;
-        number /= 10;
-        if number == 0 {
-            break;
-        }
-    }
-    out.extend_from_slice(&digits[start.min(digits.len() - width)..]);
+pub fn digit_count(number: u64) -> usize {
+    number.checked_ilog10().unwrap_or(0) as usize + 1
 }
 
 /// Appends the numbers with one space between them.
