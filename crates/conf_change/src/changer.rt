@@ -1,6 +1,6 @@
-//! The changer: a tracker, and the three changes of its configuration. Each change makes the next changer out of one copy,
-//! which another changer may lend its memory for, and the calls that change in place assign it; so a refused change leaves
-//! nothing altered. Only `simple_one` asks first, and makes its change without a copy.
+//! The changer: a tracker, and the three steps of its configuration. A step writes the next changer, and the changer is
+//! replaced by it once nothing can fail; so a refused step alters nothing. Only `simple_one` asks first, and makes its
+//! change in place.
 ghost use Rattle.std.specs.Prelude.{◌≡◌, ◌-◌, ◌^◌, ◌↔◌, [], ◌∷◌, true, false, not, nat_lt, Some, None, Err, IfOk, OnErr, if◌then◌else◌};
 ghost use Rattle.std.specs.FinMap as finite;
 ghost use Rattle.quorum_sets.specs.Ids.{difference_count};
@@ -19,7 +19,7 @@ use crate::config::Config;
 use crate::floor::Floor;
 use crate::progress::Progress;
 use crate::refused::Refused;
-use crate::step::{Step, Taken};
+use crate::step::{Step, StepKind};
 use crate::tracker::Tracker;
 use crate::transition::{Transition, taken};
 use quorum_sets::{MemberSet, NoMemory};
@@ -136,70 +136,6 @@ impl<S: MemberSet> Changer<S> {
         self.tracker.take_config()
     }
 
-    /// The changer after one voter at most changed, and any number of learners (etcd's `Simple`; Ongaro's dissertation,
-    /// section 4.1). The voters are counted that differ before and after, and not the changes.
-    ///
-    /// Refused with SimpleInJoint in a joint configuration, else with RemovedAllVoters where no voter is left, else with
-    /// MoreThanOneVoter.
-    pub fn after_simple(&self, changes: &[Change]) -> Result<Changer<S>, Refused>
-        ensures { GivesNext self.now (Simple changes.now) result }
-    {
-        self.next(Taken::Simple, changes)
-    }
-
-    /// The changer after it entered a joint configuration: the voters so far become the outgoing ones, and the changes are
-    /// made of the incoming ones and of the learners (etcd's `EnterJoint`; Ongaro's dissertation, section 4.3).
-    ///
-    /// Refused with AlreadyJoint in a joint configuration, else with ZeroVoterJoint where there is no voter, else with
-    /// RemovedAllVoters where no incoming voter is left.
-    pub fn after_enter_joint(
-        &self,
-        auto_leave: bool,
-        changes: &[Change],
-    ) -> Result<Changer<S>, Refused>
-        ensures { GivesNext self.now (EnterJoint auto_leave changes.now) result }
-    {
-        self.next(Taken::Enter(auto_leave), changes)
-    }
-
-    /// The changer after it left a joint configuration: the outgoing voters go, the next learners learn, and auto-leave is
-    /// off (etcd's `LeaveJoint`; Ongaro's dissertation, section 4.3). A member that is no incoming voter and no learner
-    /// goes with its progress.
-    ///
-    /// Refused with NotJoint in a configuration that is not joint.
-    pub fn after_leave_joint(&self) -> Result<Changer<S>, Refused>
-        ensures { GivesNext self.now LeaveJoint result }
-    {
-        self.next(Taken::Leave, &[])
-    }
-
-    /// The changer after a step.
-    pub fn after_step(&self, step: &Step) -> Result<Changer<S>, Refused>
-        ensures { GivesNext self.now step.now result }
-    {
-        self.next(step.taken(), step.changes())
-    }
-
-    /// The changer after the change that a list takes, as `taken` names it, with its refusals.
-    pub fn after_change(
-        &self,
-        transition: Transition,
-        changes: &[Change],
-    ) -> Result<Changer<S>, Refused>
-        ensures { GivesNext self.now (step_taken transition changes.now) result }
-    {
-        self.next(taken(transition, changes), changes)
-    }
-
-    // The changer after the step that is taken.
-    fn next(&self, taken: Taken, changes: &[Change]) -> Result<Changer<S>, Refused>
-        ensures { GivesNext self.now (step_of taken changes.now) result }
-    {
-        let mut next = self.nobody();
-        next.become_next(self, taken, changes)?;
-        Ok(next)
-    }
-
     // The changer that nobody is in, with the same floor and last index.
     fn nobody(&self) -> Changer<S>
         ensures new { result ≡ new_changer self.now.tracker.floor self.now.last_index }
@@ -208,19 +144,19 @@ impl<S: MemberSet> Changer<S> {
         Changer::begin(self.tracker.nobody(), self.last_index)
     }
 
-    /// Becomes the changer after a step of another one, with the refusals of that step, over the memory that it has. After a
-    /// refusal nobody is in it. The changes of a step that leaves are not looked at.
+    /// Overwrites `self` with the changer after a step of another one, reusing its memory, or with an empty one where the
+    /// step is refused. The changes of a step that leaves a joint configuration are not looked at.
     pub fn become_next(
         &mut self,
         before: &Changer<S>,
-        taken: Taken,
+        kind: StepKind,
         changes: &[Change],
     ) -> Result<(), Refused>
-        ensures next { GivesNext before.now (step_of taken changes.now) (left_in result self.new) }
+        ensures next { GivesNext before.now (step_of kind changes.now) (left_in result self.new) }
         ensures refused { OnErr result (self.new ≡ new_changer before.now.tracker.floor before.now.last_index) }
         ensures sound { IsSound self.new.tracker }
     {
-        match make_next(&mut self.tracker, before, taken, changes) {
+        match make_next(&mut self.tracker, before, kind, changes) {
             Ok(()) => {
                 self.last_index = before.last_index;
                 Ok(())
@@ -247,47 +183,59 @@ impl<S: MemberSet> Changer<S> {
         Ok(())
     }
 
-    /// Changes one voter at most, and any number of learners: `after_simple` in place.
+    /// Changes one voter at most, and any number of learners (etcd's `Simple`; Ongaro's dissertation, section 4.1). The
+    /// voters are counted that differ before and after, and not the changes.
+    ///
+    /// Refused with SimpleInJoint in a joint configuration, else with RemovedAllVoters where no voter is left, else with
+    /// MoreThanOneVoter.
     pub fn simple(&mut self, changes: &[Change]) -> Result<(), Refused>
         ensures { Makes self.old (Simple changes.now) result self.new }
     {
-        self.make(Taken::Simple, changes)
+        self.make(StepKind::Simple, changes)
     }
 
-    /// Enters a joint configuration: `after_enter_joint` in place.
+    /// Enters a joint configuration: the voters so far become the outgoing ones, and the changes are made of the incoming
+    /// ones and of the learners (etcd's `EnterJoint`; Ongaro's dissertation, section 4.3).
+    ///
+    /// Refused with AlreadyJoint in a joint configuration, else with ZeroVoterJoint where there is no voter, else with
+    /// RemovedAllVoters where no incoming voter is left.
     pub fn enter_joint(&mut self, auto_leave: bool, changes: &[Change]) -> Result<(), Refused>
         ensures { Makes self.old (EnterJoint auto_leave changes.now) result self.new }
     {
-        self.make(Taken::Enter(auto_leave), changes)
+        self.make(StepKind::Enter(auto_leave), changes)
     }
 
-    /// Leaves a joint configuration: `after_leave_joint` in place.
+    /// Leaves a joint configuration: the outgoing voters are removed, the next learners become learners, and auto-leave is
+    /// off (etcd's `LeaveJoint`; Ongaro's dissertation, section 4.3). A member that is not an incoming voter and not a
+    /// learner is removed with its progress.
+    ///
+    /// Refused with NotJoint in a configuration that is not joint.
     pub fn leave_joint(&mut self) -> Result<(), Refused>
         ensures { Makes self.old LeaveJoint result self.new }
     {
-        self.make(Taken::Leave, &[])
+        self.make(StepKind::Leave, &[])
     }
 
-    /// Makes a step: `after_step` in place.
+    /// Takes a step, with its refusals.
     pub fn step(&mut self, step: &Step) -> Result<(), Refused>
         ensures { Makes self.old step.now result self.new }
     {
-        self.make(step.taken(), step.changes())
+        self.make(step.kind(), step.changes())
     }
 
-    /// Makes the change that a list takes: `after_change` in place.
+    /// Takes the step that a list of changes takes, as `taken` gives it, with its refusals.
     pub fn change(&mut self, transition: Transition, changes: &[Change]) -> Result<(), Refused>
         ensures { Makes self.old (step_taken transition changes.now) result self.new }
     {
         self.make(taken(transition, changes), changes)
     }
 
-    // Makes the step that is taken.
-    fn make(&mut self, taken: Taken, changes: &[Change]) -> Result<(), Refused>
-        ensures { Makes self.old (step_of taken changes.now) result self.new }
+    // Takes the step of this kind.
+    fn make(&mut self, kind: StepKind, changes: &[Change]) -> Result<(), Refused>
+        ensures { Makes self.old (step_of kind changes.now) result self.new }
     {
         let mut next = self.nobody();
-        next.become_next(self, taken, changes)?;
+        next.become_next(self, kind, changes)?;
         *self = next;
         Ok(())
     }
@@ -305,31 +253,41 @@ impl<S: MemberSet> Changer<S> {
         ensures unchanged { OnErr result (self.new ≡ self.old) }
         ensures sound { IsSound self.new.tracker }
     {
+        let progress = self.ack_answer(id, index)?;
+        self.tracker.set_progress(id, progress);
+        Ok(progress)
+    }
+
+    /// What `ack` answers, with nothing altered.
+    pub fn ack_answer(&self, id: u64, index: u64) -> Result<Progress, AckFault>
+        ensures answer { result ≡ ack_answer self.now.tracker id index }
+        ensures acknowledged { IfOk result (λ p. (was : Progress) × (finite.get self.now.tracker.progress id ≡ Some was) × (p ≡ acknowledged index was)) }
+        ensures not_member { (result ≡ Err AckFault.NotMember) ↔ (is_member self.now.tracker.config id ≡ false) }
+        ensures too_large { (result ≡ Err AckFault.IndexTooLarge) ↔ ((is_member self.now.tracker.config id ≡ true) × (index ≡ 2 ^ 64 - 1)) }
+    {
         let Some(known) = self.tracker.progress(id) else {
             return Err(AckFault::NotMember);
         };
         if index == u64::MAX {
             return Err(AckFault::IndexTooLarge);
         }
-        let progress = known.acknowledged(index);
-        self.tracker.set_progress(id, progress);
-        Ok(progress)
+        Ok(known.acknowledged(index))
     }
 }
 
-// Makes a tracker that of the changer after the step that is taken; where the step is refused, it is left on the way.
+// Overwrites a tracker with that of the changer after a step of this kind. After a refusal its contents are unspecified.
 fn make_next<S: MemberSet>(
     tracker: &mut Tracker<S>,
     before: &Changer<S>,
-    taken: Taken,
+    kind: StepKind,
     changes: &[Change],
 ) -> Result<(), Refused>
-    ensures { GivesNext before.now (step_of taken changes.now) (left_in result (changer_of tracker.new before.now.last_index)) }
+    ensures { GivesNext before.now (step_of kind changes.now) (left_in result (changer_of tracker.new before.now.last_index)) }
 {
-    match taken {
-        Taken::Simple => make_simple(tracker, before, changes),
-        Taken::Enter(auto_leave) => make_joint(tracker, before, auto_leave, changes),
-        Taken::Leave => make_left(tracker, before),
+    match kind {
+        StepKind::Simple => make_simple(tracker, before, changes),
+        StepKind::Enter(auto_leave) => make_joint(tracker, before, auto_leave, changes),
+        StepKind::Leave => make_left(tracker, before),
     }
 }
 

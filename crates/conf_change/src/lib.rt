@@ -37,7 +37,7 @@ pub use floor::Floor;
 pub use progress::Progress;
 pub use refused::Refused;
 pub use restore::{RestoreFault, described};
-pub use step::{Step, Taken};
+pub use step::{Step, StepKind};
 pub use text::{write_config, write_progress, write_refused, write_token_fault};
 pub use tracker::Tracker;
 pub use transition::{Transition, taken};

@@ -17,9 +17,9 @@ pub enum Step {
     LeaveJoint,
 }
 
-/// The step that a list of changes takes, without the list.
+/// The kind of a step: a step without its changes.
 #[derive(Clone, Copy, Debug, PartialEq, Eq)]
-pub enum Taken {
+pub enum StepKind {
     /// A simple one.
     Simple,
     /// Entering a joint configuration, with or without auto-leave.
@@ -39,14 +39,14 @@ impl Step {
         }
     }
 
-    // The step without its changes.
-    pub(crate) fn taken(&self) -> Taken
+    /// Its kind.
+    pub fn kind(&self) -> StepKind
         ensures { step_of result (changes_of self.now) ≡ self.now }
     {
         match self {
-            Step::Simple(_) => Taken::Simple,
-            Step::EnterJoint(auto_leave, _) => Taken::Enter(*auto_leave),
-            Step::LeaveJoint => Taken::Leave,
+            Step::Simple(_) => StepKind::Simple,
+            Step::EnterJoint(auto_leave, _) => StepKind::Enter(*auto_leave),
+            Step::LeaveJoint => StepKind::Leave,
         }
     }
 }

@@ -3,7 +3,7 @@ ghost use Rattle.std.specs.Prelude.{◌≡◌};
 ghost use Rattle.conf_change.specs.Transition.{taken_of};
 
 use crate::change::Change;
-use crate::step::Taken;
+use crate::step::StepKind;
 
 /// How a list of changes is taken (etcd's `raftpb.ConfChangeTransition`).
 #[derive(Clone, Copy, Debug, PartialEq, Eq)]
@@ -19,13 +19,13 @@ pub enum Transition {
 /// The change that a list takes: no change and Auto leaves; else more than one change, or a transition that is not Auto,
 /// enters, with auto-leave unless it is Explicit; else it is simple (etcd's `raftpb.ConfChangeV2`). Each change of the
 /// list counts, also one of the id 0, an update or a repeated one.
-pub fn taken(transition: Transition, changes: &[Change]) -> Taken
+pub fn taken(transition: Transition, changes: &[Change]) -> StepKind
     ensures { result ≡ taken_of transition changes.now }
 {
     match (transition, changes.len()) {
-        (Transition::Auto, 0) => Taken::Leave,
-        (Transition::Auto, 1) => Taken::Simple,
-        (Transition::Auto | Transition::Implicit, _) => Taken::Enter(true),
-        (Transition::Explicit, _) => Taken::Enter(false),
+        (Transition::Auto, 0) => StepKind::Leave,
+        (Transition::Auto, 1) => StepKind::Simple,
+        (Transition::Auto | Transition::Implicit, _) => StepKind::Enter(true),
+        (Transition::Explicit, _) => StepKind::Enter(false),
     }
 }

@@ -4,7 +4,7 @@ ghost use Rattle.conf_change.specs.Changer.{GivesNext, IsSound, left_in, with_la
 ghost use Rattle.conf_change.specs.Transition.{step_of};
 
 use crate::session_ids::SessionIds;
-use conf_change::{Change, Changer, Config, Refused, Taken};
+use conf_change::{Change, Changer, Config, Refused, StepKind};
 use quorum_sets::NoMemory;
 use std::alloc::Global;
 use std::marker::Model;
@@ -58,12 +58,12 @@ impl BoxedChanger {
     pub(crate) fn become_next(
         &mut self,
         before: &Changer<SessionIds>,
-        taken: Taken,
+        kind: StepKind,
         changes: &[Change],
     ) -> Result<(), Refused>
-        ensures { GivesNext before.now (step_of taken changes.now) (left_in result self.new) }
+        ensures { GivesNext before.now (step_of kind changes.now) (left_in result self.new) }
     {
-        self.changer.become_next(before, taken, changes)
+        self.changer.become_next(before, kind, changes)
     }
 
     /// Takes the configuration out of a changer that is done with.

@@ -1,5 +1,5 @@
 //! What is taken of a list of changes by each transition.
-use conf_change::{Change, Kind, Taken, Transition, taken};
+use conf_change::{Change, Kind, StepKind, Transition, taken};
 
 const VOTER: Change = Change {
     kind: Kind::Voter,
@@ -16,20 +16,20 @@ const UPDATE: Change = Change {
     id: 1,
 };
 
-static LISTS: [(&[Change], Taken); 5] = [
-    (&[], Taken::Leave),
-    (&[VOTER], Taken::Simple),
-    (&[IGNORED], Taken::Simple),
-    (&[VOTER, UPDATE], Taken::Enter(true)),
-    (&[VOTER, VOTER], Taken::Enter(true)),
+static LISTS: [(&[Change], StepKind); 5] = [
+    (&[], StepKind::Leave),
+    (&[VOTER], StepKind::Simple),
+    (&[IGNORED], StepKind::Simple),
+    (&[VOTER, UPDATE], StepKind::Enter(true)),
+    (&[VOTER, VOTER], StepKind::Enter(true)),
 ];
 
 #[test]
 fn each_change_of_a_list_counts(rt: HostRuntime) {
     for (place, (changes, by_itself)) in LISTS.iter().enumerate() {
         let is_so = (taken(Transition::Auto, *changes) == *by_itself)
-            & (taken(Transition::Implicit, *changes) == Taken::Enter(true))
-            & (taken(Transition::Explicit, *changes) == Taken::Enter(false));
+            & (taken(Transition::Implicit, *changes) == StepKind::Enter(true))
+            & (taken(Transition::Explicit, *changes) == StepKind::Enter(false));
         assert!(rt; is_so, "row {place}");
     }
 }

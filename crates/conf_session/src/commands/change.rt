@@ -27,8 +27,8 @@ pub(super) fn run(
     if let Some(fault) = tell_arguments(alloc, Command::ConfChange, arguments)? {
         return Ok(fault);
     }
-    let taken = taken(asked_transition(arguments), changes);
-    tell_step(alloc, changer, spare, taken, changes)
+    let kind = taken(asked_transition(arguments), changes);
+    tell_step(alloc, changer, spare, kind, changes)
 }
 
 // The transition that is asked for: Auto, where it is left out.

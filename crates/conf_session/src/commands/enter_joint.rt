@@ -9,7 +9,7 @@ use crate::parameter::{Parameter, has_only};
 use crate::reply::Reply;
 use crate::session_ids::SessionIds;
 use crate::spare::Spare;
-use conf_change::{Change, Changer, Taken};
+use conf_change::{Change, Changer, StepKind};
 use dd_file::item::Argument;
 use quorum_sets::NoMemory;
 use std::alloc::Global;
@@ -27,8 +27,8 @@ pub(super) fn run(
     if let Some(fault) = tell_arguments(alloc, Command::EnterJoint, arguments)? {
         return Ok(fault);
     }
-    let taken = Taken::Enter(asks_auto_leave(arguments));
-    tell_step(alloc, changer, spare, taken, changes)
+    let kind = StepKind::Enter(asks_auto_leave(arguments));
+    tell_step(alloc, changer, spare, kind, changes)
 }
 
 // Whether `autoleave` is `true`.

@@ -6,7 +6,7 @@ use super::telling::{tell_no_input, tell_step};
 use crate::reply::Reply;
 use crate::session_ids::SessionIds;
 use crate::spare::Spare;
-use conf_change::{Change, Changer, Taken};
+use conf_change::{Change, Changer, StepKind};
 use quorum_sets::NoMemory;
 use std::alloc::Global;
 
@@ -22,5 +22,5 @@ pub(super) fn run(
     if !changes.is_empty() {
         return tell_no_input(alloc);
     }
-    tell_step(alloc, changer, spare, Taken::Leave, changes)
+    tell_step(alloc, changer, spare, StepKind::Leave, changes)
 }

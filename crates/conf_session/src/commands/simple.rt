@@ -6,7 +6,7 @@ use super::telling::tell_step;
 use crate::reply::Reply;
 use crate::session_ids::SessionIds;
 use crate::spare::Spare;
-use conf_change::{Change, Changer, Taken};
+use conf_change::{Change, Changer, StepKind};
 use quorum_sets::NoMemory;
 use std::alloc::Global;
 
@@ -19,5 +19,5 @@ pub(super) fn run(
 ) -> Result<Reply, NoMemory>
     ensures { IfOk result (λ reply. reply ≡ on_simple changer.now changes.now) }
 {
-    tell_step(alloc, changer, spare, Taken::Simple, changes)
+    tell_step(alloc, changer, spare, StepKind::Simple, changes)
 }

@@ -15,7 +15,7 @@ use crate::reply::Reply;
 use crate::reply_texts::{bad_token_line, line_of, refused_line, tracker_lines};
 use crate::session_ids::SessionIds;
 use crate::spare::Spare;
-use conf_change::{Change, Changer, Refused, Taken, TokenFault};
+use conf_change::{Change, Changer, Refused, StepKind, TokenFault};
 use dd_file::item::Argument;
 use quorum_sets::NoMemory;
 use std::alloc::Global;
@@ -74,19 +74,19 @@ pub(super) fn tell_arguments(
     Ok(None)
 }
 
-/// Tells the changer after the step that is taken, or why the step is refused. A changer that is spare becomes the next
+/// Tells the changer after a step of this kind, or why the step is refused. A changer that is spare becomes the next
 /// one, or else a new one.
 pub(super) fn tell_step(
     alloc: Global,
     changer: &Changer<SessionIds>,
     spare: &mut Spare,
-    taken: Taken,
+    kind: StepKind,
     changes: &[Change],
 ) -> Result<Reply, NoMemory>
-    ensures { IfOk result (λ reply. reply ≡ says.on_step changer.now (step_of taken changes.now)) }
+    ensures { IfOk result (λ reply. reply ≡ says.on_step changer.now (step_of kind changes.now)) }
 {
     let mut next = spare.take_changer(alloc)?;
-    match next.become_next(changer, taken, changes) {
+    match next.become_next(changer, kind, changes) {
         Ok(()) => tell_stepped(alloc, spare, next),
         Err(refused) => {
             spare.put_back_changer(next);

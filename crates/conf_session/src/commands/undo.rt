@@ -1,8 +1,5 @@
 //! `undo`: undoes the last accepted changes, by the steps of a plan.
 ghost use Rattle.std.specs.Prelude.{◌≡◌, ◌≤◌, ◌++◌, Ok, Some, IfOk};
-ghost use Rattle.conf_change.specs.Changer.{changer_after};
-ghost use Rattle.conf_change.specs.Step.{changes_of};
-ghost use Rattle.conf_change.specs.Transition.{step_of};
 ghost use Rattle.conf_plan.specs.PlanText.{plan_text};
 ghost use Rattle.conf_plan.specs.Run.{after_steps};
 ghost use Rattle.conf_session.specs.Commands as says;
@@ -21,13 +18,12 @@ use crate::session::Session;
 use crate::session_ids::SessionIds;
 use crate::spare::Spare;
 use crate::undo_fault::UndoFault;
-use conf_change::laws::one_changer_after_a_step;
-use conf_change::{Changer, Step, Taken, Tracker};
-use conf_plan::{Plan, print_plan};
+use conf_change::{Changer, Tracker};
+use conf_plan::laws::one_changer_after_steps;
+use conf_plan::{Plan, apply_plan, print_plan};
 use dd_file::item::Argument;
 use quorum_sets::NoMemory;
 use std::alloc::Global;
-use std::mem::replace;
 
 /// Undoes as many as `steps` says, where there is no input.
 pub(super) fn run(
@@ -89,59 +85,24 @@ fn take_back(
     requires { undo_plan_of session.now count ≡ Ok plan.now }
     ensures { IfOk result (λ reply. reply ≡ undone session.now count plan.now) }
 {
-    let after = after_plan(alloc, session.changer(), spare, plan)?;
+    let after = after_plan(alloc, session.changer(), plan)?;
     tell_undone(alloc, spare, after, count, plan)
 }
 
-// The changer after the steps of a plan. Each step reads the changer of before it and makes the next one of a spare one, so
-// that none is copied, unless the plan has no step.
+// The changer after the steps of a plan.
 fn after_plan(
     alloc: Global,
     before: &Changer<SessionIds>,
-    spare: &mut Spare,
     plan: &Plan,
 ) -> Result<BoxedChanger, NoMemory>
     ensures { IfOk result (λ after. after_steps before.now plan.now ≡ Some after) }
 {
-    let Some(first) = plan.step(0) else {
-        return BoxedChanger::new(alloc, before.try_clone()?);
-    };
-    let mut after = next_of(alloc, before, spare, first)?;
-    for place in 1..plan.len() {
-        if let Some(step) = plan.step(place) {
-            let next = next_of(alloc, after.changer(), spare, step)?;
-            spare.put_back_changer(replace(&mut after, next));
-        }
-    }
-    Ok(after)
-}
-
-// The changer after a step of a plan, made in one that is spare. A plan is a run, so a step of it is refused for want of
-// memory alone.
-fn next_of(
-    alloc: Global,
-    before: &Changer<SessionIds>,
-    spare: &mut Spare,
-    step: &Step,
-) -> Result<BoxedChanger, NoMemory>
-    ensures { IfOk result (λ next. changer_after before.now step.now ≡ Ok next) }
-{
-    one_changer_after_a_step();
-    let mut next = spare.take_changer(alloc)?;
-    match next.become_next(before, taken_by(step), step.changes()) {
-        Ok(()) => Ok(next),
+    one_changer_after_steps();
+    let mut after = before.try_clone()?;
+    match apply_plan(&mut after, plan) {
+        Ok(()) => BoxedChanger::new(alloc, after),
+        // A plan is a run, so no step of it is refused for another reason.
         Err(_) => Err(NoMemory),
-    }
-}
-
-// The step without its changes.
-fn taken_by(step: &Step) -> Taken
-    ensures { step_of result (changes_of step.now) ≡ step.now }
-{
-    match step {
-        Step::Simple(_) => Taken::Simple,
-        Step::EnterJoint(auto_leave, _) => Taken::Enter(*auto_leave),
-        Step::LeaveJoint => Taken::Leave,
     }
 }
 
