@@ -6,3 +6,4 @@ pub mod Newcomers
 pub mod ReadyVoters
 pub mod LearnersFirst
 pub mod EachStrategy
+pub mod CatchingUp

@@ -1,5 +1,5 @@
 -- From a configuration that is not joint, with new voters as learners first (Ongaro's dissertation, 4.2.1).
-use Rattle.std.specs.Prelude.{ℕ, not, List, ◌∷◌, ◌++◌, map, if◌then◌else◌}
+use Rattle.std.specs.Prelude.{not, List, ◌∷◌, ◌++◌, map, if◌then◌else◌}
 use Rattle.quorum_sets.specs.Ids.{Ids, ascending, ids_where, is_empty}
 use Rattle.conf_change.specs.Configuration.{Configuration, is_member}
 use Rattle.conf_change.specs.declared.change.Change.{Change}

@@ -1,7 +1,8 @@
 //! Laws of this crate's definitions, each the contract of a function that does nothing.
 ghost use Rattle.std.specs.Prelude.{◌≡◌, ◌≤◌, ◌↔◌, ◌⊎◌, ℕ, true, List, length, Ok, Err, Some};
 ghost use Rattle.conf_change.specs.Configuration.{Configuration};
-ghost use Rattle.conf_change.specs.Changer.{ChangerState};
+ghost use Rattle.conf_change.specs.Changer.{ChangerState, IsSound, Accepts};
+ghost use Rattle.conf_change.specs.Progress.{keeps_progress};
 ghost use Rattle.conf_change.specs.Transition.{steps_taken};
 ghost use Rattle.conf_change.specs.declared.change.Change.{Change};
 ghost use Rattle.conf_change.specs.declared.step.Step.{Step};
@@ -15,7 +16,7 @@ ghost use Rattle.conf_plan.specs.Planned.{planned};
 ghost use Rattle.conf_plan.specs.PlanSteps.{IsPlan};
 ghost use Rattle.conf_plan.specs.PlanText.{StandsForPlan, HasFault, plan_text};
 ghost use Rattle.conf_plan.specs.PlanCode.{plan_in};
-ghost use Rattle.conf_plan.specs.Run.{IsRun, IsValidWithVoter, Takes, after_steps};
+ghost use Rattle.conf_plan.specs.Run.{IsRun, IsValidWithVoter, Takes, HasKeptProgress, after_steps};
 ghost use Rattle.conf_plan.specs.SamePlans.{is_same_plan};
 
 /// Along a run the configuration stays valid and keeps a voter.
@@ -46,6 +47,12 @@ pub fn planned_is_best()
 pub fn paths_serve()
     ensures shortest { (now target : Configuration) → path_by Shortest now target ≡ planned now target }
     ensures serves { (strategy : Strategy) (now target : Configuration) → IsValidWithVoter now → IsValidWithVoter target → Serves strategy now (path_by strategy now target) target }
+{}
+
+/// A member that keeps its progress in a step keeps its match and next in each changer that takes the step.
+pub fn progress_is_kept()
+    ensures { (before after : ChangerState) (step : Step) (id : ℕ) → IsSound before.tracker → Accepts before step after
+        → keeps_progress before.tracker.config step after.tracker.config id ≡ true → HasKeptProgress before after id }
 {}
 
 /// Whatever run was made, the plan is a run back, of at most four steps, and of at most three where one step is undone.

@@ -2,6 +2,7 @@
 #![tactic(auto)]
 
 pub mod apply;
+mod catching;
 pub mod laws;
 mod learners_first;
 mod moves;
@@ -14,6 +15,7 @@ pub mod strategy;
 pub mod text;
 
 pub use apply::{StepRefused, apply_plan};
+pub use catching::catching_up;
 pub use path::Path;
 pub use planner::{PlanFault, plan};
 pub use step_list::Plan;

@@ -1,5 +1,4 @@
 -- Each strategy keeps what it promises.
-use Rattle.std.proofs.Common.{List, arith}
 use Rattle.conf_change.specs.Configuration.{Configuration}
 use Rattle.conf_plan.specs.Alive.{ShortestServes}
 use Rattle.conf_plan.specs.PathBy.{path_by, Serves}

@@ -1,25 +1,24 @@
 -- The path on which new voters are learners first: what holds of it, part by part, and how long it is.
-use Rattle.std.proofs.Common.{◌≡◌, ℕ, ◌+◌, ◌≤◌, Bool, true, false, cond, not, ◌&&◌, ◌||◌, inl, inr, List, [], ◌∷◌, ◌++◌, length, refl, sym, ap, subst, ◌∙◌, arith}
+use Rattle.std.proofs.Common.{◌≡◌, ◌+◌, ◌≤◌, true, false, cond, inl, inr, List, [], ◌∷◌, ◌++◌, length, refl, sym, ap, subst, ◌∙◌, arith}
 use Rattle.std.specs.Prelude.{nat_le}
 use Rattle.std.proofs.lemmas.Bool.{cases_Bool, cond_both, cond-true, cond-false, both_ways, eqb-true, le-leb, not-false}
 use Rattle.std.proofs.lemmas.List.{length-append}
 use Rattle.quorum_sets.specs.Ids.{Ids, is_empty, difference_count}
-use Rattle.quorum_sets.specs.Overlap.{Overlap}
-use Rattle.conf_change.specs.Configuration.{Configuration, is_joint, is_same, voters_of}
+use Rattle.conf_change.specs.Configuration.{Configuration, is_joint, is_same}
 use Rattle.conf_change.specs.Outcome.{after_leave}
 use Rattle.conf_change.specs.declared.step.Step.{Step}
 use Rattle.conf_change.specs.declared.step.Step.TheVariants.{Simple, LeaveJoint}
 use Rattle.conf_change.proofs.Offered.{outcome-leave_accepted, is_same-equal, is_same_set-refl, is_empty-no_ids}
-use Rattle.conf_plan.specs.Alive.{EachOnTheWay, HasQuorumsOf, KeepsQuorums, MakesVotersOfReady, VotersLearnFirst, LearnersFirstServes}
+use Rattle.conf_plan.specs.Alive.{HasQuorumsOf, KeepsQuorums, MakesVotersOfReady, VotersLearnFirst, LearnersFirstServes}
 use Rattle.conf_plan.specs.LearnersFirst.{newcomers, learner_changes, with_learners, learners_first_from_single}
 use Rattle.conf_plan.specs.PathBy.{path_by}
 use Rattle.conf_plan.specs.Planned.{union_of, single_with, single_steps, shared_members, entering_step, planned_from_single, planned}
-use Rattle.conf_plan.specs.Run.{IsValidWithVoter, Gives, IsRun, IsRunWith}
+use Rattle.conf_plan.specs.Run.{IsValidWithVoter, IsRunWith}
 use Rattle.conf_plan.specs.declared.strategy.Strategy.TheVariants.{LearnersFirst}
 use Rattle.conf_plan.proofs.FindingMoves.ResultingConfiguration.{IsSingle}
 use Rattle.conf_plan.proofs.BestPlan.FewestSteps.{planned-shortest}
 use Rattle.conf_plan.proofs.BestPlan.Theorem.{run-overlaps}
-use Rattle.conf_plan.proofs.PlannedSteps.RunToTarget.{after_leave-is_single, planned-is_run, planned-at_most_four}
+use Rattle.conf_plan.proofs.PlannedSteps.RunToTarget.{after_leave-is_single, planned-at_most_four}
 use Rattle.conf_plan.proofs.PlannedSteps.Shapes.{planned_from_single-of_shapes}
 use Rattle.conf_plan.proofs.Runs.Chains.{IsRun-from_IsRunWith}
 use Rattle.conf_plan.proofs.AliveOnTheWay.Newcomers.{HasNoNewcomer, HasNoNewcomer-empty, HasNoNewcomer-with_newcomers, moves-learner_changes, newcomers-learn, newcomers-own, newcomers-strangers, with_newcomers-is_single}

@@ -1,18 +1,16 @@
 -- The step that makes newcomers learners.
-use Rattle.std.proofs.Common.{◌≡◌, ℕ, ◌≤◌, Bool, true, false, cond, not, ◌&&◌, ◌||◌, ◌==◌, List, [], ◌∷◌, ◌++◌, map, refl, sym, ap, subst, ◌∙◌, arith, eqb-true}
+use Rattle.std.proofs.Common.{◌≡◌, ℕ, Bool, true, false, cond, not, ◌&&◌, ◌||◌, ◌==◌, List, [], ◌∷◌, ◌++◌, map, refl, sym, ap, subst, ◌∙◌, arith, eqb-true}
 use Rattle.std.specs.Prelude.{Option, Some, None, option_map, filter, filter_map}
 use Rattle.std.specs.Ordering.{nat_cmp}
 use Rattle.std.specs.List.{list_any, cons_option}
-use Rattle.std.proofs.lemmas.Bool.{true≢false, and_parts, and_left, or_from, or_parts, or_left, or_right, not-false, false_from_ne_true}
+use Rattle.std.proofs.lemmas.Bool.{true≢false, or_from, or_left, or_right, false_from_ne_true}
 use Rattle.std.proofs.lemmas.List.Folds.{list_any-append}
 use Rattle.std.proofs.lemmas.List.Kept.{IsStrictlySortedBy-filter}
 use Rattle.quorum_sets.specs.Ids.{Ids, no_ids, has, ascending, ids_of, ids_where, is_empty, difference_count}
 use Rattle.quorum_sets.proofs.Offered.{ascending-ids_of, ascending-is_sorted, has-ascending, has-ids_of, has-ids_where, has-no_ids, has-same_ids}
-use Rattle.conf_change.specs.Configuration.{Configuration, is_joint, is_member}
+use Rattle.conf_change.specs.Configuration.{Configuration, is_member}
 use Rattle.conf_change.specs.declared.change.Change.{Change}
-use Rattle.conf_change.specs.declared.change.Kind.{Kind}
 use Rattle.conf_change.specs.declared.change.Kind.TheVariants.{Learner}
-use Rattle.conf_change.specs.declared.step.Step.{Step}
 use Rattle.conf_change.specs.declared.step.Step.TheVariants.{Simple}
 use Rattle.conf_change.proofs.Offered.{ValidByMember-from_is_valid, has-none_in_empty, is_empty-no_ids, is_same_set-refl}
 use Rattle.conf_plan.specs.LearnersFirst.{newcomers, learner_changes, with_learners}

@@ -1,5 +1,5 @@
 -- A set of ids that is a quorum of both ends is a quorum on the whole way of the plan.
-use Rattle.std.proofs.Common.{◌≡◌, ℕ, Bool, true, false, not, ◌&&◌, ◌||◌, ◌⊎◌, inl, inr, List, [], ◌∷◌, ◌++◌, refl, sym, ap, subst, ◌∙◌}
+use Rattle.std.proofs.Common.{◌≡◌, Bool, true, false, ◌||◌, ◌⊎◌, inl, inr, refl, sym, subst}
 use Rattle.std.proofs.lemmas.Bool.{both_ways, and_parts, and_from, or_cases, or_left, or_right, not-true}
 use Rattle.quorum_sets.specs.Ids.{Ids, has, is_empty, on_most}
 use Rattle.quorum_sets.specs.Voters.{is_quorum}

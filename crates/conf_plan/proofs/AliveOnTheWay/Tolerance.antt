@@ -1,16 +1,15 @@
 -- Where each quorum of both ends is one on the way, what both ends tolerate is tolerated there.
-use Rattle.std.proofs.Common.{◌≡◌, ℕ, ◌≤◌, Bool, true, false, not, ◌&&◌, ◌||◌, ◌==◌, List, [], ◌∷◌, refl, sym, ap, ◌∙◌}
-use Rattle.std.specs.List.{list_any}
+use Rattle.std.proofs.Common.{◌≡◌, ℕ, Bool, true, false, not, ◌&&◌, ◌||◌, List, [], ◌∷◌, refl, sym, ◌∙◌}
 use Rattle.std.proofs.lemmas.Bool.{or_left, or_right}
-use Rattle.quorum_sets.specs.Ids.{Ids, no_ids, has, size, union, ascending, ids_where}
+use Rattle.quorum_sets.specs.Ids.{Ids, no_ids, has, union, ascending, ids_where}
 use Rattle.quorum_sets.specs.Voters.{is_quorum}
-use Rattle.quorum_sets.specs.Tolerance.{commits_without, Endures}
+use Rattle.quorum_sets.specs.Tolerance.{commits_without}
 use Rattle.quorum_sets.proofs.Offered.{has-ascending, has-ids_where, is_quorum-without}
 use Rattle.conf_change.specs.Configuration.{Configuration, voters_of}
 use Rattle.conf_change.specs.declared.step.Step.{Step}
 use Rattle.conf_plan.specs.Alive.{HasQuorumsOf, IsAsTolerant, KeepsQuorums, KeepsTolerance}
 use Rattle.conf_plan.specs.Planned.{union_of}
-use Rattle.conf_plan.specs.Run.{Gives, IsRunWith}
+use Rattle.conf_plan.specs.Run.{IsRunWith}
 use Rattle.conf_plan.proofs.FindingMoves.OfEachId.{has-union_of}
 
 -- ---- those of some ids that are not away

@@ -23,7 +23,7 @@ accepted-is_sound before after step sound accepted =
     let P : ChangerState → Type 0 = λ s. IsSound s.tracker in
     subst P (sym accepted.whole) (moved_to-is_sound before step after.tracker.config sound accepted.configuration)
 
-accepted-keeps : (before after : ChangerState) (step : Step) (q : ℕ) → IsSound before.tracker → Accepts before step after
+pub accepted-keeps : (before after : ChangerState) (step : Step) (q : ℕ) → IsSound before.tracker → Accepts before step after
     → keeps_progress before.tracker.config step after.tracker.config q ≡ true → HasKeptProgress before after q
 accepted-keeps before after step q sound accepted keeps = by (finite.get before.tracker.progress q) refl
   where

@@ -1,7 +1,7 @@
-use Rattle.std.proofs.Common.{◌≡◌, ◌++◌, false, true, List, sym, ap, subst, ◌∙◌, arith, eq-eqb}
+use Rattle.std.proofs.Common.{◌≡◌, ◌++◌, false, true, List, sym, ap, subst, ◌∙◌, eq-eqb}
 use Rattle.std.specs.Prelude.{OnOk}
 use Rattle.std.proofs.lemmas.Bool.{ne_eqb}
-use Rattle.quorum_sets.specs.Ids.{Ids, size, is_empty}
+use Rattle.quorum_sets.specs.Ids.{size, is_empty}
 use Rattle.conf_change.specs.declared.step.Step.{Step}
 use Rattle.conf_plan.specs.LearnersFirst as first
 use Rattle.conf_plan.specs.LearnersFirst.{learners_first_from_single}

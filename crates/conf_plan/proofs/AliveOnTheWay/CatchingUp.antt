@@ -1,0 +1,84 @@
+-- The members that have to catch up, as they are found.
+use Rattle.std.proofs.Common.{◌≡◌, ℕ, ◌+◌, ◌<◌, Bool, true, false, not, ◌&&◌, ◌||◌, ◌==◌, List, length, take, get_or, refl, sym, ap, ◌∙◌}
+use Rattle.std.specs.List.{list_any}
+use Rattle.std.specs.Cmp.{nat_eq_equiv}
+use Rattle.std.proofs.lemmas.List.Folds.{list_any_more}
+use Rattle.quorum_sets.specs.Ids.{Ids, has, with_id, ascending, ids_where}
+use Rattle.quorum_sets.proofs.Offered.{has-ascending, has-ids_where, has-same_ids, has-with_id}
+use Rattle.conf_change.specs.Change.{is_removal, removes}
+use Rattle.conf_change.specs.Configuration.{Configuration, is_member, members}
+use Rattle.conf_change.specs.Progress.{keeps_progress}
+use Rattle.conf_change.specs.Step.{changes_of}
+use Rattle.conf_change.specs.declared.change.Change.{Change}
+use Rattle.conf_change.specs.declared.step.Step.{Step}
+use Rattle.conf_change.proofs.Offered.{any-members}
+use Rattle.conf_plan.specs.Alive.{catching_up}
+use Rattle.conf_plan.specs.Planned.{union_of}
+use Rattle.conf_plan.proofs.FindingMoves.OfEachId.{has-union_of}
+
+-- a member after the step that was none before, or whose place a new one takes
+pub catching_up-picked : (before after : Configuration) (step : Step) (voters all removed picked : Ids) → voters ≡ union_of after.incoming after.outgoing → all ≡ union_of voters after.learners
+    → ((q : ℕ) → has removed q ≡ removes (changes_of step) q)
+    → picked ≡ ids_where (λ id. not (is_member before id) || (has removed id && not (has after.outgoing id))) (ascending all)
+    → picked ≡ catching_up before step after
+catching_up-picked before after step voters all removed picked voters_are all_are gone is =
+    is ∙ has-same_ids _ _ (λ q.
+    has-ids_where (λ id. not (is_member before id) || (has removed id && not (has after.outgoing id))) (ascending all) q
+    ∙ (λ i. (not (is_member before q) || (gone q i && not (has after.outgoing q))) && member q i)
+    ∙ either (is_member before q) (is_member after q) (removes (changes_of step) q && not (has after.outgoing q))
+    ∙ ap (λ b. not (keeps_progress before step after q) && b) (sym (any-members after q))
+    ∙ sym (has-ids_where (λ id. not (keeps_progress before step after id)) (members after) q))
+  where
+    member : (q : ℕ) → list_any (λ x. q == x) (ascending all) ≡ is_member after q
+    member q =
+        sym (has-ascending all q) ∙ ap (λ s. has s q) all_are ∙ has-union_of voters after.learners q
+        ∙ ap (λ b. b || has after.learners q) (ap (λ s. has s q) voters_are ∙ has-union_of after.incoming after.outgoing q)
+
+    either : (m a x : Bool) → ((not m || x) && a) ≡ (not (m && a && not x) && a)
+    either true true true = refl
+    either true true false = refl
+    either true false true = refl
+    either true false false = refl
+    either false true x = refl
+    either false false x = refl
+
+-- ---- the ids that are removed, one change after another
+swap : (a b r : Bool) → (a ≡ b) → (b || r) ≡ (r || (a && true))
+swap true true r e = always r
+  where
+    always : (r : Bool) → true ≡ (r || true)
+    always true = refl
+    always false = refl
+swap true false r e = cc
+swap false true r e = cc
+swap false false true e = refl
+swap false false false e = refl
+
+or_assoc : (a b c : Bool) → ((a || b) || c) ≡ (a || (b || c))
+or_assoc true b c = refl
+or_assoc false b c = refl
+
+nothing_more : (a b : Bool) → a ≡ (a || (b && false))
+nothing_more true b = refl
+nothing_more false true = refl
+nothing_more false false = refl
+
+-- so far these were removed, and there is one more change, whichever stands past the end
+abbrev pub RemovedSoFar : Ids → List Change → ℕ → Ids → Type 0
+RemovedSoFar before changes k now = (id : ℕ) → has now id ≡ (has before id || removes (take k changes) id)
+
+pub RemovedSoFar-one_more : (before now after : Ids) (changes : List Change) (k : ℕ) (x : Change) → k < length changes → is_removal (get_or changes k x).kind ≡ true
+    → after ≡ with_id now (get_or changes k x).id → RemovedSoFar before changes k now → RemovedSoFar before changes (k + 1) after
+RemovedSoFar-one_more before now after changes k x within removal added so_far id =
+    let change = get_or changes k x in
+    ap (λ s. has s id) added ∙ has-with_id now change.id id ∙ swap (change.id == id) (id == change.id) (has now id) (nat_eq_equiv.symm change.id id)
+    ∙ (λ i. so_far id i || ((change.id == id) && sym removal i)) ∙ or_assoc (has before id) (removes (take k changes) id) _
+    ∙ ap (λ b. has before id || b) (sym (list_any_more (λ c. (c.id == id) && is_removal c.kind) changes k x within))
+
+pub RemovedSoFar-same : (before now : Ids) (changes : List Change) (k : ℕ) (x : Change) → k < length changes → is_removal (get_or changes k x).kind ≡ false
+    → RemovedSoFar before changes k now → RemovedSoFar before changes (k + 1) now
+RemovedSoFar-same before now changes k x within kept so_far id =
+    let change = get_or changes k x in
+    so_far id ∙ nothing_more (has before id || removes (take k changes) id) (change.id == id)
+    ∙ (λ i. (has before id || removes (take k changes) id) || ((change.id == id) && sym kept i)) ∙ or_assoc (has before id) (removes (take k changes) id) _
+    ∙ ap (λ b. has before id || b) (sym (list_any_more (λ c. (c.id == id) && is_removal c.kind) changes k x within))

@@ -1,0 +1,64 @@
+//! The members that have to catch up.
+ghost use Rattle.std.specs.Prelude.{◌≡◌, ℕ, not, ◌&&◌, ◌||◌, IfOk, OnOk};
+ghost use Rattle.quorum_sets.specs.Ids.{has};
+ghost use Rattle.conf_change.specs.Change.{is_removal, removes};
+ghost use Rattle.conf_change.specs.Configuration.{is_member};
+ghost use Rattle.conf_change.specs.Step.{changes_of};
+ghost use Rattle.conf_plan.specs.Alive.{catching_up};
+
+use crate::picked::picked;
+use conf_change::{Change, Config, Kind, Step, union};
+use quorum_sets::{MemberSet, NoMemory};
+use std::alloc::Global;
+
+/// The members after a step that do not keep their progress in it. They begin with an empty log, so the next step is better
+/// taken once they have caught up (own).
+pub fn catching_up<S: MemberSet>(
+    alloc: Global,
+    before: &Config<S>,
+    step: &Step,
+    after: &Config<S>,
+) -> Result<S, NoMemory>
+    ensures { IfOk result (λ ids. S.ids ids ≡ catching_up before.now step.now after.now) }
+{
+    let voters = union(&after.incoming, &after.outgoing)?;
+    let members = union(&voters, &after.learners)?;
+    let mut removed = S::empty(alloc);
+    add_removed(&mut removed, step.changes())?;
+    picked(alloc, &members, |id| has_lost(before, after, &removed, id))
+}
+
+// Adds the ids that the changes remove.
+fn add_removed<S: MemberSet>(removed: &mut S, changes: &[Change]) -> Result<(), NoMemory>
+    ensures { OnOk result ((id : ℕ) → has (S.ids removed.new) id ≡ (has (S.ids removed.old) id || removes changes.now id)) }
+{
+    for change in changes {
+        if is_removal(change.kind) {
+            removed.insert(change.id)?;
+        }
+    }
+    Ok(())
+}
+
+fn is_removal(kind: Kind) -> bool
+    ensures { result ≡ is_removal kind }
+{
+    match kind {
+        Kind::Voter | Kind::Learner | Kind::Update => false,
+        Kind::Remove => true,
+    }
+}
+
+// Whether a member after a step that removes these ids has lost its progress: it was no member before, or a new one takes its
+// place.
+fn has_lost<S: MemberSet>(before: &Config<S>, after: &Config<S>, removed: &S, id: u64) -> bool
+    ensures { result ≡ (not (is_member before.now id) || (has (S.ids removed.now) id && not (has after.now.outgoing id))) }
+{
+    !is_member(before, id) || (removed.contains(id) && !after.outgoing.contains(id))
+}
+
+fn is_member<S: MemberSet>(config: &Config<S>, id: u64) -> bool
+    ensures { result ≡ is_member config.now id }
+{
+    config.incoming.contains(id) || config.outgoing.contains(id) || config.learners.contains(id)
+}
