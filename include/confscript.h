@@ -11,6 +11,7 @@
  * Each call returns a status and a number, and keeps no state. It reads its arguments, and writes only to `out`.
  * Nothing checks these rules for callers:
  * - Each pointer is aligned and not NULL, even for no elements, and points to as many elements as the count after it says.
+ *   For no elements any pointer will do that is: a C++ caller writes `v.empty() ? &one : v.data()`.
  * - `out` overlaps nothing else that the call is given, and nobody else uses it while the call runs. Nobody changes what the
  *   other pointers point to meanwhile.
  * - malloc, realloc and free belong to one allocator, which aligns a block as malloc of the C library does.
@@ -23,6 +24,12 @@
 
 #include <stddef.h>
 #include <stdint.h>
+
+/* The version of this header; confscript_version returns that of the library. */
+#define CONFSCRIPT_VERSION_MAJOR 0
+#define CONFSCRIPT_VERSION_MINOR 1
+#define CONFSCRIPT_VERSION_PATCH 0
+#define CONFSCRIPT_VERSION (CONFSCRIPT_VERSION_MAJOR * 10000 + CONFSCRIPT_VERSION_MINOR * 100 + CONFSCRIPT_VERSION_PATCH)
 
 #ifdef __cplusplus
 extern "C" {
@@ -86,11 +93,23 @@ struct confscript_answer {
     uint64_t number;
 };
 
+/* The version of the library: 10,000 for each major one, 100 for each minor one, and the patch. */
+uint32_t confscript_version(void);
+
+/*
+ * Writes what a status means, in words; of a number that is no status, that it is unknown. The text is written to `out`,
+ * without a byte 0 after it. The number is how many bytes it has.
+ */
+struct confscript_answer confscript_status_text(uint32_t status, uint8_t *out, size_t out_len);
+
 /*
  * Writes the plan from the configuration of one ConfState line to that of another: at most four steps, each of them safe
  * to take, and no other plan is better. Both configurations must be valid and have an incoming voter. If there is nothing
  * to do, the text is `nothing to do`. The lines are written to `out`, without a byte 0 after them. The number is how many
  * bytes they have.
+ *
+ * A step `simple` may have several changes, of which one at most changes who votes. A store that proposes etcd's ConfChangeV2
+ * takes them one at a time, each as a ConfChangeV2 of one change. As one ConfChangeV2 they would enter a joint configuration.
  */
 struct confscript_answer confscript_plan(const uint8_t *now, size_t now_len, const uint8_t *target, size_t target_len,
                                          uint8_t *out, size_t out_len);

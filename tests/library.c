@@ -60,7 +60,7 @@ static int holds_text(const char *text) {
     return 1;
 }
 
-/* A call of any of the five, on texts or numbers that are set before. */
+/* A call of any of them, on texts or numbers that are set before. */
 typedef struct confscript_answer (*call)(void);
 
 static const char *first, *second;
@@ -85,6 +85,9 @@ static struct confscript_answer vote(void) {
     return confscript_vote(incoming, incoming_len, outgoing, outgoing_len, ids, ids_len, votes, values_len);
 }
 
+static uint32_t code;
+static struct confscript_answer status_text(void) { return confscript_status_text(code, out, room); }
+
 static struct confscript_answer called(call which, long granted) {
     memset(out, MARK, ROOM);
     left = granted;
@@ -108,6 +111,26 @@ static void expect(const char *name, call which, uint32_t status, uint64_t numbe
 }
 
 static void on_texts(const char *a, const char *b) { first = a; second = b; room = ROOM; }
+
+static void texts(void) {
+    /* (each by its place, and the last for a number that is no status) */
+    static const char *const words[] = {
+        "done", "the buffer is too small", "out of memory", "not a ConfState line", "an id is named twice", "not a configuration",
+        "no incoming voter", "not a step", "more than four steps", "config is already joint", "can't make a zero-voter config joint",
+        "can't leave a non-joint config", "can't apply simple config change in joint config", "removed all voters",
+        "more than one voter changed without entering joint config", "the id 0", "a next learner is not an outgoing voter",
+        "a next learner is an incoming voter", "a learner is a voter", "next learners without outgoing voters",
+        "auto-leave without outgoing voters", "not as many values as ids", "a vote is neither 0 nor 1", "unknown status"};
+    room = ROOM;
+    for (code = 0; code < sizeof words / sizeof *words; code++)
+        expect(words[code], status_text, CONFSCRIPT_DONE, strlen(words[code]), words[code]);
+    code = UINT32_MAX;
+    expect("the greatest number is no status", status_text, CONFSCRIPT_DONE, 14, "unknown status");
+    room = 13;
+    expect("text of a status: one byte too small", status_text, CONFSCRIPT_TOO_SMALL, 14, "");
+    struct confscript_answer version = {0, confscript_version()};
+    report("the version of the library is that of its header", version.number == CONFSCRIPT_VERSION, version);
+}
 
 #define LINE(voters, leaving, learners, next, leave) \
     "Voters:[" voters "] VotersOutgoing:[" leaving "] Learners:[" learners "] LearnersNext:[" next "] AutoLeave:" leave
@@ -269,5 +292,6 @@ int main(void) {
     checks();
     quorums();
     rounds();
+    texts();
     return 0;
 }

@@ -6,3 +6,4 @@ pub mod Reading
 pub mod Checked
 pub mod Applied
 pub mod PlanTold
+pub mod Version

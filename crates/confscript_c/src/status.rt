@@ -1,6 +1,10 @@
 //! What a call answers: that it is done, or why it is refused.
-ghost use Rattle.std.specs.Prelude.{◌≡◌};
-ghost use Rattle.confscript_c.specs.Status.{code_of};
+ghost use Rattle.std.specs.Prelude.{◌≡◌, Ok};
+ghost use Rattle.confscript_c.specs.Status.{code_of, text_of, text_of_code};
+ghost use Rattle.confscript_c.specs.Written.{Writes};
+
+use crate::answer::Answer;
+use crate::buffer::write_text;
 
 /// The statuses, by their codes, which `include/confscript.h` names.
 #[derive(Clone, Copy)]
@@ -36,5 +40,76 @@ impl Status {
         ensures { result ≡ code_of self }
     {
         self as u32
+    }
+
+    /// What it means, in words.
+    pub fn text(self) -> &'static str
+        ensures { result.now ≡ text_of self }
+    {
+        match self {
+            Status::Done => "done",
+            Status::TooSmall => "the buffer is too small",
+            Status::NoMemory => "out of memory",
+            Status::BadConfState => "not a ConfState line",
+            Status::RepeatedId => "an id is named twice",
+            Status::NotAConfiguration => "not a configuration",
+            Status::NoVoter => "no incoming voter",
+            Status::BadLine => "not a step",
+            Status::TooManySteps => "more than four steps",
+            Status::AlreadyJoint => "config is already joint",
+            Status::ZeroVoterJoint => "can't make a zero-voter config joint",
+            Status::NotJoint => "can't leave a non-joint config",
+            Status::SimpleInJoint => "can't apply simple config change in joint config",
+            Status::RemovedAllVoters => "removed all voters",
+            Status::MoreThanOneVoter => "more than one voter changed without entering joint config",
+            Status::ZeroId => "the id 0",
+            Status::NextNotOutgoing => "a next learner is not an outgoing voter",
+            Status::NextAndIncoming => "a next learner is an incoming voter",
+            Status::LearnerAndVoter => "a learner is a voter",
+            Status::NotJointButNext => "next learners without outgoing voters",
+            Status::NotJointButAutoLeave => "auto-leave without outgoing voters",
+            Status::DifferentLengths => "not as many values as ids",
+            Status::BadVote => "a vote is neither 0 nor 1",
+        }
+    }
+}
+
+/// Writes what the status with this code means; of any other number, that it is unknown.
+#[unsafe(no_mangle)]
+pub extern "C" fn confscript_status_text(code: u32, out: &mut [u8]) -> Answer
+    ensures { Writes (Ok (text_of_code code)) out.old result out.new }
+{
+    write_text(text_of_code(code).as_bytes(), out)
+}
+
+// What the status with this code means.
+fn text_of_code(code: u32) -> &'static str
+    ensures { result.now ≡ text_of_code code }
+{
+    match code {
+        0 => Status::Done.text(),
+        1 => Status::TooSmall.text(),
+        2 => Status::NoMemory.text(),
+        3 => Status::BadConfState.text(),
+        4 => Status::RepeatedId.text(),
+        5 => Status::NotAConfiguration.text(),
+        6 => Status::NoVoter.text(),
+        7 => Status::BadLine.text(),
+        8 => Status::TooManySteps.text(),
+        9 => Status::AlreadyJoint.text(),
+        10 => Status::ZeroVoterJoint.text(),
+        11 => Status::NotJoint.text(),
+        12 => Status::SimpleInJoint.text(),
+        13 => Status::RemovedAllVoters.text(),
+        14 => Status::MoreThanOneVoter.text(),
+        15 => Status::ZeroId.text(),
+        16 => Status::NextNotOutgoing.text(),
+        17 => Status::NextAndIncoming.text(),
+        18 => Status::LearnerAndVoter.text(),
+        19 => Status::NotJointButNext.text(),
+        20 => Status::NotJointButAutoLeave.text(),
+        21 => Status::DifferentLengths.text(),
+        22 => Status::BadVote.text(),
+        _ => "unknown status",
     }
 }
