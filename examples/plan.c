@@ -1,4 +1,4 @@
-/* Plans the change that puts 5 in the place of 1, and applies the plan. README tells how this is built. */
+/* Plans the change that puts 5 in the place of 1, applies the plan, and counts what is committed then. README tells how this is built. */
 #include <stdio.h>
 #include <string.h>
 
@@ -27,5 +27,9 @@ int main(void) {
         return 1;
     }
     printf("%.*s\n", (int)applied.number, (const char *)after);
-    return 0;
+
+    const uint64_t voters[] = {2, 3, 5}, ids[] = {2, 3}, acknowledged[] = {9, 7};
+    struct confscript_answer committed = confscript_committed(voters, 3, voters, 0, ids, 2, acknowledged, 2);
+    printf("committed %llu\n", (unsigned long long)committed.number);
+    return committed.status != CONFSCRIPT_DONE;
 }

@@ -1,0 +1,136 @@
+// Package confscript says who votes in a raft group. It is a thin layer over libconfscript; confscript.h says what each
+// call returns. A configuration is a ConfState line, and a plan the text of its lines.
+//
+// The compiler finds the header and the library by pkg-config, or by CGO_CFLAGS and CGO_LDFLAGS with the build tag
+// confscript_flags.
+package confscript
+
+/*
+#cgo !confscript_flags pkg-config: confscript
+#include <confscript.h>
+*/
+import "C"
+
+import (
+	"fmt"
+	"unsafe"
+)
+
+// Refused is the error of a call that was refused: the status of confscript.h and its number.
+type Refused struct {
+	Status uint32
+	Number uint64
+}
+
+// Error returns what the status means, in words, and its number.
+func (refused *Refused) Error() string {
+	text, err := written(func(out *C.uint8_t, room C.size_t) C.struct_confscript_answer {
+		return C.confscript_status_text(C.uint32_t(refused.Status), out, room)
+	})
+	if err != nil || refused.Number == 0 {
+		return text
+	}
+	return fmt.Sprintf("%s (%d)", text, refused.Number)
+}
+
+// VoteResult is the result of a vote.
+type VoteResult uint64
+
+// The results of a vote.
+const (
+	VotePending VoteResult = C.CONFSCRIPT_VOTE_PENDING
+	VoteLost    VoteResult = C.CONFSCRIPT_VOTE_LOST
+	VoteWon     VoteResult = C.CONFSCRIPT_VOTE_WON
+)
+
+// Plan returns the plan from the configuration of one ConfState line to that of another.
+func Plan(now, target string) (string, error) {
+	from, to := []byte(now), []byte(target)
+	return written(func(out *C.uint8_t, room C.size_t) C.struct_confscript_answer {
+		return C.confscript_plan(start(from), C.size_t(len(from)), start(to), C.size_t(len(to)), out, room)
+	})
+}
+
+// Apply returns the ConfState line of the configuration after the steps of a plan, or after a single change.
+func Apply(state, steps string) (string, error) {
+	from, by := []byte(state), []byte(steps)
+	return written(func(out *C.uint8_t, room C.size_t) C.struct_confscript_answer {
+		return C.confscript_apply(start(from), C.size_t(len(from)), start(by), C.size_t(len(by)), out, room)
+	})
+}
+
+// Check returns what is wrong with the configuration of a ConfState line, or nil.
+func Check(state string) error {
+	line := []byte(state)
+	_, err := number(C.confscript_check(start(line), C.size_t(len(line))))
+	return err
+}
+
+// Committed returns the committed index of a voter set, or of a joint pair. The map has the index that each id has
+// acknowledged. It is 2^64-1 if there are no voters.
+func Committed(incoming, outgoing []uint64, acknowledged map[uint64]uint64) (uint64, error) {
+	ids, indexes := []uint64{}, []uint64{}
+	for id, index := range acknowledged {
+		ids, indexes = append(ids, id), append(indexes, index)
+	}
+	return number(C.confscript_committed(first(incoming), C.size_t(len(incoming)), first(outgoing), C.size_t(len(outgoing)),
+		first(ids), C.size_t(len(ids)), first(indexes), C.size_t(len(indexes))))
+}
+
+// Vote returns the result of a vote of a voter set, or of a joint pair. The map has the vote of each id that has voted.
+func Vote(incoming, outgoing []uint64, votes map[uint64]bool) (VoteResult, error) {
+	ids, said := []uint64{}, []byte{}
+	for id, vote := range votes {
+		ids = append(ids, id)
+		if vote {
+			said = append(said, 1)
+		} else {
+			said = append(said, 0)
+		}
+	}
+	result, err := number(C.confscript_vote(first(incoming), C.size_t(len(incoming)), first(outgoing), C.size_t(len(outgoing)),
+		first(ids), C.size_t(len(ids)), start(said), C.size_t(len(said))))
+	return VoteResult(result), err
+}
+
+// Version returns the version of the library: 10,000 for each major one, 100 for each minor one, and the patch.
+func Version() uint32 {
+	return uint32(C.confscript_version())
+}
+
+// start is where bytes begin; of none, a pointer that is not nil.
+func start(text []byte) *C.uint8_t {
+	if len(text) == 0 {
+		text = make([]byte, 1)
+	}
+	return (*C.uint8_t)(unsafe.Pointer(&text[0]))
+}
+
+// first is where numbers begin; of none, a pointer that is not nil.
+func first(numbers []uint64) *C.uint64_t {
+	if len(numbers) == 0 {
+		numbers = make([]uint64, 1)
+	}
+	return (*C.uint64_t)(unsafe.Pointer(&numbers[0]))
+}
+
+// number is the number of an answer, or why the call was refused.
+func number(answer C.struct_confscript_answer) (uint64, error) {
+	if answer.status != C.CONFSCRIPT_DONE {
+		return 0, &Refused{uint32(answer.status), uint64(answer.number)}
+	}
+	return uint64(answer.number), nil
+}
+
+// written is the text that a call writes: the call says how much room it takes.
+func written(call func(out *C.uint8_t, room C.size_t) C.struct_confscript_answer) (string, error) {
+	out := make([]byte, 256)
+	for {
+		answer := call(start(out), C.size_t(len(out)))
+		if answer.status != C.CONFSCRIPT_TOO_SMALL {
+			length, err := number(answer)
+			return string(out[:length]), err
+		}
+		out = make([]byte, answer.number)
+	}
+}

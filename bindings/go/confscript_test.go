@@ -1,0 +1,75 @@
+package confscript
+
+import (
+	"math"
+	"strconv"
+	"strings"
+	"testing"
+)
+
+const now = "Voters:[1 2 3] VotersOutgoing:[] Learners:[] LearnersNext:[] AutoLeave:false"
+const target = "Voters:[2 3 5] VotersOutgoing:[] Learners:[] LearnersNext:[] AutoLeave:false"
+
+func TestPlanAndApply(t *testing.T) {
+	steps, err := Plan(now, target)
+	if err != nil || steps != "enter-joint autoleave=false r1 v5\nleave-joint\n" {
+		t.Fatalf("Plan: %q, %v", steps, err)
+	}
+	if after, err := Apply(now, steps); err != nil || after != target {
+		t.Fatalf("Apply: %q, %v", after, err)
+	}
+}
+
+func TestLongText(t *testing.T) {
+	ids := []string{}
+	for id := 1; id <= 500; id++ {
+		ids = append(ids, strconv.Itoa(id))
+	}
+	many := strings.Replace(now, "1 2 3", strings.Join(ids, " "), 1)
+	if after, err := Apply(many, "simple u1"); err != nil || after != many {
+		t.Fatalf("Apply: %q, %v", after, err)
+	}
+}
+
+func TestRefusals(t *testing.T) {
+	_, first := Plan("", target)
+	_, second := Plan(now, "")
+	_, step := Apply(now, "leave-joint")
+	for text, err := range map[string]error{
+		"not a ConfState line (1)":           first,
+		"not a ConfState line (2)":           second,
+		"can't leave a non-joint config (1)": step,
+		"the id 0":                           Check(strings.Replace(now, "1 2", "0 2", 1)),
+	} {
+		if err == nil || err.Error() != text {
+			t.Errorf("%v, and not %s", err, text)
+		}
+	}
+	if err := Check(now); err != nil {
+		t.Error(err)
+	}
+}
+
+func TestQuorums(t *testing.T) {
+	voters := []uint64{1, 2, 3}
+	if index, err := Committed(voters, nil, map[uint64]uint64{1: 9, 2: 7}); err != nil || index != 7 {
+		t.Errorf("Committed: %d, %v", index, err)
+	}
+	if index, err := Committed(voters, []uint64{4}, map[uint64]uint64{1: 9, 2: 7, 4: 5}); err != nil || index != 5 {
+		t.Errorf("Committed: %d, %v", index, err)
+	}
+	if index, err := Committed(nil, nil, nil); err != nil || index != math.MaxUint64 {
+		t.Errorf("Committed: %d, %v", index, err)
+	}
+	for result, votes := range map[VoteResult]map[uint64]bool{VoteWon: {1: true, 2: true}, VoteLost: {1: false, 2: false}, VotePending: nil} {
+		if got, err := Vote(voters, nil, votes); err != nil || got != result {
+			t.Errorf("Vote: %d, %v", got, err)
+		}
+	}
+}
+
+func TestVersion(t *testing.T) {
+	if Version() != 100 {
+		t.Error(Version())
+	}
+}

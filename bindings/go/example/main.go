@@ -1,0 +1,25 @@
+// Plans the change that puts 5 in the place of 1, applies the plan, and counts what is committed then.
+package main
+
+import (
+	"confscript"
+	"fmt"
+	"log"
+)
+
+func main() {
+	now := "Voters:[1 2 3] VotersOutgoing:[] Learners:[] LearnersNext:[] AutoLeave:false"
+	steps, err := confscript.Plan(now, "Voters:[2 3 5] VotersOutgoing:[] Learners:[] LearnersNext:[] AutoLeave:false")
+	if err != nil {
+		log.Fatal(err)
+	}
+	after, err := confscript.Apply(now, steps)
+	if err != nil {
+		log.Fatal(err)
+	}
+	index, err := confscript.Committed([]uint64{2, 3, 5}, nil, map[uint64]uint64{2: 9, 3: 7})
+	if err != nil {
+		log.Fatal(err)
+	}
+	fmt.Printf("%s%s\ncommitted %d\n", steps, after, index)
+}

@@ -1,0 +1,3 @@
+module confscript
+
+go 1.18

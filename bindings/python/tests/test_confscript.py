@@ -1,0 +1,45 @@
+"""The calls of the binding, as a Python program meets them."""
+import unittest
+
+import confscript
+
+NOW = "Voters:[1 2 3] VotersOutgoing:[] Learners:[] LearnersNext:[] AutoLeave:false"
+TARGET = "Voters:[2 3 5] VotersOutgoing:[] Learners:[] LearnersNext:[] AutoLeave:false"
+
+
+class Calls(unittest.TestCase):
+    def test_plan_and_apply(self):
+        steps = confscript.plan(NOW, TARGET)
+        self.assertEqual(steps, "enter-joint autoleave=false r1 v5\nleave-joint\n")
+        self.assertEqual(confscript.apply(NOW, steps), TARGET)
+
+    def test_a_text_longer_than_the_first_room(self):
+        many = "Voters:[%s] VotersOutgoing:[] Learners:[] LearnersNext:[] AutoLeave:false" % " ".join(map(str, range(1, 501)))
+        self.assertEqual(confscript.apply(many, "simple u1"), many)
+
+    def test_refusals(self):
+        for call, status, number, text in [
+            (lambda: confscript.plan("", TARGET), 3, 1, "not a ConfState line (1)"),
+            (lambda: confscript.plan(NOW, ""), 3, 2, "not a ConfState line (2)"),
+            (lambda: confscript.apply(NOW, "leave-joint"), 11, 1, "can't leave a non-joint config (1)"),
+            (lambda: confscript.check(NOW.replace("1 2", "0 2")), 15, 0, "the id 0"),
+        ]:
+            with self.assertRaises(confscript.Refused) as raised:
+                call()
+            self.assertEqual((raised.exception.status, raised.exception.number, str(raised.exception)), (status, number, text))
+        confscript.check(NOW)
+
+    def test_quorums(self):
+        self.assertEqual(confscript.committed([1, 2, 3], [], {1: 9, 2: 7}), 7)
+        self.assertEqual(confscript.committed([1, 2, 3], [4], {1: 9, 2: 7, 4: 5}), 5)
+        self.assertEqual(confscript.committed([], [], {}), 2**64 - 1)
+        self.assertEqual(confscript.vote([1, 2, 3], [], {1: True, 2: True}), confscript.Vote.WON)
+        self.assertEqual(confscript.vote([1, 2, 3], [], {1: False, 2: False}), confscript.Vote.LOST)
+        self.assertEqual(confscript.vote([1, 2, 3], [], {}), confscript.Vote.PENDING)
+
+    def test_version(self):
+        self.assertEqual(confscript.version(), (0, 1, 0))
+
+
+if __name__ == "__main__":
+    unittest.main()

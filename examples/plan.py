@@ -1,0 +1,7 @@
+"""Plans the change that puts 5 in the place of 1, applies the plan, and counts what is committed then."""
+import confscript
+
+now = "Voters:[1 2 3] VotersOutgoing:[] Learners:[] LearnersNext:[] AutoLeave:false"
+steps = confscript.plan(now, "Voters:[2 3 5] VotersOutgoing:[] Learners:[] LearnersNext:[] AutoLeave:false")
+print(steps + confscript.apply(now, steps))
+print("committed", confscript.committed([2, 3, 5], [], {2: 9, 3: 7}))
