@@ -18,7 +18,8 @@ pub enum Refused {
     SimpleInJoint,
     /// No voter, or in a joint configuration no incoming one, would be left.
     RemovedAllVoters,
-    /// A simple change would make more than one id a voter, or no voter.
+    /// A simple change would alter for more than one id whether it is a voter. The ids that become voters and those that
+    /// no longer are count together: `r1 v5` alters two.
     MoreThanOneVoter,
     /// Memory for the change was not found.
     NoMemory,

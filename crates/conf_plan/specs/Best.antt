@@ -1,4 +1,4 @@
--- What makes a plan the best there is.
+-- What makes a plan the best there is: its steps, the ids that it spares, its changes, and the overlap of voters. Logs are not measured.
 use Rattle.std.specs.Prelude.{◌≡◌, ◌≢◌, ℕ, ◌≤◌, Bool, true, ◌&&◌, ◌||◌, ◌↔◌, List, [], ◌∷◌, length, sum_by, count_by}
 use Rattle.std.specs.List.{All}
 use Rattle.quorum_sets.specs.Ids.{has}

@@ -20,9 +20,9 @@ use thiserror::Error;
 /// Why no plan is made.
 #[derive(Clone, Copy, Debug, PartialEq, Eq, Error)]
 pub enum PlanFault {
-    #[error("the present configuration has no voter")]
+    #[error("no plan: the current configuration has no voter")]
     NoVoterNow,
-    #[error("no plan: the earlier configuration has no voter")]
+    #[error("no plan: the target configuration has no voter")]
     NoVoterTarget,
     #[error("out of memory")]
     NoMemory,
@@ -38,9 +38,10 @@ impl From<NoMemory> for PlanFault {
     }
 }
 
-/// The plan from one configuration to another: its steps lead from the one to the other, and no other steps do it
-/// better. There is one between any two configurations with voters, and without voters there is none, which is found
-/// before any memory is taken.
+/// The plan from one configuration to another: its steps lead from the one to the other. No other steps are fewer, spare
+/// an id that these do not spare, or name an id in fewer changes, and the voters before and after each step overlap. Logs
+/// are not looked at: a new voter begins with an empty one. There is a plan between any two configurations with voters,
+/// and without voters there is none, which is found before any memory is taken.
 pub fn plan<S: MemberSet>(
     alloc: Global,
     now: &Config<S>,

@@ -26,7 +26,7 @@ pub record DifferInOneVoter (before after : Voters) : Type 0 where
   pub after_single : after.outgoing ≡ no_ids
   pub one_at_most : difference_count before.incoming after.incoming ≤ 1
 
--- the second is joint, and the voters of the first go out in it
+-- The first is not joint, and its voters are the outgoing ones of the second. If it has voters, the second is joint.
 pub record GoesJoint (before after : Voters) : Type 0 where
   pub before_single : before.outgoing ≡ no_ids
   pub outgoing : after.outgoing ≡ before.incoming

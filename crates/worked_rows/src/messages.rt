@@ -114,11 +114,11 @@ fn texts_of_changes(rt: HostRuntime) {
 static NO_PLANS: [(PlanFault, &str); 3] = [
     (
         PlanFault::NoVoterNow,
-        "the present configuration has no voter",
+        "no plan: the current configuration has no voter",
     ),
     (
         PlanFault::NoVoterTarget,
-        "no plan: the earlier configuration has no voter",
+        "no plan: the target configuration has no voter",
     ),
     (PlanFault::NoMemory, NO_MEMORY),
 ];
