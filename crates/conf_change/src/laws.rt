@@ -13,7 +13,7 @@ ghost use Rattle.conf_change.specs.declared.progress.Progress.{Progress};
 ghost use Rattle.conf_change.specs.declared.refused.Refused.{Refused};
 ghost use Rattle.conf_change.specs.declared.step.Step.{Step};
 ghost use Rattle.conf_change.specs.Outcome.{outcome};
-ghost use Rattle.conf_change.specs.Changer.{ChangerState, Accepts, IsSound, begun_with, changer_after, moved_to};
+ghost use Rattle.conf_change.specs.Changer.{ChangerState, Accepts, IsSound, begun_with, changer_after, moved_to, new_changer};
 ghost use Rattle.conf_change.specs.Configuration.{Configuration, has_voter, is_restorable, is_same};
 ghost use Rattle.conf_change.specs.ConfState.{ConfStateLists, Describes, is_same_form, lists_of, restored};
 ghost use Rattle.conf_change.specs.ConfStateLine.{StandsForConfState, conf_state_in};
@@ -58,14 +58,15 @@ pub fn one_changer_after_a_step()
 {}
 
 /// An accepted step leads from a sound tracker to a sound one, and from a configuration that can be restored to one with
-/// an incoming voter that can be restored. What begins with such a configuration is sound. So is a sound tracker after an
-/// acknowledgement.
+/// an incoming voter that can be restored. What begins with such a configuration is sound, and so is a new changer, whose
+/// configuration is empty. So is a sound tracker after an acknowledgement.
 pub fn trackers_stay_sound()
     ensures step { (before : ChangerState) (step : Step) (after : Configuration) → IsSound before.tracker → outcome before.tracker.config step ≡ Ok after
         → IsSound (moved_to before step after).tracker }
     ensures restorable { (before after : Configuration) (step : Step) → is_restorable before ≡ true → outcome before step ≡ Ok after → is_restorable after ≡ true }
     ensures voter { (before after : Configuration) (step : Step) → is_restorable before ≡ true → outcome before step ≡ Ok after → has_voter after ≡ true }
     ensures begun { (floor : Floor) (last_index : ℕ) (c : Configuration) → is_restorable c ≡ true → IsSound (begun_with floor last_index c).tracker }
+    ensures empty { (floor : Floor) (last_index : ℕ) → IsSound (new_changer floor last_index).tracker }
     ensures acknowledged { (before : ChangerState) (id index : ℕ) (p : Progress) → IsSound before.tracker → ack_answer before.tracker id index ≡ Ok p
         → IsSound (changer_with_progress before id p).tracker }
 {}

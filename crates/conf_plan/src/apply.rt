@@ -3,9 +3,9 @@ ghost use Rattle.std.specs.Prelude.{◌≡◌, ℕ, OnOk, IfErr, List};
 ghost use Rattle.conf_change.specs.Configuration.{Configuration};
 ghost use Rattle.conf_change.specs.Changer.{IsSound};
 ghost use Rattle.conf_change.specs.declared.step.Step.{Step};
-ghost use Rattle.conf_plan.specs.Best.{Spares};
+ghost use Rattle.conf_plan.specs.Best.{IsBest, Spares};
 ghost use Rattle.conf_plan.specs.Planned.{planned};
-ghost use Rattle.conf_plan.specs.Run.{IsRun, Takes, StopsAt, HasKeptProgress};
+ghost use Rattle.conf_plan.specs.Run.{IsRun, IsValidWithVoter, Takes, StopsAt, HasKeptProgress};
 
 use crate::step_list::Plan;
 use conf_change::{Changer, Refused};
@@ -22,7 +22,9 @@ pub struct StepRefused {
 
 /// Takes the steps of a plan in order, up to the first that is refused: the changer then stands after the steps before it.
 /// A plan that leads to a configuration from where the changer stands gets it there, unless memory is wanting. The
-/// members that it spares keep their match and next; a plan that was made for it spares whom any steps there spare.
+/// members that it spares keep their match and next; a plan that was made for it spares whom any steps there spare. No
+/// steps from where the changer stood to where it then stands do better than such a plan: none are fewer, and none name an
+/// id in fewer changes.
 pub fn apply_plan<S: MemberSet>(changer: &mut Changer<S>, plan: &Plan) -> Result<(), StepRefused>
     ensures taken { OnOk result (Takes changer.old plan.now changer.new) }
     ensures stopped { IfErr result (λ stop. StopsAt changer.old plan.now stop.step stop.refused changer.new) }
@@ -31,6 +33,8 @@ pub fn apply_plan<S: MemberSet>(changer: &mut Changer<S>, plan: &Plan) -> Result
     ensures spared { OnOk result ((id : ℕ) → Spares changer.old.tracker.config plan.now changer.new.tracker.config id → HasKeptProgress changer.old changer.new id) }
     ensures sparing { OnOk result ((target : Configuration) (other : List Step) (id : ℕ) → plan.now ≡ planned changer.old.tracker.config target
         → Spares changer.old.tracker.config other target id → HasKeptProgress changer.old changer.new id) }
+    ensures best { OnOk result ((target : Configuration) → plan.now ≡ planned changer.old.tracker.config target → IsValidWithVoter changer.old.tracker.config
+        → IsValidWithVoter target → IsBest changer.old.tracker.config plan.now changer.new.tracker.config) }
     ensures memory_alone { IfErr result (λ stop. (target : Configuration) → IsRun changer.old.tracker.config plan.now target → stop.refused ≡ Refused.NoMemory) }
 {
     let _tracker = changer.tracker();

@@ -1,8 +1,11 @@
 //! Laws of this crate's definitions, each the contract of a function that does nothing.
-ghost use Rattle.std.specs.Prelude.{◌≡◌, ◌≤◌, ◌↔◌, ◌⊎◌, ℕ, true, List, length, Ok, Err, Some};
+ghost use Rattle.std.specs.Prelude.{◌≡◌, ◌≤◌, ◌↔◌, ◌⊎◌, ℕ, true, List, length, map, Ok, Err, Some};
+ghost use Rattle.std.specs.List.{join_with_byte};
 ghost use Rattle.conf_change.specs.Configuration.{Configuration};
 ghost use Rattle.conf_change.specs.Changer.{ChangerState, IsSound, Accepts};
+ghost use Rattle.conf_change.specs.ChangeList.{StandsFor};
 ghost use Rattle.conf_change.specs.Progress.{keeps_progress};
+ghost use Rattle.conf_change.specs.Step.{changes_of};
 ghost use Rattle.conf_change.specs.Transition.{steps_taken};
 ghost use Rattle.conf_change.specs.declared.change.Change.{Change};
 ghost use Rattle.conf_change.specs.declared.step.Step.{Step};
@@ -13,8 +16,8 @@ ghost use Rattle.conf_plan.specs.declared.text.PlanTextFault.{PlanTextFault};
 ghost use Rattle.conf_plan.specs.Best.{times_named, HasSamePart, IsBest};
 ghost use Rattle.conf_plan.specs.PathBy.{path_by, Serves};
 ghost use Rattle.conf_plan.specs.Planned.{planned};
-ghost use Rattle.conf_plan.specs.PlanSteps.{IsPlan};
-ghost use Rattle.conf_plan.specs.PlanText.{StandsForPlan, HasFault, plan_text};
+ghost use Rattle.conf_plan.specs.PlanSteps.{HasWordIds, IsPlan};
+ghost use Rattle.conf_plan.specs.PlanText.{StandsForPlan, HasFault, change_text, plan_text};
 ghost use Rattle.conf_plan.specs.PlanCode.{plan_in};
 ghost use Rattle.conf_plan.specs.Run.{IsRun, IsValidWithVoter, Takes, HasKeptProgress, after_steps};
 ghost use Rattle.conf_plan.specs.SamePlans.{is_same_plan};
@@ -84,13 +87,15 @@ pub fn one_changer_after_steps()
 {}
 
 /// A text stands for one plan at most, and it is the one that the function gives; where it stands for none, it has one
-/// fault, which the function gives. The printed text of a plan stands for it.
+/// fault, which the function gives. The printed text of a plan stands for it, and the printed changes of a step stand for
+/// them.
 pub fn one_plan_per_text()
     ensures ok { (text : List ℕ) (steps : List Step) → (StandsForPlan text steps) ↔ (plan_in text ≡ Ok steps) }
     ensures err { (text : List ℕ) (fault : PlanTextFault) → (HasFault text fault) ↔ (plan_in text ≡ Err fault) }
     ensures each { (text : List ℕ) → ((steps : List Step) × StandsForPlan text steps) ⊎ ((fault : PlanTextFault) × HasFault text fault) }
     ensures one { (text : List ℕ) (a b : List Step) → StandsForPlan text a → StandsForPlan text b → a ≡ b }
     ensures printed { (steps : List Step) → IsPlan steps → StandsForPlan (plan_text steps) steps }
+    ensures changes { (step : Step) → HasWordIds step → StandsFor (join_with_byte 32 (map change_text (changes_of step))) (changes_of step) }
 {}
 
 /// Plans are equal, by `==`, exactly where they are the same.

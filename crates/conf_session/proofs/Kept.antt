@@ -8,7 +8,7 @@ use Rattle.dd_file.specs.DirectiveText.{DirectiveText}
 use Rattle.dd_file.specs.Words.{ArgumentText}
 use Rattle.conf_change.specs.Acknowledgement.{ack_answer, changer_with_progress}
 use Rattle.conf_change.specs.ChangerState.{ChangerState}
-use Rattle.conf_change.specs.Changer.{IsSound, Accepts, moved_to, begun_with, changer_after}
+use Rattle.conf_change.specs.Changer.{IsSound, Accepts, moved_to, begun_with, new_changer, changer_after}
 use Rattle.conf_change.specs.ChangeList.{BadToken, changes_in}
 use Rattle.conf_change.specs.ConfState.{ConfStateLists, Describes, restored}
 use Rattle.conf_change.specs.ConfStateLine.{conf_state_in}
@@ -26,13 +26,14 @@ use Rattle.conf_change.specs.declared.step.Step.{Step}
 use Rattle.conf_change.specs.declared.step.Step.TheVariants.{Simple as SimpleStep, EnterJoint as EnterStep, LeaveJoint as LeaveStep}
 use Rattle.conf_plan.specs.Planned.{planned}
 use Rattle.conf_plan.specs.Run.{IsRun, IsValidWithVoter, Takes, after_steps}
-use Rattle.conf_session.specs.SessionState.{SessionState, LedTo, IsSession, present, after_directive}
+use Rattle.conf_session.specs.SessionState.{SessionState, LedTo, IsSession, new_session, present, after_directive}
 use Rattle.conf_session.specs.Parameter.{key_of, at_least, number_from}
 use Rattle.conf_session.specs.Arguments.{bad_argument, missing_argument, argument_of}
 use Rattle.conf_session.specs.Reply.{Reply, told}
 use Rattle.conf_session.specs.Undo.{IsEarlier, LeadsBack, plan_back, undo_plan_of, undone_changer}
 use Rattle.conf_session.specs.QuorumArguments.{number_given, is_one_each}
-use Rattle.conf_session.specs.Commands.{command_in, parameters_of, with_changes, with_no_input, with_arguments, after_step, asks_auto_leave, asked_transition, on_leave_joint, after_restored, restore_with, steps_of, after_planned, undo_last, after_ack, with_one_each, reply_of, answer}
+use Rattle.conf_session.specs.Commands.{command_in, parameters_of, with_changes, with_no_input, with_arguments, after_step, asks_auto_leave, asked_transition, on_leave_joint, after_restored, restore_with, steps_of, after_planned, undo_last, after_ack, with_one_each, reply_of, answer, after_answers}
+use Rattle.conf_session.specs.declared.undo_fault.UndoFault.{UndoFault}
 use Rattle.conf_session.specs.declared.undo_fault.UndoFault.TheVariants.{NoVoterTarget}
 use Rattle.conf_session.specs.declared.effect.Effect.{Effect}
 use Rattle.conf_session.specs.declared.effect.Effect.TheVariants.{Nothing, Acknowledged, Stepped, Restored, Undone}
@@ -281,6 +282,14 @@ pub answer-keeps : ChangeLaws → PlanLaws → (session : SessionState) (directi
 answer-keeps laws plans session directive is =
     due-stays laws session _ is (command-due laws plans (command_in directive.command) session directive.input directive.arguments is)
 
+pub answers-keep : ((session : SessionState) (directive : DirectiveText) → IsSession session → IsSession (answer session directive).session)
+    → (session : SessionState) (directives : List DirectiveText) → IsSession session → IsSession (after_answers session directives)
+answers-keep keeps session [] is = is
+answers-keep keeps session (directive ∷ directives) is = answers-keep keeps (answer session directive).session directives (keeps session directive is)
+
+pub new-is_session : ((floor : Floor) (last_index : ℕ) → IsSound (new_changer floor last_index).tracker) → (history : ℕ) (floor : Floor) → IsSession (new_session history floor)
+new-is_session sound history floor = record { sound = sound floor 0; few = omega arith; led = tt }
+
 -- ---- the plan that undoes changes
 pub valid-older : (session : SessionState) (count : ℕ) (older : Configuration) → IsEarlier session count older → is_valid older ≡ true
 valid-older session count older earlier = and-first (is_valid older) (has_voter_or_nobody older) earlier.restorable
@@ -309,6 +318,30 @@ leads-back law session count older plan kept voter earlier same =
       at_most_four = law.at_most_four older now earlier.steps settled earlier.run;
       at_most_three = λ one. law.at_most_three older now earlier.steps settled earlier.run (earlier.counted ∙ one);
     })
+
+abbrev Planned : Type 0
+Planned = Result (List Step) UndoFault
+
+same-steps : (a b : List Step) → ◌≡◌ {A = Planned} (Ok a) (Ok b) → a ≡ b
+same-steps a b e = cc
+
+planned-by_voter : UndoLaw → (session : SessionState) (count : ℕ) (older : Configuration) (steps : List Step) (voter : Bool) → slice_get session.kept (count - 1) ≡ Some older → IsEarlier session count older →
+    has_voter older ≡ voter → ◌≡◌ {A = Planned} (cond voter (Ok (planned (present session) older)) (Err NoVoterTarget)) (Ok steps) → LeadsBack session count steps
+planned-by_voter law session count older steps true kept earlier voter made = leads-back law session count older steps kept voter earlier (sym (same-steps _ _ made))
+planned-by_voter law session count older steps false kept earlier voter made = let bad : ⊥ = cc in absurd bad
+
+planned-by_kept : UndoLaw → (session : SessionState) (count : ℕ) (steps : List Step) (found : Option Configuration) → slice_get session.kept (count - 1) ≡ found
+    → ((older : Configuration) → slice_get session.kept (count - 1) ≡ Some older → IsEarlier session count older) → plan_back session found ≡ Ok steps → LeadsBack session count steps
+planned-by_kept law session count steps None kept earlier made = let bad : ⊥ = cc in absurd bad
+planned-by_kept law session count steps (Some older) kept earlier made = planned-by_voter law session count older steps (has_voter older) kept (earlier older kept) refl made
+
+pub planned-leads_back : UndoLaw → ((session : SessionState) (count : ℕ) (older : Configuration) → IsSession session → 1 ≤ count → slice_get session.kept (count - 1) ≡ Some older → IsEarlier session count older)
+    → (session : SessionState) (count : ℕ) (steps : List Step) → IsSession session → 1 ≤ count → undo_plan_of session count ≡ Ok steps → LeadsBack session count steps
+planned-leads_back law earlier session count steps is some made =
+    planned-by_kept law session count steps (slice_get session.kept (count - 1)) refl (λ older kept. earlier session count older is some kept) made
+
+pub same-some : (a b : Configuration) → ◌≡◌ {A = Option Configuration} (Some a) (Some b) → a ≡ b
+same-some a b e = cc
 
 -- a test that cannot fail
 pub must-be : (b : Bool) → (b ≡ false → ⊥) → b ≡ true

@@ -237,3 +237,8 @@ answered session reply = record { found = reply.found; session = after_directive
 -- The answer to a directive. After a refused one nothing alters but the last index.
 abbrev pub answer : SessionState → DirectiveText → Answer
 answer session directive = answered session (reply_to session directive)
+
+-- the session after the answers to some directives in turn
+abbrev pub after_answers : SessionState → List DirectiveText → SessionState
+after_answers session [] = session
+after_answers session (directive ∷ directives) = after_answers (answer session directive).session directives

@@ -1,12 +1,14 @@
 //! Laws of this crate's definitions, each the contract of a function that does nothing.
-ghost use Rattle.std.specs.Prelude.{◌≡◌, ◌-◌, ◌≤◌, ℕ, Some, true, length, slice_get};
+ghost use Rattle.std.specs.Prelude.{◌≡◌, ◌-◌, ◌≤◌, ℕ, List, Some, Ok, true, length, slice_get};
 ghost use Rattle.dd_file.specs.DirectiveText.{DirectiveText};
 ghost use Rattle.dd_file.specs.Words.{has_keys};
 ghost use Rattle.conf_change.specs.Configuration.{Configuration, has_voter};
+ghost use Rattle.conf_change.specs.declared.floor.Floor.{Floor};
+ghost use Rattle.conf_change.specs.declared.step.Step.{Step};
 ghost use Rattle.conf_plan.specs.Planned.{planned};
-ghost use Rattle.conf_session.specs.SessionState.{SessionState, IsSession, present};
-ghost use Rattle.conf_session.specs.Undo.{IsEarlier, undone_changer};
-ghost use Rattle.conf_session.specs.Commands.{answer};
+ghost use Rattle.conf_session.specs.SessionState.{SessionState, IsSession, new_session, present};
+ghost use Rattle.conf_session.specs.Undo.{IsEarlier, LeadsBack, undo_plan_of, undone_changer};
+ghost use Rattle.conf_session.specs.Commands.{answer, after_answers};
 ghost use Rattle.conf_session.specs.Told.{CanStand};
 
 use conf_change::laws::{
@@ -41,6 +43,23 @@ pub fn answer_keeps_session()
     restored_is_described();
     undo_of_run();
     one_changer_after_steps();
+}
+
+/// What holds of every session holds of it after any directives in turn, so of each session on the way from a new one.
+pub fn answers_keep_session()
+    ensures kept { (session : SessionState) (directives : List DirectiveText) → IsSession session → IsSession (after_answers session directives) }
+    ensures from_new { (history : ℕ) (floor : Floor) (directives : List DirectiveText) → IsSession (after_answers (new_session history floor) directives) }
+{
+    answer_keeps_session();
+    trackers_stay_sound();
+}
+
+/// The plan that undoes the last changes of a session leads back to the configuration of before them.
+pub fn undo_plan_leads_back()
+    ensures { (session : SessionState) (count : ℕ) (steps : List Step) → IsSession session → 1 ≤ count → undo_plan_of session count ≡ Ok steps → LeadsBack session count steps }
+{
+    kept_lead_to_now();
+    undo_of_run();
 }
 
 /// Whatever changes were accepted, the plan that undoes the last ones leaves the voters, learners, next learners and the

@@ -1,8 +1,10 @@
 //! A session: the state that the directives of a script act on.
-ghost use Rattle.std.specs.Prelude.{◌≡◌, ◌≢◌, ◌↔◌, ◌≤◌, Ok, Err, IfOk, OnOk, OnErr, length, option_copied, slice_get};
+ghost use Rattle.std.specs.Prelude.{◌≡◌, ◌≢◌, ◌↔◌, ◌≤◌, ◌-◌, Some, Ok, Err, IfOk, OnOk, OnErr, length, option_copied, slice_get};
 ghost use Rattle.conf_change.specs.Changer.{IsSound};
 ghost use Rattle.conf_change.specs.declared.floor.Floor.TheVariants.{One};
-ghost use Rattle.conf_session.specs.SessionState.{IsSession, new_session, after_directive};
+ghost use Rattle.conf_change.specs.Configuration.{Configuration};
+ghost use Rattle.conf_plan.specs.Best.{IsBest};
+ghost use Rattle.conf_session.specs.SessionState.{IsSession, new_session, present, after_directive};
 ghost use Rattle.conf_session.specs.Commands.{answer};
 ghost use Rattle.conf_session.specs.Undo.{LeadsBack, undo_plan_of};
 ghost use Rattle.conf_session.specs.Told.{CanStand};
@@ -93,13 +95,14 @@ impl Session {
 
     /// The plan that undoes so many accepted changes, one at least: to the configuration of before the last of them (own).
     ///
-    /// Refused with NotKept where fewer configurations are kept, else with NoVoterTarget where that configuration has no
-    /// voter.
+    /// No other steps to that configuration do better. Refused with NotKept where fewer configurations are kept, else with
+    /// NoVoterTarget where that configuration has no voter.
     pub fn undo_plan(&self, count: usize) -> Result<Plan, UndoFault>
         requires { 1 ≤ count }
         ensures planned { IfOk result (λ plan. undo_plan_of self.now count ≡ Ok plan) }
         ensures refused { (fault : WhyNot) → fault ≢ UndoFault.NoMemory → ((result ≡ Err fault) ↔ (undo_plan_of self.now count ≡ Err fault)) }
         ensures back { IfOk result (LeadsBack self.now count) }
+        ensures best { IfOk result (λ plan. (older : Configuration) → slice_get self.now.kept (count - 1) ≡ Some older → IsBest (present self.now) plan older) }
     {
         kept_lead_to_now();
         undo_of_run();

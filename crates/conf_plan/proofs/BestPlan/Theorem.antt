@@ -1,17 +1,19 @@
 -- The plan is the best there is.
-use Rattle.std.proofs.Common.{List, [], ◌∷◌}
+use Rattle.std.proofs.Common.{◌≡◌, List, [], ◌∷◌, sym, subst}
 use Rattle.quorum_sets.specs.Overlap.{Overlap}
+use Rattle.conf_change.specs.Changer.{ChangerState}
 use Rattle.conf_change.specs.Configuration.{Configuration, voters_of}
 use Rattle.conf_change.specs.declared.step.Step.{Step}
 use Rattle.conf_change.proofs.Offered.{outcome-overlaps}
 use Rattle.conf_plan.specs.Best.{IsBest}
 use Rattle.conf_plan.specs.Planned.{planned}
-use Rattle.conf_plan.specs.Run.{IsValidWithVoter, IsRun, IsRunWith}
+use Rattle.conf_plan.specs.Run.{IsValidWithVoter, IsRun, IsRunWith, Takes}
 use Rattle.conf_plan.proofs.BestPlan.FewestNames.{planned-fewest}
 use Rattle.conf_plan.proofs.BestPlan.PlainChanges.{planned-is_plain}
 use Rattle.conf_plan.proofs.PlannedSteps.RunToTarget.{planned-is_run}
 use Rattle.conf_plan.proofs.BestPlan.FewestSteps.{planned-shortest}
 use Rattle.conf_plan.proofs.BestPlan.SparedMembers.{planned-spared, planned-sparing}
+use Rattle.conf_plan.proofs.Runs.TakenInOrder.{Takes-to_target}
 
 -- along any run the voters overlap
 pub run-overlaps : (before after : Configuration) (steps : List Step) → IsRun before steps after
@@ -30,3 +32,14 @@ planned-is_best now target settled_now settled = record {
   plain = planned-is_plain now target settled_now settled;
   overlap = run-overlaps now target (planned now target) (planned-is_run now target settled_now settled);
 }
+
+-- a changer that took the plan made for it stands where the plan leads, and no run there is better
+pub Takes-best : (a b : ChangerState) (steps : List Step) (target : Configuration) → Takes a steps b → steps ≡ planned a.tracker.config target
+    → IsValidWithVoter a.tracker.config → IsValidWithVoter target → IsBest a.tracker.config steps b.tracker.config
+Takes-best a b steps target taken made settled_now settled =
+    let now = a.tracker.config in
+    let Leads : List Step → Type 0 = λ xs. IsRun now xs target in
+    let there = Takes-to_target a b steps target taken (subst Leads (sym made) (planned-is_run now target settled_now settled)) in
+    let Best : List Step → Type 0 = λ xs. IsBest now xs target in
+    let Reached : Configuration → Type 0 = λ c. IsBest now steps c in
+    subst Reached (sym there) (subst Best (sym made) (planned-is_best now target settled_now settled))

@@ -13,7 +13,7 @@ use Rattle.std.proofs.lemmas.List.Splits.{slice_split_none, slice_split_at}
 use Rattle.std.proofs.lemmas.Str.Parse.{digit_at}
 use Rattle.ascii_text.specs.WhiteSpace.{is_space}
 use Rattle.ascii_text.specs.Words.{words}
-use Rattle.conf_change.specs.ChangeList.{letter_of, Spells}
+use Rattle.conf_change.specs.ChangeList.{letter_of, Spells, StandsFor}
 use Rattle.conf_change.specs.declared.change.Change.{Change}
 use Rattle.conf_change.specs.declared.change.Kind.{Kind}
 use Rattle.conf_change.specs.declared.change.Kind.TheVariants.{Voter, Learner, Remove, Update}
@@ -116,6 +116,12 @@ spelled-printed : (changes : List Change) → All (λ change. change.id < 2 ^ 64
 spelled-printed [] h = tt
 spelled-printed (change ∷ changes) h =
     (Spells-printed change (All-head (λ c. c.id < 2 ^ 64) change changes h), spelled-printed changes (All-tail (λ c. c.id < 2 ^ 64) change changes h))
+
+-- so are read the changes of a step
+pub StandsFor-printed : (changes : List Change) → All (λ change. change.id < 2 ^ 64) changes → StandsFor (join_with_byte 32 (map change_text changes)) changes
+StandsFor-printed [] h = tt
+StandsFor-printed (change ∷ changes) h =
+    rw (words-join (change_text change) (map change_text changes) (changes_are_words (change ∷ changes) h)) (spelled-printed (change ∷ changes) h)
 
 -- the words of a line are its command and its changes
 abbrev all_words : Step → List (List ℕ)

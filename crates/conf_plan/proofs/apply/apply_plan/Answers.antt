@@ -4,6 +4,7 @@ use Rattle.conf_change.specs.Changer.{ChangerState}
 use Rattle.conf_change.specs.declared.step.Step.{Step}
 use Rattle.conf_plan.specs.Run.{IsRun, Takes}
 use Rattle.quorum_sets.proofs.Offered.{slice_get-not_past, slice_get-split, take-one_more}
+use Rattle.conf_plan.proofs.BestPlan.Theorem.{Takes-best}
 use Rattle.conf_plan.proofs.Runs.KeptProgress.{takes-is_sound, takes-keep, takes-keep_planned}
 use Rattle.conf_plan.proofs.Runs.TakenInOrder.{Takes-push, Takes-to_target, Refuses-for_memory}
 use Rattle.conf_plan.proofs.apply.apply_plan.Goals as goal
@@ -39,6 +40,11 @@ pub returns-clause-sparing : goal.returns-clause-sparing
 returns-clause-sparing g c = λ target other id made spares.
     takes-keep_planned _ _ c.args.plan.now other target id c.tracker-tracker.ensures.sound
     (all_taken _ _ c.args.plan.now c.loop-place.place _ c.len-place-end.ensures.len c.loop-place-test.false c.loop-place.invariant) made spares
+
+pub returns-clause-best : goal.returns-clause-best
+returns-clause-best g c = λ target made settled_now settled.
+    Takes-best _ _ c.args.plan.now target
+    (all_taken _ _ c.args.plan.now c.loop-place.place _ c.len-place-end.ensures.len c.loop-place-test.false c.loop-place.invariant) made settled_now settled
 
 pub returns-clause-reached : goal.returns-clause-reached
 returns-clause-reached g c = λ target run.

@@ -1,10 +1,11 @@
-use Rattle.std.proofs.Common.{◌≡◌, sym, ap, ◌∙◌}
+use Rattle.std.proofs.Common.{◌≡◌, sym, ap, subst, ◌∙◌}
 use Rattle.std.specs.Prelude.{Err, option_copied}
 use Rattle.conf_change.specs.Changer.{ChangerState, TrackerState}
 use Rattle.conf_change.specs.Configuration.{Configuration, has_voter}
+use Rattle.conf_plan.specs.Best.{IsBest}
 use Rattle.conf_plan.specs.Planned.{planned}
 use Rattle.conf_session.specs.SessionState.{present}
-use Rattle.conf_session.proofs.Kept.{UndoLaw, valid-older, plan-is, leads-back, must-be}
+use Rattle.conf_session.proofs.Kept.{UndoLaw, valid-older, plan-is, leads-back, must-be, same-some}
 use Rattle.conf_session.proofs.session.Session.undo_plan.Goals as goal
 
 pub plan-requires-clause-valid_target : goal.plan-requires-clause-valid_target
@@ -44,3 +45,12 @@ returns-in-Ok-clause-back c =
     let law : UndoLaw = record { back = c.undo_of_run.ensures.back; at_most_four = c.undo_of_run.ensures.at_most_four; at_most_three = c.undo_of_run.ensures.at_most_three } in
     leads-back law c.args.self.now c.args.count c.in-Some.older.now c.in-Ok.plan kept voter earlier
     (c.in-Ok.ensures.planned ∙ ap (λ (now : Configuration). planned now c.in-Some.older.now) there)
+
+pub returns-in-Ok-clause-best : goal.returns-in-Ok-clause-best
+returns-in-Ok-clause-best c = λ older is.
+    let kept = sym c.kept_at.ensures ∙ ap option_copied c.in-Some.is in
+    let there : c.config-now.result.now ≡ present c.args.self.now =
+    c.config-now.ensures ∙ ap (λ (t : TrackerState). t.config) (c.tracker.ensures.tracker ∙ ap (λ (changer : ChangerState). changer.tracker) c.changer.ensures.changer) in
+    let Target : Configuration → Type 0 = λ d. IsBest (present c.args.self.now) c.in-Ok.plan d in
+    let Now : Configuration → Type 0 = λ d. IsBest d c.in-Ok.plan c.in-Some.older.now in
+    subst Target (same-some _ _ (sym kept ∙ is)) (subst Now there c.in-Ok.ensures.best)
