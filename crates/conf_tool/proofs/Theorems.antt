@@ -3,3 +3,4 @@
 pub mod JoinedScript
 pub mod RewrittenScript
 pub mod BestPlan
+pub mod UndoneScript

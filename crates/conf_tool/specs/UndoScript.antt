@@ -1,16 +1,21 @@
 -- The script that undoes changes: the steps of a plan as directives, or a comment that says why there are none.
-use Rattle.std.specs.Prelude.{ℕ, List, [], ◌∷◌, ◌++◌, map, Result, Ok, Err, codes}
+use Rattle.std.specs.Prelude.{◌≡◌, ℕ, ⊤, List, [], ◌∷◌, ◌++◌, map, Result, Ok, Err, codes}
 use Rattle.std.specs.List.{join_with_byte}
+use Rattle.dd_file.specs.DirectiveText.{DirectiveText}
 use Rattle.dd_file.specs.Words.{CommandText, with_key}
 use Rattle.dd_file.specs.Script.{directive}
 use Rattle.dd_file.specs.declared.item.Item.{Item}
 use Rattle.dd_file.specs.declared.item.Item.TheVariants.{Comment}
+use Rattle.conf_change.specs.Changer.{ChangerState, Accepts}
 use Rattle.conf_change.specs.ConfStateLine.{truth_text}
 use Rattle.conf_change.specs.Step.{changes_of}
 use Rattle.conf_change.specs.declared.change.Change.{Change}
 use Rattle.conf_change.specs.declared.step.Step.{Step}
 use Rattle.conf_change.specs.declared.step.Step.TheVariants.{Simple, EnterJoint, LeaveJoint}
 use Rattle.conf_plan.specs.PlanText.{command_words, change_text}
+use Rattle.conf_session.specs.Commands.{answer, answered}
+use Rattle.conf_session.specs.Reply.{stepped}
+use Rattle.conf_session.specs.SessionState.{SessionState}
 use Rattle.conf_session.specs.Undo.{undo_fault_text}
 use Rattle.conf_session.specs.declared.undo_fault.UndoFault.{UndoFault}
 
@@ -41,3 +46,15 @@ abbrev pub undo_items : Result (List Step) UndoFault → List Item
 undo_items (Ok []) = comment (codes "nothing to do") ∷ []
 undo_items (Ok (step ∷ steps)) = map step_directive (step ∷ steps)
 undo_items (Err fault) = comment (undo_fault_text fault) ∷ []
+
+-- ---- what it comes to
+-- the session answers the directive by taking the step: it replies with the members afterwards, as after any accepted change
+abbrev pub TakesStep : SessionState → DirectiveText → Step → Type 0
+TakesStep session directive step = (next : ChangerState) × Accepts session.changer step next × (answer session directive ≡ answered session (stepped next))
+
+-- it takes the steps in order, one for each directive
+abbrev pub TakesSteps : SessionState → List DirectiveText → List Step → Type 0
+TakesSteps session [] [] = ⊤
+TakesSteps session [] (step ∷ steps) = ⊥
+TakesSteps session (directive ∷ directives) [] = ⊥
+TakesSteps session (directive ∷ directives) (step ∷ steps) = TakesStep session directive step × TakesSteps (answer session directive).session directives steps

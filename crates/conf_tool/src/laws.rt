@@ -1,8 +1,9 @@
 //! Laws of this crate's definitions, each the contract of a function that does nothing.
-ghost use Rattle.conf_tool.specs.Laws.{RewrittenClean, JoinedClean, PrintedPlanIsBest};
+ghost use Rattle.conf_tool.specs.Laws.{RewrittenClean, JoinedClean, UndoScriptLeadsBack, PrintedPlanIsBest};
 
-use conf_plan::laws::planned_is_best;
-use conf_session::laws::found_text_stands;
+use conf_change::laws::one_list_per_text;
+use conf_plan::laws::{one_plan_per_text, planned_is_best};
+use conf_session::laws::{answers_keep_session, found_text_stands, undo_plan_leads_back};
 use dd_file::laws::{
     directive_is_given, items_are_given, items_have_keys, joined_items, written_script,
 };
@@ -28,6 +29,20 @@ pub fn joined_clean()
     written_script();
     directive_is_given();
     joined_items();
+}
+
+/// A session that ran a script without a fault, and then runs the directives which the mode `undo` prints of it, takes the
+/// steps of the plan, one for each directive, and comes to the configuration from before the last changes (own).
+pub fn undo_script_leads_back()
+    ensures { UndoScriptLeadsBack }
+{
+    found_text_stands();
+    written_script();
+    directive_is_given();
+    answers_keep_session();
+    undo_plan_leads_back();
+    one_plan_per_text();
+    one_list_per_text();
 }
 
 /// Between two configurations with voters, what the mode `plan` prints is the text of steps that lead from the one to the

@@ -9,7 +9,7 @@ use Rattle.dd_file.specs.Place.{longest_input}
 use Rattle.dd_file.specs.Reading.{script_of}
 use Rattle.dd_file.specs.Rewritten.{Entry, rewritten_text}
 use Rattle.dd_file.specs.Script.{is_separator}
-use Rattle.dd_file.specs.Laws.{is_line, IsGiven, AreGiven, DirectiveIsGiven, WrittenScript, ends_in_long_blank, item_has_keys, IsComplete, moved, directives_of, moved_fault, JoinedItems}
+use Rattle.dd_file.specs.Laws.{is_line, IsGiven, AreGiven, AreReadAgain, DirectiveIsGiven, WrittenScript, ends_in_long_blank, item_has_keys, IsComplete, moved, directives_of, moved_fault, JoinedItems}
 use Rattle.dd_file.specs.declared.item.Item.{Item}
 use Rattle.dd_file.specs.declared.item.Item.TheVariants.{Comment, Blank, Directive}
 use Rattle.dd_file.specs.declared.fault.FileFault.{FileFault}
@@ -22,7 +22,7 @@ use Rattle.conf_change.specs.ChangeList.{letter_of}
 use Rattle.conf_plan.specs.PlanText.{change_text}
 use Rattle.conf_change.specs.declared.floor.Floor.{Floor}
 use Rattle.conf_session.specs.SessionState.{SessionState, new_session}
-use Rattle.conf_session.specs.Commands.{answer}
+use Rattle.conf_session.specs.Commands.{answer, after_answers}
 use Rattle.conf_tool.specs.Reports.{entries_of, differs}
 use Rattle.conf_session.specs.Undo.{undo_plan_of, undo_fault_text}
 use Rattle.conf_tool.specs.UndoScript.{step_command, change_lines, step_directive, comment, undo_items}
@@ -42,18 +42,13 @@ abbrev any_differs : SessionState → List DirectiveText → Bool
 any_differs session [] = false
 any_differs session (directive ∷ directives) = not (bytes_eq (answer session directive).found directive.expected) || any_differs (answer session directive).session directives
 
--- the session that obeyed them
-abbrev session_left : SessionState → List DirectiveText → SessionState
-session_left session [] = session
-session_left session (directive ∷ directives) = session_left (answer session directive).session directives
-
 differs-by : (session : SessionState) (items : List Item) → list_any differs (entries_of session items) ≡ any_differs session (directives_of items)
 differs-by session [] = refl
 differs-by session (Comment lines ∷ items) = differs-by session items
 differs-by session (Blank lines ∷ items) = differs-by session items
 differs-by session (Directive directive ∷ items) = ap (λ more. not (bytes_eq (answer session directive).found directive.expected) || more) (differs-by (answer session directive).session items)
 
-left-by : (session : SessionState) (items : List Item) → session_after_all session items ≡ session_left session (directives_of items)
+pub left-by : (session : SessionState) (items : List Item) → session_after_all session items ≡ after_answers session (directives_of items)
 left-by session [] = refl
 left-by session (Comment lines ∷ items) = left-by session items
 left-by session (Blank lines ∷ items) = left-by session items
@@ -69,12 +64,12 @@ or-assoc : (a b c : Bool) → (a || (b || c)) ≡ ((a || b) || c)
 or-assoc true b c = refl
 or-assoc false b c = refl
 
-differs-append : (session : SessionState) (xs ys : List DirectiveText) → any_differs session (xs ++ ys) ≡ (any_differs session xs || any_differs (session_left session xs) ys)
+differs-append : (session : SessionState) (xs ys : List DirectiveText) → any_differs session (xs ++ ys) ≡ (any_differs session xs || any_differs (after_answers session xs) ys)
 differs-append session [] ys = refl
 differs-append session (x ∷ xs) ys =
     let this = not (bytes_eq (answer session x).found x.expected) in
     let after = (answer session x).session in
-    ap (λ more. this || more) (differs-append after xs ys) ∙ or-assoc this (any_differs after xs) (any_differs (session_left after xs) ys)
+    ap (λ more. this || more) (differs-append after xs ys) ∙ or-assoc this (any_differs after xs) (any_differs (after_answers after xs) ys)
 
 -- a script that is clean
 record IsCleanScript (entries : List Entry) (fault : Option FileFault) : Type 0 where
@@ -166,14 +161,23 @@ undo-short (Ok (step ∷ steps)) = steps-short (step ∷ steps)
 undo-short (Err fault) = refl
 
 -- ---- so what undoes changes is read again, and is clean
+pub undo-read : WrittenScript → DirectiveIsGiven → FoundStands → (session : SessionState) (plan : Result (List Step) UndoFault) →
+    let entries = entries_of session (undo_items plan) in
+    length (rewritten_text entries) ≤ longest_input →
+    let again = script_of (rewritten_text entries) in (again.fault ≡ None) × AreReadAgain entries again.items
+undo-read written given stands session plan fits =
+    let items = undo_items plan in
+    let entries = entries_of session items in
+    let same = items-of session items in
+    written entries (subst AreGiven (sym same) (undo-given given plan)) (found-outputs stands session items (undo-keys plan)) (ap ends_in_long_blank same ∙ undo-short plan) fits
+
 undo-clean : WrittenScript → DirectiveIsGiven → FoundStands → (session : SessionState) (plan : Result (List Step) UndoFault) →
     let again = script_of (rewritten_text (entries_of session (undo_items plan))) in
     length (rewritten_text (entries_of session (undo_items plan))) ≤ longest_input → IsCleanScript (entries_of session again.items) again.fault
 undo-clean written given stands session plan fits =
     let items = undo_items plan in
     let entries = entries_of session items in
-    let same = items-of session items in
-    let read = written entries (subst AreGiven (sym same) (undo-given given plan)) (found-outputs stands session items (undo-keys plan)) (ap ends_in_long_blank same ∙ undo-short plan) fits in
+    let read = undo-read written given stands session plan fits in
     record { same = clean-items session items entries (script_of (rewritten_text entries)).items refl read.1; whole = read.0 }
 
 joined-text : WrittenScript → DirectiveIsGiven → JoinedItems → FoundStands → (script : List ℕ) (history : ℕ) (floor : Floor) (count : ℕ) →
@@ -195,8 +199,8 @@ joined-text written given joined_items stands script history floor count complet
     let joined = joined_items script text complete fits in
     let none : list_any differs (entries_of begin (script_of (front ++ text)).items) ≡ false =
     differs-by begin (script_of (front ++ text)).items ∙ ap (any_differs begin) joined.0 ∙ differs-append begin (directives_of items) (map (moved before) (directives_of again))
-    ∙ ap (λ b. b || any_differs (session_left begin (directives_of items)) (map (moved before) (directives_of again))) (sym (differs-by begin items) ∙ clean.same)
-    ∙ differs-moved before (session_left begin (directives_of items)) (directives_of again)
+    ∙ ap (λ b. b || any_differs (after_answers begin (directives_of items)) (map (moved before) (directives_of again))) (sym (differs-by begin items) ∙ clean.same)
+    ∙ differs-moved before (after_answers begin (directives_of items)) (directives_of again)
     ∙ ap (λ s. any_differs s (directives_of again)) (sym (left-by begin items)) ∙ sym (differs-by session again) ∙ read.same in
     ap (λ fault. (checked_entries (entries_of begin (script_of (front ++ text)).items) fault).outcome) (joined.1 ∙ ap (option_map (moved_fault before)) read.whole)
     ∙ ap (λ b. Ok (status_of b)) none
