@@ -14,9 +14,11 @@ use conf_plan::{
 use quorum_sets::{InlineIds, MemberSet, NoMemory, TreeIds};
 use std::alloc::Global;
 
-// Where a changer stands, where the plan leads, the plan's text, and what is shown before its first step and after each.
+// Where a changer stands, the indexes that its members acknowledge, where the plan leads, the plan's text, and what is
+// shown before its first step and after each.
 struct Row {
     now: &'static str,
+    acknowledged: &'static [(u64, u64)],
     target: &'static str,
     plan: &'static str,
     shown: &'static [Shown],
@@ -35,9 +37,10 @@ const TEN: &[&str] = &[
     "10: StateProbe match=0 next=1",
 ];
 
-static ROWS: [Row; 4] = [
+static ROWS: [Row; 5] = [
     Row {
         now: "Voters:[3] VotersOutgoing:[] Learners:[1 2] LearnersNext:[] AutoLeave:false",
+        acknowledged: &[],
         target: "Voters:[3] VotersOutgoing:[1] Learners:[2] LearnersNext:[1] AutoLeave:false",
         plan: "enter-joint autoleave=false v1 l3\nleave-joint\nenter-joint autoleave=false l1 v3\n",
         shown: &[
@@ -77,6 +80,7 @@ static ROWS: [Row; 4] = [
     },
     Row {
         now: "Voters:[3] VotersOutgoing:[2] Learners:[] LearnersNext:[] AutoLeave:false",
+        acknowledged: &[],
         target: "Voters:[2] VotersOutgoing:[1] Learners:[] LearnersNext:[] AutoLeave:false",
         plan: "leave-joint\nenter-joint autoleave=false v1 r3\nleave-joint\nenter-joint autoleave=false r1 v2\n",
         shown: &[
@@ -107,6 +111,7 @@ static ROWS: [Row; 4] = [
     },
     Row {
         now: "Voters:[1 2 3 4 5 6 7 8 9 10] VotersOutgoing:[1] Learners:[] LearnersNext:[] AutoLeave:false",
+        acknowledged: &[],
         target: "Voters:[1] VotersOutgoing:[] Learners:[] LearnersNext:[] AutoLeave:false",
         plan: "leave-joint\nenter-joint autoleave=false r2 r3 r4 r5 r6 r7 r8 r9 r10\nleave-joint\n",
         shown: &[
@@ -118,9 +123,53 @@ static ROWS: [Row; 4] = [
     },
     Row {
         now: "Voters:[1] VotersOutgoing:[] Learners:[] LearnersNext:[] AutoLeave:false",
+        acknowledged: &[],
         target: "Voters:[1] VotersOutgoing:[] Learners:[] LearnersNext:[] AutoLeave:false",
         plan: "nothing to do\n",
         shown: &[("voters=(1)", &["1: StateProbe match=0 next=1"])],
+    },
+    // 1, 2 and 5 are members throughout, and keep what they have acknowledged. 3 is fresh when it comes back.
+    Row {
+        now: "Voters:[1 2] VotersOutgoing:[1 2 3] Learners:[5] LearnersNext:[] AutoLeave:false",
+        acknowledged: &[(1, 10), (2, 7), (3, 9), (5, 4)],
+        target: "Voters:[1 3] VotersOutgoing:[1 2 5] Learners:[] LearnersNext:[5] AutoLeave:true",
+        plan: "leave-joint\nsimple v5\nenter-joint autoleave=true r2 v3 l5\n",
+        shown: &[
+            (
+                "voters=(1 2)&&(1 2 3) learners=(5)",
+                &[
+                    "1: StateProbe match=10 next=11",
+                    "2: StateProbe match=7 next=8",
+                    "3: StateProbe match=9 next=10",
+                    "5: StateProbe match=4 next=5 learner",
+                ],
+            ),
+            (
+                "voters=(1 2) learners=(5)",
+                &[
+                    "1: StateProbe match=10 next=11",
+                    "2: StateProbe match=7 next=8",
+                    "5: StateProbe match=4 next=5 learner",
+                ],
+            ),
+            (
+                "voters=(1 2 5)",
+                &[
+                    "1: StateProbe match=10 next=11",
+                    "2: StateProbe match=7 next=8",
+                    "5: StateProbe match=4 next=5",
+                ],
+            ),
+            (
+                "voters=(1 3)&&(1 2 5) learners_next=(5) autoleave",
+                &[
+                    "1: StateProbe match=10 next=11",
+                    "2: StateProbe match=7 next=8",
+                    "3: StateProbe match=0 next=1",
+                    "5: StateProbe match=4 next=5",
+                ],
+            ),
+        ],
     },
 ];
 
@@ -202,6 +251,15 @@ fn takes<S: MemberSet>(
     stands & (steps_taken(other, plan) == whole) & is_shown_after(alloc, other, whole, shown)
 }
 
+// Whether the members of a changer acknowledge these indexes.
+fn acknowledge<S: MemberSet>(changer: &mut Changer<S>, indexes: &[(u64, u64)]) -> bool {
+    let mut is_so = true;
+    for (id, index) in indexes {
+        is_so &= changer.ack(*id, *index).is_ok();
+    }
+    is_so
+}
+
 fn is_row<S: MemberSet>(
     alloc: Global,
     row: &Row,
@@ -215,6 +273,8 @@ fn is_row<S: MemberSet>(
     ) {
         (Ok(mut changer), Ok(mut other)) => {
             leads(alloc, changer.tracker().config(), target, plan)
+                & acknowledge(&mut changer, row.acknowledged)
+                & acknowledge(&mut other, row.acknowledged)
                 & takes(alloc, &mut changer, &mut other, plan, row.shown)
         }
         _ => false,
