@@ -103,10 +103,12 @@ uint32_t confscript_version(void);
 struct confscript_answer confscript_status_text(uint32_t status, uint8_t *out, size_t out_len);
 
 /*
- * Writes the plan from the configuration of one ConfState line to that of another: at most four steps, each of them safe
- * to take, and no other plan is better. Both configurations must be valid and have an incoming voter. If there is nothing
- * to do, the text is `nothing to do`. The lines are written to `out`, without a byte 0 after them. The number is how many
- * bytes they have.
+ * Writes the plan from the configuration of one ConfState line to that of another, at most four steps. No other plan has
+ * fewer steps, keeps the progress of a member that this one resets, or names a member in fewer changes. The voters before
+ * and after each step overlap. A plan does not see logs: a new voter begins with an empty one, so from [1 2 3] to [3 4 5]
+ * nothing commits until 4 or 5 has caught up. Both configurations must be valid and have an incoming voter. If there is
+ * nothing to do, the text is `nothing to do`. The lines are written to `out`, without a byte 0 after them. The number is
+ * how many bytes they have.
  *
  * A step `simple` may have several changes, of which one at most changes who votes. A store that proposes etcd's ConfChangeV2
  * takes them one at a time, each as a ConfChangeV2 of one change. As one ConfChangeV2 they would enter a joint configuration.

@@ -127,9 +127,14 @@ it prints
 
 /// Of `plan`.
 pub(crate) const PLAN: &str =
-    "Reads two lines, the present configuration and the wanted one, each as the
-command conf-state prints it. Prints the steps that lead from the one to the
-other, at most four; no other steps do it better.
+    "Reads two lines, the current configuration and the target, each as the command
+conf-state prints it. Prints the steps that lead from the one to the other, at
+most four. No other plan has fewer steps, keeps the progress of a member that
+this one resets, or names a member in fewer changes. The voters before and
+after each step overlap.
+
+A plan does not see logs: a new voter begins with an empty one. From [1 2 3] to
+[3 4 5] nothing commits until 4 or 5 has caught up.
 
 Where there is nothing to do it says so. Where a configuration has no voter it
 prints that there is no plan, in a comment, and the status is 1.
