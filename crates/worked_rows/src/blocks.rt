@@ -24,6 +24,7 @@ fn takes(rt: &impl Runtime, room: usize, stop: Stop) -> bool {
     let device = blocks.into_inner().into_inner();
     (device.taken.len() == room)
         & (device.calls == 3)
+        & (device.later_calls == 0)
         & (was_told == failed)
         & (is_told == failed)
         & (failed == (room < 42_000))
@@ -40,14 +41,14 @@ fn nothing_is_written_after_a_fault(rt: HostRuntime) {
     assert!(rt; takes(&rt, 20_000, Stop::TakesNone));
 }
 
-// Whether two bytes that wait reach the device when they are written on.
+// Whether two bytes that wait reach the device when they are written on, and the device passes them on.
 fn writes_on(rt: &impl Runtime) -> bool {
     let device = taking(rt.alloc(), 20, 20, Stop::Fault);
     let mut blocks = Blocks::new(rt.alloc(), device).expect(rt, "a block");
     let was_told = write_all(&mut blocks, b"12").is_err();
     let is_told = blocks.write_on().is_err();
     let device = blocks.into_inner().into_inner();
-    !was_told & !is_told & (device.taken.len() == 2) & (device.calls == 1)
+    !was_told & !is_told & (device.taken.len() == 2) & (device.calls == 1) & (device.flushed == 2)
 }
 
 #[test]

@@ -46,21 +46,38 @@ pub(crate) enum Stop {
     TakesNone,
 }
 
-/// Takes at most so many bytes a call, and stops once, when it holds so many. It counts its calls.
+/// Takes at most so many bytes a call, and stops once, when it holds so many. It counts its calls, and passes on what it
+/// took where it is flushed, as a buffered writer does.
 #[derive(Drop)]
 pub(crate) struct Taker {
     pub(crate) taken: Vec<u8>,
+    /// How many of these bytes it has passed on.
+    pub(crate) flushed: usize,
+    /// How many writes were asked of it.
     pub(crate) calls: usize,
+    /// How many writes and flushes were asked of it after it had stopped.
+    pub(crate) later_calls: usize,
+    has_stopped: bool,
     at_once: usize,
     room: usize,
     stop: Stop,
 }
 
+impl Taker {
+    fn count_later_call(&mut self) {
+        self.later_calls = self
+            .later_calls
+            .saturating_add(usize::from(self.has_stopped));
+    }
+}
+
 impl Write for Taker {
     fn write(&mut self, bytes: &[u8]) -> io::Result<usize> {
         self.calls = self.calls.saturating_add(1);
+        self.count_later_call();
         if self.room == 0 {
             self.room = usize::MAX;
+            self.has_stopped = true;
             return match self.stop {
                 Stop::Fault => Err(ErrorKind::Interrupted.into()),
                 Stop::TakesNone => Ok(0),
@@ -73,6 +90,8 @@ impl Write for Taker {
     }
 
     fn flush(&mut self) -> io::Result<()> {
+        self.count_later_call();
+        self.flushed = self.taken.len();
         Ok(())
     }
 }
@@ -81,7 +100,10 @@ impl Write for Taker {
 pub(crate) fn taking(alloc: Global, at_once: usize, room: usize, stop: Stop) -> ToWrite<Taker> {
     ToWrite::new(Taker {
         taken: Vec::new(alloc),
+        flushed: 0,
         calls: 0,
+        later_calls: 0,
+        has_stopped: false,
         at_once,
         room,
         stop,

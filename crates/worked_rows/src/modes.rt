@@ -108,7 +108,7 @@ fn reads_until(alloc: Global, case: Case, before: usize) -> bool {
 }
 
 // Whether a run whose writer takes a byte a call and stops when it holds so many ends as it must, with the front part of
-// so many. After a fault nothing is written again.
+// so many. After a fault nothing is asked of the writer, an empty write and a flush included.
 fn writes_until(alloc: Global, case: Case, cut: usize, stop: Stop) -> bool {
     let (mode, input, output, status) = case;
     let mut reader = FromRead::new(input);
@@ -128,6 +128,7 @@ fn writes_until(alloc: Global, case: Case, cut: usize, stop: Stop) -> bool {
         & (front.len() == cut.min(output.len()))
         & output.starts_with(front)
         & (device.calls == front.len().saturating_add(usize::from(fails)))
+        & (device.later_calls == 0)
 }
 
 #[test]
@@ -175,6 +176,7 @@ fn flushes_until(alloc: Global, case: Case, cut: usize) -> bool {
         })
         & (front.len() == cut.min(output.len()))
         & output.starts_with(front)
+        & (device.later_calls == 0)
 }
 
 #[test]
