@@ -3,8 +3,8 @@ use crate::sets::{has_ids, ids};
 use crate::texts::appends;
 use crate::twice::twice;
 use conf_change::{
-    Change, Changer, Refused, TokenFault, Transition, read_changes, union, write_config,
-    write_progress, write_refused, write_token_fault,
+    Change, Changer, Changes, Refused, Step, Taken as StepKind, TokenFault, Transition,
+    read_changes, taken, union, write_config, write_progress, write_refused, write_token_fault,
 };
 use quorum_sets::{InlineIds, MemberSet, NoMemory, TreeIds};
 use std::alloc::Global;
@@ -178,6 +178,30 @@ fn make<S: MemberSet>(
     }
 }
 
+// The kind of a call's step.
+fn kind_of(call: Call, changes: &[Change]) -> StepKind {
+    match call {
+        Call::One | Call::Simple => StepKind::Simple,
+        Call::Enter(auto_leave) => StepKind::Enter(auto_leave),
+        Call::Leave => StepKind::Leave,
+        Call::Change(transition) => taken(transition, changes),
+    }
+}
+
+// The step of a call.
+fn step(alloc: Global, call: Call, text: &'static [u8]) -> Result<Step, NoMemory> {
+    let Ok(list) = read_changes(alloc, text) else {
+        return Err(NoMemory);
+    };
+    let changes = Changes::from(list);
+    let copy = changes.try_clone()?;
+    Ok(match kind_of(call, changes.as_slice()) {
+        StepKind::Simple => Step::Simple(copy),
+        StepKind::Enter(auto_leave) => Step::EnterJoint(auto_leave, copy),
+        StepKind::Leave => Step::LeaveJoint,
+    })
+}
+
 /// Whether two changers are the same. It takes no memory.
 pub(crate) fn is_same<S: MemberSet>(changer: &Changer<S>, other: &Changer<S>) -> bool {
     let tracker = changer.tracker();
@@ -232,12 +256,70 @@ fn is_changed<S: MemberSet>(
         }
 }
 
+// Whether a step leads from a changer to the one after.
+fn is_stepped<S: MemberSet>(
+    changer: &mut Changer<S>,
+    step: &Step,
+    after: &Changer<S>,
+    refused: Option<Refused>,
+) -> bool {
+    let mut answer = changer.step(step);
+    if answer == Err(Refused::NoMemory) {
+        answer = changer.step(step);
+    }
+    (answer.err() == refused) & is_same(changer, after)
+}
+
+// Whether another changer is overwritten with the one after a step, and then gives its configuration up.
+fn becomes<S: MemberSet>(
+    mut other: Changer<S>,
+    before: &Changer<S>,
+    step: (StepKind, &[Change]),
+    after: &Changer<S>,
+    refused: Option<Refused>,
+) -> bool {
+    let (kind, changes) = step;
+    let mut answer = other.become_next(before, kind, changes);
+    if answer == Err(Refused::NoMemory) {
+        answer = other.become_next(before, kind, changes);
+    }
+    let is_next = refused.is_some() || is_same(&other, after);
+    let config = other.take_config();
+    (answer.err() == refused)
+        & is_next
+        & (refused.is_some() || config.same(after.tracker().config()))
+        & (other.tracker().member_count() == 0)
+}
+
+// Whether a call does what its row says, and its step does the same.
+fn is_row<S: MemberSet>(
+    alloc: Global,
+    changer: &mut Changer<S>,
+    mut copy: Changer<S>,
+    row: &Row,
+    step: &Step,
+) -> bool {
+    let refused = row.2.err();
+    let changes = step.changes();
+    let kind = kind_of(row.0, changes);
+    let is_made = is_changed(alloc, changer, &copy, row, changes);
+    is_made
+        & becomes(
+            Changer::new(alloc, 9),
+            &copy,
+            (kind, changes),
+            changer,
+            refused,
+        )
+        & is_stepped(&mut copy, step, changer, refused)
+}
+
 fn is_made<S: MemberSet>(alloc: Global, changer: &mut Changer<S>, row: &Row) -> bool {
     match (
         twice(NoMemory, || changer.try_clone()),
-        twice(TokenFault::NoMemory, || read_changes(alloc, row.1)),
+        twice(NoMemory, || step(alloc, row.0, row.1)),
     ) {
-        (Ok(copy), Ok(changes)) => is_changed(alloc, changer, &copy, row, changes.as_slice()),
+        (Ok(copy), Ok(step)) => is_row(alloc, changer, copy, row, &step),
         _ => false,
     }
 }

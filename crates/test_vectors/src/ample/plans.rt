@@ -1,8 +1,8 @@
-//! Plans as they are applied, and their text.
-use crate::configurations::{Sets, config_of};
-use crate::runtime::Runtime;
+//! Plans as they are applied, and their texts.
+use crate::ample::configurations::{Sets, config_of};
+use crate::ample::runtime::Runtime;
 use conf_change::{Change, Changer, Kind, Refused};
-use conf_plan::{Plan, StepRefused, apply_plan, changes_text, command_text, print_plan, read_plan};
+use conf_plan::{Plan, StepRefused, apply_plan, print_plan, read_plan};
 use quorum_sets::TreeIds;
 
 fn plan_of(rt: &impl Runtime, text: &str) -> Plan {
@@ -55,8 +55,14 @@ static TEXTS: [(&str, &str); 7] = [
         "simple v4294967297 r1 l4294967296\n",
     ),
     (
-        "enter-joint autoleave=false l2\nleave-joint\nenter-joint autoleave=true\nsimple u18446744073709551615\n",
-        "enter-joint autoleave=false l2\nleave-joint\nenter-joint autoleave=true\nsimple u18446744073709551615\n",
+        "enter-joint autoleave=false l2\n\
+        leave-joint\n\
+        enter-joint autoleave=true\n\
+        simple u18446744073709551615\n",
+        "enter-joint autoleave=false l2\n\
+        leave-joint\n\
+        enter-joint autoleave=true\n\
+        simple u18446744073709551615\n",
     ),
 ];
 
@@ -80,35 +86,5 @@ fn prints_what_it_reads(rt: HostRuntime) {
         let plan = plan_of(&rt, *text);
         assert!(rt; is_printed(&rt, &plan, *wanted), "row {place}");
         assert!(rt; is_told_apart(&rt, place, &plan), "row {place}");
-    }
-}
-
-static WORDS: [(&str, &str, &str); 4] = [
-    ("simple v1 r2 l03 u4", "simple", "v1 r2 l3 u4"),
-    (
-        "enter-joint autoleave=true v18446744073709551615",
-        "enter-joint autoleave=true",
-        "v18446744073709551615",
-    ),
-    (
-        "enter-joint autoleave=false",
-        "enter-joint autoleave=false",
-        "",
-    ),
-    ("leave-joint", "leave-joint", ""),
-];
-
-// Whether the first step of a plan's text has this command and these changes.
-fn is_worded(rt: &impl Runtime, text: &str, command: &str, changes: &str) -> bool {
-    let plan = plan_of(rt, text);
-    let step = plan.step(0).expect(rt, "a step");
-    let list = changes_text(rt.alloc(), step.changes()).expect(rt, "a text");
-    (command_text(step) == command.as_bytes()) & (list.as_slice() == changes.as_bytes())
-}
-
-#[test]
-fn words_each_step(rt: HostRuntime) {
-    for (text, command, changes) in &WORDS {
-        assert!(rt; is_worded(&rt, *text, *command, *changes), "of {text}");
     }
 }

@@ -1,6 +1,6 @@
 //! Configurations, valid and broken ones.
-use crate::runtime::Runtime;
-use crate::sets_and_quorums::set_of;
+use crate::ample::runtime::Runtime;
+use crate::ample::sets_and_quorums::set_of;
 use conf_change::{Config, Invariant, check};
 use quorum_sets::TreeIds;
 

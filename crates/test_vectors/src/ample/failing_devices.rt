@@ -1,78 +1,11 @@
-//! The modes of the program over readers and writers that fail at each byte.
-use crate::devices::{Stop, byte_by_byte, taking};
+//! The modes of the program over readers and writers that fail at each byte, on the rows of `crate::modes`.
+use crate::ample::devices::{Stop, byte_by_byte, taking};
+use crate::modes::{CASES, Case};
 use conf_tool::run::{run, run_and_flush};
 use conf_tool::{Mode, Options, Status, ToolFault};
 use dd_file::blocks::Blocks;
 use dd_file::device::{FromRead, Sink, Source, ToWrite};
 use std::alloc::Global;
-
-const CHANGES: &[u8] = b"v1\nv2\nl3\nr1\nr2\n";
-
-const ANSWERS: &[u8] =
-    b"voters=(1)\nvoters=(1 2)\nvoters=(1 2) learners=(3)\nvoters=(2) learners=(3)\nremoved all voters\n";
-
-// A script that finds what it expects, without its last newline and with it, and the same without what it expects.
-const CUT: &[u8] = b"simple\nv1\n----\nvoters=(1)\n1: StateProbe match=0 next=1";
-
-const WHOLE: &[u8] = b"simple\nv1\n----\nvoters=(1)\n1: StateProbe match=0 next=1\n";
-
-const BARE: &[u8] = b"simple\nv1\n----";
-
-const BARE_REPORT: &[u8] =
-    b"1: simple\n+ voters=(1)\n+ 1: StateProbe match=0 next=1\n1 directives, 1 mismatches\n";
-
-const NONE_DIFFERS: &[u8] = b"1 directives, 0 mismatches\n";
-
-const OLD: &[u8] = b"# c\n\nsimple\nv1 v2\n----\nold\n\nsimple\nv1\n";
-
-const REWRITTEN: &[u8] =
-    b"# c\n\nsimple\nv1 v2\n----\nmore than one voter changed without entering joint config\n\nsimple\nv1\n----\nvoters=(1)\n1: StateProbe match=0 next=1\n";
-
-// A script whose two changes leave a joint configuration, and the script that undoes the last of them.
-const ENTERED: &[u8] =
-    b"simple\nv1\n----\nvoters=(1)\n1: StateProbe match=0 next=1\n\nenter-joint\nr1 r2 r9 v2 v3 v4 v2 v3 v4 l2 l2 r4 r4 l1 l1\n----\nvoters=(3)&&(1) learners=(2) learners_next=(1)\n1: StateProbe match=0 next=1\n2: StateProbe match=0 next=1 learner\n3: StateProbe match=0 next=1\n";
-
-const BACK: &[u8] =
-    b"leave-joint\n----\nvoters=(3) learners=(1 2)\n1: StateProbe match=0 next=1 learner\n2: StateProbe match=0 next=1 learner\n3: StateProbe match=0 next=1\n\nenter-joint autoleave=false\nv1 r2 r3\n----\nvoters=(1)&&(3)\n1: StateProbe match=0 next=1\n3: StateProbe match=0 next=1\n\nleave-joint\n----\nvoters=(1)\n1: StateProbe match=0 next=1\n";
-
-const NO_PLAN: &[u8] = b"# no plan: the earlier configuration has no voter\n";
-
-// The present configuration and the wanted one, and the plan from the one to the other.
-const TWO: &[u8] =
-    b"Voters:[1] VotersOutgoing:[2] Learners:[] LearnersNext:[] AutoLeave:true\nVoters:[5] VotersOutgoing:[3 4] Learners:[] LearnersNext:[] AutoLeave:false";
-
-const PLAN: &[u8] =
-    b"leave-joint\nenter-joint autoleave=false r1 v3 v4\nleave-joint\nenter-joint autoleave=false r3 r4 v5\n";
-
-// The wanted configuration has no voter.
-const TO_NOBODY: &[u8] =
-    b"Voters:[1] VotersOutgoing:[] Learners:[] LearnersNext:[] AutoLeave:false\nVoters:[] VotersOutgoing:[] Learners:[] LearnersNext:[] AutoLeave:false\n";
-
-const NONE_WANTED: &[u8] = b"# no plan: the wanted configuration has no voter\n";
-
-// A mode, its input and its output, and how it ends.
-type Case = (Mode, &'static [u8], &'static [u8], Status);
-
-static CASES: [Case; 13] = [
-    (Mode::Lines, CHANGES, ANSWERS, Status::Clean),
-    (Mode::Check, CUT, NONE_DIFFERS, Status::Clean),
-    (Mode::Check, BARE, BARE_REPORT, Status::Different),
-    (Mode::Rewrite, CUT, WHOLE, Status::Clean),
-    (Mode::Rewrite, BARE, WHOLE, Status::Clean),
-    (Mode::Rewrite, OLD, REWRITTEN, Status::Clean),
-    (
-        Mode::Check,
-        ENTERED,
-        b"2 directives, 0 mismatches\n",
-        Status::Clean,
-    ),
-    (Mode::Rewrite, ENTERED, ENTERED, Status::Clean),
-    (Mode::Undo, ENTERED, BACK, Status::Clean),
-    (Mode::Undo, CUT, NO_PLAN, Status::Different),
-    (Mode::Undo, BARE, NO_PLAN, Status::Different),
-    (Mode::Plan, TWO, PLAN, Status::Clean),
-    (Mode::Plan, TO_NOBODY, NONE_WANTED, Status::Different),
-];
 
 fn run_mode<R: Source, W: Sink>(
     alloc: Global,

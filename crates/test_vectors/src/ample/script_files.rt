@@ -1,6 +1,6 @@
 //! Scripts and the items that are read of them and made, and the lines of inputs.
-use crate::devices::byte_by_byte;
-use crate::runtime::Runtime;
+use crate::ample::devices::byte_by_byte;
+use crate::ample::runtime::Runtime;
 use dd_file::device::{FromRead, Source};
 use dd_file::fault::FileFault;
 use dd_file::item::{Argument, Directive, Item};

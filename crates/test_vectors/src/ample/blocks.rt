@@ -1,6 +1,6 @@
 //! Writing whole texts and whole blocks.
-use crate::devices::{Stop, taking};
-use crate::runtime::Runtime;
+use crate::ample::devices::{Stop, taking};
+use crate::ample::runtime::Runtime;
 use dd_file::blocks::Blocks;
 use dd_file::device::Sink;
 use dd_file::writing::write_all;

@@ -8,8 +8,8 @@ use crate::texts::appends;
 use crate::twice::twice;
 use conf_change::{Changer, ConfState, Config, Floor, Refused, check};
 use conf_plan::{
-    Plan, PlanFault, PlanTextFault, StepRefused, apply_plan, changes_text, plan, print_plan,
-    read_plan,
+    Plan, PlanFault, PlanTextFault, StepRefused, apply_plan, changes_text, command_text, plan,
+    print_plan, read_plan,
 };
 use quorum_sets::{InlineIds, MemberSet, NoMemory, TreeIds};
 use std::alloc::Global;
@@ -42,7 +42,9 @@ static ROWS: [Row; 5] = [
         now: "Voters:[3] VotersOutgoing:[] Learners:[1 2] LearnersNext:[] AutoLeave:false",
         acknowledged: &[],
         target: "Voters:[3] VotersOutgoing:[1] Learners:[2] LearnersNext:[1] AutoLeave:false",
-        plan: "enter-joint autoleave=false v1 l3\nleave-joint\nenter-joint autoleave=false l1 v3\n",
+        plan: "enter-joint autoleave=false v1 l3\n\
+            leave-joint\n\
+            enter-joint autoleave=false l1 v3\n",
         shown: &[
             (
                 "voters=(3) learners=(1 2)",
@@ -82,7 +84,10 @@ static ROWS: [Row; 5] = [
         now: "Voters:[3] VotersOutgoing:[2] Learners:[] LearnersNext:[] AutoLeave:false",
         acknowledged: &[],
         target: "Voters:[2] VotersOutgoing:[1] Learners:[] LearnersNext:[] AutoLeave:false",
-        plan: "leave-joint\nenter-joint autoleave=false v1 r3\nleave-joint\nenter-joint autoleave=false r1 v2\n",
+        plan: "leave-joint\n\
+            enter-joint autoleave=false v1 r3\n\
+            leave-joint\n\
+            enter-joint autoleave=false r1 v2\n",
         shown: &[
             (
                 "voters=(3)&&(2)",
@@ -113,7 +118,9 @@ static ROWS: [Row; 5] = [
         now: "Voters:[1 2 3 4 5 6 7 8 9 10] VotersOutgoing:[1] Learners:[] LearnersNext:[] AutoLeave:false",
         acknowledged: &[],
         target: "Voters:[1] VotersOutgoing:[] Learners:[] LearnersNext:[] AutoLeave:false",
-        plan: "leave-joint\nenter-joint autoleave=false r2 r3 r4 r5 r6 r7 r8 r9 r10\nleave-joint\n",
+        plan: "leave-joint\n\
+            enter-joint autoleave=false r2 r3 r4 r5 r6 r7 r8 r9 r10\n\
+            leave-joint\n",
         shown: &[
             ("voters=(1 2 3 4 5 6 7 8 9 10)&&(1)", TEN),
             ("voters=(1 2 3 4 5 6 7 8 9 10)", TEN),
@@ -317,14 +324,32 @@ static NO_PLANS: [(&str, PlanTextFault); 8] = [
     ),
 ];
 
-// Whether the first step of a plan's text has these changes.
-fn has_changes(alloc: Global, text: &str, wanted: &str) -> bool {
+// A plan's text, and the command of its first step and its changes.
+static WORDS: [(&str, &str, &str); 5] = [
+    ("simple v1 r2 l03 u4\nleave-joint", "simple", "v1 r2 l3 u4"),
+    (
+        "enter-joint autoleave=true v18446744073709551615",
+        "enter-joint autoleave=true",
+        "v18446744073709551615",
+    ),
+    (
+        "enter-joint autoleave=false",
+        "enter-joint autoleave=false",
+        "",
+    ),
+    ("leave-joint", "leave-joint", ""),
+    ("simple", "simple", ""),
+];
+
+// Whether the first step of a plan's text has this command and these changes.
+fn is_worded(alloc: Global, text: &str, command: &str, wanted: &str) -> bool {
     match plan_of(alloc, text) {
         Ok(plan) => match plan.step(0) {
             Some(step) => {
                 let changes = step.changes();
-                twice(NoMemory, || changes_text(alloc, changes)).is_ok_and(|text| text.as_slice()
-                    == wanted.as_bytes())
+                let list = twice(NoMemory, || changes_text(alloc, changes));
+                (command_text(step) == command.as_bytes())
+                    & list.is_ok_and(|text| text.as_slice() == wanted.as_bytes())
             }
             None => false,
         },
@@ -337,12 +362,7 @@ fn texts_of_plans(rt: HostRuntime) {
     for (text, wanted) in &NO_PLANS {
         assert!(rt; plan_of(rt.alloc(), *text).err() == Some(*wanted), "{text}");
     }
-    assert!(rt; has_changes(rt.alloc(), "simple", ""));
-    assert!(rt;
-        has_changes(
-            rt.alloc(),
-            "simple v1 r2 l03 u4\nleave-joint",
-            "v1 r2 l3 u4"
-        )
-    );
+    for (text, command, changes) in &WORDS {
+        assert!(rt; is_worded(rt.alloc(), *text, *command, *changes), "{text}");
+    }
 }

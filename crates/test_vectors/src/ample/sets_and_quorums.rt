@@ -1,14 +1,11 @@
 //! Sets of ids, and the worked values of majorities, quorums, and of what is looked up.
-use crate::runtime::Runtime;
+use crate::ample::runtime::Runtime;
+use crate::sets::with_acks;
 use quorum_sets::{AckSource, MemberSet, TreeIds, common_member, has_next, is_quorum, quorum};
 use std::collections::BTreeMap;
 
 pub(crate) fn set_of(rt: &impl Runtime, ids: &[u64]) -> TreeIds {
-    let mut set = TreeIds::empty(rt.alloc());
-    for id in ids {
-        set.insert(*id).expect(rt, "a set");
-    }
-    set
+    TreeIds::of_list(rt.alloc(), ids).expect(rt, "a set")
 }
 
 #[test]
@@ -101,12 +98,7 @@ fn common_members(rt: HostRuntime) {
 }
 
 fn acks_of(rt: &impl Runtime, entries: &[(u64, u64)]) -> BTreeMap<u64, u64> {
-    let mut acks = BTreeMap::new(rt.alloc());
-    for (id, index) in entries {
-        let inserted: Result<_, _> = acks.insert(*id, *index);
-        inserted.expect(rt, "an entry");
-    }
-    acks
+    with_acks(rt.alloc(), entries).expect(rt, "entries")
 }
 
 #[test]

@@ -1,13 +1,12 @@
 //! Sessions.
 use crate::changers::is_same;
+use crate::files::first_item;
 use crate::plans::plan_of;
 use crate::twice::twice;
 use conf_change::Floor;
 use conf_session::{Session, UndoFault, undo_fault_text};
-use dd_file::device::FromRead;
 use dd_file::fault::FileFault;
 use dd_file::item::{Directive, Item};
-use dd_file::reader::Reader;
 use quorum_sets::NoMemory;
 use std::alloc::Global;
 
@@ -18,16 +17,28 @@ static JOINT: [Row; 5] = [
     (b"simple\nv1", b"voters=(1)\n1: StateProbe match=0 next=1\n"),
     (
         b"enter-joint\nr1 r2 r9 v2 v3 v4 v2 v3 v4 l2 l2 r4 r4 l1 l1",
-        b"voters=(3)&&(1) learners=(2) learners_next=(1)\n1: StateProbe match=0 next=1\n2: StateProbe match=0 next=1 learner\n3: StateProbe match=0 next=1\n",
+        b"voters=(3)&&(1) learners=(2) learners_next=(1)\n\
+        1: StateProbe match=0 next=1\n\
+        2: StateProbe match=0 next=1 learner\n\
+        3: StateProbe match=0 next=1\n",
     ),
     (
         b"leave-joint",
-        b"voters=(3) learners=(1 2)\n1: StateProbe match=0 next=1 learner\n2: StateProbe match=0 next=1 learner\n3: StateProbe match=0 next=1\n",
+        b"voters=(3) learners=(1 2)\n\
+        1: StateProbe match=0 next=1 learner\n\
+        2: StateProbe match=0 next=1 learner\n\
+        3: StateProbe match=0 next=1\n",
     ),
     (b"ack id=3 index=7", b"3: StateProbe match=7 next=8\n"),
     (
         b"undo",
-        b"enter-joint autoleave=false v1 l3\nleave-joint\nenter-joint autoleave=false l1 v3\nvoters=(3)&&(1) learners=(2) learners_next=(1)\n1: StateProbe match=0 next=1\n2: StateProbe match=0 next=1 learner\n3: StateProbe match=7 next=8\n",
+        b"enter-joint autoleave=false v1 l3\n\
+        leave-joint\n\
+        enter-joint autoleave=false l1 v3\n\
+        voters=(3)&&(1) learners=(2) learners_next=(1)\n\
+        1: StateProbe match=0 next=1\n\
+        2: StateProbe match=0 next=1 learner\n\
+        3: StateProbe match=7 next=8\n",
     ),
 ];
 
@@ -35,7 +46,9 @@ static UNDONE_TWICE: [Row; 5] = [
     (b"simple\nv1", b"voters=(1)\n1: StateProbe match=0 next=1\n"),
     (
         b"enter-joint\nr1 v2",
-        b"voters=(2)&&(1)\n1: StateProbe match=0 next=1\n2: StateProbe match=0 next=1\n",
+        b"voters=(2)&&(1)\n\
+        1: StateProbe match=0 next=1\n\
+        2: StateProbe match=0 next=1\n",
     ),
     (
         b"leave-joint",
@@ -43,21 +56,37 @@ static UNDONE_TWICE: [Row; 5] = [
     ),
     (
         b"enter-joint\nr2 v3",
-        b"voters=(3)&&(2)\n2: StateProbe match=0 next=1\n3: StateProbe match=0 next=3\n",
+        b"voters=(3)&&(2)\n\
+        2: StateProbe match=0 next=1\n\
+        3: StateProbe match=0 next=3\n",
     ),
     (
         b"undo steps=2",
-        b"leave-joint\nenter-joint autoleave=false v1 r3\nleave-joint\nenter-joint autoleave=false r1 v2\nvoters=(2)&&(1)\n1: StateProbe match=0 next=4\n2: StateProbe match=0 next=4\n",
+        b"leave-joint\n\
+        enter-joint autoleave=false v1 r3\n\
+        leave-joint\n\
+        enter-joint autoleave=false r1 v2\n\
+        voters=(2)&&(1)\n\
+        1: StateProbe match=0 next=4\n\
+        2: StateProbe match=0 next=4\n",
     ),
 ];
 
 static SAVED: [Row; 4] = [
     (
-        b"restore\nVoters:[1 2 3] VotersOutgoing:[1 2 4 6] Learners:[5] LearnersNext:[4] AutoLeave:false",
-        b"voters=(1 2 3)&&(1 2 4 6) learners=(5) learners_next=(4)\n1: StateProbe match=0 next=1\n2: StateProbe match=0 next=1\n3: StateProbe match=0 next=1\n4: StateProbe match=0 next=1\n5: StateProbe match=0 next=1 learner\n6: StateProbe match=0 next=1\n",
+        b"restore\n\
+        Voters:[1 2 3] VotersOutgoing:[1 2 4 6] Learners:[5] LearnersNext:[4] AutoLeave:false",
+        b"voters=(1 2 3)&&(1 2 4 6) learners=(5) learners_next=(4)\n\
+        1: StateProbe match=0 next=1\n\
+        2: StateProbe match=0 next=1\n\
+        3: StateProbe match=0 next=1\n\
+        4: StateProbe match=0 next=1\n\
+        5: StateProbe match=0 next=1 learner\n\
+        6: StateProbe match=0 next=1\n",
     ),
     (
-        b"restore\nVoters:[1 2 3] VotersOutgoing:[1 2 4 6] Learners:[5] LearnersNext:[7] AutoLeave:false",
+        b"restore\n\
+        Voters:[1 2 3] VotersOutgoing:[1 2 4 6] Learners:[5] LearnersNext:[7] AutoLeave:false",
         b"not a configuration\n",
     ),
     (
@@ -71,7 +100,12 @@ static DECIDED: [Row; 8] = [
     (b"committed", b"<empty majority quorum>\xe2\x88\x9e\n"),
     (
         b"committed cfg=(1,2,3,4) idx=(1,2,3,4)",
-        b"        idx\n>         1    (id=1)\nx>        2    (id=2)\nxx>       3    (id=3)\nxxx>      4    (id=4)\n2\n",
+        b"        idx\n\
+        >         1    (id=1)\n\
+        x>        2    (id=2)\n\
+        xx>       3    (id=3)\n\
+        xxx>      4    (id=4)\n\
+        2\n",
     ),
     (
         b"committed cfg=(1) cfgj=(2) idx=(100,_)",
@@ -98,17 +132,32 @@ static MANY: [Row; 4] = [
     ),
     (
         b"enter-joint\nv9 v8 v7 v6 v5 v4 v3 v2 v10",
-        b"voters=(1 2 3 4 5 6 7 8 9 10)&&(1)\n1: StateProbe match=0 next=1\n2: StateProbe match=0 next=2\n3: StateProbe match=0 next=2\n4: StateProbe match=0 next=2\n5: StateProbe match=0 next=2\n6: StateProbe match=0 next=2\n7: StateProbe match=0 next=2\n8: StateProbe match=0 next=2\n9: StateProbe match=0 next=2\n10: StateProbe match=0 next=2\n",
+        b"voters=(1 2 3 4 5 6 7 8 9 10)&&(1)\n\
+        1: StateProbe match=0 next=1\n\
+        2: StateProbe match=0 next=2\n\
+        3: StateProbe match=0 next=2\n\
+        4: StateProbe match=0 next=2\n\
+        5: StateProbe match=0 next=2\n\
+        6: StateProbe match=0 next=2\n\
+        7: StateProbe match=0 next=2\n\
+        8: StateProbe match=0 next=2\n\
+        9: StateProbe match=0 next=2\n\
+        10: StateProbe match=0 next=2\n",
     ),
     (
         b"undo",
-        b"leave-joint\nenter-joint autoleave=false r2 r3 r4 r5 r6 r7 r8 r9 r10\nleave-joint\nvoters=(1)\n1: StateProbe match=0 next=1\n",
+        b"leave-joint\n\
+        enter-joint autoleave=false r2 r3 r4 r5 r6 r7 r8 r9 r10\n\
+        leave-joint\n\
+        voters=(1)\n\
+        1: StateProbe match=0 next=1\n",
     ),
 ];
 
 static FROM_ZERO: [Row; 2] = [
     (
-        b"restore\nVoters:[2] VotersOutgoing:[] Learners:[] LearnersNext:[] AutoLeave:false",
+        b"restore\n\
+        Voters:[2] VotersOutgoing:[] Learners:[] LearnersNext:[] AutoLeave:false",
         b"voters=(2)\n2: StateProbe match=0 next=0\n",
     ),
     (
@@ -116,12 +165,6 @@ static FROM_ZERO: [Row; 2] = [
         b"voters=(1 2)\n1: StateProbe match=0 next=1\n2: StateProbe match=0 next=0\n",
     ),
 ];
-
-// The item that a text begins with.
-fn first_item(alloc: Global, text: &[u8]) -> Result<Option<Item>, FileFault> {
-    let mut reader = Reader::new(alloc)?;
-    reader.next(&mut FromRead::new(text))
-}
 
 // Whether two sessions are the same. It takes no memory.
 fn is_same_session(session: &Session, other: &Session) -> bool {

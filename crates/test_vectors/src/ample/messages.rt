@@ -1,5 +1,5 @@
 //! The messages of the error types, each value once, and that no two of one type are equal.
-use crate::runtime::Runtime;
+use crate::ample::runtime::Runtime;
 use conf_change::{AckFault, ConfStateFault, Invariant, Refused, RestoreFault, TokenFault};
 use conf_plan::{PlanFault, PlanTextFault, StepRefused};
 use conf_session::UndoFault;

@@ -1,5 +1,5 @@
 //! The words of the command line.
-use crate::runtime::Runtime;
+use crate::ample::runtime::Runtime;
 use conf_change::Floor;
 use conf_tool::command_line::command_line;
 use conf_tool::{Mode, Options};

@@ -143,8 +143,16 @@ static ACKNOWLEDGED: [Acknowledged; 5] = [
         acks: &[(1, 1), (2, 2), (3, 3), (4, 4)],
         committed: 2,
         joint_committed: 2,
-        chart: "        idx\n>         1    (id=1)\nx>        2    (id=2)\nxx>       3    (id=3)\nxxx>      4    (id=4)\n",
-        joint_chart: "        idx\n>         1    (id=1)\nx>        2    (id=2)\nxx>       3    (id=3)\nxxx>      4    (id=4)\n",
+        chart: "        idx\n\
+            >         1    (id=1)\n\
+            x>        2    (id=2)\n\
+            xx>       3    (id=3)\n\
+            xxx>      4    (id=4)\n",
+        joint_chart: "        idx\n\
+            >         1    (id=1)\n\
+            x>        2    (id=2)\n\
+            xx>       3    (id=3)\n\
+            xxx>      4    (id=4)\n",
     },
     Acknowledged {
         incoming: &[1],
@@ -161,8 +169,14 @@ static ACKNOWLEDGED: [Acknowledged; 5] = [
         acks: &[(1, 5), (3, 7)],
         committed: 5,
         joint_committed: 5,
-        chart: "       idx\nx>       5    (id=1)\n?        0    (id=2)\nxx>      7    (id=3)\n",
-        joint_chart: "       idx\nx>       5    (id=1)\n?        0    (id=2)\nxx>      7    (id=3)\n",
+        chart: "       idx\n\
+            x>       5    (id=1)\n\
+            ?        0    (id=2)\n\
+            xx>      7    (id=3)\n",
+        joint_chart: "       idx\n\
+            x>       5    (id=1)\n\
+            ?        0    (id=2)\n\
+            xx>      7    (id=3)\n",
     },
     Acknowledged {
         incoming: NINE,
@@ -180,12 +194,34 @@ static ACKNOWLEDGED: [Acknowledged; 5] = [
         ],
         committed: 5,
         joint_committed: 1,
-        chart: "             idx\n>              1    (id=1)\nx>             2    (id=2)\nxx>            3    (id=3)\nxxx>           4    (id=4)\nxxxx>          5    (id=5)\nxxxxx>         6    (id=6)\nxxxxxx>        7    (id=7)\nxxxxxxx>       8    (id=8)\nxxxxxxxx>      9    (id=9)\n",
-        joint_chart: "             idx\n>              1    (id=1)\nx>             2    (id=2)\nxx>            3    (id=3)\nxxx>           4    (id=4)\nxxxx>          5    (id=5)\nxxxxx>         6    (id=6)\nxxxxxx>        7    (id=7)\nxxxxxxx>       8    (id=8)\nxxxxxxxx>      9    (id=9)\n",
+        chart: "             idx\n\
+            >              1    (id=1)\n\
+            x>             2    (id=2)\n\
+            xx>            3    (id=3)\n\
+            xxx>           4    (id=4)\n\
+            xxxx>          5    (id=5)\n\
+            xxxxx>         6    (id=6)\n\
+            xxxxxx>        7    (id=7)\n\
+            xxxxxxx>       8    (id=8)\n\
+            xxxxxxxx>      9    (id=9)\n",
+        joint_chart: "             idx\n\
+            >              1    (id=1)\n\
+            x>             2    (id=2)\n\
+            xx>            3    (id=3)\n\
+            xxx>           4    (id=4)\n\
+            xxxx>          5    (id=5)\n\
+            xxxxx>         6    (id=6)\n\
+            xxxxxx>        7    (id=7)\n\
+            xxxxxxx>       8    (id=8)\n\
+            xxxxxxxx>      9    (id=9)\n",
     },
 ];
 
-fn with_acks(alloc: Global, entries: &[(u64, u64)]) -> Result<BTreeMap<u64, u64>, NoMemory> {
+/// The acknowledged indexes of some ids.
+pub(crate) fn with_acks(
+    alloc: Global,
+    entries: &[(u64, u64)],
+) -> Result<BTreeMap<u64, u64>, NoMemory> {
     let mut acks = BTreeMap::new(alloc);
     for (id, index) in entries {
         acks.insert(*id, *index)?;

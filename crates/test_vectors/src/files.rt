@@ -9,8 +9,12 @@ use dd_file::reader::Reader;
 use dd_file::rewriter::Rewriter;
 use std::alloc::{AllocError, Global};
 
-const SCRIPT: &[u8] =
-    b"# c\n\nsimple\nv1\n----\nvoters=(1)\n\nenter-joint autoleave=(true,false) \\\n  x\nr1 r2\nr9\n----\n----\na\n\nb\n----\n----\n\nsimple\nv2\n----";
+// A script, of which each line here is an item.
+const SCRIPT: &[u8] = b"# c\n\
+    \n\
+    simple\nv1\n----\nvoters=(1)\n\n\
+    enter-joint autoleave=(true,false) \\\n  x\nr1 r2\nr9\n----\n----\na\n\nb\n----\n----\n\n\
+    simple\nv2\n----";
 
 // The items: what stands in the script with `a` found, and what a directive expects.
 static ITEMS: [(&[u8], &[u8]); 5] = [
@@ -40,13 +44,24 @@ fn next_line<R: Source>(lines: &mut Lines, source: &mut R) -> Result<Option<Vec<
     }
 }
 
-// Whether an item is written again as it stands. This takes no memory.
+// Whether an item is written again so, with `a` found. This takes no memory.
 fn is_written(item: &Item, wanted: &'static [u8]) -> bool {
     let mut writer = ToWrite::new(Matching::with(wanted));
     let mut rewriter = Rewriter::new();
     let mut is_kept = rewriter.keep(&mut writer, item).is_ok();
     if let Item::Directive(_) = item {
-        is_kept &= rewriter.found(&mut writer, b"a\n").is_ok();
+        is_kept &= rewriter.found_full_lines(&mut writer, b"a\n").is_ok();
+    }
+    is_kept & rewriter.end(&mut writer).is_ok() & writer.into_inner().is_whole()
+}
+
+// The same with a blank line found.
+fn is_written_doubly(item: &Item, wanted: &'static [u8]) -> bool {
+    let mut writer = ToWrite::new(Matching::with(wanted));
+    let mut rewriter = Rewriter::new();
+    let mut is_kept = rewriter.keep(&mut writer, item).is_ok();
+    if let Item::Directive(_) = item {
+        is_kept &= rewriter.found(&mut writer, b"a\n\n").is_ok();
     }
     is_kept & rewriter.end(&mut writer).is_ok() & writer.into_inner().is_whole()
 }
@@ -164,4 +179,26 @@ fn made_items(rt: HostRuntime) {
         _ => false,
     };
     assert!(rt; is_made);
+}
+
+/// The item that a text begins with.
+pub(crate) fn first_item(alloc: Global, text: &[u8]) -> Result<Option<Item>, FileFault> {
+    let mut reader = Reader::new(alloc)?;
+    reader.next(&mut FromRead::new(text))
+}
+
+#[test]
+fn rewritten_directives(rt: HostRuntime) {
+    let found = twice(
+        FileFault::NoMemory,
+        || first_item(rt.alloc(), b"vote\n\n----\n"),
+    );
+    let is_so = match found {
+        Ok(Some(item)) => {
+            is_written(&item, b"vote\n\n----\na\n")
+                & is_written_doubly(&item, b"vote\n\n----\n----\na\n\n----\n----\n")
+        }
+        _ => false,
+    };
+    assert!(rt; is_so);
 }

@@ -1,5 +1,4 @@
 //! White space, words, lines and numbers in texts.
-use ascii_text::append::append_number;
 use ascii_text::cut::{far_place_of, place_of};
 use ascii_text::lines::{is_whole, line_of, next_piece, piece_len, without_end};
 use ascii_text::number::read_number;
@@ -123,13 +122,4 @@ fn reads_numbers(rt: HostRuntime) {
     for (place, (digits, wanted)) in NUMBERS.iter().enumerate() {
         assert!(rt; read_number(*digits) == *wanted, "row {place}");
     }
-}
-
-#[test]
-fn appends_numbers(rt: HostRuntime) {
-    let mut text = Vec::new(rt.alloc());
-    for number in [0, 9, 10, u64::MAX] {
-        append_number(&mut text, number).expect(&rt, "room");
-    }
-    assert!(rt; text.as_slice() == b"091018446744073709551615".as_slice());
 }
