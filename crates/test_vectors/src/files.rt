@@ -44,24 +44,18 @@ fn next_line<R: Source>(lines: &mut Lines, source: &mut R) -> Result<Option<Vec<
     }
 }
 
-// Whether an item is written again so, with `a` found. This takes no memory.
-fn is_written(item: &Item, wanted: &'static [u8]) -> bool {
+// Whether an item is written again so, with `a` found or that and a blank line. This takes no memory.
+fn is_written(item: &Item, is_double: bool, wanted: &'static [u8]) -> bool {
     let mut writer = ToWrite::new(Matching::with(wanted));
     let mut rewriter = Rewriter::new();
     let mut is_kept = rewriter.keep(&mut writer, item).is_ok();
     if let Item::Directive(_) = item {
-        is_kept &= rewriter.found_full_lines(&mut writer, b"a\n").is_ok();
-    }
-    is_kept & rewriter.end(&mut writer).is_ok() & writer.into_inner().is_whole()
-}
-
-// The same with a blank line found.
-fn is_written_doubly(item: &Item, wanted: &'static [u8]) -> bool {
-    let mut writer = ToWrite::new(Matching::with(wanted));
-    let mut rewriter = Rewriter::new();
-    let mut is_kept = rewriter.keep(&mut writer, item).is_ok();
-    if let Item::Directive(_) = item {
-        is_kept &= rewriter.found(&mut writer, b"a\n\n").is_ok();
+        let found = if is_double {
+            rewriter.found(&mut writer, b"a\n\n")
+        } else {
+            rewriter.found_full_lines(&mut writer, b"a\n")
+        };
+        is_kept &= found.is_ok();
     }
     is_kept & rewriter.end(&mut writer).is_ok() & writer.into_inner().is_whole()
 }
@@ -71,7 +65,7 @@ fn is_item(item: &Item, wanted: &'static [u8], expected: &[u8]) -> bool {
         Item::Directive(directive) => directive.expected() == expected,
         _ => expected.is_empty(),
     };
-    expects & is_written(item, wanted)
+    expects & is_written(item, false, wanted)
 }
 
 // Whether a reader gives the items, as far as it finds memory, and whether it does. Each is given back, so that the next
@@ -172,10 +166,10 @@ fn made_directive(alloc: Global) -> Result<Option<Item>, AllocError> {
 #[test]
 fn made_items(rt: HostRuntime) {
     let comment = twice(AllocError, || made_comment(rt.alloc()));
-    assert!(rt; comment.is_ok_and(|item| is_written(&item, b"# a\n")));
+    assert!(rt; comment.is_ok_and(|item| is_written(&item, false, b"# a\n")));
     let directive = twice(AllocError, || made_directive(rt.alloc()));
     let is_made = match directive {
-        Ok(Some(item)) => is_written(&item, b"simple x=(1,2)\n----\na\n"),
+        Ok(Some(item)) => is_written(&item, false, b"simple x=(1,2)\n----\na\n"),
         _ => false,
     };
     assert!(rt; is_made);
@@ -195,8 +189,8 @@ fn rewritten_directives(rt: HostRuntime) {
     );
     let is_so = match found {
         Ok(Some(item)) => {
-            is_written(&item, b"vote\n\n----\na\n")
-                & is_written_doubly(&item, b"vote\n\n----\n----\na\n\n----\n----\n")
+            is_written(&item, false, b"vote\n\n----\na\n")
+                & is_written(&item, true, b"vote\n\n----\n----\na\n\n----\n----\n")
         }
         _ => false,
     };
