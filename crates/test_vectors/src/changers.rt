@@ -3,8 +3,8 @@ use crate::sets::{has_ids, ids};
 use crate::texts::appends;
 use crate::twice::twice;
 use conf_change::{
-    Change, Changer, Changes, Refused, Step, Taken as StepKind, TokenFault, Transition,
-    read_changes, taken, union, write_config, write_progress, write_refused, write_token_fault,
+    Change, Changer, Changes, Refused, Step, StepKind, TokenFault, Transition, read_changes, taken,
+    union, write_config, write_progress, write_refused, write_token_fault,
 };
 use quorum_sets::{InlineIds, MemberSet, NoMemory, TreeIds};
 use std::alloc::Global;
@@ -274,14 +274,13 @@ fn is_stepped<S: MemberSet>(
 fn becomes<S: MemberSet>(
     mut other: Changer<S>,
     before: &Changer<S>,
-    step: (StepKind, &[Change]),
+    step: &Step,
     after: &Changer<S>,
     refused: Option<Refused>,
 ) -> bool {
-    let (kind, changes) = step;
-    let mut answer = other.become_next(before, kind, changes);
+    let mut answer = other.become_next(before, step.kind(), step.changes());
     if answer == Err(Refused::NoMemory) {
-        answer = other.become_next(before, kind, changes);
+        answer = other.become_next(before, step.kind(), step.changes());
     }
     let is_next = refused.is_some() || is_same(&other, after);
     let config = other.take_config();
@@ -300,17 +299,9 @@ fn is_row<S: MemberSet>(
     step: &Step,
 ) -> bool {
     let refused = row.2.err();
-    let changes = step.changes();
-    let kind = kind_of(row.0, changes);
-    let is_made = is_changed(alloc, changer, &copy, row, changes);
+    let is_made = is_changed(alloc, changer, &copy, row, step.changes());
     is_made
-        & becomes(
-            Changer::new(alloc, 9),
-            &copy,
-            (kind, changes),
-            changer,
-            refused,
-        )
+        & becomes(Changer::new(alloc, 9), &copy, step, changer, refused)
         & is_stepped(&mut copy, step, changer, refused)
 }
 

@@ -8,8 +8,8 @@ use crate::texts::appends;
 use crate::twice::twice;
 use conf_change::{Changer, ConfState, Config, Floor, Refused, check};
 use conf_plan::{
-    Plan, PlanFault, PlanTextFault, StepRefused, apply_plan, changes_text, command_text, plan,
-    print_plan, read_plan,
+    NoPath, Path, Plan, PlanFault, PlanTextFault, StepRefused, Strategy, apply_plan, changes_text,
+    command_text, plan, plan_by, print_plan, read_plan,
 };
 use quorum_sets::{InlineIds, MemberSet, NoMemory, TreeIds};
 use std::alloc::Global;
@@ -188,7 +188,16 @@ pub(crate) fn plan_of(alloc: Global, text: &str) -> Result<Plan, PlanTextFault> 
     )
 }
 
-// Whether this plan leads from one configuration to another.
+// Whether a path has the steps of a plan.
+fn has_steps(path: &Path, wanted: &Plan) -> bool {
+    let mut is_so = path.len() == wanted.len();
+    for index in 0..path.len() {
+        is_so &= path.step(index) == wanted.step(index);
+    }
+    is_so
+}
+
+// Whether this plan leads from one configuration to another, and the shortest path has its steps.
 fn is_planned<S: MemberSet>(
     alloc: Global,
     now: &Config<S>,
@@ -202,7 +211,11 @@ fn is_planned<S: MemberSet>(
         Err(PlanFault::NoMemory) => plan(alloc, now, target),
         answer => answer,
     };
-    answer.is_ok_and(|plan| plan == *wanted)
+    let path = match plan_by(alloc, Strategy::Shortest, now, target) {
+        Err(NoPath::NoMemory) => plan_by(alloc, Strategy::Shortest, now, target),
+        path => path,
+    };
+    answer.is_ok_and(|plan| plan == *wanted) & path.is_ok_and(|path| has_steps(&path, wanted))
 }
 
 fn leads<S: MemberSet>(alloc: Global, now: &Config<S>, target: &ConfState, wanted: &Plan) -> bool {
