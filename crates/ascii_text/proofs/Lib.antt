@@ -1,4 +1,5 @@
 pub mod Offered
+mod AppendedTexts
 mod WhiteSpace
 mod WordLemmas
 mod LineEnds

@@ -1,3 +1,4 @@
+pub mod Append
 pub mod WhiteSpace
 pub mod Words
 pub mod Lines

@@ -1,6 +1,7 @@
 -- The lines of a text.
 use Rattle.std.specs.Prelude.{ℕ, suc, Bool, false, List, [], ◌∷◌, ◌++◌, ◌==◌, map, flat_map, if◌then◌else◌}
 
+-- the byte that ends a line
 abbrev pub newline : List ℕ
 newline = 10 ∷ []
 

@@ -3,6 +3,7 @@ use Rattle.std.specs.Prelude.{ℕ, Bool, List, length, filter, nat_lt}
 use Rattle.std.specs.List.{slice_split}
 use Rattle.ascii_text.specs.WhiteSpace.{is_space}
 
+-- the text is not empty
 abbrev pub has_bytes : List ℕ → Bool
 has_bytes text = nat_lt 0 (length text)
 

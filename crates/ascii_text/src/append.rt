@@ -1,8 +1,31 @@
-//! Numbers that are appended to a text.
-ghost use Rattle.std.specs.Prelude.{◌≡◌, ◌<◌, ◌++◌, length, take, decimal, OnOk, OnErr};
+//! Parts of a text, appended one after another, and taken back together where memory runs out.
+ghost use Rattle.std.specs.Prelude.{◌≡◌, ◌<◌, ◌^◌, ◌++◌, length, take, replicate, decimal, OnOk, OnErr};
+ghost use Rattle.ascii_text.specs.Append.{Extends};
 
+use crate::no_memory::NoMemory;
 use itoa::write_digits;
 use std::alloc::AllocError;
+
+/// Appends a part. On `NoMemory` the text is unchanged.
+pub fn append(text: &mut Vec<u8>, part: &[u8]) -> Result<(), NoMemory>
+    ensures ok { OnOk result (text.new.items ≡ text.old.items ++ part.now) }
+    ensures err { OnErr result (text.new.items ≡ text.old.items) }
+    ensures extends { Extends text.old.items text.new.items }
+{
+    text.extend_from_slice(part)?;
+    Ok(())
+}
+
+/// Appends a byte `count` times. On `NoMemory` the text is unchanged.
+pub fn append_times(text: &mut Vec<u8>, byte: u8, count: usize) -> Result<(), NoMemory>
+    requires { count < 2 ^ 63 }
+    ensures ok { OnOk result (text.new.items ≡ text.old.items ++ replicate count byte) }
+    ensures err { OnErr result (text.new.items ≡ text.old.items) }
+    ensures extends { Extends text.old.items text.new.items }
+{
+    text.resize(text.len() + count, byte)?;
+    Ok(())
+}
 
 /// Appends a number in decimal. Where no memory is left the text is as it was. Most ids have one digit, which is
 /// pushed.
@@ -32,4 +55,20 @@ fn append_digits(text: &mut Vec<u8>, number: u64) -> Result<(), AllocError>
     write_digits(number, text.as_mut_slice(), end);
     text.truncate(end);
     Ok(())
+}
+
+/// Cuts a text back to its first `len` bytes if what was to be appended to them is not whole, and passes the result on.
+pub fn keep_whole(
+    text: &mut Vec<u8>,
+    len: usize,
+    appended: Result<(), NoMemory>,
+) -> Result<(), NoMemory>
+    ensures same { result ≡ appended }
+    ensures ok { OnOk appended (text.new.items ≡ text.old.items) }
+    ensures err { OnErr appended (text.new.items ≡ take len text.old.items) }
+{
+    if appended.is_err() {
+        text.truncate(len);
+    }
+    appended
 }

@@ -4,4 +4,3 @@ pub mod Entries
 pub mod OfEachId
 pub mod Picked
 pub mod Acknowledged
-pub mod Cut

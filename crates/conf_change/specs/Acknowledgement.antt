@@ -13,13 +13,13 @@ acknowledged index p =
     if nat_lt p.matched index then record { matched = index; next = max p.next (index + 1); learner = p.learner } else p
 
 -- the same where there is progress, which only members have; nothing follows the greatest index, so that one is refused
-abbrev pub acknowledged_by : Option Progress → ℕ → Result Progress AckFault
-acknowledged_by None index = Err NotMember
-acknowledged_by (Some was) index = if index == greatest_index then Err IndexTooLarge else Ok (acknowledged index was)
+abbrev pub acknowledged_progress : Option Progress → ℕ → Result Progress AckFault
+acknowledged_progress None index = Err NotMember
+acknowledged_progress (Some was) index = if index == greatest_index then Err IndexTooLarge else Ok (acknowledged index was)
 
 -- the progress of an id after it acknowledges an index, or why that is refused
 abbrev pub ack_answer : TrackerState → ℕ → ℕ → Result Progress AckFault
-ack_answer tracker id index = acknowledged_by (finite.get tracker.progress id) index
+ack_answer tracker id index = acknowledged_progress (finite.get tracker.progress id) index
 
 -- the tracker where the id has this progress
 abbrev pub with_progress : TrackerState → ℕ → Progress → TrackerState

@@ -7,12 +7,14 @@ use Rattle.conf_change.specs.declared.change.Change.{Change}
 use Rattle.conf_change.specs.declared.change.Kind.{Kind}
 use Rattle.conf_change.specs.declared.change.Kind.TheVariants.{Voter, Learner, Remove, Update}
 
+-- the kind changes nothing
 abbrev pub is_update : Kind → Bool
 is_update Voter = false
 is_update Learner = false
 is_update Remove = false
 is_update Update = true
 
+-- the kind removes its id
 abbrev pub is_removal : Kind → Bool
 is_removal Voter = false
 is_removal Learner = false

@@ -32,6 +32,7 @@ pub data BadToken : Type 0 where
   unknown_input : List ℕ → BadToken
   bad_number : List ℕ → BadToken
 
+-- the token itself
 abbrev pub token_of : BadToken → List ℕ
 token_of (unknown_token token) = token
 token_of (unknown_input token) = token
@@ -65,10 +66,12 @@ kind_in byte =
     if byte == 118 then Some Voter else (if byte == 108 then Some Learner
     else (if byte == 114 then Some Remove else (if byte == 117 then Some Update else None)))
 
+-- the change of a kind and a number, or that the number is bad
 abbrev pub with_number : List ℕ → Kind → Option ℕ → Result Change BadToken
 with_number token kind None = Err (bad_number token)
 with_number token kind (Some id) = Ok (record { kind = kind; id = id })
 
+-- the change of a kind and the digits after its letter, or an unknown input
 abbrev pub with_kind : List ℕ → Option Kind → List ℕ → Result Change BadToken
 with_kind token None rest = Err (unknown_input token)
 with_kind token (Some kind) rest = with_number token kind (number_in rest)
@@ -79,11 +82,13 @@ change_in [] = Err (unknown_token [])
 change_in (letter ∷ []) = Err (unknown_token (letter ∷ []))
 change_in (letter ∷ digit ∷ rest) = with_kind (letter ∷ digit ∷ rest) (kind_in letter) (digit ∷ rest)
 
+-- a change before others; the first bad token decides
 abbrev pub and_more : Result Change BadToken → Result (List Change) BadToken → Result (List Change) BadToken
 and_more (Err bad) others = Err bad
 and_more (Ok change) (Err bad) = Err bad
 and_more (Ok change) (Ok changes) = Ok (change ∷ changes)
 
+-- the changes of the tokens, or the first bad token
 abbrev pub changes_in_words : List (List ℕ) → Result (List Change) BadToken
 changes_in_words [] = Ok []
 changes_in_words (token ∷ tokens) = and_more (change_in token) (changes_in_words tokens)

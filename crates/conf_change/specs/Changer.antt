@@ -46,6 +46,7 @@ moved_to changer step after = record {
   last_index = changer.last_index;
 }
 
+-- the changer after the outcome of a step
 abbrev pub moved_by : ChangerState → Step → Outcome → Result ChangerState Refused
 moved_by changer step (Ok after) = Ok (moved_to changer step after)
 moved_by changer step (Err why) = Err why

@@ -8,6 +8,7 @@ pub record ChangerState : Type 0 where
   pub tracker : TrackerState
   pub last_index : ℕ
 
+-- a changer as numbers, which is how a model is stored
 abbrev pub changer_code : Coded ChangerState
 changer_code =
     code_by (TrackerState × ℕ) (coded× tracker_code coded_ℕ)

@@ -20,6 +20,7 @@ is_same_form a b =
     pointwise nat_eq a.voters b.voters && pointwise nat_eq a.voters_outgoing b.voters_outgoing
     && pointwise nat_eq a.learners b.learners && pointwise nat_eq a.learners_next b.learners_next && beq a.auto_leave b.auto_leave
 
+-- being the same form is symmetric and transitive
 pub is_same_form-laws : IsPartialEquivalence is_same_form
 is_same_form-laws =
     let lists = lists_per (partial_equiv_from_equiv nat_eq_equiv) in

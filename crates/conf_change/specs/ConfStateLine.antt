@@ -7,6 +7,7 @@ use Rattle.ascii_text.specs.Number.{SpellsNumber, number_in}
 use Rattle.conf_change.specs.Text.{spaced_numbers}
 use Rattle.conf_change.specs.ConfState.{ConfStateLists}
 
+-- a truth value as it is printed
 abbrev pub truth_text : Bool → List ℕ
 truth_text truth = if truth then codes "true" else codes "false"
 
@@ -43,22 +44,26 @@ pub record StandsForConfState (text : List ℕ) (saved : ConfStateLists) : Type 
 abbrev pub after_prefix : List ℕ → List ℕ → Option (List ℕ)
 after_prefix prefix text = if bytes_eq (take (length prefix) text) prefix then Some (drop (length prefix) text) else None
 
+-- a number before others, if all are numbers
 abbrev pub and_number : Option ℕ → Option (List ℕ) → Option (List ℕ)
 and_number None others = None
 and_number (Some number) None = None
 and_number (Some number) (Some numbers) = Some (number ∷ numbers)
 
+-- the numbers of the pieces, if each is one
 abbrev pub numbers_in_pieces : List (List ℕ) → Option (List ℕ)
 numbers_in_pieces [] = Some []
 numbers_in_pieces (piece ∷ pieces) = and_number (number_in piece) (numbers_in_pieces pieces)
 
-abbrev pub is_space : ℕ → Bool
-is_space byte = byte == 32
+-- the one space between numbers
+abbrev pub is_space_byte : ℕ → Bool
+is_space_byte byte = byte == 32
 
 -- the numbers that a text has with one space between; the empty text has none
 abbrev pub numbers_in : List ℕ → Option (List ℕ)
-numbers_in text = if has_bytes text then numbers_in_pieces (slice_split is_space text) else Some []
+numbers_in text = if has_bytes text then numbers_in_pieces (slice_split is_space_byte text) else Some []
 
+-- the bracket that ends a list
 abbrev pub is_close : ℕ → Bool
 is_close byte = byte == 93
 
@@ -68,11 +73,12 @@ field_in prefix text =
     option_and_then (λ rest. option_map (λ numbers. (numbers, drop (position_or_len is_close rest) rest)) (numbers_in (before_first is_close rest))) (after_prefix prefix text)
 
 -- the truth value behind the last field
-abbrev pub flag_in : List ℕ → Option Bool
-flag_in text =
+abbrev pub auto_leave_in : List ℕ → Option Bool
+auto_leave_in text =
     if bytes_eq text (codes "] AutoLeave:true") then Some true
     else (if bytes_eq text (codes "] AutoLeave:false") then Some false else None)
 
+-- what is found is read on
 infixl 10 ◌>>=◌
 abbrev pub ◌>>=◌ : {A B : Type 0} → Option A → (A → Option B) → Option B
 found >>= more = option_and_then more found
@@ -84,7 +90,7 @@ line_in line = do
   voters_outgoing ← field_in (codes "] VotersOutgoing:[") voters.1
   learners ← field_in (codes "] Learners:[") voters_outgoing.1
   learners_next ← field_in (codes "] LearnersNext:[") learners.1
-  auto_leave ← flag_in learners_next.1
+  auto_leave ← auto_leave_in learners_next.1
   Some (record { voters = voters.0; voters_outgoing = voters_outgoing.0; learners = learners.0; learners_next = learners_next.0; auto_leave = auto_leave })
 
 -- the saved configuration that a text stands for

@@ -5,6 +5,7 @@ use Rattle.conf_change.specs.declared.floor.Floor.{Floor}
 use Rattle.conf_change.specs.declared.floor.Floor.TheVariants.{Zero, One}
 use Rattle.conf_change.specs.declared.progress.Progress.{Progress}
 
+-- the least fresh next
 abbrev pub number_of : Floor → ℕ
 number_of Zero = 0
 number_of One = 1
@@ -23,13 +24,16 @@ abbrev pub is_one : Floor → Bool
 is_one Zero = false
 is_one One = true
 
+-- the floor by whether it is one
 abbrev pub floor_of : Bool → Floor
 floor_of false = Zero
 floor_of true = One
 
+-- a floor is known by whether it is one
 pub floor-again : (floor : Floor) → floor_of (is_one floor) ≡ floor
 floor-again Zero = refl
 floor-again One = refl
 
+-- a floor as a truth value
 abbrev pub floor_code : Coded Floor
 floor_code = code_by Bool coded_bool is_one floor_of floor-again

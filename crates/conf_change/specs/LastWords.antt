@@ -33,14 +33,16 @@ abbrev pub last_said : List LastWord → ℕ → Option Kind
 last_said [] id = None
 last_said (word ∷ words) id = later_of (if id == word.id then word.last else None) (last_said words id)
 
+-- whether an entry of the id says that it is removed
 abbrev pub removal_said : List LastWord → ℕ → Bool
 removal_said words id = list_any (λ word. (word.id == id) && word.removes) words
 
+-- whether an entry is of the id
 abbrev pub has_entry : List LastWord → ℕ → Bool
 has_entry words id = list_any (λ word. id == word.id) words
 
 -- one more entry: joined to the last one where that is of the same id, else put behind it
-pub record IsAdded (before : List LastWord) (word : LastWord) (after : List LastWord) : Type 0 where
+pub record IsEntryAdded (before : List LastWord) (word : LastWord) (after : List LastWord) : Type 0 where
   pub cases : ((front : List LastWord) × (last : LastWord) × (before ≡ front ++ last ∷ []) × (last.id ≡ word.id) × (after ≡ front ++ and_later last word ∷ []))
       ⊎ (((front : List LastWord) × (last : LastWord) × (before ≡ front ++ last ∷ []) × (last.id ≢ word.id) × (after ≡ before ++ word ∷ []))
       ⊎ ((before ≡ []) × (after ≡ word ∷ [])))

@@ -1,6 +1,6 @@
 -- The three changes of a configuration: what each gives, or why it is refused.
-use Rattle.std.specs.Prelude.{Bool, false, not, List, ◌++◌, Result, Ok, Err, nat_lt, if◌then◌else◌}
-use Rattle.quorum_sets.specs.Ids.{no_ids, ascending, ids_of, difference_count}
+use Rattle.std.specs.Prelude.{Bool, false, not, List, Result, Ok, Err, nat_lt, if◌then◌else◌}
+use Rattle.quorum_sets.specs.Ids.{no_ids, union, difference_count}
 use Rattle.conf_change.specs.Configuration.{Configuration, is_joint, has_voter}
 use Rattle.conf_change.specs.Change.{result_of}
 use Rattle.conf_change.specs.declared.change.Change.{Change}
@@ -40,7 +40,7 @@ abbrev pub after_leave : Configuration → Configuration
 after_leave c = record {
   incoming = c.incoming;
   outgoing = no_ids;
-  learners = ids_of (ascending c.learners ++ ascending c.learners_next);
+  learners = union c.learners c.learners_next;
   learners_next = no_ids;
   auto_leave = false;
 }

@@ -18,5 +18,6 @@ is_same_change-laws =
 abbrev pub is_same_list : List Change → List Change → Bool
 is_same_list = pointwise is_same_change
 
+-- being the same list is symmetric and transitive
 pub is_same_list-laws : IsPartialEquivalence is_same_list
 is_same_list-laws = lists_per is_same_change-laws

@@ -1,16 +1,13 @@
 -- The printed texts of configurations, progress and refusals.
 use Rattle.std.specs.Prelude.{◌≡◌, ℕ, Bool, not, List, [], ◌++◌, map, length, take, codes, decimal, nat_lt, if◌then◌else◌}
 use Rattle.std.specs.List.{join_with_byte}
+pub use Rattle.ascii_text.specs.Append.{Extends}
 use Rattle.quorum_sets.specs.Ids.{Ids, ascending, is_empty}
 use Rattle.conf_change.specs.Configuration.{Configuration, is_joint}
 use Rattle.conf_change.specs.ChangeList.{BadToken, unknown_token, unknown_input, bad_number}
 use Rattle.conf_change.specs.declared.progress.Progress.{Progress}
 use Rattle.conf_change.specs.declared.refused.Refused.{Refused}
 use Rattle.conf_change.specs.declared.refused.Refused.TheVariants.{AlreadyJoint, ZeroVoterJoint, NotJoint, SimpleInJoint, RemovedAllVoters, MoreThanOneVoter, NoMemory}
-
--- a text that begins with what it was
-pub record Extends (old new : List ℕ) : Type 0 where
-  pub begins : take (length old) new ≡ old
 
 -- a part that is there or left out
 abbrev pub where_there : Bool → List ℕ → List ℕ

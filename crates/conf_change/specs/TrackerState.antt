@@ -19,11 +19,13 @@ pub record TrackerState : Type 0 where
   pub progress : ProgressMap
   pub floor : Floor
 
+-- a progress as numbers
 abbrev pub progress_code : Coded Progress
 progress_code =
     code_by (ℕ × (ℕ × Bool)) (coded× coded_ℕ (coded× coded_ℕ coded_bool))
     (λ p. (p.matched, (p.next, p.learner))) (λ p. record { matched = p.0; next = p.1.0; learner = p.1.1 }) (λ _. refl)
 
+-- a tracker as numbers
 abbrev pub tracker_code : Coded TrackerState
 tracker_code =
     code_by (Configuration × (ProgressMap × Floor)) (coded× configuration_code (coded× (finite.code coded_ℕ progress_code) floor_code))

@@ -16,6 +16,7 @@ taken_of Auto (_ ∷ _ ∷ _) = kind.Enter true
 taken_of Implicit _ = kind.Enter true
 taken_of Explicit _ = kind.Enter false
 
+-- the step of this kind, with its list
 abbrev pub step_of : StepKind → List Change → Step
 step_of kind.Simple changes = Simple changes
 step_of (kind.Enter auto_leave) changes = EnterJoint auto_leave changes

@@ -1,19 +1,11 @@
-//! Parts of a text, appended one after another, and taken back together where the last of them found no memory.
-ghost use Rattle.std.specs.Prelude.{◌≡◌, ◌++◌, take, OnOk, OnErr};
+//! Parts of a text: one that may be left out, and numbers.
+ghost use Rattle.std.specs.Prelude.{◌≡◌, ◌++◌, OnOk};
+ghost use Rattle.ascii_text.specs.Append.{Extends};
 ghost use Rattle.conf_change.specs.ConfStateLine.{SpellsNumbers};
-ghost use Rattle.conf_change.specs.Text.{Extends, where_there, spaced_number, spaced_numbers};
+ghost use Rattle.conf_change.specs.Text.{where_there, spaced_number, spaced_numbers};
 
-use ascii_text::append::append_number;
-use quorum_sets::NoMemory;
-
-// Appends a part.
-pub(crate) fn append(text: &mut Vec<u8>, part: &[u8]) -> Result<(), NoMemory>
-    ensures ok { OnOk result (text.new.items ≡ text.old.items ++ part.now) }
-    ensures extends { Extends text.old.items text.new.items }
-{
-    text.extend_from_slice(part)?;
-    Ok(())
-}
+use ascii_text::NoMemory;
+use ascii_text::append::{append, append_number};
 
 // Appends a part that is there, or nothing.
 pub(crate) fn append_where(text: &mut Vec<u8>, there: bool, part: &[u8]) -> Result<(), NoMemory>
@@ -49,20 +41,4 @@ pub(crate) fn append_numbers(text: &mut Vec<u8>, numbers: &[u64]) -> Result<(), 
         append_number_at(text, place, *number)?;
     }
     Ok(())
-}
-
-// Takes back what stands behind the first bytes, where it is not the whole of what was to be appended to them.
-pub(crate) fn keep_whole(
-    text: &mut Vec<u8>,
-    len: usize,
-    appended: Result<(), NoMemory>,
-) -> Result<(), NoMemory>
-    ensures same { result ≡ appended }
-    ensures ok { OnOk appended (text.new.items ≡ text.old.items) }
-    ensures err { OnErr appended (text.new.items ≡ take len text.old.items) }
-{
-    if appended.is_err() {
-        text.truncate(len);
-    }
-    appended
 }

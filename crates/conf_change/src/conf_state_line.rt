@@ -1,13 +1,15 @@
 //! The line of a saved configuration, written and read. The form of the line is own.
 ghost use Rattle.std.specs.Prelude.{◌≡◌, ◌<◌, ◌≤◌, [], ◌∷◌, ◌++◌, Some, None, Err, length, drop, IfOk, OnOk, OnErr};
 ghost use Rattle.std.specs.List.{slice_split};
-ghost use Rattle.conf_change.specs.Text.{Extends, spaced_numbers};
+ghost use Rattle.ascii_text.specs.Append.{Extends};
+ghost use Rattle.conf_change.specs.Text.{spaced_numbers};
 ghost use Rattle.conf_change.specs.ConfState.{ConfStateLists};
 ghost use Rattle.conf_change.specs.ConfStateLine as line;
-ghost use Rattle.conf_change.specs.ConfStateLine.{SpellsNumbers, StandsForConfState, conf_state_text, conf_state_in, numbers_in, field_in, line_in, flag_in, is_space};
+ghost use Rattle.conf_change.specs.ConfStateLine.{SpellsNumbers, StandsForConfState, conf_state_text, conf_state_in, numbers_in, field_in, line_in, auto_leave_in, is_space_byte};
 
-use crate::append::{append, append_numbers, keep_whole};
+use crate::append::append_numbers;
 use crate::conf_state_form::{ConfState, ConfStateFault};
+use ascii_text::append::{append, keep_whole};
 use ascii_text::cut::{far_place_of, place_of};
 use ascii_text::number::read_number;
 use ascii_text::white_space::trimmed;
@@ -150,8 +152,8 @@ fn read_numbers(alloc: Global, text: &[u8]) -> Result<Vec<u64>, ConfStateFault>
 
 // What stands before the first space, and the text from that space on.
 fn first_piece(text: &[u8]) -> (&[u8], &[u8])
-    ensures last { length result.1.now ≡ 0 → slice_split is_space text.now ≡ result.0.now ∷ [] }
-    ensures more { 0 < length result.1.now → slice_split is_space text.now ≡ result.0.now ∷ slice_split is_space (drop 1 result.1.now) }
+    ensures last { length result.1.now ≡ 0 → slice_split is_space_byte text.now ≡ result.0.now ∷ [] }
+    ensures more { 0 < length result.1.now → slice_split is_space_byte text.now ≡ result.0.now ∷ slice_split is_space_byte (drop 1 result.1.now) }
     ensures within { length result.1.now ≤ length text.now }
 {
     text.split_at(place_of(text, b' '))
@@ -159,7 +161,7 @@ fn first_piece(text: &[u8]) -> (&[u8], &[u8])
 
 // Reads the last field.
 fn read_flag(text: &[u8]) -> Option<bool>
-    ensures { result ≡ flag_in text.now }
+    ensures { result ≡ auto_leave_in text.now }
 {
     if text == b"] AutoLeave:true".as_slice() {
         Some(true)

@@ -2,9 +2,10 @@
 ghost use Rattle.std.specs.Prelude.{◌≡◌, ◌↔◌, Some, true, false, not, ◌&&◌, IfOk, IfErr, OnOk, OnErr, IsOk, IsTrue, if◌then◌else◌};
 ghost use Rattle.quorum_sets.specs.Ids.{has};
 ghost use Rattle.conf_change.specs.Configuration.{empty_configuration, first_broken, is_valid, keeps, is_within, is_apart, is_same, is_same_set};
+ghost use Rattle.conf_change.specs.Outcome.{after_leave};
 ghost use Rattle.conf_change.specs.declared.config.Invariant.{Invariant};
 
-use quorum_sets::{MemberSet, NoMemory, has_next, symdiff};
+use quorum_sets::{MemberSet, NoMemory, has_next, symdiff, union};
 use std::alloc::Global;
 use std::marker::Model;
 use thiserror::Error;
@@ -84,6 +85,20 @@ impl<S: MemberSet> Config<S> {
             learners: self.learners.try_clone()?,
             learners_next: self.learners_next.try_clone()?,
             auto_leave: self.auto_leave,
+        })
+    }
+
+    // What is left of a joint configuration: without the outgoing voters, and the next learners are learners.
+    pub(crate) fn after_leave(&self) -> Result<Config<S>, NoMemory>
+        ensures { IfOk result (λ config. config ≡ after_leave self.now) }
+    {
+        let alloc = self.incoming.allocator();
+        Ok(Config {
+            incoming: self.incoming.try_clone()?,
+            outgoing: S::empty(alloc),
+            learners: union(&self.learners, &self.learners_next)?,
+            learners_next: S::empty(alloc),
+            auto_leave: false,
         })
     }
 

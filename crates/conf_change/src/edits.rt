@@ -1,8 +1,6 @@
-//! Edits of a configuration: one change, what is left of a joint one, and the ids of two sets. Members' progress is no matter here.
-ghost use Rattle.std.specs.Prelude.{◌≡◌, ◌≢◌, [], ◌∷◌, ◌++◌, IfOk, OnOk, OnErr};
-ghost use Rattle.quorum_sets.specs.Ids.{no_ids, ids_of, ascending};
+//! Changes of a configuration, one at a time. Progress is not touched.
+ghost use Rattle.std.specs.Prelude.{◌≡◌, ◌≢◌, [], ◌∷◌, IfOk, OnOk, OnErr};
 ghost use Rattle.conf_change.specs.Change.{result_of};
-ghost use Rattle.conf_change.specs.Outcome.{after_leave};
 ghost use Rattle.conf_change.specs.Seat.{membership_in};
 ghost use Rattle.conf_change.specs.declared.change.Change.{Change};
 
@@ -10,7 +8,6 @@ use crate::change::{Change, Kind};
 use crate::config::Config;
 use crate::seat::Membership;
 use quorum_sets::{MemberSet, NoMemory};
-use smallvec::SmallVec;
 
 // Makes one change, and answers what its id is then. After want of memory the configuration is as it was.
 pub(crate) fn apply<S: MemberSet>(
@@ -81,77 +78,4 @@ fn take_out<S: MemberSet>(config: &mut Config<S>, id: u64) -> Membership
         member: config.outgoing.contains(id),
         learner: false,
     }
-}
-
-// Makes a configuration what another one is when it is not joint any more: the outgoing voters are gone, and the next
-// learners are learners. Where memory is wanting, it is left on the way.
-pub(crate) fn leave<S: MemberSet>(
-    config: &mut Config<S>,
-    before: &Config<S>,
-) -> Result<(), NoMemory>
-    ensures { OnOk result (config.new ≡ after_leave before.now) }
-{
-    config.incoming.try_clone_from(&before.incoming)?;
-    clear(&mut config.outgoing);
-    become_union(
-        &mut config.learners,
-        &before.learners,
-        &before.learners_next,
-    )?;
-    clear(&mut config.learners_next);
-    config.auto_leave = false;
-    Ok(())
-}
-
-// Takes all ids out of a set. An empty one stays as it is.
-fn clear<S: MemberSet>(set: &mut S)
-    ensures { S.ids set.new ≡ no_ids }
-{
-    if set.len() != 0 {
-        *set = S::empty(set.allocator());
-    }
-}
-
-// Makes a set that of the ids of two others. Where one of them is empty, that is a copy over the memory that the set has.
-fn become_union<S: MemberSet>(set: &mut S, a: &S, b: &S) -> Result<(), NoMemory>
-    ensures { OnOk result (S.ids set.new ≡ ids_of (ascending (S.ids a.now) ++ ascending (S.ids b.now))) }
-{
-    if b.len() == 0 {
-        return set.try_clone_from(a);
-    }
-    if a.len() == 0 {
-        return set.try_clone_from(b);
-    }
-    *set = union(a, b)?;
-    Ok(())
-}
-
-/// The ids of both sets.
-pub fn union<S: MemberSet>(a: &S, b: &S) -> Result<S, NoMemory>
-    ensures { IfOk result (λ both. S.ids both ≡ ids_of (ascending (S.ids a.now) ++ ascending (S.ids b.now))) }
-{
-    if b.len() == 0 {
-        return a.try_clone();
-    }
-    if a.len() == 0 {
-        return b.try_clone();
-    }
-    let alloc = a.allocator();
-    let mut ids = SmallVec::new(alloc);
-    append_ids(&mut ids, a)?;
-    append_ids(&mut ids, b)?;
-    S::of_list(alloc, ids.as_slice())
-}
-
-// Appends the ids of a set to a list.
-fn append_ids<S: MemberSet>(ids: &mut SmallVec<u64, 16>, set: &S) -> Result<(), NoMemory>
-    ensures { OnOk result (ids.new.items ≡ ids.old.items ++ ascending (S.ids set.now)) }
-{
-    ids.reserve(set.len())?;
-    for place in 0..set.len() {
-        if let Some(id) = set.at(place) {
-            ids.push(id)?;
-        }
-    }
-    Ok(())
 }

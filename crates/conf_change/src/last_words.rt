@@ -1,7 +1,7 @@
 //! What a list of changes says of each id: one entry an id, in rising order.
 ghost use Rattle.std.specs.Prelude.{◌≡◌, [], ◌∷◌, ◌++◌, map, option_to_list, IfOk, OnOk, IsNone};
 ghost use Rattle.std.specs.List.Sorted.{IsNonDecreasingBy};
-ghost use Rattle.conf_change.specs.LastWords.{silent, own_word, and_later, IsAdded, Joins, ListsLastWords};
+ghost use Rattle.conf_change.specs.LastWords.{silent, own_word, and_later, IsEntryAdded, Joins, ListsLastWords};
 
 use crate::change::{Change, Kind};
 use crate::progress::Progress;
@@ -118,7 +118,7 @@ fn add(
     word: LastWord,
 ) -> Result<LastWord, NoMemory>
     requires { IsNone last → words.old.items ≡ [] }
-    ensures { IfOk result (λ added. IsAdded (words.old.items ++ option_to_list last) word (words.new.items ++ added ∷ [])) }
+    ensures { IfOk result (λ added. IsEntryAdded (words.old.items ++ option_to_list last) word (words.new.items ++ added ∷ [])) }
 {
     match last {
         Some(last) if last.id == word.id => Ok(last.and_later(word)),

@@ -3,7 +3,6 @@ ghost use Rattle.std.specs.Prelude.{◌≡◌, ℕ, true, length, ◌==◌, Some
 ghost use Rattle.std.specs.Ordering.{nat_cmp};
 ghost use Rattle.std.specs.FinMap as finite;
 ghost use Rattle.smallvec.specs.SmallVec.{HasRoomFor};
-ghost use Rattle.quorum_sets.specs.Cut.{IsCut};
 ghost use Rattle.quorum_sets.specs.Rising.{IsRising, StandsAt, GoesTo};
 ghost use Rattle.conf_change.specs.Progress.{fresh_progress, with_mark};
 ghost use Rattle.conf_change.specs.TrackerEdits.{entry_of};
@@ -89,44 +88,12 @@ fn take_out(members: &mut SmallVec<(u64, Progress), 1>, id: u64)
     }
 }
 
-// Up to how many members are all looked at.
-const FEW: usize = 16;
-
-// Where the id stands, or else where it goes.
+// The index of the member with this id, or else the index where it is to be inserted.
 fn place_of(members: &[(u64, Progress)], id: u64) -> Result<usize, usize>
     requires { IsRising (map (λ m. m.0) members.now) }
     ensures { MatchResult result (λ place. StandsAt (map (λ m. m.0) members.now) id place) (λ place. GoesTo (map (λ m. m.0) members.now) id place) }
 {
-    if members.len() <= FEW {
-        place_among_few(members, id)
-    } else {
-        members.binary_search_by_key(&id, |member| member.0)
-    }
-}
-
-// The same by the count of those below it: that takes no branch by what the ids are, as a search does.
-fn place_among_few(members: &[(u64, Progress)], id: u64) -> Result<usize, usize>
-    requires { IsRising (map (λ m. m.0) members.now) }
-    ensures { MatchResult result (λ place. StandsAt (map (λ m. m.0) members.now) id place) (λ place. GoesTo (map (λ m. m.0) members.now) id place) }
-{
-    let place = count_below(members, id);
-    if place < members.len() && members[place].0 == id {
-        Ok(place)
-    } else {
-        Err(place)
-    }
-}
-
-// How many members' ids are below this one.
-fn count_below(members: &[(u64, Progress)], id: u64) -> usize
-    requires { IsRising (map (λ m. m.0) members.now) }
-    ensures { IsCut (map (λ m. m.0) members.now) id (length members.now) result }
-{
-    let mut count = 0;
-    for member in members {
-        count += usize::from(member.0 < id);
-    }
-    count
+    members.binary_search_by_key(&id, |member| member.0)
 }
 
 // Marks the member at a place, which keeps its progress.

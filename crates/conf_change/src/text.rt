@@ -1,15 +1,16 @@
 //! The printed texts of configurations, progress and refusals, as the test scripts of etcd's raft packages have them.
 ghost use Rattle.std.specs.Prelude.{◌≡◌, ◌≢◌, ◌++◌, not, decimal, OnOk, OnErr, IsSomeAnd};
 ghost use Rattle.quorum_sets.specs.Ids.{ascending, is_empty};
-ghost use Rattle.conf_change.specs.Text.{Extends, spaced_numbers, set_text, where_there, config_text, progress_text, refused_text, bad_token_text};
+ghost use Rattle.ascii_text.specs.Append.{Extends};
+ghost use Rattle.conf_change.specs.Text.{spaced_numbers, set_text, where_there, config_text, progress_text, refused_text, bad_token_text};
 ghost use Rattle.conf_change.specs.ChangeList.{bad_token};
 
-use crate::append::{append, append_number_at, append_where, keep_whole};
+use crate::append::{append_number_at, append_where};
 use crate::change_list::TokenFault;
 use crate::config::Config;
 use crate::progress::Progress;
 use crate::refused::Refused;
-use ascii_text::append::append_number;
+use ascii_text::append::{append, append_number, keep_whole};
 use quorum_sets::{MemberSet, NoMemory};
 
 /// Appends a configuration, without a newline: `voters=(1 2)`, where it is joint `&&(2 3)`, then its learners and next

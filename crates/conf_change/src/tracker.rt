@@ -348,11 +348,11 @@ impl<S: MemberSet> Tracker<S> {
         }
     }
 
-    // Becomes what another one is when it has left the joint configuration. Where memory is wanting, it is left on the way.
+    // Becomes what another one is when it has left the joint configuration. On `NoMemory` its contents are unspecified.
     pub(crate) fn become_left(&mut self, before: &Tracker<S>) -> Result<(), NoMemory>
         ensures { OnOk result (Keeps (after_leave before.now.config) before.now self.new) }
     {
-        edits::leave(&mut self.config, &before.config)?;
+        self.config = before.config.after_leave()?;
         self.floor = before.floor;
         keep_members(&mut self.members, &self.config, before.members.as_slice())
     }

@@ -4,8 +4,6 @@ pub mod Counts
 pub mod MajorityPlace
 pub mod CommittedIndex
 pub mod ChartBars
-pub mod BarTexts
-pub mod IndexColumn
 pub mod VoteResults
 pub mod Overlap
 pub mod Tolerance

@@ -1,11 +1,9 @@
 pub mod Ids
 pub mod Rising
-pub mod Cut
 pub mod Voters
 pub mod Counting
 pub mod Committed
 pub mod Votes
 pub mod Chart
-pub mod ChartRows
 pub mod Overlap
 pub mod Tolerance

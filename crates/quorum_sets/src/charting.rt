@@ -1,20 +1,20 @@
 //! The chart of who has acknowledged which index, for a reader. Its form is own.
-ghost use Rattle.std.specs.Prelude.{◌≡◌, ◌<◌, ◌≤◌, ◌^◌, ◌++◌, ℕ, List, length, map, take, flat_map, OnOk, OnErr};
-ghost use Rattle.quorum_sets.specs.Ids.{ascending, union};
-ghost use Rattle.quorum_sets.specs.Committed.{Acks};
-ghost use Rattle.quorum_sets.specs.Chart.{row_text, chart_row, chart_text};
-ghost use Rattle.quorum_sets.specs.ChartRows.{with_acked, IsRanked};
+ghost use Rattle.std.specs.Prelude.{◌≡◌, ◌<◌, ◌≤◌, ◌^◌, ◌++◌, ℕ, List, length, flat_map, IfOk, OnOk, OnErr};
+ghost use Rattle.std.specs.List.{Contains};
+ghost use Rattle.ascii_text.specs.Append.{Extends};
+ghost use Rattle.quorum_sets.specs.Ids as spec;
+ghost use Rattle.quorum_sets.specs.Ids.{ascending};
+ghost use Rattle.quorum_sets.specs.Committed.{Acks, acked_index};
+ghost use Rattle.quorum_sets.specs.Chart.{IsRanking, bar_text, bar_width, chart_row, chart_text, in_five_places, row_text};
 
-use crate::acked_ids::look_up;
 use crate::acknowledgement::AckSource;
-use crate::append::{append, append_times};
-use crate::bars::append_bar;
-use crate::index_column::append_index;
+use crate::joining::{add_ids, union};
 use crate::member_set::MemberSet;
-use crate::no_memory::NoMemory;
-use crate::ranking::{rank, width_of_bar};
-use ascii_text::append::append_number;
+use ascii_text::NoMemory;
+use ascii_text::append::{append, append_number, append_times, keep_whole};
+use itoa::Buffer;
 use smallvec::SmallVec;
+use std::alloc::Global;
 
 /// Appends the chart of a set: a line for each id, in ascending order, with a bar and the index that it acknowledged.
 /// The bar is as wide as there are ids with a smaller index, and left out where a lesser id has the same. An unknown
@@ -28,9 +28,10 @@ pub fn chart<S: MemberSet, A: AckSource>(
     ensures err { OnErr result (text.new.items ≡ text.old.items) }
 {
     let mut ids = SmallVec::new(*text.allocator());
-    ids.reserve(set.len())?;
     add_ids(&mut ids, set)?;
-    append_whole(text, ids.as_slice(), acks)
+    let len = text.len();
+    let appended = append_chart(text, ids.as_slice(), acks);
+    keep_whole(text, len, appended)
 }
 
 /// Appends the chart of the ids of both sets, each once, as [`chart`] does.
@@ -40,75 +41,69 @@ pub fn joint_chart<S: MemberSet, A: AckSource>(
     outgoing: &S,
     acks: &A,
 ) -> Result<(), NoMemory>
-    ensures ok { OnOk result (text.new.items ≡ text.old.items ++ chart_text (ascending (union (S.ids incoming.now) (S.ids outgoing.now))) (A.acks acks.now)) }
+    ensures ok { OnOk result (text.new.items ≡ text.old.items ++ chart_text (ascending (spec.union (S.ids incoming.now) (S.ids outgoing.now))) (A.acks acks.now)) }
     ensures err { OnErr result (text.new.items ≡ text.old.items) }
 {
-    let mut ids = SmallVec::new(*text.allocator());
-    ids.reserve(incoming.len().saturating_add(outgoing.len()))?;
-    add_ids(&mut ids, incoming)?;
-    add_ids(&mut ids, outgoing)?;
-    ids.as_mut_slice().sort_unstable();
-    ids.dedup();
-    append_whole(text, ids.as_slice(), acks)
+    let both = union(incoming, outgoing)?;
+    chart(text, &both, acks)
 }
 
-// Adds the ids of a set, in ascending order.
-fn add_ids<S: MemberSet>(ids: &mut SmallVec<u64, 16>, set: &S) -> Result<(), NoMemory>
-    ensures { OnOk result (ids.new.items ≡ ids.old.items ++ ascending (S.ids set.now)) }
-{
-    for place in 0..set.len() {
-        if let Some(id) = set.at(place) {
-            ids.push(id)?;
-        }
-    }
-    Ok(())
-}
-
-// Appends a chart, or nothing where there is no memory for the whole.
-fn append_whole<A: AckSource>(text: &mut Vec<u8>, ids: &[u64], acks: &A) -> Result<(), NoMemory>
-    ensures ok { OnOk result (text.new.items ≡ text.old.items ++ chart_text ids.now (A.acks acks.now)) }
-    ensures err { OnErr result (text.new.items ≡ text.old.items) }
-{
-    let len = text.len();
-    let appended = append_chart(text, ids, acks);
-    if appended.is_err() {
-        text.truncate(len);
-    }
-    appended
-}
-
+// Appends the chart of the ids.
 fn append_chart<A: AckSource>(text: &mut Vec<u8>, ids: &[u64], acks: &A) -> Result<(), NoMemory>
     ensures ok { OnOk result (text.new.items ≡ text.old.items ++ chart_text ids.now (A.acks acks.now)) }
-    ensures extends { take (length text.old.items) text.new.items ≡ text.old.items }
+    ensures extends { Extends text.old.items text.new.items }
 {
     if ids.is_empty() {
         return append(text, b"<empty majority quorum>");
     }
-    let mut acked = SmallVec::new(*text.allocator());
-    look_up(&mut acked, ids, acks)?;
-    let mut ranking = SmallVec::new(*text.allocator());
-    rank(&mut ranking, acked.as_slice())?;
+    let ranking = ranked(*text.allocator(), ids, acks)?;
     append_times(text, b' ', ids.len())?;
     append(text, b"    idx\n")?;
-    append_rows(text, acked.as_slice(), ranking.as_slice())
+    append_rows(text, ids, acks, ranking.as_slice())
+}
+
+// The ids, each after the index that it acknowledged, in order. An unknown index counts as 0.
+fn ranked<A: AckSource>(alloc: Global, ids: &[u64], acks: &A) -> Result<Vec<(u64, u64)>, NoMemory>
+    ensures { IfOk result (λ rows. IsRanking ids.now (A.acks acks.now) rows.items) }
+{
+    let mut rows = Vec::with_capacity(alloc, ids.len())?;
+    for id in ids {
+        rows.push((acks.acked(*id).unwrap_or(0), *id))?;
+    }
+    rows.as_mut_slice().sort_unstable();
+    Ok(rows)
 }
 
 // Appends the line of each id.
-fn append_rows(
+fn append_rows<A: AckSource>(
     text: &mut Vec<u8>,
-    acked: &[(u64, Option<u64>)],
+    ids: &[u64],
+    acks: &A,
     ranking: &[(u64, u64)],
 ) -> Result<(), NoMemory>
-    requires { length ranking.now ≡ length acked.now }
-    ensures ok { (ids : List ℕ) (acks : Acks) → acked.now ≡ map (with_acked acks) ids → IsRanked ids acks ranking.now
-        → OnOk result (text.new.items ≡ text.old.items ++ flat_map (chart_row ids acks) ids) }
-    ensures extends { take (length text.old.items) text.new.items ≡ text.old.items }
+    requires { IsRanking ids.now (A.acks acks.now) ranking.now }
+    ensures ok { OnOk result (text.new.items ≡ text.old.items ++ flat_map (chart_row ids.now (A.acks acks.now)) ids.now) }
+    ensures extends { Extends text.old.items text.new.items }
 {
-    for (id, index) in acked {
-        let width = width_of_bar(ranking, index.unwrap_or(0), *id);
-        append_row(text, acked.len(), *id, *index, width)?;
+    for id in ids {
+        let acked = acks.acked(*id);
+        let width = width_of_bar(ranking, acked.unwrap_or(0), *id);
+        append_row(text, ids.len(), *id, acked, width)?;
     }
     Ok(())
+}
+
+// How many ids have acknowledged less than this one of them, or 0 if a lesser id has acknowledged the same.
+fn width_of_bar(ranking: &[(u64, u64)], index: u64, id: u64) -> usize
+    ensures width { (ids : List ℕ) (acks : Acks) → IsRanking ids acks ranking.now → Contains ids id
+        → index ≡ acked_index acks id → result ≡ bar_width ids acks id }
+    ensures within { result ≤ length ranking.now }
+{
+    let place = ranking.partition_point(|row| row.0 < index);
+    match ranking.get(place) {
+        Some((_, first)) if *first == id => place,
+        _ => 0,
+    }
 }
 
 // Appends the line of one of `n` ids.
@@ -122,10 +117,44 @@ fn append_row(
     requires small { n < 2 ^ 63 }
     requires within { width ≤ n }
     ensures ok { OnOk result (text.new.items ≡ text.old.items ++ row_text n id acked width) }
-    ensures extends { take (length text.old.items) text.new.items ≡ text.old.items }
+    ensures extends { Extends text.old.items text.new.items }
 {
     append_bar(text, n, acked, width)?;
-    append_index(text, acked.unwrap_or(0))?;
+    append(text, b" ")?;
+    append_in_five_places(text, acked.unwrap_or(0))?;
+    append(text, b"    (id=")?;
     append_number(text, id)?;
     append(text, b")\n")
+}
+
+// Appends the bar of one of `n` ids, or `?` if its index is unknown.
+fn append_bar(
+    text: &mut Vec<u8>,
+    n: usize,
+    acked: Option<u64>,
+    width: usize,
+) -> Result<(), NoMemory>
+    requires small { n < 2 ^ 63 }
+    requires within { width ≤ n }
+    ensures ok { OnOk result (text.new.items ≡ text.old.items ++ bar_text n acked width) }
+    ensures extends { Extends text.old.items text.new.items }
+{
+    let (mark, bars): (&[u8], usize) = match acked {
+        Some(_) => (b">", width),
+        None => (b"?", 0),
+    };
+    append_times(text, b'x', bars)?;
+    append(text, mark)?;
+    append_times(text, b' ', n - bars)
+}
+
+// Appends a number, right-aligned in five places.
+fn append_in_five_places(text: &mut Vec<u8>, number: u64) -> Result<(), NoMemory>
+    ensures ok { OnOk result (text.new.items ≡ text.old.items ++ in_five_places number) }
+    ensures extends { Extends text.old.items text.new.items }
+{
+    let mut buffer = Buffer::new();
+    let digits = buffer.format(number).as_bytes();
+    append_times(text, b' ', 5usize.saturating_sub(digits.len()))?;
+    append(text, digits)
 }

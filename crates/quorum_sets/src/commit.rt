@@ -7,7 +7,7 @@ ghost use Rattle.quorum_sets.specs.Committed.{acked_indexes, greatest_index, IsC
 use crate::acknowledgement::AckSource;
 use crate::majority::quorum;
 use crate::member_set::MemberSet;
-use crate::no_memory::NoMemory;
+use ascii_text::NoMemory;
 use smallvec::SmallVec;
 use std::alloc::Global;
 

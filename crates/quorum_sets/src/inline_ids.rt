@@ -2,17 +2,16 @@
 ghost use Rattle.std.specs.Prelude.{◌≡◌, ◌<◌, ◌≤◌, true, not, length, insert, remove, IfOk, OnOk, OnErr, IsOk, MatchResult};
 ghost use Rattle.quorum_sets.specs.Ids.{no_ids, has, with_id, size, ids_of};
 ghost use Rattle.smallvec.specs.SmallVec.{small_vec_len, HasRoomFor};
-ghost use Rattle.quorum_sets.specs.Cut.{IsCut};
 ghost use Rattle.quorum_sets.specs.Rising.{IsRising, StandsAt, GoesTo};
 
 use crate::member_set::MemberSet;
-use crate::no_memory::NoMemory;
+use ascii_text::NoMemory;
 use smallvec::SmallVec;
 use std::alloc::Global;
 use std::marker::Model;
 
 /// A set of ids over a sorted list. Up to 8 ids take no memory. `at` and `len` take constant time, and `contains` a binary
-/// search, where there are more than 16 ids; an id that is put behind the last one then takes constant time, growth aside.
+/// search.
 #[derive(Drop)]
 pub struct InlineIds {
     list: SmallVec<u64, 8>,
@@ -62,10 +61,6 @@ impl MemberSet for InlineIds {
         ensures same { IfOk result (λ copy. copy ≡ self.now) }
         ensures few { size self.now ≤ 8 → IsOk result }
     {
-        // To begin one takes less time than to copy nothing.
-        if self.list.is_empty() {
-            return Ok(InlineIds::empty(self.allocator()));
-        }
         let list = SmallVec::from_slice(self.allocator(), self.list.as_slice())?;
         Ok(InlineIds { list })
     }
@@ -92,19 +87,15 @@ impl MemberSet for InlineIds {
         let Err(place) = place_of(self.list.as_slice(), id) else {
             return Ok(false);
         };
-        put_in(&mut self.list, place, id)?;
+        self.list.insert(place, id)?;
         Ok(true)
     }
 
     fn remove(&mut self, id: u64) -> bool {
-        // Learners are few, and next learners mostly none.
-        if self.list.is_empty() {
-            return false;
-        }
         let Ok(place) = place_of(self.list.as_slice(), id) else {
             return false;
         };
-        take_from(&mut self.list, place);
+        self.list.remove(place);
         true
     }
 
@@ -143,70 +134,10 @@ fn make_rising(list: &mut SmallVec<u64, 8>)
     list.dedup();
 }
 
-// Up to how many ids are all looked at.
-const FEW: usize = 16;
-
-// Where the id stands in a rising list, or else where it goes. Among many, it takes no search behind the last one.
+// The index of the id in a rising list, or else the index where it is to be inserted.
 fn place_of(list: &[u64], id: u64) -> Result<usize, usize>
     requires { IsRising list.now }
     ensures { MatchResult result (λ place. StandsAt list.now id place) (λ place. GoesTo list.now id place) }
 {
-    if list.len() <= FEW {
-        return place_among_few(list, id);
-    }
-    match list.last() {
-        Some(last) if *last < id => Err(list.len()),
-        _ => list.binary_search(&id),
-    }
-}
-
-// The same by the count of those below it: that takes no branch by what the ids are, as a search does.
-fn place_among_few(list: &[u64], id: u64) -> Result<usize, usize>
-    requires { IsRising list.now }
-    ensures { MatchResult result (λ place. StandsAt list.now id place) (λ place. GoesTo list.now id place) }
-{
-    let place = count_below(list, id);
-    if place < list.len() && list[place] == id {
-        Ok(place)
-    } else {
-        Err(place)
-    }
-}
-
-// How many ids of a rising list are below this one.
-fn count_below(list: &[u64], id: u64) -> usize
-    requires { IsRising list.now }
-    ensures { IsCut list.now id (length list.now) result }
-{
-    let mut count = 0;
-    for other in list {
-        count += usize::from(*other < id);
-    }
-    count
-}
-
-// Puts an id in at a place. At the end of the list nothing is moved.
-fn put_in(list: &mut SmallVec<u64, 8>, place: usize, id: u64) -> Result<(), NoMemory>
-    requires { place ≤ small_vec_len list.old }
-    ensures ok { OnOk result (list.new.items ≡ insert list.old.items place id) }
-    ensures succeeds { HasRoomFor list.old 1 → IsOk result }
-    ensures err { OnErr result (list.new ≡ list.old) }
-    ensures capacity { list.old.capacity ≤ list.new.capacity }
-{
-    if place == list.len() {
-        list.push(id)?;
-    } else {
-        list.insert(place, id)?;
-    }
-    Ok(())
-}
-
-// Takes the id at a place out. It stays a call, so that a set that lacks the id costs no more than the look-up.
-#[inline(never)]
-fn take_from(list: &mut SmallVec<u64, 8>, place: usize)
-    requires { place < small_vec_len list.old }
-    ensures items { list.new.items ≡ remove list.old.items place }
-    ensures capacity { list.new.capacity ≡ list.old.capacity }
-{
-    list.remove(place);
+    list.binary_search(&id)
 }

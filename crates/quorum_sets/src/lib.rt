@@ -4,37 +4,33 @@
 //! section 4.3 of Ongaro's dissertation. Each call works over any [`MemberSet`].
 #![tactic(auto)]
 
-mod acked_ids;
 mod acknowledgement;
-mod append;
-mod bars;
 mod charting;
 mod commit;
 mod counting;
 mod difference;
-mod index_column;
 mod inline_ids;
+mod joining;
 pub mod laws;
 mod looking;
 mod majority;
 mod member_set;
-mod no_memory;
 mod overlap;
-mod ranking;
 mod tolerance;
 mod tree_ids;
 mod vote_source;
 mod voting;
 
 pub use acknowledgement::AckSource;
+pub use ascii_text::NoMemory;
 pub use charting::{chart, joint_chart};
 pub use commit::{committed, joint_committed};
 pub use difference::symdiff;
 pub use inline_ids::InlineIds;
+pub use joining::union;
 pub use looking::has_next;
 pub use majority::{is_quorum, quorum};
 pub use member_set::MemberSet;
-pub use no_memory::NoMemory;
 pub use overlap::common_member;
 pub use tolerance::{commits_without, may_be_down};
 pub use tree_ids::TreeIds;

@@ -2,7 +2,7 @@
 ghost use Rattle.std.specs.Prelude.{◌≡◌, not, IfOk, OnOk, OnErr, slice_get};
 ghost use Rattle.quorum_sets.specs.Ids.{Ids, no_ids, has, with_id, without_id, ascending, size, ids_of};
 
-use crate::no_memory::NoMemory;
+use ascii_text::NoMemory;
 use std::alloc::Global;
 
 /// A finite set of ids, however it is kept. Only `of_list`, `try_clone`, `try_clone_from`

@@ -8,19 +8,11 @@ use Rattle.quorum_sets.proofs.Offered.{has-same_ids, has-ids_of, has-ascending}
 use Rattle.conf_change.specs.Configuration.{Configuration, is_restorable}
 use Rattle.conf_change.specs.ConfState.{ConfStateLists, Lists, Describes, lists_of, names_once, named_by, restored}
 
--- ---- one more id of a list
-
 -- ---- lists that name a set
 pub ids_of-ascending : (s : Ids) → ids_of (ascending s) ≡ s
 ids_of-ascending s = has-same_ids _ _ (λ q. has-ids_of (ascending s) q ∙ sym (has-ascending s q))
 
 -- the ids of two sets are those of the one where the other has none
-pub union-nobody : (a b : Ids) → size b ≡ 0 → ids_of (ascending a ++ ascending b) ≡ a
-union-nobody a b nobody = ap (λ l. ids_of (ascending a ++ l)) (nil_from_length (ascending b) nobody) ∙ ap ids_of (append-nil (ascending a)) ∙ ids_of-ascending a
-
-pub nobody-union : (a b : Ids) → size a ≡ 0 → ids_of (ascending a ++ ascending b) ≡ b
-nobody-union a b nobody = ap (λ l. ids_of (l ++ ascending b)) (nil_from_length (ascending a) nobody) ∙ ids_of-ascending b
-
 pub Lists-ascending : (s : Ids) → Lists (ascending s) s
 Lists-ascending s = record { same = ids_of-ascending s; once = refl }
 

@@ -7,7 +7,7 @@ use Rattle.std.proofs.lemmas.List.{take_more, length-append, map-append, length-
 use Rattle.std.proofs.lemmas.List.Folds.{list_any-append}
 use Rattle.quorum_sets.specs.Rising.{IsRising}
 use Rattle.quorum_sets.proofs.Offered.{rising-push}
-use Rattle.conf_change.specs.LastWords.{silent, own_word, later_of, and_later, last_said, removal_said, has_entry, IsAdded, Joins, ListsLastWords}
+use Rattle.conf_change.specs.LastWords.{silent, own_word, later_of, and_later, last_said, removal_said, has_entry, IsEntryAdded, Joins, ListsLastWords}
 use Rattle.conf_change.specs.declared.change.Change.{Change}
 use Rattle.conf_change.specs.declared.progress.Progress.{Progress}
 use Rattle.conf_change.specs.declared.last_words.LastWord.{LastWord}
@@ -141,7 +141,7 @@ pushed each now after k d up within so_far is above =
     subst (λ xs. AllUpTo xs (get_or (ids each) j 0)) (sym same) (up_to-push (ids now) w.id (get_or (ids each) j 0) (so_far.up_to j (omega arith) inside) (omega arith)))
 
 pub JoinedSoFar-one_more : (each now after : List LastWord) (k : ℕ) (d : LastWord) → IsNonDecreasingBy (λ w. w.id) each → k < length each
-    → JoinedSoFar each k now → IsAdded now (get_or each k d) after → JoinedSoFar each (k + 1) after
+    → JoinedSoFar each k now → IsEntryAdded now (get_or each k d) after → JoinedSoFar each (k + 1) after
 JoinedSoFar-one_more each now after k d up within so_far added =
     let w = get_or each k d in
     elim added.cases [

@@ -8,7 +8,7 @@ use Rattle.std.specs.FinMap.{find, nat_cmp-IsAntisymmetric}
 use Rattle.quorum_sets.specs.Committed.{greatest_index}
 use Rattle.quorum_sets.specs.Ids.{has}
 use Rattle.conf_change.specs.Configuration.{Configuration, is_member}
-use Rattle.conf_change.specs.Acknowledgement.{acknowledged, acknowledged_by, ack_answer, with_progress, changer_with_progress, matches}
+use Rattle.conf_change.specs.Acknowledgement.{acknowledged, acknowledged_progress, ack_answer, with_progress, changer_with_progress, matches}
 use Rattle.conf_change.specs.Changer.{TrackerState, ChangerState, IsSound, tracker_of}
 use Rattle.conf_change.specs.Floor.{IsAhead}
 use Rattle.conf_change.specs.declared.acknowledgement.AckFault.TheVariants.{IndexTooLarge}
@@ -88,7 +88,7 @@ ack_answer-is_sound before id index p sound = by (finite.get before.tracker.prog
   is_acknowledged was true e = cc
   is_acknowledged was false e = cc
 
-  by : (o : Option Progress) → finite.get before.tracker.progress id ≡ o → acknowledged_by o index ≡ Ok p → IsSound (changer_with_progress before id p).tracker
+  by : (o : Option Progress) → finite.get before.tracker.progress id ≡ o → acknowledged_progress o index ≡ Ok p → IsSound (changer_with_progress before id p).tracker
   by None had e = cc
   by (Some was) had e = ack-is_sound before.tracker id index was p sound had (is_acknowledged was (index == greatest_index) e)
 

@@ -36,11 +36,3 @@ list_all-but_one test xs k x here fails =
 -- at the end all were looked at
 pub list_all-walked : (test : ℕ → Bool) (xs : List ℕ) (k n : ℕ) → n ≡ length xs → n ≤ k → (so_far : Bool) → so_far ≡ list_all test (take k xs) → so_far ≡ list_all test xs
 list_all-walked test xs k n is past so_far e = e ∙ ap (list_all test) (take_all k xs (subst (λ m. m ≤ k) is past))
-
--- the ids of a set that are appended to a list
-pub append-one_more : (xs old now after : List ℕ) (k x : ℕ) → slice_get xs k ≡ Some x → now ≡ old ++ take k xs → after ≡ now ++ x ∷ [] → after ≡ old ++ take (k + 1) xs
-append-one_more xs old now after k x here so_far is =
-    is ∙ ap (λ l. l ++ x ∷ []) so_far ∙ append_assoc old (take k xs) (x ∷ []) ∙ ap (λ l. old ++ l) (sym (take-one_more xs k x here))
-
-pub append-all : (xs old now : List ℕ) (k n : ℕ) → n ≡ length xs → n ≤ k → now ≡ old ++ take k xs → now ≡ old ++ xs
-append-all xs old now k n is past so_far = so_far ∙ ap (λ l. old ++ l) (take_all k xs (subst (λ m. m ≤ k) is past))

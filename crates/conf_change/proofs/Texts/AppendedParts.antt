@@ -3,11 +3,8 @@ use Rattle.std.proofs.Common.{◌≡◌, ℕ, zero, suc, ◌+◌, ◌<◌, List,
 use Rattle.std.specs.Prelude.{codes, decimal}
 use Rattle.std.specs.List.{join_with_byte}
 use Rattle.std.proofs.lemmas.Bool.{lt-ltb}
-use Rattle.std.proofs.lemmas.List.{append_assoc, map_more, take-take, take_at, length-append}
-use Rattle.conf_change.specs.Text.{Extends, where_there, spaced_numbers, spaced_number}
-
-pub Extends-append : (old more new : List ℕ) → Extends (old ++ more) new → Extends old new
-Extends-append old more new h = record { begins = sym (take-take (length old) (length (old ++ more)) new (omega (arith, length-append old more))) ∙ ap (take (length old)) h.begins ∙ take_at old more _ refl }
+use Rattle.std.proofs.lemmas.List.{append_assoc, map_more}
+use Rattle.conf_change.specs.Text.{where_there, spaced_numbers, spaced_number}
 
 join_with_byte-push : (c : ℕ) (x : List ℕ) (xs : List (List ℕ)) (y : List ℕ) → join_with_byte c (x ∷ (xs ++ y ∷ [])) ≡ join_with_byte c (x ∷ xs) ++ c ∷ y
 join_with_byte-push c x [] y = refl

@@ -16,14 +16,14 @@ use Rattle.ascii_text.specs.WhiteSpace.{trimmed, without_leading_space}
 use Rattle.ascii_text.specs.Number.{SpellsNumber, number_in}
 use Rattle.conf_change.specs.Text.{spaced_numbers}
 use Rattle.conf_change.specs.ConfState.{ConfStateLists}
-use Rattle.conf_change.specs.ConfStateLine.{truth_text, line_text, conf_state_text, SpellsNumbers, StandsForConfState, after_prefix, numbers_in_pieces, is_space, numbers_in, is_close, field_in, flag_in, conf_state_in}
+use Rattle.conf_change.specs.ConfStateLine.{truth_text, line_text, conf_state_text, SpellsNumbers, StandsForConfState, after_prefix, numbers_in_pieces, is_space_byte, numbers_in, is_close, field_in, auto_leave_in, conf_state_in}
 use Rattle.ascii_text.proofs.Offered.{without_trailing_space-other, number_in-ok, SpellsNumber-from_some}
 
 -- a byte that is no digit stands in no number
 no_byte : (digits : List ℕ) (byte : ℕ) → AllDigits 10 digits → ((b : ℕ) → 48 ≤ b → b ≤ 57 → b ≢ byte) → All (λ b. eqb b byte ≡ false) digits
 no_byte digits byte h differs = All-from_get_or (λ b. eqb b byte ≡ false) digits 0 (λ i within. let range = digit_at digits i h within in ne_eqb (get_or digits i 0) byte (differs (get_or digits i 0) range.0 range.1))
 
-no_space : (piece : List ℕ) (number : ℕ) → SpellsNumber piece number → All (λ b. is_space b ≡ false) piece
+no_space : (piece : List ℕ) (number : ℕ) → SpellsNumber piece number → All (λ b. is_space_byte b ≡ false) piece
 no_space piece number h = no_byte piece 32 h.numeral.1 (λ b low high same. omega arith)
 
 no_close : (piece : List ℕ) (number : ℕ) → SpellsNumber piece number → All (λ b. is_close b ≡ false) piece
@@ -38,11 +38,11 @@ no_close-join (piece ∷ next ∷ pieces) (number ∷ numbers) h =
     (All-cons (λ b. is_close b ≡ false) 32 (join_with_byte 32 (next ∷ pieces)) refl (no_close-join (next ∷ pieces) numbers h.1))
 
 -- ---- numbers with one space between
-slice_split-join : (piece : List ℕ) (pieces : List (List ℕ)) (numbers : List ℕ) → AllZip SpellsNumber (piece ∷ pieces) numbers → slice_split is_space (join_with_byte 32 (piece ∷ pieces)) ≡ piece ∷ pieces
+slice_split-join : (piece : List ℕ) (pieces : List (List ℕ)) (numbers : List ℕ) → AllZip SpellsNumber (piece ∷ pieces) numbers → slice_split is_space_byte (join_with_byte 32 (piece ∷ pieces)) ≡ piece ∷ pieces
 slice_split-join piece pieces [] h = absurd h
-slice_split-join piece [] (number ∷ numbers) h = slice_split_none is_space piece (no_space piece number h.0)
+slice_split-join piece [] (number ∷ numbers) h = slice_split_none is_space_byte piece (no_space piece number h.0)
 slice_split-join piece (next ∷ pieces) (number ∷ numbers) h =
-    slice_split_at is_space piece 32 (join_with_byte 32 (next ∷ pieces)) (no_space piece number h.0) refl ∙ ap (λ ps. piece ∷ ps) (slice_split-join next pieces numbers h.1)
+    slice_split_at is_space_byte piece 32 (join_with_byte 32 (next ∷ pieces)) (no_space piece number h.0) refl ∙ ap (λ ps. piece ∷ ps) (slice_split-join next pieces numbers h.1)
 
 length-join : (piece : List ℕ) (pieces : List (List ℕ)) → 0 < length piece → 0 < length (join_with_byte 32 (piece ∷ pieces))
 length-join piece [] some = some
@@ -66,7 +66,7 @@ AllZip-from_some (piece ∷ pieces) all e = go (number_in piece) (numbers_in_pie
       let same : all ≡ number ∷ numbers = cc in
       rw same (SpellsNumber-from_some piece number is_first, later numbers is_more)
 
-numbers_in-not_empty : (text : List ℕ) → 0 < length text → numbers_in text ≡ numbers_in_pieces (slice_split is_space text)
+numbers_in-not_empty : (text : List ℕ) → 0 < length text → numbers_in text ≡ numbers_in_pieces (slice_split is_space_byte text)
 numbers_in-not_empty text some = rw (lt-ltb 0 (length text) some) refl
 
 numbers_in-ok : (text : List ℕ) (numbers : List ℕ) → SpellsNumbers text numbers → numbers_in text ≡ Some numbers
@@ -82,9 +82,9 @@ numbers_in-ok text numbers h = go h.pieces numbers h.spaced h.spelled where
 SpellsNumbers-from_some : (text : List ℕ) (numbers : List ℕ) → numbers_in text ≡ Some numbers → SpellsNumbers text numbers
 SpellsNumbers-from_some [] numbers e = let same : numbers ≡ [] = cc in rw same (record { pieces = []; spaced = refl; spelled = tt })
 SpellsNumbers-from_some (b ∷ bs) numbers e = record {
-  pieces = slice_split is_space (b ∷ bs);
+  pieces = slice_split is_space_byte (b ∷ bs);
   spaced = sym (join_with_byte-slice_split 32 (b ∷ bs));
-  spelled = AllZip-from_some (slice_split is_space (b ∷ bs)) numbers (sym (numbers_in-not_empty (b ∷ bs) (omega arith)) ∙ e);
+  spelled = AllZip-from_some (slice_split is_space_byte (b ∷ bs)) numbers (sym (numbers_in-not_empty (b ∷ bs) (omega arith)) ∙ e);
 }
 
 spelled-decimal : (numbers : List ℕ) → All (λ n. n < 2 ^ 64) numbers → AllZip SpellsNumber (map decimal numbers) numbers
@@ -154,11 +154,11 @@ Field-from_some prefix text numbers rest e =
     }
 
 -- ---- the flag
-flag_in-text : (flag : Bool) → flag_in (codes "] AutoLeave:" ++ truth_text flag) ≡ Some flag
-flag_in-text true = refl
-flag_in-text false = refl
+auto_leave_in-text : (flag : Bool) → auto_leave_in (codes "] AutoLeave:" ++ truth_text flag) ≡ Some flag
+auto_leave_in-text true = refl
+auto_leave_in-text false = refl
 
-text-flag_in : (text : List ℕ) (flag : Bool) → flag_in text ≡ Some flag → text ≡ codes "] AutoLeave:" ++ truth_text flag
+text-flag_in : (text : List ℕ) (flag : Bool) → auto_leave_in text ≡ Some flag → text ≡ codes "] AutoLeave:" ++ truth_text flag
 text-flag_in text flag e = go (bytes_eq text (codes "] AutoLeave:true")) (bytes_eq text (codes "] AutoLeave:false")) refl refl where
   go : (t u : Bool) → bytes_eq text (codes "] AutoLeave:true") ≡ t → bytes_eq text (codes "] AutoLeave:false") ≡ u → text ≡ codes "] AutoLeave:" ++ truth_text flag
   go true u first second = let f = rw first at e in let same : flag ≡ true = cc in rw same ((bytes_eq-Decides text (codes "] AutoLeave:true")).0 first)
@@ -181,7 +181,7 @@ conf_state_in-ok text saved h =
     (rw (field_in-ok (codes "] VotersOutgoing:[") h.voters_outgoing _ saved.voters_outgoing h.spells_voters_outgoing)
     (rw (field_in-ok (codes "] Learners:[") h.learners _ saved.learners h.spells_learners)
     (rw (field_in-ok (codes "] LearnersNext:[") h.learners_next _ saved.learners_next h.spells_learners_next)
-    (rw (flag_in-text saved.auto_leave) refl)))))
+    (rw (auto_leave_in-text saved.auto_leave) refl)))))
 
 joined : (text a after_a b after_b c after_c d after_d : List ℕ) (flag : Bool)
     → text ≡ codes "Voters:[" ++ (a ++ after_a) → after_a ≡ codes "] VotersOutgoing:[" ++ (b ++ after_b) → after_b ≡ codes "] Learners:[" ++ (c ++ after_c)
@@ -194,7 +194,7 @@ StandsForConfState-from_some text saved e =
     let second = some_from_then (field_in (codes "] VotersOutgoing:[") first.0.1) _ saved first.2 in
     let third = some_from_then (field_in (codes "] Learners:[") second.0.1) _ saved second.2 in
     let fourth = some_from_then (field_in (codes "] LearnersNext:[") third.0.1) _ saved third.2 in
-    let last = some_from_then (flag_in fourth.0.1) _ saved fourth.2 in
+    let last = some_from_then (auto_leave_in fourth.0.1) _ saved fourth.2 in
     let voters = Field-from_some (codes "Voters:[") (trimmed text) first.0.0 first.0.1 first.1 in
     let voters_outgoing = Field-from_some (codes "] VotersOutgoing:[") first.0.1 second.0.0 second.0.1 second.1 in
     let learners = Field-from_some (codes "] Learners:[") second.0.1 third.0.0 third.0.1 third.1 in
@@ -262,16 +262,16 @@ onto_numbers done (Some more) = Some (done ++ more)
 onto_numbers done None = None
 
 -- ---- the first piece
-pub slice_split-last : (text piece behind : List ℕ) (n : ℕ) → n ≡ position_or_len is_space text → piece ≡ take n text → behind ≡ drop n text → length behind ≡ 0 → slice_split is_space text ≡ piece ∷ []
+pub slice_split-last : (text piece behind : List ℕ) (n : ℕ) → n ≡ position_or_len is_space_byte text → piece ≡ take n text → behind ≡ drop n text → length behind ≡ 0 → slice_split is_space_byte text ≡ piece ∷ []
 slice_split-last text piece behind n n_is piece_is behind_is none =
     let past : length text ≤ n = omega (arith, ap length behind_is, length-drop n text) in
-    slice_split_none is_space text (λ k d h. fails_before_first is_space text k d (omega arith)) ∙ rw (piece_is, take_all n text past) refl
+    slice_split_none is_space_byte text (λ k d h. fails_before_first is_space_byte text k d (omega arith)) ∙ rw (piece_is, take_all n text past) refl
 
-pub slice_split-more : (text piece behind : List ℕ) (n : ℕ) → n ≡ position_or_len is_space text → piece ≡ take n text → behind ≡ drop n text → 0 < length behind → slice_split is_space text ≡ piece ∷ slice_split is_space (drop 1 behind)
+pub slice_split-more : (text piece behind : List ℕ) (n : ℕ) → n ≡ position_or_len is_space_byte text → piece ≡ take n text → behind ≡ drop n text → 0 < length behind → slice_split is_space_byte text ≡ piece ∷ slice_split is_space_byte (drop 1 behind)
 slice_split-more text piece behind n n_is piece_is behind_is some =
     let within : n < length text = omega (arith, ap length behind_is, length-drop n text) in
     let next : drop 1 behind ≡ drop (n + 1) text = ap (drop 1) behind_is ∙ drop-drop 1 n text in
-    rw (piece_is, next, n_is) (slice_split_first is_space text 0 (omega arith))
+    rw (piece_is, next, n_is) (slice_split_first is_space_byte text 0 (omega arith))
 
 pub StandsForConfState-none : (text : List ℕ) (saved : ConfStateLists) → conf_state_in text ≡ None → StandsForConfState text saved → ⊥
 StandsForConfState-none text saved none h = let some = conf_state_in-ok text saved h in cc

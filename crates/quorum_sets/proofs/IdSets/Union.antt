@@ -47,8 +47,3 @@ rising-dedup xs sorted = sorted-rising _ (ascends-dedup xs sorted)
 
 pub ids_of-dedup : (xs : List ℕ) → ids_of (dedup (λ x y. x == y) xs) ≡ ids_of xs
 ids_of-dedup xs = has-same_ids _ _ (λ q. has-ids_of (dedup (λ x y. x == y) xs) q ∙ any-dedup q xs ∙ sym (has-ids_of xs q))
-
--- the lists of both sets, sorted, with each id once
-pub ascending-union : (a b : Ids) (xs : List ℕ) → IsPermutation (ascending a ++ ascending b) xs → IsSorted nat_cmp xs → dedup (λ x y. x == y) xs ≡ ascending (union a b)
-ascending-union a b xs moved sorted =
-    sym (ascending-ids_of _ (ascends-dedup xs sorted)) ∙ ap ascending (ids_of-dedup xs ∙ ids_of-permuted (ascending a ++ ascending b) xs moved)

@@ -132,7 +132,3 @@ width-later ids acks rows id place ranking among parted follows =
     sym (any-rows (ties index id) ids acks rows ranking.same)
     ∙ list_any_at (ties index id) rows place (ranked acks id) first.within (and_from _ _ (lt-ltb _ _ below) (eq-eqb _ _ first.index_is)) in
     sym (cond-true (is_tied ids acks id) 0 _ tied)
-
--- ---- the same by a count over the rows, in any order
-pub width-counted : (ids : List ℕ) (acks : Acks) (rows : List (ℕ × ℕ)) (id : ℕ) → IsPermutation (map (ranked acks) ids) rows → cond (list_any (ties (acked_index acks id) id) rows) 0 (count_by (λ r. nat_lt r.0 (acked_index acks id)) rows) ≡ bar_width ids acks id
-width-counted ids acks rows id same = λ i. cond (any-rows (ties (acked_index acks id) id) ids acks rows same i) 0 (count-rows (λ r. nat_lt r.0 (acked_index acks id)) ids acks rows same i)

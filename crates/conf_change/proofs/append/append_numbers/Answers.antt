@@ -2,7 +2,8 @@ use Rattle.std.proofs.Common.{◌<◌, ◌^◌, arith}
 use Rattle.std.proofs.lemmas.Grind.{common_steps}
 use Rattle.std.proofs.lemmas.List.Elements.{All-from_get_or}
 use Rattle.conf_change.proofs.Texts.ConfStateLine.{SpellsNumbers-spaced}
-use Rattle.conf_change.proofs.Texts.AppendedParts.{Extends-append, spaced_numbers-one_more}
+use Rattle.ascii_text.proofs.Offered.{Extends-append}
+use Rattle.conf_change.proofs.Texts.AppendedParts.{spaced_numbers-one_more}
 use Rattle.conf_change.proofs.append.append_numbers.Goals as goal
 
 pub returns-in_err-append_number_at-clause-extends : goal.returns-in_err-append_number_at-clause-extends

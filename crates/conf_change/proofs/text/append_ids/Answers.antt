@@ -1,7 +1,8 @@
 use Rattle.std.proofs.Common.{arith}
 use Rattle.std.proofs.lemmas.Grind.{common_steps}
 use Rattle.std.proofs.lemmas.Option.{gets}
-use Rattle.conf_change.proofs.Texts.AppendedParts.{Extends-append, spaced_numbers-one_more}
+use Rattle.ascii_text.proofs.Offered.{Extends-append}
+use Rattle.conf_change.proofs.Texts.AppendedParts.{spaced_numbers-one_more}
 use Rattle.conf_change.proofs.text.append_ids.Goals as goal
 use Rattle.conf_change.proofs.text.append_ids.Goals.{in-Some+in_ok-append_number_at, in_default}
 

@@ -16,24 +16,24 @@ returns-in_default-clause-changed c = ap not (sym (there c))
 pub returns-in_default-clause-ok : goal.returns-in_default-clause-ok
 returns-in_default-clause-ok c = with_id-there c.args.self.now c.args.id (there c)
 
-pub returns-in_err-put_in-clause-few : goal.returns-in_err-put_in-clause-few
-returns-in_err-put_in-clause-few c few =
+pub returns-in_err-insert-clause-few : goal.returns-in_err-insert-clause-few
+returns-in_err-insert-clause-few c few =
     let len = ap length (ascending-rising c.self.inside.list.items c.self.invariant.rising) in
     let same = ap size c.self.view_is in
-    let no : false ≡ true = c.in_err-put_in.ensures.succeeds (omega arith) in
+    let no : false ≡ true = c.in_err-insert.ensures.succeeds (omega arith) in
     cc
 
-goes : (c : goal.In_ok-put_in) → GoesTo c.self.inside.list.items c.args.id c.in-Err.place
+goes : (c : goal.In_ok-insert) → GoesTo c.self.inside.list.items c.args.id c.in-Err.place
 goes c = subst (λ list. GoesTo list c.args.id c.in-Err.place) c.as_slice.ensures c.in-Err.ensures
 
 pub invariant_of-self-2 : goal.invariant_of-self-2
 invariant_of-self-2 c = record {
-  rising = subst IsRising (sym c.in_ok-put_in.ensures.ok) (rising-insert _ _ _ c.self.invariant.rising (goes c));
-  room = omega (arith, c.self.invariant.room, c.in_ok-put_in.ensures.capacity);
+  rising = subst IsRising (sym c.in_ok-insert.ensures.ok) (rising-insert _ _ _ c.self.invariant.rising (goes c));
+  room = omega (arith, c.self.invariant.room, c.in_ok-insert.ensures.capacity);
 }
 
 pub returns-clause-changed : goal.returns-clause-changed
 returns-clause-changed c = ap not (sym (ap (λ s. has s c.args.id) (sym c.self.view_is) ∙ has-goes _ _ _ (goes c)))
 
 pub returns-clause-ok : goal.returns-clause-ok
-returns-clause-ok c = ap ids_of c.in_ok-put_in.ensures.ok ∙ ids_of-insert _ _ c.args.id ∙ ap (λ s. with_id s c.args.id) c.self.view_is
+returns-clause-ok c = ap ids_of c.in_ok-insert.ensures.ok ∙ ids_of-insert _ _ c.args.id ∙ ap (λ s. with_id s c.args.id) c.self.view_is

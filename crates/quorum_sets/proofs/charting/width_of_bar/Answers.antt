@@ -3,7 +3,7 @@ use Rattle.std.proofs.lemmas.List.Sorted.{IsPartitionPoint-from_clause}
 use Rattle.std.proofs.lemmas.Option.{MatchOption-at_none}
 use Rattle.quorum_sets.specs.Chart.{ranked}
 use Rattle.quorum_sets.proofs.Quorums.ChartBars.{ranking-partitioned, IsFirst-at_place, width-first, width-later}
-use Rattle.quorum_sets.proofs.ranking.width_among_many.Goals as goal
+use Rattle.quorum_sets.proofs.charting.width_of_bar.Goals as goal
 
 pub returns-in-Some-clause-width : goal.returns-in-Some-clause-width
 returns-in-Some-clause-width c ids acks ranking among is =

@@ -1,8 +1,8 @@
-//! The one reason for which a call of this crate can fail.
+//! The error of a call that fails only when memory runs out.
 use std::alloc::{AllocError, AllocFailed};
 use thiserror::Error;
 
-/// A growth was refused. What the call was lent is as before.
+/// An allocation failed. Unless the call says otherwise, its arguments are unchanged.
 #[derive(Clone, Copy, Debug, PartialEq, Eq, Error)]
 #[error("out of memory")]
 pub struct NoMemory;
