@@ -26,8 +26,9 @@ use quorum_sets::{MemberSet, NoMemory};
 use std::alloc::Global;
 use std::marker::Model;
 
-/// A tracker, with the last index of the log, from which new members begin (etcd's `confchange.Changer`). A refused
-/// change leaves it as it was, want of memory included.
+/// A tracker, with the last index of the log, from which new members begin (etcd's `confchange.Changer`). A call
+/// that changes it in place leaves it as it was where it fails, also when memory runs out; `become_next` overwrites it, its
+/// floor too.
 #[derive(Drop)]
 pub struct Changer<S: MemberSet> {
     tracker: Tracker<S>,
