@@ -14,7 +14,7 @@ pub(crate) fn step_directive(alloc: Global, step: &Step) -> Result<Item, NoMemor
 {
     let line = Vec::from_slice(alloc, command_text(step))?;
     let input = change_lines(alloc, step.changes())?;
-    match Item::directive(alloc, line, input)? {
+    match Item::directive(alloc, line, input.as_slice())? {
         Some(item) => Ok(item),
         None => unreachable!(),
     }

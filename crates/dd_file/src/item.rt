@@ -195,20 +195,6 @@ impl Directive {
     }
 }
 
-/// The directive that a line says with lines of input, if it says one.
-fn directive_of(alloc: Global, line: &[u8], input: &[Vec<u8>]) -> Result<Option<Item>, AllocError>
-    ensures { IfOk result (λ found. found ≡
-        option_map (λ command. directive 1 command (line.now ∷ []) (map (λ line. line.items) input.now) []) (command_of line.now)) }
-{
-    let Some(command) = parse_command(alloc, line)? else {
-        return Ok(None);
-    };
-    let mut lines = RawLines::new(alloc);
-    lines.push(line)?;
-    lines.push_all(input)?;
-    Ok(Some(Item::Directive(Directive::new(1, command, lines, 1, Vec::new(alloc)))))
-}
-
 /// An item of a script.
 #[derive(Drop)]
 pub enum Item {
@@ -223,13 +209,11 @@ pub enum Item {
 impl Item {
     ghost use Rattle.dd_file.specs.Rewritten.{raw_lines_of, kept_text, is_directive};
 
-    /// A comment of one line, as it stands.
+    /// A comment of one line, kept in the memory that it has.
     pub fn comment(alloc: Global, line: Vec<u8>) -> Result<Item, AllocError>
         ensures { IfOk result (λ item. item ≡ Item.Comment (line.items ∷ [])) }
     {
-        let mut lines = RawLines::new(alloc);
-        lines.push(line.as_slice())?;
-        Ok(Item::Comment(lines))
+        Ok(Item::Comment(RawLines::of_line(alloc, line)?))
     }
 
     /// The directive that a line says, as the first line of a script, with lines of input and no output expected; none
@@ -237,12 +221,18 @@ impl Item {
     pub fn directive(
         alloc: Global,
         line: Vec<u8>,
-        input: Vec<Vec<u8>>,
+        input: &[Vec<u8>],
     ) -> Result<Option<Item>, AllocError>
         ensures { IfOk result (λ found. found ≡
-            option_map (λ command. directive 1 command (line.items ∷ []) (map (λ line. line.items) input.items) []) (command_of line.items)) }
+            option_map (λ command. directive 1 command (line.items ∷ []) (map (λ line. line.items) input.now) []) (command_of line.items)) }
     {
-        directive_of(alloc, line.as_slice(), input.as_slice())
+        let Some(command) = parse_command(alloc, line.as_slice())? else {
+            return Ok(None);
+        };
+        let mut lines = RawLines::of_line(alloc, line)?;
+        lines.push_all(input)?;
+        let expected = Vec::new(alloc);
+        Ok(Some(Item::Directive(Directive::new(1, command, lines, 1, expected))))
     }
 
     /// The line at a place, counted from 0: a line of the item, of a directive one before its separator.

@@ -1,5 +1,5 @@
 //! Lines that lie in one text.
-ghost use Rattle.std.specs.Prelude.{◌≡◌, ◌≤◌, ◌<◌, ◌+◌, ◌-◌, ◌^◌, [], ◌∷◌, ◌++◌, length, take, drop, map, option_map, slice_get, slice_index_or, OnOk, OnErr};
+ghost use Rattle.std.specs.Prelude.{◌≡◌, ◌≤◌, ◌<◌, ◌+◌, ◌-◌, ◌^◌, [], ◌∷◌, ◌++◌, length, take, drop, map, option_map, slice_get, slice_index_or, IfOk, OnOk, OnErr};
 ghost use Rattle.ascii_text.specs.Lines.{text_of};
 
 use crate::room::{append, make_room};
@@ -48,6 +48,17 @@ impl RawLines {
             text: replace(text, Vec::new(alloc)),
             ends: SmallVec::new(alloc),
         }
+    }
+
+    /// One line, in the memory that it has.
+    pub(crate) fn of_line(alloc: Global, line: Vec<u8>) -> Result<RawLines, AllocError>
+        ensures { IfOk result (λ lines. lines ≡ line.items ∷ []) }
+    {
+        let mut text = line;
+        let mut ends = SmallVec::new(alloc);
+        ends.push(text.len())?;
+        text.push(b'\n')?;
+        Ok(RawLines { text, ends })
     }
 
     /// Adds a copy of a line behind the others.

@@ -160,7 +160,7 @@ fn made_comment(alloc: Global) -> Result<Item, AllocError> {
 
 // The directive that a line says, without input.
 fn made_directive(alloc: Global) -> Result<Option<Item>, AllocError> {
-    Item::directive(alloc, b"simple x=(1,2)".to_vec(alloc)?, Vec::new(alloc))
+    Item::directive(alloc, b"simple x=(1,2)".to_vec(alloc)?, &[])
 }
 
 #[test]

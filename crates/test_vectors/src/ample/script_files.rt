@@ -366,7 +366,7 @@ fn copied(rt: &impl Runtime, text: &str) -> Vec<u8> {
 fn show_made_directive(rt: &impl Runtime, shown: &mut Vec<u8>, line: &str, input: &str) {
     let mut lines = Vec::new(rt.alloc());
     lines.push(copied(rt, input)).expect(rt, "room");
-    let made = Item::directive(rt.alloc(), copied(rt, line), lines).expect(rt, "memory");
+    let made = Item::directive(rt.alloc(), copied(rt, line), lines.as_slice()).expect(rt, "memory");
     if let Some(directive) = made {
         show_item(rt, shown, &directive);
     }
