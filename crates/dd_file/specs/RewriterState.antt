@@ -1,11 +1,12 @@
 -- What a rewriter keeps from call to call, and what its writer then holds.
-use Rattle.std.specs.Prelude.{◌≡◌, ◌⊎◌, ℕ, List, ◌++◌, Option}
+use Rattle.std.specs.Prelude.{◌≡◌, ◌⊎◌, ℕ, Bool, true, List, ◌++◌, Option, Result, IsErr, OnOk, OnErr}
 use Rattle.std.specs.Io.KnownBytes.{Appends}
 use Rattle.ascii_text.specs.Lines.{without_last}
 use Rattle.dd_file.specs.Device.{AppendsPart}
 use Rattle.dd_file.specs.Rewritten.{without_double_end, newlines_at_end}
+use Rattle.dd_file.specs.declared.fault.WriteFault.{WriteFault}
 use Rattle.dd_file.specs.declared.stage.Stage.{Stage}
-use Rattle.dd_file.specs.declared.stage.Stage.TheVariants.{Ready, FoundWanted, Failed}
+use Rattle.dd_file.specs.declared.stage.Stage.TheVariants.{Ready, FoundWanted, Over, Failed}
 
 -- its stage, and how many newlines end the text so far: 0, 1, or 2 for two and more
 pub record RewriterState : Type 0 where
@@ -38,9 +39,32 @@ Continues newlines count old new more = (start : Option (List ℕ)) (text : List
 abbrev pub BreaksOff : ℕ → Option (List ℕ) → Option (List ℕ) → List ℕ → Type 0
 BreaksOff newlines old new more = (start : Option (List ℕ)) (text : List ℕ) → HasWritten newlines start old text → HasBegun start new (text ++ more)
 
--- a call that ends the script, and one that breaks off at that
+-- a call that ends the script
 abbrev pub Finishes : ℕ → Option (List ℕ) → Option (List ℕ) → Type 0
 Finishes newlines old new = (start : Option (List ℕ)) (text : List ℕ) → HasWritten newlines start old text → Appends start new (without_double_end text)
 
+-- a call that breaks off while it ends the script
 abbrev pub FinishesPart : ℕ → Option (List ℕ) → Option (List ℕ) → Type 0
 FinishesPart newlines old new = (start : Option (List ℕ)) (text : List ℕ) → HasWritten newlines start old text → AppendsPart start new (without_double_end text)
+
+-- A call of a rewriter, from one state and writer to the next: if it succeeds the rewriter is at this stage. A fault stays.
+pub record Writes {W X : Type 0} (has_failed : W → Bool) (old new : RewriterState) (before after : W) (next : Stage) (Written WrittenPart : Type 0) (result : Result X WriteFault) : Type 0 where
+  pub written : OnOk result Written
+  pub part : OnErr result WrittenPart
+  pub stage : OnOk result (new.stage ≡ next)
+  pub fault : OnErr result (new.stage ≡ Failed)
+  -- no writer is asked again
+  pub again : old.stage ≡ Failed → IsErr result × (after ≡ before)
+  -- a fault comes only after a failed write, in this call or before it; without a fault no write failed in it
+  pub failed : OnErr result ((old.stage ≡ Failed) ⊎ (has_failed after ≡ true))
+  pub sound : OnOk result (has_failed after ≡ has_failed before)
+
+-- a call that writes more text
+abbrev pub WritesMore : {W X : Type 0} → (W → Option (List ℕ)) → (W → Bool) → RewriterState → RewriterState → W → W → Stage → List ℕ → Result X WriteFault → Type 0
+WritesMore contents has_failed old new before after next text result =
+    Writes has_failed old new before after next (Continues old.newlines new.newlines (contents before) (contents after) text) (BreaksOff old.newlines (contents before) (contents after) text) result
+
+-- a call that writes what ends the script
+abbrev pub WritesEnd : {W X : Type 0} → (W → Option (List ℕ)) → (W → Bool) → RewriterState → RewriterState → W → W → Result X WriteFault → Type 0
+WritesEnd contents has_failed old new before after result =
+    Writes has_failed old new before after Over (Finishes old.newlines (contents before) (contents after)) (FinishesPart old.newlines (contents before) (contents after)) result

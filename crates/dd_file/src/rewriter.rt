@@ -1,9 +1,9 @@
 //! Writing a script again, with what was found.
-ghost use Rattle.std.specs.Prelude.{◌≡◌, ◌⊎◌, ℕ, List, [], ◌∷◌, ◌++◌, ◌==◌, Option, IsOk, IsErr, OnOk, OnErr, IfOk, true, false, map, if◌then◌else◌};
+ghost use Rattle.std.specs.Prelude.{◌≡◌, ℕ, List, [], ◌∷◌, ◌++◌, ◌==◌, Option, IsOk, IsErr, OnOk, OnErr, IfOk, true, false, map, if◌then◌else◌};
 ghost use Rattle.std.specs.Io.KnownBytes.{Appends};
 ghost use Rattle.ascii_text.specs.Lines.{newline, text_of, without_last};
 ghost use Rattle.dd_file.specs.Device.{AppendsPart};
-ghost use Rattle.dd_file.specs.RewriterState.{CanKeep, WantsFound, HasWritten, Continues, BreaksOff, Finishes, FinishesPart};
+ghost use Rattle.dd_file.specs.RewriterState.{CanKeep, WantsFound, HasWritten, Continues, BreaksOff, WritesMore, WritesEnd};
 ghost use Rattle.dd_file.specs.Rewritten.{kept_text, found_text, opening, closing, has_blank_line, is_output, is_directive, newlines_at_end};
 
 use crate::device::Sink;
@@ -178,17 +178,7 @@ impl Rewriter {
     /// Writes the lines of an item, of a directive those up to its separator. After a directive comes what was found.
     pub fn keep<W: Sink>(&mut self, writer: &mut W, item: &Item) -> Result<(), WriteFault>
         requires { CanKeep self.old }
-        ensures written { OnOk result (Continues self.old.newlines self.new.newlines
-            (W.contents writer.old) (W.contents writer.new) (kept_text item.now)) }
-        ensures part { OnErr result (BreaksOff self.old.newlines
-            (W.contents writer.old) (W.contents writer.new) (kept_text item.now)) }
-        ensures stage { OnOk result (self.new.stage ≡ (if is_directive item.now then Stage.FoundWanted else Stage.Ready)) }
-        // A fault stays, and no writer is asked again.
-        ensures fault { OnErr result (self.new.stage ≡ Stage.Failed) }
-        ensures again { self.old.stage ≡ Stage.Failed → IsErr result × (writer.new ≡ writer.old) }
-        // A fault comes only after a failed write, in this call or before it. Without a fault no write failed in it.
-        ensures failed { OnErr result ((self.old.stage ≡ Stage.Failed) ⊎ (W.has_failed writer.new ≡ true)) }
-        ensures sound { OnOk result (W.has_failed writer.new ≡ W.has_failed writer.old) }
+        ensures { WritesMore W.contents W.has_failed self.old self.new writer.old writer.new (if is_directive item.now then Stage.FoundWanted else Stage.Ready) (kept_text item.now) result }
     {
         if self.stage == Stage::Failed {
             return Err(WriteFault);
@@ -206,17 +196,7 @@ impl Rewriter {
     pub fn found<W: Sink>(&mut self, writer: &mut W, text: &[u8]) -> Result<(), WriteFault>
         requires wanted { WantsFound self.old }
         requires output { self.old.stage ≡ Stage.FoundWanted → is_output text.now ≡ true }
-        ensures written { OnOk result (Continues self.old.newlines self.new.newlines
-            (W.contents writer.old) (W.contents writer.new) (found_text text.now)) }
-        ensures part { OnErr result (BreaksOff self.old.newlines
-            (W.contents writer.old) (W.contents writer.new) (found_text text.now)) }
-        ensures stage { OnOk result (self.new.stage ≡ Stage.Ready) }
-        // A fault stays, and no writer is asked again.
-        ensures fault { OnErr result (self.new.stage ≡ Stage.Failed) }
-        ensures again { self.old.stage ≡ Stage.Failed → IsErr result × (writer.new ≡ writer.old) }
-        // A fault comes only after a failed write, in this call or before it. Without a fault no write failed in it.
-        ensures failed { OnErr result ((self.old.stage ≡ Stage.Failed) ⊎ (W.has_failed writer.new ≡ true)) }
-        ensures sound { OnOk result (W.has_failed writer.new ≡ W.has_failed writer.old) }
+        ensures { WritesMore W.contents W.has_failed self.old self.new writer.old writer.new Stage.Ready (found_text text.now) result }
     {
         if self.stage == Stage::Failed {
             return Err(WriteFault);
@@ -236,17 +216,7 @@ impl Rewriter {
         requires wanted { WantsFound self.old }
         requires output { self.old.stage ≡ Stage.FoundWanted → is_output text.now ≡ true }
         requires full { has_blank_line text.now ≡ false }
-        ensures written { OnOk result (Continues self.old.newlines self.new.newlines
-            (W.contents writer.old) (W.contents writer.new) (found_text text.now)) }
-        ensures part { OnErr result (BreaksOff self.old.newlines
-            (W.contents writer.old) (W.contents writer.new) (found_text text.now)) }
-        ensures stage { OnOk result (self.new.stage ≡ Stage.Ready) }
-        // A fault stays, and no writer is asked again.
-        ensures fault { OnErr result (self.new.stage ≡ Stage.Failed) }
-        ensures again { self.old.stage ≡ Stage.Failed → IsErr result × (writer.new ≡ writer.old) }
-        // A fault comes only after a failed write, in this call or before it. Without a fault no write failed in it.
-        ensures failed { OnErr result ((self.old.stage ≡ Stage.Failed) ⊎ (W.has_failed writer.new ≡ true)) }
-        ensures sound { OnOk result (W.has_failed writer.new ≡ W.has_failed writer.old) }
+        ensures { WritesMore W.contents W.has_failed self.old self.new writer.old writer.new Stage.Ready (found_text text.now) result }
     {
         if self.stage == Stage::Failed {
             return Err(WriteFault);
@@ -258,15 +228,7 @@ impl Rewriter {
     /// Writes the newline that is held back, unless the text ends in two.
     pub fn end<W: Sink>(&mut self, writer: &mut W) -> Result<(), WriteFault>
         requires { CanKeep self.old }
-        ensures written { OnOk result (Finishes self.old.newlines (W.contents writer.old) (W.contents writer.new)) }
-        ensures part { OnErr result (FinishesPart self.old.newlines (W.contents writer.old) (W.contents writer.new)) }
-        ensures stage { OnOk result (self.new.stage ≡ Stage.Over) }
-        // A fault stays, and no writer is asked again.
-        ensures fault { OnErr result (self.new.stage ≡ Stage.Failed) }
-        ensures again { self.old.stage ≡ Stage.Failed → IsErr result × (writer.new ≡ writer.old) }
-        // A fault comes only after a failed write, in this call or before it. Without a fault no write failed in it.
-        ensures failed { OnErr result ((self.old.stage ≡ Stage.Failed) ⊎ (W.has_failed writer.new ≡ true)) }
-        ensures sound { OnOk result (W.has_failed writer.new ≡ W.has_failed writer.old) }
+        ensures { WritesEnd W.contents W.has_failed self.old self.new writer.old writer.new result }
     {
         if self.stage == Stage::Failed {
             return Err(WriteFault);
