@@ -1,5 +1,5 @@
 -- An item of a script while its lines are read.
-use Rattle.std.specs.Prelude.{◌≡◌, ◌<◌, ◌+◌, ◌-◌, ℕ, Bool, true, false, not, ◌&&◌, List, [], ◌∷◌, ◌++◌, length, drop, Option, Some, None, is_some, Result, Ok, Err, ⊤, if◌then◌else◌}
+use Rattle.std.specs.Prelude.{◌≡◌, ◌<◌, ◌+◌, ◌-◌, ℕ, Bool, true, false, not, ◌&&◌, List, [], ◌∷◌, ◌++◌, length, drop, Option, Some, None, Result, Ok, Err, ⊤, if◌then◌else◌}
 use Rattle.std.specs.List.{list_all, list_any}
 use Rattle.ascii_text.specs.WhiteSpace.{is_blank}
 use Rattle.dd_file.specs.Words.{CommandText, command_of}
@@ -11,11 +11,11 @@ use Rattle.dd_file.specs.declared.item.Item.TheVariants.{Comment, Blank}
 use Rattle.dd_file.specs.declared.fault.FileFault.{FileFault}
 use Rattle.dd_file.specs.declared.fault.FileFault.TheVariants.{Read, NoMemory, BadDirective, AfterDouble, UnclosedDouble, InputTooLong}
 
--- The number of its first line, its parts so far, how many lines it has, and what the next line may be.
+-- The number of its first line, its parts so far, how many lines it has, and what the next line may be. The phase has the
+-- command of a directive.
 pub record DraftText : Type 0 where
   pub line : ℕ
   pub head : List (List ℕ)
-  pub command : Option CommandText
   pub input : List (List ℕ)
   pub expected : List (List ℕ)
   pub count : ℕ
@@ -23,16 +23,20 @@ pub record DraftText : Type 0 where
 
 -- no line was read yet
 abbrev pub blank_draft : ℕ → DraftText
-blank_draft line = record { line = line; head = []; command = None; input = []; expected = []; count = 0; phase = Begin }
+blank_draft line = record { line = line; head = []; input = []; expected = []; count = 0; phase = Begin }
 
--- a draft behind the last line of its head, of which the text says this command, or none
-abbrev pub with_parsed : DraftText → Option CommandText → DraftText
-with_parsed draft None = record draft { count = draft.count + 1; phase = NoCommand }
-with_parsed draft (Some command) = record draft { command = Some command; count = draft.count + 1; phase = Input }
+-- the phase after a head, by its command
+abbrev pub phase_of_command : Option CommandText → Phase
+phase_of_command None = NoCommand
+phase_of_command (Some command) = Input command
 
--- the same by the text; white space alone says no directive
-abbrev pub behind_head : DraftText → List ℕ → DraftText
-behind_head draft text = if is_blank text then record draft { count = draft.count + 1; phase = BlankLines } else with_parsed draft (command_of text)
+-- the phase after a head, by its text; white space alone is no directive
+abbrev pub phase_after_head : List ℕ → Phase
+phase_after_head text = if is_blank text then BlankLines else phase_of_command (command_of text)
+
+-- one line more, and the phase after it
+abbrev pub counted : DraftText → Phase → DraftText
+counted draft phase = record draft { count = draft.count + 1; phase = phase }
 
 -- whether no further line belongs to the item
 abbrev pub is_done : Phase → Bool
@@ -41,24 +45,20 @@ is_done CommentLine = true
 is_done BlankLines = true
 is_done Head = false
 is_done NoCommand = true
-is_done Input = false
-is_done Separator = false
-is_done Single = false
-is_done Double = false
-is_done Pair = false
-is_done Complete = true
+is_done (Input command) = false
+is_done (Separator command) = false
+is_done (Single command) = false
+is_done (Double command) = false
+is_done (Pair command) = false
+is_done (Complete command) = true
 is_done AfterPair = true
-
--- the front of a command, if there is one
-abbrev pub with_command : (CommandText → Front) → Option CommandText → Option Front
-with_command front_with None = None
-with_command front_with (Some command) = Some (front_with command)
 
 -- the directive of what was read, or another front where there is a pair or a blank line
 abbrev pub behind_separator : DraftText → List (List ℕ) → CommandText → Front
 behind_separator draft more command =
     if begins_with_dashes more then in_double draft.line command draft.head draft.input (drop 1 more) else in_single draft.line command draft.head draft.input more
 
+-- the directive of the parts so far
 abbrev pub drafted : DraftText → CommandText → Item
 drafted draft command = directive draft.line command draft.head draft.input draft.expected
 
@@ -69,14 +69,15 @@ front_in CommentLine draft more = Some (front (Ok (Comment draft.head)) draft.co
 front_in BlankLines draft more = Some (front (Ok (Blank draft.head)) draft.count true)
 front_in Head draft more = first_of draft.line (draft.head ++ more)
 front_in NoCommand draft more = Some (front (Err (BadDirective draft.line)) draft.count true)
-front_in Input draft more = with_command (λ command. body draft.line command draft.head (draft.input ++ more)) draft.command
-front_in Separator draft more = with_command (behind_separator draft more) draft.command
-front_in Single draft more = with_command (λ command. in_single draft.line command draft.head draft.input (draft.expected ++ more)) draft.command
-front_in Double draft more = with_command (λ command. in_double draft.line command draft.head draft.input (draft.expected ++ more)) draft.command
-front_in Pair draft more = with_command (λ command. after_pair draft.line draft.count (drafted draft command) more) draft.command
-front_in Complete draft more = with_command (λ command. front (Ok (drafted draft command)) draft.count true) draft.command
+front_in (Input command) draft more = Some (body draft.line command draft.head (draft.input ++ more))
+front_in (Separator command) draft more = Some (behind_separator draft more command)
+front_in (Single command) draft more = Some (in_single draft.line command draft.head draft.input (draft.expected ++ more))
+front_in (Double command) draft more = Some (in_double draft.line command draft.head draft.input (draft.expected ++ more))
+front_in (Pair command) draft more = Some (after_pair draft.line draft.count (drafted draft command) more)
+front_in (Complete command) draft more = Some (front (Ok (drafted draft command)) draft.count true)
 front_in AfterPair draft more = Some (front (Err (AfterDouble (draft.line + (draft.count - 1)))) draft.count true)
 
+-- the same from its own phase on
 abbrev pub front_of : DraftText → List (List ℕ) → Option Front
 front_of draft more = front_in draft.phase draft more
 
@@ -98,14 +99,15 @@ FitsIn CommentLine draft = draft.input ≡ []
 FitsIn BlankLines draft = draft.input ≡ []
 FitsIn Head draft = (begins_directive draft.head ≡ true) × (list_all is_continued draft.head ≡ true) × (draft.input ≡ []) × (draft.expected ≡ []) × (draft.count ≡ length draft.head)
 FitsIn NoCommand draft = ⊤
-FitsIn Input draft = (is_some draft.command ≡ true) × (list_any is_separator draft.input ≡ false) × (draft.expected ≡ []) × (draft.count ≡ length draft.head + length draft.input)
-FitsIn Separator draft = (is_some draft.command ≡ true) × (draft.expected ≡ []) × (draft.count ≡ length draft.head + length draft.input + 1)
-FitsIn Single draft = (is_some draft.command ≡ true) × (list_any is_blank draft.expected ≡ false) × (draft.count ≡ length draft.head + length draft.input + 1 + length draft.expected)
-FitsIn Double draft = (is_some draft.command ≡ true) × (has_pair draft.expected ≡ false) × (draft.count ≡ length draft.head + length draft.input + length draft.expected + 2)
-FitsIn Pair draft = (is_some draft.command ≡ true) × (draft.count ≡ length draft.head + length draft.input + length draft.expected + 4)
-FitsIn Complete draft = is_some draft.command ≡ true
+FitsIn (Input command) draft = (list_any is_separator draft.input ≡ false) × (draft.expected ≡ []) × (draft.count ≡ length draft.head + length draft.input)
+FitsIn (Separator command) draft = (draft.expected ≡ []) × (draft.count ≡ length draft.head + length draft.input + 1)
+FitsIn (Single command) draft = (list_any is_blank draft.expected ≡ false) × (draft.count ≡ length draft.head + length draft.input + 1 + length draft.expected)
+FitsIn (Double command) draft = (has_pair draft.expected ≡ false) × (draft.count ≡ length draft.head + length draft.input + length draft.expected + 2)
+FitsIn (Pair command) draft = draft.count ≡ length draft.head + length draft.input + length draft.expected + 4
+FitsIn (Complete command) draft = ⊤
 FitsIn AfterPair draft = 1 < draft.count
 
+-- the same of its own phase
 abbrev pub Fits : DraftText → Type 0
 Fits draft = FitsIn draft.phase draft
 
@@ -121,6 +123,7 @@ abbrev pub found_in_front : Result Item FileFault → Result (Option Item) FileF
 found_in_front (Ok item) = Ok (Some item)
 found_in_front (Err fault) = Err fault
 
+-- what was found in a front, if there is one
 abbrev pub found_of : Option Front → Result (Option Item) FileFault
 found_of None = Ok None
 found_of (Some front) = found_in_front front.found

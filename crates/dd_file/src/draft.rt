@@ -1,8 +1,8 @@
 //! An item of a script while its lines are read.
-ghost use Rattle.std.specs.Prelude.{◌≡◌, ◌<◌, ◌+◌, ◌^◌, [], ◌∷◌, ◌++◌, true, false, length, option_map, IfOk, IfErr, OnOk};
+ghost use Rattle.std.specs.Prelude.{◌≡◌, ◌<◌, ◌+◌, ◌^◌, [], ◌∷◌, ◌++◌, true, false, length, IfOk, IfErr, OnOk};
 ghost use Rattle.std.specs.List.{list_all};
 ghost use Rattle.dd_file.specs.Script.{is_continued};
-ghost use Rattle.dd_file.specs.Draft.{blank_draft, Fits, FitsIn, AddsIn, behind_head, begins_directive, front_of, found_of, drafted, is_done, ends_in_dashes, IsDraftFault, at_line};
+ghost use Rattle.dd_file.specs.Draft.{blank_draft, counted, Fits, FitsIn, AddsIn, phase_after_head, begins_directive, front_of, found_of, is_done, ends_in_dashes, IsDraftFault, at_line};
 
 use crate::command::{Command, parse_command};
 use crate::fault::FileFault;
@@ -14,6 +14,7 @@ use crate::raw_lines::RawLines;
 use ascii_text::white_space::{is_blank, trimmed};
 use std::alloc::{AllocError, Global};
 use std::marker::Model;
+use std::mem::replace;
 
 /// The lines of an item so far, by the parts that they belong to. Separators are no part.
 #[derive(Drop)]
@@ -24,7 +25,6 @@ pub(crate) struct Draft {
     raw_lines: RawLines,
     /// How many of them are of the head.
     heads: usize,
-    command: Option<Command>,
     expected: RawLines,
     count: usize,
     phase: Phase,
@@ -39,7 +39,6 @@ impl Model for Draft {
     ghost view = { λ a. record {
       line = a.line;
       head = take a.heads a.raw_lines;
-      command = a.command;
       input = drop a.heads a.raw_lines;
       expected = a.expected;
       count = a.count;
@@ -60,14 +59,13 @@ impl Draft {
             line,
             raw_lines,
             heads: 0,
-            command: None,
             expected: RawLines::new(alloc),
             count: 0,
             phase: Phase::Begin,
         }
     }
 
-    /// Takes in the next line, and answers whether it is the item's last one.
+    /// Adds the next line, and returns whether it is the item's last one.
     pub(crate) fn add(&mut self, line: &[u8]) -> Result<bool, AllocError>
         requires fits { Fits self.old }
         requires open_end { is_done self.old.phase ≡ false }
@@ -75,25 +73,28 @@ impl Draft {
         ensures added { OnOk result (AddsIn self.old.phase self.old self.new line.now) }
         ensures done { IfOk result (λ done. done ≡ is_done self.new.phase) }
     {
-        match self.phase {
-            Phase::Begin => self.add_first(line)?,
-            Phase::Head => self.add_head(line)?,
-            Phase::Input => self.add_input(line)?,
-            Phase::Separator => self.add_output(line)?,
-            Phase::Single => self.add_single(line)?,
-            Phase::Double => self.add_double(line)?,
-            _ => self.add_behind_pair(line),
-        }
+        let phase = replace(&mut self.phase, Phase::Begin);
+        self.phase = self.next_phase(phase, line)?;
+        self.count += 1;
         Ok(self.phase.is_done())
     }
 
-    /// Counts a line, behind which the item is in this phase.
-    fn enter(&mut self, phase: Phase)
-        requires { self.old.count < 2 ^ 62 }
-        ensures { self.new ≡ record self.old { count = self.old.count + 1; phase = phase } }
+    /// Keeps a line where it belongs, and returns the phase after it.
+    fn next_phase(&mut self, phase: Phase, line: &[u8]) -> Result<Phase, AllocError>
+        requires fits { FitsIn phase self.old }
+        requires open_end { is_done phase ≡ false }
+        ensures { IfOk result (λ next. AddsIn phase self.old (counted self.new next) line.now) }
     {
-        self.count += 1;
-        self.phase = phase;
+        match phase {
+            Phase::Begin => self.add_first(line),
+            Phase::Head => self.add_head(line),
+            Phase::Input(command) => self.add_input(command, line),
+            Phase::Separator(command) => self.add_output(command, line),
+            Phase::Single(command) => self.add_single(command, line),
+            Phase::Double(command) => self.add_double(command, line),
+            Phase::Pair(command) => Ok(self.after_pair(command, line)),
+            done => Ok(done),
+        }
     }
 
     /// Keeps a line of the head.
@@ -113,132 +114,98 @@ impl Draft {
         self.raw_lines.push(line)
     }
 
-    fn add_first(&mut self, line: &[u8]) -> Result<(), AllocError>
+    fn add_first(&mut self, line: &[u8]) -> Result<Phase, AllocError>
         requires fits { FitsIn Phase.Begin self.old }
-        ensures { OnOk result (AddsIn Phase.Begin self.old self.new line.now) }
+        ensures { IfOk result (λ next. AddsIn Phase.Begin self.old (counted self.new next) line.now) }
     {
         if is_comment(line) {
             self.keep_head(line)?;
-            self.enter(Phase::CommentLine);
-            Ok(())
+            Ok(Phase::CommentLine)
         } else if is_blank(line) {
             self.keep_head(line)?;
-            self.enter(Phase::BlankLines);
-            Ok(())
+            Ok(Phase::BlankLines)
         } else {
             self.add_head(line)
         }
     }
 
     /// A head is complete with the first line that is not continued.
-    fn add_head(&mut self, line: &[u8]) -> Result<(), AllocError>
+    fn add_head(&mut self, line: &[u8]) -> Result<Phase, AllocError>
         requires begins { begins_directive (self.old.head ++ line.now ∷ []) ≡ true }
         requires continued { list_all is_continued self.old.head ≡ true }
         requires empty { (self.old.input ≡ []) × (self.old.expected ≡ []) }
         requires counted { self.old.count ≡ length self.old.head }
-        requires room { self.old.count < 2 ^ 62 }
-        ensures { OnOk result (AddsIn Phase.Head self.old self.new line.now) }
+        ensures { IfOk result (λ next. AddsIn Phase.Head self.old (counted self.new next) line.now) }
     {
         self.keep_head(line)?;
         if is_continued(line) {
-            self.enter(Phase::Head);
-            return Ok(());
+            return Ok(Phase::Head);
         }
         if self.heads == 1 {
-            return self.end_head(trimmed(line));
+            return phase_after_head(self.alloc, trimmed(line));
         }
         let text = joined(self.alloc, &self.raw_lines)?;
-        self.end_head(text.as_slice())
+        phase_after_head(self.alloc, text.as_slice())
     }
 
-    /// Counts the last line of a head, whose text says a command, nothing or neither.
-    fn end_head(&mut self, text: &[u8]) -> Result<(), AllocError>
-        requires { self.old.count < 2 ^ 62 }
-        ensures { OnOk result (self.new ≡ behind_head self.old text.now) }
-    {
-        if is_blank(text) {
-            self.enter(Phase::BlankLines);
-            return Ok(());
-        }
-        match parse_command(self.alloc, text)? {
-            Some(command) => {
-                self.command = Some(command);
-                self.enter(Phase::Input);
-            }
-            None => self.enter(Phase::NoCommand),
-        }
-        Ok(())
-    }
-
-    fn add_input(&mut self, line: &[u8]) -> Result<(), AllocError>
-        requires fits { FitsIn Phase.Input self.old }
-        requires room { self.old.count < 2 ^ 62 }
-        ensures { OnOk result (AddsIn Phase.Input self.old self.new line.now) }
+    fn add_input(&mut self, command: Command, line: &[u8]) -> Result<Phase, AllocError>
+        requires fits { FitsIn (Phase.Input command) self.old }
+        ensures { IfOk result (λ next. AddsIn (Phase.Input command) self.old (counted self.new next) line.now) }
     {
         if is_separator(line) {
-            self.enter(Phase::Separator);
-        } else {
-            self.keep_input(line)?;
-            self.enter(Phase::Input);
+            return Ok(Phase::Separator(command));
         }
-        Ok(())
+        self.keep_input(line)?;
+        Ok(Phase::Input(command))
     }
 
-    /// Dashes behind the separator make it a double one.
-    fn add_output(&mut self, line: &[u8]) -> Result<(), AllocError>
-        requires fits { FitsIn Phase.Separator self.old }
-        requires room { self.old.count < 2 ^ 62 }
-        ensures { OnOk result (AddsIn Phase.Separator self.old self.new line.now) }
+    /// Dashes after the separator make it a double one.
+    fn add_output(&mut self, command: Command, line: &[u8]) -> Result<Phase, AllocError>
+        requires fits { FitsIn (Phase.Separator command) self.old }
+        ensures { IfOk result (λ next. AddsIn (Phase.Separator command) self.old (counted self.new next) line.now) }
     {
         if is_dashes(line) {
-            self.enter(Phase::Double);
-            Ok(())
-        } else {
-            self.add_single(line)
+            return Ok(Phase::Double(command));
         }
+        self.add_single(command, line)
     }
 
-    fn add_single(&mut self, line: &[u8]) -> Result<(), AllocError>
-        requires fits { FitsIn Phase.Single self.old }
-        requires room { self.old.count < 2 ^ 62 }
-        ensures { OnOk result (AddsIn Phase.Single self.old self.new line.now) }
+    fn add_single(&mut self, command: Command, line: &[u8]) -> Result<Phase, AllocError>
+        requires fits { FitsIn (Phase.Single command) self.old }
+        ensures { IfOk result (λ next. AddsIn (Phase.Single command) self.old (counted self.new next) line.now) }
     {
         if is_blank(line) {
-            self.enter(Phase::Complete);
-        } else {
-            self.expected.push(line)?;
-            self.enter(Phase::Single);
+            return Ok(Phase::Complete(command));
         }
-        Ok(())
+        self.expected.push(line)?;
+        Ok(Phase::Single(command))
     }
 
     /// Dashes are expected output unless dashes follow.
-    fn add_double(&mut self, line: &[u8]) -> Result<(), AllocError>
-        requires fits { FitsIn Phase.Double self.old }
-        requires room { self.old.count < 2 ^ 62 }
-        ensures { OnOk result (AddsIn Phase.Double self.old self.new line.now) }
+    fn add_double(&mut self, command: Command, line: &[u8]) -> Result<Phase, AllocError>
+        requires fits { FitsIn (Phase.Double command) self.old }
+        ensures { IfOk result (λ next. AddsIn (Phase.Double command) self.old (counted self.new next) line.now) }
     {
         if is_dashes(line) && ends_in_dashes(&self.expected) {
             self.expected.truncate(self.expected.count() - 1);
-            self.enter(Phase::Pair);
+            Ok(Phase::Pair(command))
         } else {
             self.expected.push(line)?;
-            self.enter(Phase::Double);
+            Ok(Phase::Double(command))
         }
-        Ok(())
     }
 
-    fn add_behind_pair(&mut self, line: &[u8])
-        requires fits { FitsIn Phase.Pair self.old }
-        requires room { self.old.count < 2 ^ 62 }
-        ensures { AddsIn Phase.Pair self.old self.new line.now }
+    /// The phase after the line that comes after the closing pair of dashes.
+    fn after_pair(&self, command: Command, line: &[u8]) -> Phase
+        requires fits { FitsIn (Phase.Pair command) self.now }
+        ensures { AddsIn (Phase.Pair command) self.now (counted self.now result) line.now }
     {
-        let phase = if is_blank(line) {
-            Phase::Complete
+        let _ = self;
+        if is_blank(line) {
+            Phase::Complete(command)
         } else {
             Phase::AfterPair
-        };
-        self.enter(phase);
+        }
     }
 
     /// A fault of the lines as that of the item.
@@ -260,35 +227,44 @@ impl Draft {
         ensures found { result ≡ found_of (front_of self []) }
         ensures kind { IfErr result (IsDraftFault self.line) }
     {
-        match self.phase {
-            Phase::Begin => Ok(None),
-            Phase::CommentLine => Ok(Some(Item::Comment(self.raw_lines))),
-            Phase::BlankLines => Ok(Some(Item::Blank(self.raw_lines))),
-            Phase::Head => Err(FileFault::BadDirective(self.line)),
-            Phase::NoCommand => Err(FileFault::BadDirective(self.line)),
-            Phase::Double => Err(FileFault::UnclosedDouble(self.line)),
-            Phase::AfterPair => Err(FileFault::AfterDouble(self.line + (self.count - 1))),
-            _ => Ok(self.into_directive()),
-        }
-    }
-
-    /// The directive of the parts so far.
-    #[inline(always)]
-    fn into_directive(self) -> Option<Item>
-        ensures { result ≡ option_map (drafted self) self.command }
-    {
         let Draft {
             alloc: _,
             line,
             raw_lines,
             heads,
-            command,
             expected,
-            count: _,
-            phase: _,
+            count,
+            phase,
         } = self;
-        let command = command?;
-        Some(Item::Directive(Directive::new(line, command, raw_lines, heads, expected.into_text())))
+        let command = match phase {
+            Phase::Begin => return Ok(None),
+            Phase::CommentLine => return Ok(Some(Item::Comment(raw_lines))),
+            Phase::BlankLines => return Ok(Some(Item::Blank(raw_lines))),
+            Phase::Head => return Err(FileFault::BadDirective(line)),
+            Phase::NoCommand => return Err(FileFault::BadDirective(line)),
+            Phase::Double(_) => return Err(FileFault::UnclosedDouble(line)),
+            Phase::AfterPair => return Err(FileFault::AfterDouble(line + (count - 1))),
+            Phase::Input(command)
+            | Phase::Separator(command)
+            | Phase::Single(command)
+            | Phase::Pair(command)
+            | Phase::Complete(command) => command,
+        };
+        let expected = expected.into_text();
+        Ok(Some(Item::Directive(Directive::new(line, command, raw_lines, heads, expected))))
+    }
+}
+
+/// The phase after a head with this text: it has a command, nothing or neither.
+fn phase_after_head(alloc: Global, text: &[u8]) -> Result<Phase, AllocError>
+    ensures { IfOk result (λ phase. phase ≡ phase_after_head text.now) }
+{
+    if is_blank(text) {
+        return Ok(Phase::BlankLines);
+    }
+    match parse_command(alloc, text)? {
+        Some(command) => Ok(Phase::Input(command)),
+        None => Ok(Phase::NoCommand),
     }
 }
 

@@ -2,8 +2,10 @@
 ghost use Rattle.std.specs.Prelude.{◌≡◌};
 ghost use Rattle.dd_file.specs.Draft.{is_done};
 
-/// What an item is so far, and with it what its next line may be.
-#[derive(Clone, Copy, Debug, PartialEq, Eq)]
+use crate::command::Command;
+
+/// What an item is so far, and with it what its next line may be. From the end of its head on, a directive has its command.
+#[derive(Drop)]
 pub(crate) enum Phase {
     /// It has no line yet.
     Begin,
@@ -13,42 +15,36 @@ pub(crate) enum Phase {
     BlankLines,
     /// Each line of its head so far is continued.
     Head,
-    /// Its head says no command.
+    /// Its head has no command.
     NoCommand,
     /// Its head is complete, and lines of its input come.
-    Input,
+    Input(Command),
     /// The last line was the separator.
-    Separator,
+    Separator(Command),
     /// Lines of its expected output come, up to a blank one.
-    Single,
+    Single(Command),
     /// Lines of its expected output come, up to a pair of dashes.
-    Double,
+    Double(Command),
     /// The last two lines were the closing pair of dashes.
-    Pair,
+    Pair(Command),
     /// It is a directive with its expected output.
-    Complete,
-    /// A line that is not blank stood behind the closing pair.
+    Complete(Command),
+    /// The line after the closing pair was not blank.
     AfterPair,
 }
 
 impl Phase {
     /// Whether no further line belongs to the item.
-    pub(crate) fn is_done(self) -> bool
-        ensures { result ≡ is_done self }
+    pub(crate) fn is_done(&self) -> bool
+        ensures { result ≡ is_done self.now }
     {
-        match self {
-            Phase::Begin
-            | Phase::Head
-            | Phase::Input
-            | Phase::Separator
-            | Phase::Single
-            | Phase::Double
-            | Phase::Pair => false,
+        matches!(
+            self,
             Phase::CommentLine
-            | Phase::BlankLines
-            | Phase::NoCommand
-            | Phase::Complete
-            | Phase::AfterPair => true,
-        }
+                | Phase::BlankLines
+                | Phase::NoCommand
+                | Phase::Complete(_)
+                | Phase::AfterPair
+        )
     }
 }

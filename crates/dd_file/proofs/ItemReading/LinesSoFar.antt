@@ -4,10 +4,9 @@ use Rattle.std.specs.Prelude.{◌⊎◌, Option, Some, None, is_some, Result, Ok
 use Rattle.std.specs.List.{concat}
 use Rattle.ascii_text.specs.Lines.{pieces, line_of}
 use Rattle.dd_file.specs.Place.{Place}
-use Rattle.dd_file.specs.Words.{CommandText}
-use Rattle.dd_file.specs.Script.{Front, front, first_of, body, in_single, in_double, after_pair}
+use Rattle.dd_file.specs.Script.{Front, front, first_of}
 use Rattle.dd_file.specs.Reading.{Next, Over, Found, Faulty, next_item, next_line, from_front, with_count, is_too_long, pieces_within}
-use Rattle.dd_file.specs.Draft.{DraftText, Fits, FitsIn, front_of, front_in, is_done, found_of, found_in_front, with_command, behind_separator, drafted}
+use Rattle.dd_file.specs.Draft.{DraftText, Fits, FitsIn, front_of, front_in, is_done, found_of, found_in_front}
 use Rattle.dd_file.specs.declared.item.Item.{Item}
 use Rattle.dd_file.specs.declared.phase.Phase.{Phase}
 use Rattle.dd_file.specs.declared.phase.Phase.TheVariants.{Begin, CommentLine, BlankLines, Head, NoCommand, Input, Separator, Single, Double, Pair, Complete, AfterPair}
@@ -51,22 +50,18 @@ done-front limit place now bytes rest lines too_long count (Some front) on ends 
       open_end true false e = cc
       open_end false d e = refl
 
-some-command : (f : CommandText → Front) (command : Option CommandText) → is_some command ≡ true → is_some (with_command f command) ≡ true
-some-command f None some = cc
-some-command f (Some c) some = refl
-
 pub done-some : (phase : Phase) (draft : DraftText) → FitsIn phase draft → is_done phase ≡ true → is_some (front_in phase draft []) ≡ true
 done-some Begin draft fits done = cc
 done-some CommentLine draft fits done = refl
 done-some BlankLines draft fits done = refl
 done-some Head draft fits done = cc
 done-some NoCommand draft fits done = refl
-done-some Input draft fits done = cc
-done-some Separator draft fits done = cc
-done-some Single draft fits done = cc
-done-some Double draft fits done = cc
-done-some Pair draft fits done = cc
-done-some Complete draft fits done = some-command (λ command. front (Ok (drafted draft command)) draft.count true) draft.command fits
+done-some (Input command) draft fits done = cc
+done-some (Separator command) draft fits done = cc
+done-some (Single command) draft fits done = cc
+done-some (Double command) draft fits done = cc
+done-some (Pair command) draft fits done = cc
+done-some (Complete command) draft fits done = refl
 done-some AfterPair draft fits done = refl
 
 -- a front comes of each line
@@ -76,12 +71,12 @@ front_in-begun CommentLine draft fits = inr refl
 front_in-begun BlankLines draft fits = inr refl
 front_in-begun Head draft fits = inr (ap is_some (first_of-continued draft.line draft.head fits.0 fits.1))
 front_in-begun NoCommand draft fits = inr refl
-front_in-begun Input draft fits = inr (some-command (λ command. body draft.line command draft.head (draft.input ++ [])) draft.command fits.0)
-front_in-begun Separator draft fits = inr (some-command (behind_separator draft []) draft.command fits.0)
-front_in-begun Single draft fits = inr (some-command (λ command. in_single draft.line command draft.head draft.input (draft.expected ++ [])) draft.command fits.0)
-front_in-begun Double draft fits = inr (some-command (λ command. in_double draft.line command draft.head draft.input (draft.expected ++ [])) draft.command fits.0)
-front_in-begun Pair draft fits = inr (some-command (λ command. after_pair draft.line draft.count (drafted draft command) []) draft.command fits.0)
-front_in-begun Complete draft fits = inr (some-command (λ command. front (Ok (drafted draft command)) draft.count true) draft.command fits)
+front_in-begun (Input command) draft fits = inr refl
+front_in-begun (Separator command) draft fits = inr refl
+front_in-begun (Single command) draft fits = inr refl
+front_in-begun (Double command) draft fits = inr refl
+front_in-begun (Pair command) draft fits = inr refl
+front_in-begun (Complete command) draft fits = inr refl
 front_in-begun AfterPair draft fits = inr refl
 
 pub item-done : (limit : ℕ) (place now : Place) (bytes rest : List ℕ) (lines : List (List ℕ)) (draft : DraftText) → LinesOn limit place bytes lines now rest →

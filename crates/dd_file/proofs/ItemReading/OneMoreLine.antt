@@ -1,24 +1,15 @@
 -- One more line of an item.
 use Rattle.std.proofs.Common.{◌≡◌, ℕ, ◌+◌, Bool, true, false, cond, ◌&&◌, ◌||◌, not, List, [], ◌∷◌, ◌++◌, length, drop, refl, ◌∙◌, ap}
-use Rattle.std.specs.Prelude.{Option, Some, None, is_some, Ok}
+use Rattle.std.specs.Prelude.{Some, Ok}
 use Rattle.std.specs.List.{list_all, list_any}
 use Rattle.std.proofs.lemmas.List.{append_assoc}
 use Rattle.std.proofs.Math.Seq.{drop-append_seam, drop-append-add}
 use Rattle.ascii_text.specs.WhiteSpace.{is_blank}
 use Rattle.dd_file.specs.Parts.{up_to, behind}
 use Rattle.dd_file.specs.Words.{CommandText, command_of}
-use Rattle.dd_file.specs.Script.{Front, front, first_of, head_of, joined, is_continued, is_comment, is_separator, is_dashes, begins_with_dashes, before_pair, has_pair, directive, after_pair, in_double, in_single, body, at_command, at_head}
-use Rattle.dd_file.specs.Draft.{with_command, begins_directive, ends_in_dashes}
+use Rattle.dd_file.specs.Script.{front, first_of, head_of, joined, is_continued, is_comment, is_separator, is_dashes, begins_with_dashes, before_pair, has_pair, directive, after_pair, in_double, in_single, body, at_command, at_head}
+use Rattle.dd_file.specs.Draft.{begins_directive, ends_in_dashes}
 use Rattle.dd_file.specs.declared.item.Item.TheVariants.{Comment, Blank}
-
--- two fronts that are the same for each command
-pub with_command-same : (f g : CommandText → Front) (command : Option CommandText) → ((c : CommandText) → f c ≡ g c) → with_command f command ≡ with_command g command
-with_command-same f g None same = refl
-with_command-same f g (Some c) same = ap Some (same c)
-
-pub with_command-some : (f : CommandText → Front) (x : Front) (command : Option CommandText) → is_some command ≡ true → ((c : CommandText) → f c ≡ x) → with_command f command ≡ Some x
-with_command-some f x None some same = cc
-with_command-some f x (Some c) some same = ap Some (same c)
 
 or-true : (c : Bool) {r : Bool} → r ≡ true → (c || r) ≡ true
 or-true true h = refl

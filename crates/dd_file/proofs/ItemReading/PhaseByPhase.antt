@@ -7,35 +7,71 @@ use Rattle.std.proofs.lemmas.Option.{slice_get-get_or}
 use Rattle.ascii_text.specs.WhiteSpace.{is_blank}
 use Rattle.dd_file.specs.Words.{CommandText, command_of}
 use Rattle.dd_file.specs.Script.{front, first_of, joined, is_continued, is_separator, is_dashes, has_pair, in_double, body, directive, after_pair, at_command}
-use Rattle.dd_file.specs.Draft.{DraftText, AddsIn, FitsIn, drafted, begins_directive, ends_in_dashes, behind_head, with_parsed}
+use Rattle.dd_file.specs.Draft.{DraftText, AddsIn, FitsIn, front_in, counted, drafted, begins_directive, ends_in_dashes, phase_after_head, phase_of_command}
 use Rattle.dd_file.specs.declared.item.Item.TheVariants.{Blank}
 use Rattle.dd_file.specs.declared.fault.FileFault.TheVariants.{AfterDouble, BadDirective}
-use Rattle.dd_file.specs.declared.phase.Phase.TheVariants.{Head, BlankLines, Input, Separator, Single, Double, Pair, Complete, AfterPair}
-use Rattle.dd_file.proofs.ItemReading.OneMoreLine.{with_command-same, with_command-some, body-separator, single-blank, double-pair, has_pair-push, ends_in_dashes-push, first_of-head}
+use Rattle.dd_file.specs.declared.phase.Phase.{Phase}
+use Rattle.dd_file.specs.declared.phase.Phase.TheVariants.{Begin, CommentLine, BlankLines, Head, NoCommand, Input, Separator, Single, Double, Pair, Complete, AfterPair}
+use Rattle.dd_file.proofs.ItemReading.OneMoreLine.{body-separator, single-blank, double-pair, has_pair-push, ends_in_dashes-push, first_of-head}
 
-pub adds-separator : (old new : DraftText) (line : List ℕ) → FitsIn Input old → is_separator line ≡ true → new ≡ record old { count = old.count + 1; phase = Separator } → AddsIn Input old new line
-adds-separator old new line fits is e = rw e (record {
-  fits = (fits.0, fits.2, let h = fits.3 in omega (arith, h));
-  front = λ more. with_command-same _ _ old.command (λ command. sym (body-separator old.line command old.head old.input line more fits.1 is));
+-- what is asked of the parts is not asked of the phase that is noted with them
+pub fits-apart : (phase noted : Phase) (draft : DraftText) → FitsIn phase draft → FitsIn phase (record draft { phase = noted })
+fits-apart Begin noted draft fits = fits
+fits-apart CommentLine noted draft fits = fits
+fits-apart BlankLines noted draft fits = fits
+fits-apart Head noted draft fits = fits
+fits-apart NoCommand noted draft fits = fits
+fits-apart (Input command) noted draft fits = fits
+fits-apart (Separator command) noted draft fits = fits
+fits-apart (Single command) noted draft fits = fits
+fits-apart (Double command) noted draft fits = fits
+fits-apart (Pair command) noted draft fits = fits
+fits-apart (Complete command) noted draft fits = fits
+fits-apart AfterPair noted draft fits = fits
+
+front-apart : (phase noted : Phase) (draft : DraftText) (more : List (List ℕ)) → front_in phase (record draft { phase = noted }) more ≡ front_in phase draft more
+front-apart Begin noted draft more = refl
+front-apart CommentLine noted draft more = refl
+front-apart BlankLines noted draft more = refl
+front-apart Head noted draft more = refl
+front-apart NoCommand noted draft more = refl
+front-apart (Input command) noted draft more = refl
+front-apart (Separator command) noted draft more = refl
+front-apart (Single command) noted draft more = refl
+front-apart (Double command) noted draft more = refl
+front-apart (Pair command) noted draft more = refl
+front-apart (Complete command) noted draft more = refl
+front-apart AfterPair noted draft more = refl
+
+pub adds-apart : (phase noted : Phase) (old new : DraftText) (line : List ℕ) → AddsIn phase (record old { phase = noted }) new line → AddsIn phase old new line
+adds-apart phase noted old new line adds = record {
+  fits = adds.fits;
+  front = λ more. adds.front more ∙ front-apart phase noted old (line ∷ more);
+  count = adds.count;
+  first = adds.first;
+}
+
+pub adds-separator : (command : CommandText) (old new : DraftText) (line : List ℕ) → FitsIn (Input command) old → is_separator line ≡ true → new ≡ counted old (Separator command) → AddsIn (Input command) old new line
+adds-separator command old new line fits is e = rw e (record {
+  fits = (fits.1, let h = fits.2 in omega (arith, h));
+  front = λ more. ap Some (sym (body-separator old.line command old.head old.input line more fits.0 is));
   count = refl;
   first = refl;
 })
 
-pub adds-blank : (old new : DraftText) (line : List ℕ) → FitsIn Single old → is_blank line ≡ true → new ≡ record old { count = old.count + 1; phase = Complete } → AddsIn Single old new line
-adds-blank old new line fits is e = rw e (record {
-  fits = fits.0;
-  front = λ more. with_command-same _ _ old.command (λ command. at command ∙ sym (single-blank old.line command old.head old.input old.expected line more fits.1 is));
+pub adds-blank : (command : CommandText) (old new : DraftText) (line : List ℕ) → FitsIn (Single command) old → is_blank line ≡ true → new ≡ counted old (Complete command) → AddsIn (Single command) old new line
+adds-blank command old new line fits is e = rw e (record {
+  fits = tt;
+  front = λ more. ap Some (ap (λ n. front (Ok (drafted old command)) (n + 1) true) fits.1 ∙ sym (single-blank old.line command old.head old.input old.expected line more fits.0 is));
   count = refl;
   first = refl;
-}) where
-  at : (command : CommandText) → front (Ok (drafted old command)) (old.count + 1) true ≡ front (Ok (drafted old command)) (length old.head + length old.input + 1 + length old.expected + 1) true
-  at command = ap (λ n. front (Ok (drafted old command)) (n + 1) true) fits.2
+})
 
-pub adds-pair : (old new : DraftText) (expected : List (List ℕ)) (x line : List ℕ) → FitsIn Double old → old.expected ≡ expected ++ x ∷ [] → ends_in_dashes old.expected ≡ true → is_dashes line ≡ true →
-    new ≡ record old { expected = expected; count = old.count + 1; phase = Pair } → AddsIn Double old new line
-adds-pair old new expected x line fits was ends is e = rw e (record {
-  fits = (fits.0, count);
-  front = λ more. with_command-same _ _ old.command (λ command.
+pub adds-pair : (command : CommandText) (old new : DraftText) (expected : List (List ℕ)) (x line : List ℕ) → FitsIn (Double command) old → old.expected ≡ expected ++ x ∷ [] → ends_in_dashes old.expected ≡ true → is_dashes line ≡ true →
+    new ≡ counted (record old { expected = expected }) (Pair command) → AddsIn (Double command) old new line
+adds-pair command old new expected x line fits was ends is e = rw e (record {
+  fits = count;
+  front = λ more. ap Some (
       ap (λ n. after_pair old.line n (directive old.line command old.head old.input expected) more) count
       ∙ sym (ap (λ xs. in_double old.line command old.head old.input (xs ++ line ∷ more)) was ∙ double-pair old.line command old.head old.input expected x line more none hx is));
   count = refl;
@@ -45,33 +81,33 @@ adds-pair old new expected x line fits was ends is e = rw e (record {
   len = ap length was ∙ length-append expected (x ∷ [])
 
   count : old.count + 1 ≡ length old.head + length old.input + length expected + 4
-  count = let h = fits.2 in omega (arith, h, len)
+  count = let h = fits.1 in omega (arith, h, len)
 
   none : has_pair (expected ++ x ∷ []) ≡ false
-  none = ap has_pair (sym was) ∙ fits.1
+  none = ap has_pair (sym was) ∙ fits.0
 
   hx : is_dashes x ≡ true
   hx = sym (ends_in_dashes-push expected x) ∙ ap ends_in_dashes (sym was) ∙ ends
 
-pub adds-expected : (old new : DraftText) (line : List ℕ) → FitsIn Double old → (ends_in_dashes old.expected && is_dashes line) ≡ false →
-    new ≡ record old { expected = old.expected ++ line ∷ []; count = old.count + 1; phase = Double } → AddsIn Double old new line
-adds-expected old new line fits other e = rw e (record {
-  fits = (fits.0, has_pair-push old.expected line fits.1 other, let h = fits.2 in let len = length-append old.expected (line ∷ []) in omega (arith, h, len));
-  front = λ more. with_command-same _ _ old.command (λ command. ap (in_double old.line command old.head old.input) (append_assoc old.expected (line ∷ []) more));
+pub adds-expected : (command : CommandText) (old new : DraftText) (line : List ℕ) → FitsIn (Double command) old → (ends_in_dashes old.expected && is_dashes line) ≡ false →
+    new ≡ counted (record old { expected = old.expected ++ line ∷ [] }) (Double command) → AddsIn (Double command) old new line
+adds-expected command old new line fits other e = rw e (record {
+  fits = (has_pair-push old.expected line fits.0 other, let h = fits.1 in let len = length-append old.expected (line ∷ []) in omega (arith, h, len));
+  front = λ more. ap Some (ap (in_double old.line command old.head old.input) (append_assoc old.expected (line ∷ []) more));
   count = refl;
   first = refl;
 })
 
-pub adds-behind : (old new : DraftText) (line : List ℕ) (is : Bool) → FitsIn Pair old → is_blank line ≡ is → new ≡ record old { count = old.count + 1; phase = cond is Complete AfterPair } → AddsIn Pair old new line
-adds-behind old new line true fits is e = rw e (record {
-  fits = fits.0;
-  front = λ more. with_command-same _ _ old.command (λ command. sym (rw is refl));
+pub adds-behind : (command : CommandText) (old new : DraftText) (line : List ℕ) (is : Bool) → FitsIn (Pair command) old → is_blank line ≡ is → new ≡ counted old (cond is (Complete command) AfterPair) → AddsIn (Pair command) old new line
+adds-behind command old new line true fits is e = rw e (record {
+  fits = tt;
+  front = λ more. sym (rw is refl);
   count = refl;
   first = refl;
 })
-adds-behind old new line false fits is e = rw e (record {
-  fits = let h = fits.1 in omega (arith, h);
-  front = λ more. sym (with_command-some _ _ old.command fits.0 (λ command. rw is (ap (λ n. front (Err (AfterDouble (old.line + n))) (old.count + 1) true) minus)));
+adds-behind command old new line false fits is e = rw e (record {
+  fits = omega (arith, fits);
+  front = λ more. sym (rw is (ap (λ n. Some (front (Err (AfterDouble (old.line + n))) (old.count + 1) true)) minus));
   count = refl;
   first = refl;
 }) where
@@ -86,8 +122,8 @@ head-front old line more starts all last = ap (first_of old.line) (sym (append_a
 
 -- the last line of a head
 pub adds-last : (old new : DraftText) (line : List ℕ) → begins_directive (old.head ++ line ∷ []) ≡ true → list_all is_continued old.head ≡ true → (old.input ≡ []) × (old.expected ≡ []) → old.count ≡ length old.head →
-    is_continued line ≡ false → new ≡ behind_head (record old { head = old.head ++ line ∷ [] }) (joined (old.head ++ line ∷ [])) → AddsIn Head old new line
-adds-last old new line starts all empty counted last e = rw e (at (is_blank text) refl (command_of text) refl) where
+    is_continued line ≡ false → new ≡ counted (record old { head = old.head ++ line ∷ [] }) (phase_after_head (joined (old.head ++ line ∷ []))) → AddsIn Head old new line
+adds-last old new line starts all empty so_far last e = rw e (at (is_blank text) refl (command_of text) refl) where
   head : List (List ℕ)
   head = old.head ++ line ∷ []
 
@@ -95,13 +131,13 @@ adds-last old new line starts all empty counted last e = rw e (at (is_blank text
   text = joined head
 
   count : old.count + 1 ≡ length head
-  count = let len = length-append old.head (line ∷ []) in omega (arith, counted, len)
+  count = let len = length-append old.head (line ∷ []) in omega (arith, so_far, len)
 
   front-is : (more : List (List ℕ)) → first_of old.line (old.head ++ line ∷ more) ≡ Some (cond (is_blank text) (front (Ok (Blank head)) (length head) true) (at_command old.line (command_of text) head more))
   front-is more = head-front old line more starts all last
 
   at : (blank : Bool) → is_blank text ≡ blank → (command : Option CommandText) → command_of text ≡ command →
-      AddsIn Head old (cond blank (record old { head = head; count = old.count + 1; phase = BlankLines }) (with_parsed (record old { head = head }) command)) line
+      AddsIn Head old (counted (record old { head = head }) (cond blank BlankLines (phase_of_command command))) line
   at true is command says = record {
     fits = empty.0;
     front = λ more. ap (λ n. Some (front (Ok (Blank head)) n true)) count ∙ sym (front-is more ∙ rw is refl);
@@ -115,7 +151,7 @@ adds-last old new line starts all empty counted last e = rw e (at (is_blank text
     first = refl;
   }
   at false is (Some command) says = record {
-    fits = (refl, ap (list_any is_separator) (empty.0), empty.1, let none = ap length (empty.0) in omega (arith, count, none));
+    fits = (ap (list_any is_separator) (empty.0), empty.1, let none = ap length (empty.0) in omega (arith, count, none));
     front = λ more. ap (λ i. Some (body old.line command head (i ++ more))) (empty.0) ∙ sym (front-is more ∙ rw (is, says) refl);
     count = refl;
     first = refl;

@@ -1,7 +1,7 @@
-use Rattle.std.proofs.Common.{arith, ◌≡◌, ◌&&◌, ◌+◌, ◌-◌, ◌∷◌, [], ◌++◌, List, ℕ, true, false, length, take, sym, ap, ◌∙◌, rules}
+use Rattle.std.proofs.Common.{arith, ◌≡◌, ◌&&◌, ◌-◌, ◌∷◌, [], ◌++◌, List, ℕ, true, false, length, take, sym, ap, ◌∙◌, rules}
 use Rattle.std.proofs.lemmas.Grind.{common_steps}
 use Rattle.dd_file.specs.Script.{is_dashes}
-use Rattle.dd_file.specs.Draft.{DraftText, ends_in_dashes}
+use Rattle.dd_file.specs.Draft.{DraftText, counted, ends_in_dashes}
 use Rattle.dd_file.specs.declared.phase.Phase.TheVariants.{Pair, Double}
 use Rattle.dd_file.proofs.ItemReading.PhaseByPhase.{adds-pair, adds-expected, dashes-some, last-split}
 use Rattle.dd_file.proofs.draft.Draft.add_double.Goals as goal
@@ -15,9 +15,9 @@ returns-then-ends_in_dashes c =
     let is : is_dashes c.args.line.now ≡ true = search rules in
     let front : c.truncate.new.self ≡ take (length old.expected - 1) old.expected =
     c.truncate.ensures ∙ ap (λ n. take (n - 1) c.self.inside.expected) c.count.ensures ∙ ap (λ (ls : List (List ℕ)). take (length ls - 1) ls) view in
-    let P : DraftText → List (List ℕ) → DraftText = λ d ls. record d { expected = ls; count = d.count + 1; phase = Pair } in
-    adds-pair old c.enter.new.self _ _ c.args.line.now c.requires.fits (last-split old.expected (dashes-some old.expected ends)) ends is
-    (c.enter.ensures ∙ ap (λ d. P d c.truncate.new.self) c.self.view_is ∙ ap (P old) front)
+    let P : DraftText → List (List ℕ) → DraftText = λ d ls. counted (record d { expected = ls }) (Pair c.args.command) in
+    adds-pair c.args.command old _ _ _ c.args.line.now c.requires.fits (last-split old.expected (dashes-some old.expected ends)) ends is
+    (ap (λ d. P d c.truncate.new.self) c.self.view_is ∙ ap (P old) front)
 
 pub returns-in_ok-push : goal.returns-in_ok-push
 returns-in_ok-push c =
@@ -28,7 +28,7 @@ returns-in_ok-push c =
       | else-is_dashes-via-then-is_dashes+else-ends_in_dashes w ↦ (search (rules, common_steps))
       | else-is_dashes-via-else-is_dashes w ↦ grind (arith, common_steps)
     ] in
-    let P : DraftText → List (List ℕ) → DraftText = λ d ls. record d { expected = ls; count = d.count + 1; phase = Double } in
-    let more = c.in_ok-push.ensures.ok ∙ ap (λ (d : DraftText). d.expected ++ line ∷ []) c.self-else-is_dashes.view_is in
-    adds-expected old c.enter-else-is_dashes.new.self line c.requires.fits other
-    (c.enter-else-is_dashes.ensures ∙ ap (λ d. P d c.push.new.self) c.self-else-is_dashes.view_is ∙ ap (P old) more)
+    let P : DraftText → List (List ℕ) → DraftText = λ d ls. counted (record d { expected = ls }) (Double c.args.command) in
+    let more = c.in_ok-push.ensures.ok ∙ ap (λ (d : DraftText). d.expected ++ line ∷ []) c.self.view_is in
+    adds-expected c.args.command old _ line c.requires.fits other
+    (ap (λ d. P d c.push.new.self) c.self.view_is ∙ ap (P old) more)

@@ -1,35 +1,42 @@
-use Rattle.std.proofs.Common.{◌≡◌, ◌++◌, ap, sym, ◌∙◌, true, Ok, rules}
+use Rattle.std.proofs.Common.{◌≡◌, ◌++◌, ap, sym, ◌∙◌, subst}
+use Rattle.std.specs.Prelude.{Ok, Some}
 use Rattle.std.proofs.lemmas.List.{take-append-drop}
-use Rattle.dd_file.specs.Draft.{DraftText}
-use Rattle.dd_file.specs.declared.phase.Phase.TheVariants.{CommentLine, BlankLines, Head, Double}
-use Rattle.dd_file.proofs.ItemReading.NoMoreLine.{found-comment_at, found-blank_at, found-bad_at, found-unclosed_at, found-parts, directive-phase, is_directive_phase}
+use Rattle.dd_file.specs.Draft.{DraftText, drafted}
+use Rattle.dd_file.specs.declared.phase.Phase.TheVariants.{Input, Separator, Single, Pair, Complete}
+use Rattle.dd_file.specs.declared.item.Item.TheVariants.{Directive}
+use Rattle.dd_file.proofs.ItemReading.NoMoreLine.{HasParts, AtInput, AtSeparator, AtSingle, AtPair, AtComplete, found-comment_at, found-blank_at, found-bad_at, found-parts, made-directive}
 use Rattle.dd_file.proofs.draft.Draft.finish.Goals as goal
+use Rattle.dd_file.proofs.draft.Draft.finish.Goals.{in-Input, in-Input-2, in-Input-3, in-Input-4, in-Input-5}
 
 pub returns-in-CommentLine-clause-found : goal.returns-in-CommentLine-clause-found
 returns-in-CommentLine-clause-found c =
-    let phase : c.args.self.phase ≡ CommentLine = search rules in
     let fields = c.self.inside in
-    found-comment_at c.args.self fields.raw_lines phase c.requires.fits (sym (take-append-drop fields.heads fields.raw_lines) ∙ ap (λ (d : DraftText). d.head ++ d.input) c.self.view_is)
+    found-comment_at c.args.self fields.raw_lines (ap (λ (d : DraftText). d.phase) (sym c.self.view_is) ∙ c.in-CommentLine.is) c.requires.fits
+    (sym (take-append-drop fields.heads fields.raw_lines) ∙ ap (λ (d : DraftText). d.head ++ d.input) c.self.view_is)
 
 pub returns-in-BlankLines-clause-found : goal.returns-in-BlankLines-clause-found
 returns-in-BlankLines-clause-found c =
-    let phase : c.args.self.phase ≡ BlankLines = search rules in
     let fields = c.self.inside in
-    found-blank_at c.args.self fields.raw_lines phase c.requires.fits (sym (take-append-drop fields.heads fields.raw_lines) ∙ ap (λ (d : DraftText). d.head ++ d.input) c.self.view_is)
+    found-blank_at c.args.self fields.raw_lines (ap (λ (d : DraftText). d.phase) (sym c.self.view_is) ∙ c.in-BlankLines.is) c.requires.fits
+    (sym (take-append-drop fields.heads fields.raw_lines) ∙ ap (λ (d : DraftText). d.head ++ d.input) c.self.view_is)
 
 pub returns-in-Head-clause-found : goal.returns-in-Head-clause-found
 returns-in-Head-clause-found c =
-    let phase : c.args.self.phase ≡ Head = search rules in
-    found-bad_at c.args.self c.self.inside.line phase c.requires.fits (ap (λ (d : DraftText). d.line) c.self.view_is)
+    found-bad_at c.args.self c.self.inside.line (ap (λ (d : DraftText). d.phase) (sym c.self.view_is) ∙ c.in-Head.is) c.requires.fits (ap (λ (d : DraftText). d.line) c.self.view_is)
 
-pub returns-in-Double-clause-found : goal.returns-in-Double-clause-found
-returns-in-Double-clause-found c =
-    let phase : c.args.self.phase ≡ Double = search rules in
-    found-unclosed_at c.args.self c.self.inside.line phase c.requires.fits (ap (λ (d : DraftText). d.line) c.self.view_is)
-
-pub returns-in_default-clause-found : goal.returns-in_default-clause-found
-returns-in_default-clause-found c =
-    let not = c.in_default in
-    let inside : is_directive_phase c.self.inside.phase ≡ true = directive-phase c.self.inside.phase not.not-Begin not.not-CommentLine not.not-BlankLines not.not-Head not.not-NoCommand not.not-Double not.not-AfterPair in
-    let phase : is_directive_phase c.args.self.phase ≡ true = ap (λ (d : DraftText). is_directive_phase d.phase) (sym c.self.view_is) ∙ inside in
-    ap Ok c.into_directive.ensures ∙ found-parts c.args.self.phase c.args.self c.requires.fits phase
+pub returns-clause-found : goal.returns-clause-found
+returns-clause-found c =
+    let fields = c.self.inside in
+    let command = c.match-phase.command in
+    let view : fields.phase ≡ c.args.self.phase = ap (λ (d : DraftText). d.phase) c.self.view_is in
+    let parts : HasParts command fields.phase =
+    elim c.match-phase.branch [
+      | in-Input w ↦ (let is = w.in-Input.is in let same = w.command-is in let phase : Input command ≡ fields.phase = cc in subst (HasParts command) phase AtInput)
+      | in-Input-2 w ↦ (let is = w.in-Input.is in let same = w.command-is in let phase : Separator command ≡ fields.phase = cc in subst (HasParts command) phase AtSeparator)
+      | in-Input-3 w ↦ (let is = w.in-Input.is in let same = w.command-is in let phase : Single command ≡ fields.phase = cc in subst (HasParts command) phase AtSingle)
+      | in-Input-4 w ↦ (let is = w.in-Input.is in let same = w.command-is in let phase : Pair command ≡ fields.phase = cc in subst (HasParts command) phase AtPair)
+      | in-Input-5 w ↦ (let is = w.in-Input.is in let same = w.command-is in let phase : Complete command ≡ fields.phase = cc in subst (HasParts command) phase AtComplete)
+    ] in
+    let made : Directive c.new.result ≡ drafted c.args.self command =
+    made-directive fields.line fields.heads command fields.raw_lines fields.expected _ c.new.result c.new.ensures c.into_text-expected.ensures ∙ ap (λ d. drafted d command) c.self.view_is in
+    ap (λ item. Ok (Some item)) made ∙ found-parts command c.args.self.phase c.args.self (subst (HasParts command) view parts) c.requires.fits
