@@ -1,7 +1,6 @@
 -- The input of a mode: where it stands, what a line is answered, and what ends it.
 
 pub mod PlaceReached
-pub mod NextAndRest
 pub mod Faults
 pub mod LineReplies
 pub mod TwoLines

@@ -1,5 +1,4 @@
 -- The output of a mode while it is written.
 
 pub mod FirstParts
-pub mod KeptAnswers
 pub mod MarkedLines

@@ -9,8 +9,8 @@ use Rattle.dd_file.specs.declared.item.Item.{Item}
 use Rattle.dd_file.specs.declared.fault.FileFault.{FileFault}
 use Rattle.dd_file.specs.declared.stage.Stage.TheVariants.{Ready}
 use Rattle.conf_session.specs.SessionState.{SessionState}
-use Rattle.conf_tool.specs.Reports.{entries_of, obeyed_text, differs, report, counts_line}
-use Rattle.conf_tool.specs.Outputs.{Output, clean_unless, status_of, session_after_all, undone_unless, planned_script}
+use Rattle.conf_tool.specs.Reports.{answered_entries, obeyed_text, differs, report, counts_line}
+use Rattle.conf_tool.specs.Outputs.{Output, clean_unless, check_status, session_after_all, undone_unless, planned_script}
 use Rattle.conf_tool.specs.declared.tool_fault.ToolFault.TheVariants.{Script as ScriptFault}
 
 -- what is read: these parts, and a fault where one ends them
@@ -18,8 +18,8 @@ abbrev pub script : {A : Type 0} → List A → Option FileFault → Script A
 script items fault = record { items = items; fault = fault }
 
 -- some parts before what is left
-abbrev pub behind : {A : Type 0} → List A → Script A → Script A
-behind parts rest = script (parts ++ rest.items) rest.fault
+abbrev pub prepended : {A : Type 0} → List A → Script A → Script A
+prepended parts rest = script (parts ++ rest.items) rest.fault
 
 -- a text before an output
 abbrev pub with_front : List ℕ → Output → Output
@@ -29,19 +29,21 @@ with_front text output = record { text = text ++ output.text; outcome = output.o
 pub record WroteFront {A : Type 0} (total left : Script A → Output) (parts : List A) (before after : Option (List ℕ)) : Type 0 where
   pub text : List ℕ
   pub wrote : Appends before after text
-  pub is : (rest : Script A) → total (behind parts rest) ≡ with_front text (left rest)
+  pub is : (rest : Script A) → total (prepended parts rest) ≡ with_front text (left rest)
 
 -- The same of `check`, with the counts so far: no more directives than parts.
 abbrev pub rest_checked : ℕ → ℕ → List Entry → Option FileFault → Output
 rest_checked directives mismatches entries None = record {
   text = flat_map report entries ++ counts_line (directives + count_by (λ entry. is_directive entry.item) entries) (mismatches + count_by differs entries);
-  outcome = Ok (status_of (nat_lt 0 mismatches || list_any differs entries));
+  outcome = Ok (check_status (nat_lt 0 mismatches || list_any differs entries));
 }
 rest_checked directives mismatches entries (Some fault) = record { text = flat_map report entries; outcome = Err (ScriptFault fault) }
 
+-- what is left of `check`, by the session and the counts so far
 abbrev pub check_left : SessionState → ℕ → ℕ → Script Item → Output
-check_left session directives mismatches rest = rest_checked directives mismatches (entries_of session rest.items) rest.fault
+check_left session directives mismatches rest = rest_checked directives mismatches (answered_entries session rest.items) rest.fault
 
+-- of `check` these parts were answered
 pub record HasChecked (session : SessionState) (directives mismatches : ℕ) (total : Script Item → Output) (parts : List Item) (before after : Option (List ℕ)) : Type 0 where
   pub front : WroteFront total (check_left session directives mismatches) parts before after
   pub few : directives ≤ length parts
@@ -50,24 +52,27 @@ pub record HasChecked (session : SessionState) (directives mismatches : ℕ) (to
 abbrev pub rewrite_left : SessionState → Script Item → Output
 rewrite_left session rest = record { text = obeyed_text session rest.items; outcome = clean_unless rest.fault }
 
+-- an output with its end looked at
 abbrev pub ended : Output → Output
 ended output = record { text = without_double_end output.text; outcome = output.outcome }
 
+-- of `rewrite` these parts were answered
 pub record HasRewritten (session : SessionState) (rewriter : RewriterState) (total : Script Item → Output) (parts : List Item) (before after : Option (List ℕ)) : Type 0 where
   pub text : List ℕ
   pub wrote : HasWritten rewriter.newlines before after text
   pub ready : rewriter.stage ≡ Ready
-  pub is : (rest : Script Item) → total (behind parts rest) ≡ ended (with_front text (rewrite_left session rest))
+  pub is : (rest : Script Item) → total (prepended parts rest) ≡ ended (with_front text (rewrite_left session rest))
 
 -- The same of `undo`, which obeys what it reads and writes at its end.
 abbrev pub undo_left : SessionState → ℕ → Script Item → Output
 undo_left session count rest = undone_unless (session_after_all session rest.items) count rest.fault
 
+-- of `undo` these parts were read
 pub record HasObeyed (session : SessionState) (rewriter : RewriterState) (count : ℕ) (total : Script Item → Output) (parts : List Item) (before after : Option (List ℕ)) : Type 0 where
   pub unwritten : Keeps before after
   pub ready : rewriter.stage ≡ Ready
   pub nothing : (held : Option (List ℕ)) → HasWritten rewriter.newlines held held []
-  pub is : (rest : Script Item) → total (behind parts rest) ≡ undo_left session count rest
+  pub is : (rest : Script Item) → total (prepended parts rest) ≡ undo_left session count rest
 
 -- The same of `plan`, which keeps its first three lines and writes at its end.
 pub record HasRead (texts : List (List ℕ)) (total : Script (List ℕ) → Output) (parts : List (List ℕ)) (before after : Option (List ℕ)) : Type 0 where

@@ -14,7 +14,7 @@ use Rattle.conf_plan.specs.PlanText.{plan_text}
 use Rattle.conf_session.specs.SessionState.{SessionState, new_session, present}
 use Rattle.conf_session.specs.Undo.{undo_plan_of}
 use Rattle.conf_tool.specs.TwoConfigurations.{configurations_in}
-use Rattle.conf_tool.specs.Outputs.{session_after_all, checked, rewritten, undone, planned_output}
+use Rattle.conf_tool.specs.Outputs.{session_after_all, checked, rewritten, undone_output, planned_output}
 use Rattle.conf_tool.specs.UndoScript.{TakesSteps}
 use Rattle.conf_tool.specs.declared.status.Status.TheVariants.{Clean}
 
@@ -30,7 +30,7 @@ RewrittenClean = (input : List ℕ) (history : ℕ) (floor : Floor) →
 abbrev pub JoinedClean : Type 0
 JoinedClean = (script : List ℕ) (history : ℕ) (floor : Floor) (count : ℕ) →
     IsComplete 1 (lines_of script) → (checked script history floor).outcome ≡ Ok Clean →
-    let joined = (script ++ newline ++ newline) ++ (undone script history floor count).text in
+    let joined = (script ++ newline ++ newline) ++ (undone_output script history floor count).text in
     length joined ≤ longest_input → (checked joined history floor).outcome ≡ Ok Clean
 
 -- The script is read without a fault. A session that runs it takes the steps, one for each directive, and comes to the
@@ -45,7 +45,7 @@ pub record LeadsBackBy (session : SessionState) (count : ℕ) (steps : List Step
 abbrev pub UndoScriptLeadsBack : Type 0
 UndoScriptLeadsBack = (script : List ℕ) (history : ℕ) (floor : Floor) (count : ℕ) (steps : List Step) →
     let session = session_after_all (new_session history floor) (script_of script).items in
-    let printed = (undone script history floor count).text in
+    let printed = (undone_output script history floor count).text in
     (script_of script).fault ≡ None → 1 ≤ count → undo_plan_of session count ≡ Ok steps → IsPlan steps → length printed ≤ longest_input →
     LeadsBackBy session count steps (script_of printed)
 

@@ -7,5 +7,6 @@ pub mod TwoConfigurations
 pub mod PlanAnswer
 pub mod Outputs
 pub mod Answered
+pub mod AnsweredLaws
 pub mod Run
 pub mod Laws

@@ -15,18 +15,18 @@ pub record LineReply : Type 0 where
   pub after : Configuration
 
 -- a text alone: the configuration stays
-abbrev pub told : Configuration → List ℕ → LineReply
-told c text = record { text = text; after = c }
+abbrev pub text_alone : Configuration → List ℕ → LineReply
+text_alone c text = record { text = text; after = c }
 
 -- a change that is made, or refused
 abbrev pub reply_to_outcome : Configuration → Outcome → LineReply
 reply_to_outcome c (Ok after) = record { text = config_text after; after = after }
-reply_to_outcome c (Err refused) = told c (refused_text refused)
+reply_to_outcome c (Err refused) = text_alone c (refused_text refused)
 
 -- the changes that a line spells, or its first bad word
 abbrev pub reply_to_changes : Configuration → Result (List Change) BadToken → LineReply
 reply_to_changes c (Ok changes) = reply_to_outcome c (outcome c (Simple changes))
-reply_to_changes c (Err bad) = told c (bad_token_text bad)
+reply_to_changes c (Err bad) = text_alone c (bad_token_text bad)
 
 -- the answer to a word, which spells a change or none
 abbrev pub reply_to_word : Configuration → List ℕ → LineReply
@@ -38,7 +38,7 @@ has_one_word line = length (words line) == 1
 
 -- a line of one word is its change, and any other is none
 abbrev pub line_reply : Configuration → List ℕ → LineReply
-line_reply c line = if has_one_word line then reply_to_changes c (changes_in line) else told c (codes "one change expected")
+line_reply c line = if has_one_word line then reply_to_changes c (changes_in line) else text_alone c (codes "one change expected")
 
 -- the answers to lines in turn, each with a newline
 abbrev pub line_replies : Configuration → List (List ℕ) → List ℕ

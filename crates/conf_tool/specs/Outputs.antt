@@ -10,7 +10,7 @@ use Rattle.conf_tool.specs.LineReply.{line_replies}
 use Rattle.conf_change.specs.declared.floor.Floor.{Floor}
 use Rattle.conf_change.specs.declared.step.Step.{Step}
 use Rattle.conf_session.specs.SessionState.{SessionState, new_session}
-use Rattle.conf_tool.specs.Reports.{session_after, entries_of, differs, report, counts_text}
+use Rattle.conf_tool.specs.Reports.{session_after, answered_entries, differs, report, counts_text}
 use Rattle.conf_session.specs.Undo.{undo_plan_of}
 use Rattle.conf_tool.specs.UndoScript.{undo_items}
 use Rattle.conf_tool.specs.declared.mode.Mode.{Mode}
@@ -43,25 +43,28 @@ lined_from c listing = record { text = line_replies c listing.items; outcome = c
 abbrev pub lined : List ℕ → Output
 lined input = lined_from empty_configuration (listing_of input)
 
-abbrev pub status_of : Bool → Status
-status_of false = Clean
-status_of true = Different
+-- different where a directive differs
+abbrev pub check_status : Bool → Status
+check_status false = Clean
+check_status true = Different
 
 -- the reports, and the counts unless there is a fault
 abbrev pub checked_entries : List Entry → Option FileFault → Output
-checked_entries entries None = record { text = flat_map report entries ++ counts_text entries; outcome = Ok (status_of (list_any differs entries)) }
+checked_entries entries None = record { text = flat_map report entries ++ counts_text entries; outcome = Ok (check_status (list_any differs entries)) }
 checked_entries entries (Some fault) = record { text = flat_map report entries; outcome = Err (ScriptFault fault) }
 
+-- of `check`, by the items of the script
 abbrev pub checked_script : ℕ → Floor → Script Item → Output
-checked_script history floor script = checked_entries (entries_of (new_session history floor) script.items) script.fault
+checked_script history floor script = checked_entries (answered_entries (new_session history floor) script.items) script.fault
 
 -- of `check`: what differs in a script, in a session that keeps so many earlier configurations and has this floor
 abbrev pub checked : List ℕ → ℕ → Floor → Output
 checked input history floor = checked_script history floor (script_of input)
 
+-- of `rewrite`, by the items of the script
 abbrev pub rewritten_script : ℕ → Floor → Script Item → Output
 rewritten_script history floor script = record {
-  text = rewritten_text (entries_of (new_session history floor) script.items);
+  text = rewritten_text (answered_entries (new_session history floor) script.items);
   outcome = clean_unless script.fault;
 }
 
@@ -80,20 +83,21 @@ undo_status (Ok steps) = Clean
 undo_status (Err fault) = Different
 
 -- the items that undo changes, with what the session finds that obeys them
-abbrev pub undone_by : SessionState → Result (List Step) UndoFault → Output
-undone_by session plan = record { text = rewritten_text (entries_of session (undo_items plan)); outcome = Ok (undo_status plan) }
+abbrev pub undone_with : SessionState → Result (List Step) UndoFault → Output
+undone_with session plan = record { text = rewritten_text (answered_entries session (undo_items plan)); outcome = Ok (undo_status plan) }
 
 -- nothing is undone of a script with a fault
 abbrev pub undone_unless : SessionState → ℕ → Option FileFault → Output
-undone_unless session count None = undone_by session (undo_plan_of session count)
+undone_unless session count None = undone_with session (undo_plan_of session count)
 undone_unless session count (Some fault) = record { text = []; outcome = Err (ScriptFault fault) }
 
+-- of `undo`, by the items of the script
 abbrev pub undone_script : ℕ → Floor → ℕ → Script Item → Output
 undone_script history floor count script = undone_unless (session_after_all (new_session history floor) script.items) count script.fault
 
 -- of `undo`: the script that undoes so many changes of a script, one at least
-abbrev pub undone : List ℕ → ℕ → Floor → ℕ → Output
-undone input history floor count = undone_script history floor count (script_of input)
+abbrev pub undone_output : List ℕ → ℕ → Floor → ℕ → Output
+undone_output input history floor count = undone_script history floor count (script_of input)
 
 -- the plan between two configurations, or why there is none
 abbrev pub planned_between : Result (Configuration × Configuration) ConfigurationsFault → Output
@@ -105,6 +109,7 @@ abbrev pub planned_unless : List (List ℕ) → Option FileFault → Output
 planned_unless lines None = planned_between (configurations_in lines)
 planned_unless lines (Some fault) = record { text = []; outcome = Err (ScriptFault fault) }
 
+-- of `plan`, by the lines of the input
 abbrev pub planned_script : Script (List ℕ) → Output
 planned_script listing = planned_unless listing.items listing.fault
 
@@ -117,5 +122,5 @@ abbrev pub output_of : Mode → Options → List ℕ → Output
 output_of Lines options input = lined input
 output_of Check options input = checked input options.history options.floor
 output_of Rewrite options input = rewritten input options.history options.floor
-output_of Undo options input = undone input options.history options.floor options.steps
+output_of Undo options input = undone_output input options.history options.floor options.steps
 output_of Plan options input = planned_output input

@@ -22,13 +22,13 @@ session_after session (Blank lines) = session
 session_after session (Directive directive) = (answer session directive).session
 
 -- the items in turn, each with what a session finds that obeyed those before it
-abbrev pub entries_of : SessionState → List Item → List Entry
-entries_of session [] = []
-entries_of session (item ∷ items) = entry item (found_for session item) ∷ entries_of (session_after session item) items
+abbrev pub answered_entries : SessionState → List Item → List Entry
+answered_entries session [] = []
+answered_entries session (item ∷ items) = entry item (found_for session item) ∷ answered_entries (session_after session item) items
 
 -- the items, each with what is found, as they are written again
 abbrev pub obeyed_text : SessionState → List Item → List ℕ
-obeyed_text session items = flat_map (λ (entry : Entry). entry_text entry.item entry.found) (entries_of session items)
+obeyed_text session items = flat_map (λ (entry : Entry). entry_text entry.item entry.found) (answered_entries session items)
 
 -- it is a directive whose expected text is another
 abbrev pub expects_other : List ℕ → Item → Bool
@@ -36,6 +36,7 @@ expects_other found (Comment lines) = false
 expects_other found (Blank lines) = false
 expects_other found (Directive directive) = not (bytes_eq found directive.expected)
 
+-- an entry differs: its directive expects another text
 abbrev pub differs : Entry → Bool
 differs entry = expects_other entry.found entry.item
 
@@ -48,6 +49,7 @@ abbrev pub difference_text : List ℕ → DirectiveText → List ℕ
 difference_text found directive =
     line (decimal directive.line ++ codes ": " ++ directive.command) ++ marked (codes "- ") directive.expected ++ marked (codes "+ ") found
 
+-- the report on an item for which a text was found
 abbrev pub report_of : List ℕ → Item → List ℕ
 report_of found (Comment lines) = []
 report_of found (Blank lines) = []
@@ -61,5 +63,6 @@ report entry = report_of entry.found entry.item
 abbrev pub counts_line : ℕ → ℕ → List ℕ
 counts_line directives mismatches = line (decimal directives ++ codes " directives, " ++ decimal mismatches ++ codes " mismatches")
 
+-- the counts of some entries
 abbrev pub counts_text : List Entry → List ℕ
 counts_text entries = counts_line (count_by (λ entry. is_directive entry.item) entries) (count_by differs entries)

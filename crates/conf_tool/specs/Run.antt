@@ -59,21 +59,22 @@ IsScriptFault (InputTooLong line) = ⊤
 IsScriptFault ReadOfScript = ⊥
 IsScriptFault NoMemoryForScript = ⊥
 
-abbrev pub IsTooLong : FileFault → Type 0
-IsTooLong (BadDirective line) = ⊥
-IsTooLong (AfterDouble line) = ⊥
-IsTooLong (UnclosedDouble line) = ⊥
-IsTooLong (InputTooLong line) = ⊤
-IsTooLong ReadOfScript = ⊥
-IsTooLong NoMemoryForScript = ⊥
+-- a fault of an input that passes the limit
+abbrev pub IsInputTooLong : FileFault → Type 0
+IsInputTooLong (BadDirective line) = ⊥
+IsInputTooLong (AfterDouble line) = ⊥
+IsInputTooLong (UnclosedDouble line) = ⊥
+IsInputTooLong (InputTooLong line) = ⊤
+IsInputTooLong ReadOfScript = ⊥
+IsInputTooLong NoMemoryForScript = ⊥
 
 -- the faults of an input that a mode tells
 abbrev pub CanBeFaulty : Mode → FileFault → Type 0
-CanBeFaulty Lines fault = IsTooLong fault
+CanBeFaulty Lines fault = IsInputTooLong fault
 CanBeFaulty Check fault = IsScriptFault fault
 CanBeFaulty Rewrite fault = IsScriptFault fault
 CanBeFaulty Undo fault = IsScriptFault fault
-CanBeFaulty Plan fault = IsTooLong fault
+CanBeFaulty Plan fault = IsInputTooLong fault
 
 -- it is only `plan` that is given configurations
 abbrev pub WantsConfigurations : Mode → Type 0
@@ -102,21 +103,22 @@ CanAnswer mode (Err Write) = ⊤
 CanAnswer mode (Err NoMemory) = ⊤
 
 -- a read, or a write, failed in a call
-abbrev pub is_read_fault : {X : Type 0} → Result X ToolFault → Bool
-is_read_fault (Ok x) = false
-is_read_fault (Err (Script fault)) = false
-is_read_fault (Err (Configurations fault)) = false
-is_read_fault (Err Read) = true
-is_read_fault (Err Write) = false
-is_read_fault (Err NoMemory) = false
+abbrev pub is_read_failure : {X : Type 0} → Result X ToolFault → Bool
+is_read_failure (Ok x) = false
+is_read_failure (Err (Script fault)) = false
+is_read_failure (Err (Configurations fault)) = false
+is_read_failure (Err Read) = true
+is_read_failure (Err Write) = false
+is_read_failure (Err NoMemory) = false
 
-abbrev pub is_write_fault : {X : Type 0} → Result X ToolFault → Bool
-is_write_fault (Ok x) = false
-is_write_fault (Err (Script fault)) = false
-is_write_fault (Err (Configurations fault)) = false
-is_write_fault (Err Read) = false
-is_write_fault (Err Write) = true
-is_write_fault (Err NoMemory) = false
+-- a write failed in a call
+abbrev pub is_write_failure : {X : Type 0} → Result X ToolFault → Bool
+is_write_failure (Ok x) = false
+is_write_failure (Err (Script fault)) = false
+is_write_failure (Err (Configurations fault)) = false
+is_write_failure (Err Read) = false
+is_write_failure (Err Write) = true
+is_write_failure (Err NoMemory) = false
 
 -- an answer that stands for the whole output: with a status, or with a fault of the input
 abbrev pub stands_for_whole : Result Status ToolFault → Bool

@@ -14,6 +14,7 @@ abbrev pub valid_one : ℕ → Option Configuration → Result Configuration Con
 valid_one number None = Err (NotAConfiguration number)
 valid_one number (Some c) = if is_valid c then Ok c else Err (NotAConfiguration number)
 
+-- a line that is a ConfState line
 abbrev pub named_one : ℕ → Option ConfStateLists → Result Configuration ConfigurationsFault
 named_one number None = Err (BadConfState number)
 named_one number (Some saved) = valid_one number (described saved)
@@ -22,6 +23,7 @@ named_one number (Some saved) = valid_one number (described saved)
 abbrev pub configuration_in : ℕ → List ℕ → Result Configuration ConfigurationsFault
 configuration_in number line = named_one number (conf_state_in line)
 
+-- two configurations, or what is wrong with the first, or else with the second
 abbrev pub both_of : Result Configuration ConfigurationsFault → Result Configuration ConfigurationsFault → Result (Configuration × Configuration) ConfigurationsFault
 both_of (Err fault) target = Err fault
 both_of (Ok now) (Err fault) = Err fault

@@ -38,6 +38,7 @@ change_lines (change ∷ changes) = join_with_byte 32 (map change_text (change �
 abbrev pub step_directive : Step → Item
 step_directive step = directive 1 (step_command step) (step_line step ∷ []) (change_lines (changes_of step)) []
 
+-- a comment with a text
 abbrev pub comment : List ℕ → Item
 comment text = Comment ((codes "# " ++ text) ∷ [])
 

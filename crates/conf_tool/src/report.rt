@@ -1,7 +1,7 @@
 //! What the mode `check` reports: each directive that found another text than it expects, and how many there were.
 ghost use Rattle.std.specs.Prelude.{◌≡◌, ◌≤◌, ◌<◌, ◌+◌, ◌^◌, [], ◌∷◌, ◌++◌, decimal, nat_lt, OnOk, if◌then◌else◌};
 ghost use Rattle.ascii_text.specs.Lines.{newline, without_last};
-ghost use Rattle.conf_tool.specs.Outputs.{status_of};
+ghost use Rattle.conf_tool.specs.Outputs.{check_status};
 ghost use Rattle.conf_tool.specs.Reports.{marked, difference_text, counts_line};
 
 use crate::status::Status;
@@ -42,7 +42,7 @@ impl Counts {
     }
 
     pub(crate) fn status(&self) -> Status
-        ensures { result ≡ status_of (nat_lt 0 self.now.mismatches) }
+        ensures { result ≡ check_status (nat_lt 0 self.now.mismatches) }
     {
         if self.mismatches > 0 {
             Status::Different

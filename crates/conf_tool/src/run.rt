@@ -4,12 +4,13 @@ ghost use Rattle.dd_file.specs.Device.{LosesFront};
 ghost use Rattle.dd_file.specs.Gathered.{gathering_writer, NothingWaits};
 ghost use Rattle.conf_tool.specs.Outputs.{output_of};
 ghost use Rattle.conf_tool.specs.Ranges.{IsInRange};
-ghost use Rattle.conf_tool.specs.Run.{Answers, CanAnswer, TellsWrite, is_read_fault, is_write_fault, stands_for_whole};
+ghost use Rattle.conf_tool.specs.Run.{Answers, CanAnswer, TellsWrite, is_read_failure, is_write_failure, stands_for_whole};
 
 mod check;
 mod clean_unless;
 mod lines;
 mod part_by_part;
+mod parts;
 mod plan;
 mod rewrite;
 mod undo;
@@ -27,6 +28,8 @@ use crate::tool_fault::ToolFault;
 use dd_file::blocks::Blocks;
 use dd_file::device::{Sink, Source};
 use dd_file::laws::nothing_waits;
+use dd_file::lines::Lines;
+use dd_file::reader::Reader;
 use std::alloc::Global;
 
 /// Reads the input to its end in a mode, and writes the mode's output. Nothing is tried again: after a fault of a
@@ -46,16 +49,31 @@ pub fn run<R: Source, W: Sink>(
 
     // The reader has failed exactly if it had failed before, or `Read` is returned; so it is of the writer and `Write`.
     // Of the other faults and the statuses only the mode's own are returned.
-    ensures read { R.has_failed reader.new ≡ (R.has_failed reader.old || is_read_fault result) }
-    ensures write { W.has_failed writer.new ≡ (W.has_failed writer.old || is_write_fault result) }
+    ensures read { R.has_failed reader.new ≡ (R.has_failed reader.old || is_read_failure result) }
+    ensures write { W.has_failed writer.new ≡ (W.has_failed writer.old || is_write_failure result) }
     ensures kinds { CanAnswer mode result }
 {
     match mode {
-        Mode::Lines => run_by_part(LineByLine::new(alloc)?, reader, writer),
-        Mode::Check => run_by_part(Checking::new(alloc, options)?, reader, writer),
-        Mode::Rewrite => run_by_part(Rewriting::new(alloc, options)?, reader, writer),
-        Mode::Undo => run_by_part(Undoing::new(alloc, options)?, reader, writer),
-        Mode::Plan => run_by_part(Planning::new(alloc)?, reader, writer),
+        Mode::Lines => run_by_part(Lines::new(alloc)?, LineByLine::new(alloc), reader, writer),
+        Mode::Check => run_by_part(
+            Reader::new(alloc)?,
+            Checking::new(alloc, options)?,
+            reader,
+            writer,
+        ),
+        Mode::Rewrite => run_by_part(
+            Reader::new(alloc)?,
+            Rewriting::new(alloc, options)?,
+            reader,
+            writer,
+        ),
+        Mode::Undo => run_by_part(
+            Reader::new(alloc)?,
+            Undoing::new(alloc, options)?,
+            reader,
+            writer,
+        ),
+        Mode::Plan => run_by_part(Lines::new(alloc)?, Planning::new(alloc), reader, writer),
     }
 }
 
@@ -86,7 +104,7 @@ pub fn run_and_flush<R: Source, W: Sink>(
     ensures taken { LosesFront (R.remaining reader.old) (R.remaining reader.new) }
 
     // A read that failed and want of memory are told before a write that failed.
-    ensures read { R.has_failed reader.new ≡ (R.has_failed reader.old || is_read_fault result) }
+    ensures read { R.has_failed reader.new ≡ (R.has_failed reader.old || is_read_failure result) }
     ensures write { TellsWrite (W.has_failed (gathering_writer writer.old)) (W.has_failed (gathering_writer writer.new)) result }
     ensures kinds { CanAnswer mode result }
 {

@@ -17,16 +17,17 @@ pub record AgreesWith (state : ReaderState) (before after input more : List ℕ)
   pub met : state.is_ended ≡ true → given ++ more ≡ []
   pub last : after ≡ [] → more ≡ []
 
+-- the same where the reader's bytes are known; else nothing agrees
 abbrev pub Agrees : ReaderState → Option (List ℕ) → Option (List ℕ) → List ℕ → List ℕ → Type 0
 Agrees state (Some before) (Some after) input more = AgreesWith state before after input more
 Agrees state (Some before) None input more = ⊥
 Agrees state None after input more = ⊥
 
 -- what an answer says that comes next, with more bytes behind those that are held after it
-abbrev pub answered : {X A : Type 0} → (X → A) → ReaderState → List ℕ → Result (Option X) FileFault → Next A
-answered view new more (Ok None) = Over
-answered view new more (Ok (Some found)) = Found (view found) new.place (new.held ++ more)
-answered view new more (Err fault) = Faulty fault
+abbrev pub next_in_answer : {X A : Type 0} → (X → A) → ReaderState → List ℕ → Result (Option X) FileFault → Next A
+next_in_answer view new more (Ok None) = Over
+next_in_answer view new more (Ok (Some found)) = Found (view found) new.place (new.held ++ more)
+next_in_answer view new more (Err fault) = Faulty fault
 
 -- an answer that says nothing of the input
 abbrev pub IsCutShort : {X : Type 0} → Result X FileFault → Type 0
@@ -36,8 +37,9 @@ IsCutShort result = (result ≡ Err Read) ⊎ (result ≡ Err NoMemory)
 -- Nothing is said where the reader does not tell its bytes.
 abbrev pub TellsNext : {X A : Type 0} → (X → A) → (Place → List ℕ → Next A) → ReaderState → ReaderState → Option (List ℕ) → Option (List ℕ) → Result (Option X) FileFault → Type 0
 TellsNext view next old new before after result =
-    (input more : List ℕ) → Agrees old before after input more → IsCutShort result ⊎ (next old.place input ≡ answered view new more result)
+    (input more : List ℕ) → Agrees old before after input more → IsCutShort result ⊎ (next old.place input ≡ next_in_answer view new more result)
 
+-- an answer that a read failed
 abbrev pub is_read_fault : {X : Type 0} → Result X FileFault → Bool
 is_read_fault (Ok found) = false
 is_read_fault (Err Read) = true

@@ -17,6 +17,7 @@ pub record AgreesInTurn (old mid : ReaderState) (before between after : Option (
   pub first : Agrees old before between input behind
   pub second : Agrees mid between after (mid.held ++ behind) more
 
+-- what two calls read agrees in turn
 abbrev pub ReadInTurn : Type 0
 ReadInTurn = (old mid : ReaderState) (before between after : Option (List ℕ)) (input more : List ℕ) → LosesFront before between → LosesFront between after →
     (mid.is_ended ≡ true → (old.is_ended ≡ true) ⊎ IsAtEnd between) → Agrees old before after input more → AgreesInTurn old mid before between after input more
@@ -29,6 +30,7 @@ AppendedInTurn = (old mid new : Option (List ℕ)) (xs ys : List ℕ) → Append
 abbrev pub CutInFirst : Type 0
 CutInFirst = (old new : Option (List ℕ)) (xs ys : List ℕ) → AppendsPart old new xs → AppendsPart old new (xs ++ ys)
 
+-- .. in the second part
 abbrev pub CutInSecond : Type 0
 CutInSecond = (old mid new : Option (List ℕ)) (xs ys : List ℕ) → Appends old mid xs → AppendsPart mid new ys → AppendsPart old new (xs ++ ys)
 
@@ -40,5 +42,6 @@ ContinuesInTurn = (a b c : ℕ) (old mid new : Option (List ℕ)) (xs ys : List 
 abbrev pub BreaksInFirst : Type 0
 BreaksInFirst = (a : ℕ) (old new : Option (List ℕ)) (xs ys : List ℕ) → BreaksOff a old new xs → BreaksOff a old new (xs ++ ys)
 
+-- .. in the second part
 abbrev pub BreaksInSecond : Type 0
 BreaksInSecond = (a b : ℕ) (old mid new : Option (List ℕ)) (xs ys : List ℕ) → Continues a b old mid xs → BreaksOff b mid new ys → BreaksOff a old new (xs ++ ys)

@@ -18,6 +18,7 @@ use Rattle.dd_file.specs.declared.fault.FileFault.TheVariants.{Read, NoMemory, B
 abbrev pub ItemsByNext : Type 0
 ItemsByNext = (place : Place) (bytes : List ℕ) → items_from place bytes ≡ followed items_from (next_item longest_input place bytes)
 
+-- the same of lines
 abbrev pub LinesByNext : Type 0
 LinesByNext = (place : Place) (bytes : List ℕ) → lines_from place bytes ≡ followed lines_from (next_line longest_input place bytes)
 
@@ -77,6 +78,7 @@ pub record IsGiven (item : Item) : Type 0 where
   pub is_ended : Bool
   pub first : first_of number lines ≡ Some (front (Ok item) count is_ended)
 
+-- items that the grammar gives
 abbrev pub AreGiven : List Item → Type 0
 AreGiven [] = ⊤
 AreGiven (item ∷ items) = IsGiven item × AreGiven items
@@ -128,10 +130,12 @@ abbrev pub IsCompleteWith : ℕ → List (List ℕ) → ℕ → Result Item File
 IsCompleteWith n lines count (Ok item) = (has_separator count (Ok item) ≡ true) × IsComplete (n + count) (drop count lines)
 IsCompleteWith n lines count (Err fault) = ⊥
 
+-- the same of what lines begin with, if there are any
 abbrev pub IsCompleteBy : ℕ → List (List ℕ) → Option Front → Type 0
 IsCompleteBy n lines None = ⊤
 IsCompleteBy n lines (Some item) = IsCompleteWith n lines item.count item.found
 
+-- whether lines are complete is given by what they begin with
 abbrev pub CompleteByFirst : Type 0
 CompleteByFirst = (n : ℕ) (lines : List (List ℕ)) →
     (IsComplete n lines → IsCompleteBy n lines (first_of n lines)) × (IsCompleteBy n lines (first_of n lines) → IsComplete n lines)
@@ -146,6 +150,7 @@ directive_in (Comment lines) = []
 directive_in (Blank lines) = []
 directive_in (Directive directive) = directive ∷ []
 
+-- the directives of some items, in order
 abbrev pub directives_of : List Item → List DirectiveText
 directives_of items = flat_map directive_in items
 

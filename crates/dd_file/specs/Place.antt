@@ -6,6 +6,7 @@ pub record Place : Type 0 where
   pub lines : ℕ
   pub bytes : ℕ
 
+-- the start of an input
 abbrev pub start : Place
 start = record { lines = 0; bytes = 0 }
 

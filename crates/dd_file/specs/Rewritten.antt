@@ -13,6 +13,7 @@ raw_lines_of (Comment lines) = lines
 raw_lines_of (Blank lines) = lines
 raw_lines_of (Directive directive) = directive.raw_lines
 
+-- the item is a directive
 abbrev pub is_directive : Item → Bool
 is_directive (Comment lines) = false
 is_directive (Blank lines) = false
@@ -26,6 +27,7 @@ kept_text item = text_of (raw_lines_of item)
 abbrev pub dashes : List ℕ
 dashes = codes "----" ++ newline
 
+-- a line of the text is blank
 abbrev pub has_blank_line : List ℕ → Bool
 has_blank_line text = list_any is_blank (lines_of text)
 
@@ -34,6 +36,7 @@ abbrev pub opening : Bool → List ℕ
 opening true = dashes ++ dashes
 opening false = dashes
 
+-- what comes after an output
 abbrev pub closing : Bool → List ℕ
 closing true = (dashes ++ dashes) ++ newline
 closing false = newline
@@ -63,6 +66,7 @@ pub record Entry : Type 0 where
   pub item : Item
   pub found : List ℕ
 
+-- an entry by its parts
 abbrev pub entry : Item → List ℕ → Entry
 entry item found = record { item = item; found = found }
 

@@ -15,15 +15,19 @@ pub record CommandText : Type 0 where
   pub name : List ℕ
   pub arguments : List ArgumentText
 
+-- the byte is (
 abbrev pub is_opening : ℕ → Bool
 is_opening b = b == 40
 
+-- the byte is )
 abbrev pub is_closing : ℕ → Bool
 is_closing b = b == 41
 
+-- the byte is =
 abbrev pub is_equals : ℕ → Bool
 is_equals b = b == 61
 
+-- the byte is ,
 abbrev pub is_comma : ℕ → Bool
 is_comma b = b == 44
 
@@ -55,6 +59,7 @@ words_of text = filter (λ word. not (length word == 0)) (cut_at_spaces false te
 abbrev pub is_key_byte : ℕ → Bool
 is_key_byte b = is_ascii_alphanumeric b || list_any (λ c. b == c) (codes "-_/,.")
 
+-- a word of such bytes
 abbrev pub is_key : List ℕ → Bool
 is_key word = not (length word == 0) && list_all is_key_byte word
 

@@ -11,6 +11,7 @@ pub mod fault;
 pub mod item;
 mod joined_lines;
 pub mod laws;
+pub mod line;
 mod line_kinds;
 pub mod lines;
 mod phase;

@@ -11,6 +11,7 @@ ghost use Rattle.dd_file.specs.Answer.{ReadsOn, MovesOn, IsLineFault, is_read_fa
 use crate::buffer::Buffer;
 use crate::device::Source;
 use crate::fault::FileFault;
+use crate::line::Line;
 use ascii_text::lines::{is_whole, line_of, piece_len, without_end};
 use std::alloc::Global;
 use std::marker::Model;
@@ -64,8 +65,8 @@ impl Lines {
     /// The next line, without its newline and one carriage return before it; none at the end and from then on. After
     /// a fault it answers that fault again: `InputTooLong` for an input of 2^30 bytes or more, `Read` where a read
     /// failed, or `NoMemory`.
-    pub fn next<R: Source>(&mut self, reader: &mut R) -> Result<Option<Vec<u8>>, FileFault>
-        ensures { ReadsOn R.remaining R.has_failed (λ line. line.items) (next_line longest_input) IsLineFault self.old self.new reader.old reader.new result }
+    pub fn next<R: Source>(&mut self, reader: &mut R) -> Result<Option<Line>, FileFault>
+        ensures { ReadsOn R.remaining R.has_failed (λ line. line) (next_line longest_input) IsLineFault self.old self.new reader.old reader.new result }
     {
         let _ = &*reader;
         if let Some(fault) = self.fault {
@@ -85,8 +86,8 @@ impl Lines {
 
     /// The next line where its newline is in hand, so that no reader is asked. Nothing is done where what is held does
     /// not tell: it has no newline, or the end was met or a fault, or the limit may be passed in it (own).
-    pub fn next_held<R: Source>(&mut self, reader: &R) -> Option<Result<Option<Vec<u8>>, FileFault>>
-        ensures { HeldReadsOn R.remaining R.has_failed (λ line. line.items) (next_line longest_input) IsLineFault is_line_in_hand self.old self.new reader.now result }
+    pub fn next_held<R: Source>(&mut self, reader: &R) -> Option<Result<Option<Line>, FileFault>>
+        ensures { HeldReadsOn R.remaining R.has_failed (λ line. line) (next_line longest_input) IsLineFault is_line_in_hand self.old self.new reader.now result }
     {
         let _ = reader;
         if !self.can_tell() {
@@ -99,9 +100,9 @@ impl Lines {
             return None;
         }
         match Vec::from_slice(self.alloc, line_of(piece)) {
-            Ok(line) => {
+            Ok(bytes) => {
                 self.pass(1, len);
-                Some(Ok(Some(line)))
+                Some(Ok(Some(Line::new(bytes))))
             }
             Err(_) => {
                 self.fault = Some(FileFault::NoMemory);
@@ -187,11 +188,11 @@ impl Lines {
     }
 
     /// Counts the piece that was read, and answers its line.
-    fn take_line(&mut self, mut piece: Vec<u8>) -> Option<Vec<u8>>
+    fn take_line(&mut self, mut piece: Vec<u8>) -> Option<Line>
         requires { self.old.place.bytes + vec_len piece ≤ longest_input }
         ensures { MatchOption result
             ((piece.items ≡ []) × (self.new ≡ self.old))
-            (λ line. (line.items ≡ line_of piece.items) × (0 < length piece.items) × (self.old.place.lines + 1 ≤ longest_input)
+            (λ line. (line ≡ line_of piece.items) × (0 < length piece.items) × (self.old.place.lines + 1 ≤ longest_input)
             × (self.new ≡ record self.old { place = record { lines = self.old.place.lines + 1; bytes = self.old.place.bytes + length piece.items } })) }
     {
         if piece.is_empty() {
@@ -201,7 +202,7 @@ impl Lines {
         self.bytes += piece.len();
         drop_end(&mut piece, b'\n');
         drop_end(&mut piece, b'\r');
-        Some(piece)
+        Some(Line::new(piece))
     }
 }
 

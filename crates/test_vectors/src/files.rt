@@ -4,6 +4,7 @@ use crate::twice::twice;
 use dd_file::device::{FromRead, Source, ToWrite};
 use dd_file::fault::FileFault;
 use dd_file::item::Item;
+use dd_file::line::Line;
 use dd_file::lines::Lines;
 use dd_file::reader::Reader;
 use dd_file::rewriter::Rewriter;
@@ -37,7 +38,7 @@ fn next_item<R: Source>(reader: &mut Reader, source: &mut R) -> Result<Option<It
 }
 
 // The same of lines.
-fn next_line<R: Source>(lines: &mut Lines, source: &mut R) -> Result<Option<Vec<u8>>, FileFault> {
+fn next_line<R: Source>(lines: &mut Lines, source: &mut R) -> Result<Option<Line>, FileFault> {
     match lines.next_held(source) {
         Some(found) => found,
         None => lines.next(source),

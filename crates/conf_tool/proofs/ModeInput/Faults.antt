@@ -7,7 +7,7 @@ use Rattle.dd_file.specs.Answer as reader
 use Rattle.dd_file.specs.declared.fault.FileFault.{FileFault}
 use Rattle.dd_file.specs.declared.fault.FileFault.TheVariants.{Read, NoMemory, InputTooLong, BadDirective, AfterDouble, UnclosedDouble}
 use Rattle.conf_tool.specs.Outputs.{Output}
-use Rattle.conf_tool.specs.Run.{Means, IsAnswerFault, as_tool_fault, is_read_fault, is_write_fault}
+use Rattle.conf_tool.specs.Run.{Means, IsAnswerFault, as_tool_fault, is_read_failure, is_write_failure}
 use Rattle.conf_tool.specs.declared.status.Status.{Status}
 use Rattle.conf_tool.specs.declared.tool_fault.ToolFault.{ToolFault}
 use Rattle.conf_tool.specs.declared.tool_fault.ToolFault.TheVariants.{Script, Configurations, Read as CannotRead, Write as CannotWrite, NoMemory as OutOfMemory}
@@ -47,11 +47,11 @@ pub reader-means : (fault : FileFault) (told : ToolFault) → IsOfReader fault t
 reader-means fault told CutByRead output before after part = part
 reader-means fault told CutByMemory output before after part = part
 
-pub reader-read : (fault : FileFault) (told : ToolFault) → IsOfReader fault told → is_read_fault {X = Status} (Err told) ≡ reader.is_read_fault {X = Status} (Err fault)
+pub reader-read : (fault : FileFault) (told : ToolFault) → IsOfReader fault told → is_read_failure {X = Status} (Err told) ≡ reader.is_read_fault {X = Status} (Err fault)
 reader-read fault told CutByRead = refl
 reader-read fault told CutByMemory = refl
 
-pub reader-unwritten : (fault : FileFault) (told : ToolFault) → IsOfReader fault told → is_write_fault {X = Status} (Err told) ≡ false
+pub reader-unwritten : (fault : FileFault) (told : ToolFault) → IsOfReader fault told → is_write_failure {X = Status} (Err told) ≡ false
 reader-unwritten fault told CutByRead = refl
 reader-unwritten fault told CutByMemory = refl
 

@@ -7,10 +7,10 @@ use Rattle.dd_file.specs.Device.{LosesFront}
 use Rattle.dd_file.specs.Place.{Place, start}
 use Rattle.dd_file.specs.Reading.{Next, Script, script_from, followed}
 use Rattle.dd_file.specs.ReaderState.{ReaderState, fresh}
-use Rattle.dd_file.specs.Answer.{Agrees, ReadsOn, IsCutShort, answered}
+use Rattle.dd_file.specs.Answer.{Agrees, ReadsOn, IsCutShort, next_in_answer}
 use Rattle.dd_file.specs.declared.fault.FileFault.{FileFault}
 use Rattle.dd_file.proofs.Offered.{consumes-append, agrees-in_turn}
-use Rattle.conf_tool.specs.Answered.{script, behind}
+use Rattle.conf_tool.specs.Answered.{script, prepended}
 
 -- known bytes that lose a part at their front
 pub loses-nothing : (now : Option (List ℕ)) → LosesFront now now
@@ -34,7 +34,7 @@ pub record Reached {A : Type 0} (next : Place → List ℕ → Next A) (begin no
   pub taken : LosesFront begin now
   pub ended : state.is_ended ≡ true → IsAtEnd now
   pub open_end : state.fault ≡ None
-  pub read : (input more : List ℕ) → Agrees fresh begin now input more → script_from next start input ≡ behind parts (script_from next state.place (state.held ++ more))
+  pub read : (input more : List ℕ) → Agrees fresh begin now input more → script_from next start input ≡ prepended parts (script_from next state.place (state.held ++ more))
   -- each part has a line
   pub few : length parts ≤ state.place.lines
 
@@ -45,7 +45,7 @@ reached-begin next begin state is_fresh = record {
   open_end = ap (λ s. s.fault) is_fresh;
   read = λ input more agrees.
       ap (script_from next start) (begin-input begin input more agrees)
-      ∙ ap (λ (t : ReaderState). behind [] (script_from next t.place (t.held ++ more))) (sym is_fresh);
+      ∙ ap (λ (t : ReaderState). prepended [] (script_from next t.place (t.held ++ more))) (sym is_fresh);
   few = omega arith;
 }
 
@@ -53,12 +53,12 @@ reached-begin next begin state is_fresh = record {
 pub reached-answer : {A R X : Type 0} (next : Place → List ℕ → Next A) (remaining : R → Option (List ℕ)) (has_failed : R → Bool) (view : X → A) (IsFault : Place → FileFault → Type 0)
     (begin : Option (List ℕ)) (state after : ReaderState) (now later : R) (parts : List A) (result : Result (Option X) FileFault) →
     InTurn next → Reached next begin (remaining now) state parts → ReadsOn remaining has_failed view next IsFault state after now later result → (IsCutShort result → ⊥) →
-    (input more : List ℕ) → Agrees fresh begin (remaining later) input more → script_from next start input ≡ behind parts (followed (script_from next) (answered view after more result))
+    (input more : List ℕ) → Agrees fresh begin (remaining later) input more → script_from next start input ≡ prepended parts (followed (script_from next) (next_in_answer view after more result))
 reached-answer next remaining has_failed view IsFault begin state after now later parts result in_turn reached reads uncut input more agrees =
     let turn = agrees-in_turn fresh state begin (remaining now) (remaining later) input more reached.taken reads.moves.taken (λ yes. inr (reached.ended yes)) agrees in
     let told = whole (reads.answers reached.open_end (state.held ++ turn.behind) more turn.second) in
     reached.read input turn.behind turn.first
-    ∙ ap (behind parts) (in_turn state.place (state.held ++ turn.behind) ∙ ap (followed (script_from next)) told) where
+    ∙ ap (prepended parts) (in_turn state.place (state.held ++ turn.behind) ∙ ap (followed (script_from next)) told) where
       whole : {P : Type 0} → IsCutShort result ⊎ P → P
       whole (inl cut) = absurd (uncut cut)
       whole (inr is) = is
@@ -125,7 +125,7 @@ reached-next next remaining has_failed view IsFault begin state after now later 
 -- some script that has these parts in front, which is what an input is that agrees with what was read
 pub record HasFront {A : Type 0} (parts : List A) (read : Script A) : Type 0 where
   pub rest : Script A
-  pub is : read ≡ behind parts rest
+  pub is : read ≡ prepended parts rest
 
 pub reached-front : {A : Type 0} (next : Place → List ℕ → Next A) (begin now later : Option (List ℕ)) (state : ReaderState) (parts : List A) → Reached next begin now state parts → LosesFront now later →
     (input more : List ℕ) → Agrees fresh begin later input more → HasFront parts (script_from next start input)

@@ -7,8 +7,8 @@ use Rattle.ascii_text.specs.Lines.{newline}
 use Rattle.dd_file.specs.Device.{AppendsPart}
 use Rattle.dd_file.specs.Reading.{Script}
 use Rattle.dd_file.specs.declared.fault.FileFault.{FileFault}
-use Rattle.dd_file.proofs.Offered.{appends-append, part-append, part-part, append-part}
-use Rattle.conf_tool.specs.Answered.{script, behind, with_front, WroteFront}
+use Rattle.dd_file.proofs.Offered.{appends-append, part-part, append-part}
+use Rattle.conf_tool.specs.Answered.{script, prepended, with_front, WroteFront}
 use Rattle.conf_change.specs.Configuration.{Configuration}
 use Rattle.conf_tool.specs.LineReply.{line_reply}
 use Rattle.conf_tool.specs.Outputs.{Output, clean_unless, lined_from}
@@ -20,16 +20,12 @@ pub appends-nothing : (before : Option (List ℕ)) → Appends before before []
 appends-nothing None = tt
 appends-nothing (Some bytes) = sym (append-nil bytes)
 
-pub part-nothing : (before : Option (List ℕ)) (text : List ℕ) → AppendsPart before before text
-part-nothing None text = tt
-part-nothing (Some bytes) text = ([], text, refl, sym (append-nil bytes))
-
 -- one part more before what is left, and nothing left
-pub behind-part : {A : Type 0} (parts : List A) (part : A) (rest : Script A) → behind (parts ++ part ∷ []) rest ≡ behind parts (behind (part ∷ []) rest)
-behind-part parts part rest = ap (λ items. script items rest.fault) (append_assoc parts (part ∷ []) rest.items)
+pub prepended-part : {A : Type 0} (parts : List A) (part : A) (rest : Script A) → prepended (parts ++ part ∷ []) rest ≡ prepended parts (prepended (part ∷ []) rest)
+prepended-part parts part rest = ap (λ items. script items rest.fault) (append_assoc parts (part ∷ []) rest.items)
 
-pub behind-nothing : {A : Type 0} (parts : List A) (fault : Option FileFault) → script parts fault ≡ behind parts (script [] fault)
-behind-nothing parts fault = ap (λ items. script items fault) (sym (append-nil parts))
+pub prepended-nothing : {A : Type 0} (parts : List A) (fault : Option FileFault) → script parts fault ≡ prepended parts (script [] fault)
+prepended-nothing parts fault = ap (λ items. script items fault) (sym (append-nil parts))
 
 pub with_front-append : (xs ys : List ℕ) (output : Output) → with_front xs (with_front ys output) ≡ with_front (xs ++ ys) output
 with_front-append xs ys output = ap (λ t. record { text = t; outcome = output.outcome }) (sym (append_assoc xs ys output.text))
@@ -38,25 +34,19 @@ with_front-append xs ys output = ap (λ t. record { text = t; outcome = output.o
 
 -- a part was answered
 pub wrote-part : {A : Type 0} (total left next : Script A → Output) (parts : List A) (part : A) (text bytes : List ℕ) (before mid new : Option (List ℕ)) →
-    WroteFront total left parts before mid → ((rest : Script A) → left (behind (part ∷ []) rest) ≡ with_front text (next rest)) → bytes ≡ text → Appends mid new bytes →
+    WroteFront total left parts before mid → ((rest : Script A) → left (prepended (part ∷ []) rest) ≡ with_front text (next rest)) → bytes ≡ text → Appends mid new bytes →
     WroteFront total next (parts ++ part ∷ []) before new
 wrote-part total left next parts part text bytes before mid new front gives same appends = record {
   text = front.text ++ text;
   wrote = appends-append before mid new front.text text front.wrote (subst (λ t. Appends mid new t) same appends);
   is = λ rest.
-      ap total (behind-part parts part rest) ∙ front.is (behind (part ∷ []) rest)
+      ap total (prepended-part parts part rest) ∙ front.is (prepended (part ∷ []) rest)
       ∙ ap (with_front front.text) (gives rest) ∙ with_front-append front.text text (next rest);
 }
 
--- what was written is a front part of the output, whatever is left
-pub wrote-front : {A : Type 0} (total left : Script A → Output) (parts more : List A) (fault : Option FileFault) (before mid : Option (List ℕ)) →
-    WroteFront total left parts before mid → AppendsPart before mid (total (script (parts ++ more) fault)).text
-wrote-front total left parts more fault before mid front =
-    subst (λ (o : Output). AppendsPart before mid o.text) (sym (front.is (script more fault))) (part-append before mid front.text (left (script more fault)).text front.wrote)
-
--- .. also where the answer to a part was broken off
+-- what was written is a prefix of the output, where the answer to a part was broken off too
 pub wrote-broken : {A : Type 0} (total left next : Script A → Output) (parts : List A) (part : A) (text bytes : List ℕ) (before mid new : Option (List ℕ)) →
-    WroteFront total left parts before mid → ((rest : Script A) → left (behind (part ∷ []) rest) ≡ with_front text (next rest)) → bytes ≡ text → AppendsPart mid new bytes →
+    WroteFront total left parts before mid → ((rest : Script A) → left (prepended (part ∷ []) rest) ≡ with_front text (next rest)) → bytes ≡ text → AppendsPart mid new bytes →
     (more : List A) (fault : Option FileFault) → AppendsPart before new (total (script (parts ++ part ∷ more) fault)).text
 wrote-broken total left next parts part text bytes before mid new front gives same cut more fault =
     subst (λ (o : Output). AppendsPart before new o.text)
@@ -67,7 +57,7 @@ wrote-broken total left next parts part text bytes before mid new front gives sa
 whole : {A : Type 0} (total left : Script A → Output) (parts : List A) (fault : Option FileFault) (last : List ℕ) (outcome : Result Status ToolFault) (before mid : Option (List ℕ)) →
     (front : WroteFront total left parts before mid) → left (script [] fault) ≡ record { text = last; outcome = outcome } → total (script parts fault) ≡ record { text = front.text ++ last; outcome = outcome }
 whole total left parts fault last outcome before mid front ends =
-    ap total (behind-nothing parts fault) ∙ front.is (script [] fault) ∙ ap (with_front front.text) ends
+    ap total (prepended-nothing parts fault) ∙ front.is (script [] fault) ∙ ap (with_front front.text) ends
 
 -- what is written at the end is the rest of the output
 pub wrote-end : {A : Type 0} (total left : Script A → Output) (parts : List A) (fault : Option FileFault) (last bytes : List ℕ) (outcome : Result Status ToolFault) (before mid new : Option (List ℕ)) →
@@ -92,7 +82,7 @@ clean-means output (Some fault) before after wrote = wrote
 -- ---- the mode `lines`
 -- what a line leaves
 lines-part : (c d : Configuration) (line : List ℕ) → d ≡ (line_reply c line).after → (rest : Script (List ℕ)) →
-    lined_from c (behind (line ∷ []) rest) ≡ with_front ((line_reply c line).text ++ newline) (lined_from d rest)
+    lined_from c (prepended (line ∷ []) rest) ≡ with_front ((line_reply c line).text ++ newline) (lined_from d rest)
 lines-part c d line is rest = ap (λ e. with_front ((line_reply c line).text ++ newline) (lined_from e rest)) (sym is)
 
 pub lined-part : (c d : Configuration) (line : List ℕ) (total : Script (List ℕ) → Output) (parts : List (List ℕ)) (bytes : List ℕ) (before mid new : Option (List ℕ)) →

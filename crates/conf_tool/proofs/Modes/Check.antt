@@ -11,9 +11,9 @@ use Rattle.dd_file.specs.Rewritten.{Entry, entry, is_directive}
 use Rattle.dd_file.specs.declared.item.Item.{Item}
 use Rattle.dd_file.specs.declared.fault.FileFault.{FileFault}
 use Rattle.conf_session.specs.SessionState.{SessionState}
-use Rattle.conf_tool.specs.Reports.{found_for, session_after, entries_of, differs, report, counts_line}
-use Rattle.conf_tool.specs.Outputs.{Output, status_of}
-use Rattle.conf_tool.specs.Answered.{script, behind, with_front, rest_checked, check_left, HasChecked}
+use Rattle.conf_tool.specs.Reports.{found_for, session_after, answered_entries, differs, report, counts_line}
+use Rattle.conf_tool.specs.Outputs.{Output, check_status}
+use Rattle.conf_tool.specs.Answered.{script, prepended, with_front, rest_checked, check_left, HasChecked}
 use Rattle.conf_tool.specs.Run.{Wrote}
 use Rattle.conf_tool.proofs.ModeOutput.FirstParts.{wrote-part, wrote-broken, wrote-end, wrote-end_part}
 use Rattle.conf_tool.proofs.ModeInput.Faults.{or-false}
@@ -40,11 +40,11 @@ rest-first directives mismatches e entries None =
     let m_first : count_by differs (e ∷ entries) ≡ m + ms = sum_by-cons (λ entry. cond (differs entry) 1 0) e entries in
     let n_sum : directives + count_by (λ (entry : Entry). is_directive entry.item) (e ∷ entries) ≡ directives + n + ns = omega (arith, n_first) in
     let m_sum : mismatches + count_by differs (e ∷ entries) ≡ mismatches + m + ms = omega (arith, m_first) in
-    let output : ℕ → ℕ → Bool → Output = λ k j b. record { text = flat_map report (e ∷ entries) ++ counts_line k j; outcome = Ok (status_of b) } in
+    let output : ℕ → ℕ → Bool → Output = λ k j b. record { text = flat_map report (e ∷ entries) ++ counts_line k j; outcome = Ok (check_status b) } in
     ap (λ k. output k (mismatches + count_by differs (e ∷ entries)) (nat_lt 0 mismatches || (differs e || list_any differs entries))) n_sum
     ∙ ap (λ j. output (directives + n + ns) j (nat_lt 0 mismatches || (differs e || list_any differs entries))) m_sum
     ∙ ap (output (directives + n + ns) (mismatches + m + ms)) (positive mismatches (differs e) (list_any differs entries))
-    ∙ ap (λ t. record { text = t; outcome = Ok (status_of (nat_lt 0 (mismatches + m) || list_any differs entries)) })
+    ∙ ap (λ t. record { text = t; outcome = Ok (check_status (nat_lt 0 (mismatches + m) || list_any differs entries)) })
     (append_assoc (report e) (flat_map report entries) (counts_line (directives + n + ns) (mismatches + m + ms)))
 
 -- the same states are left with the same
@@ -53,9 +53,9 @@ same-left s t d e m n rest st de mn = ap (λ x. check_left x d m rest) st ∙ ap
 
 -- what an item leaves
 check-item : (s t : SessionState) (d e m n : ℕ) (item : Item) → t ≡ session_after s item → e ≡ d + cond (is_directive item) 1 0 → n ≡ m + cond (differs (entry item (found_for s item))) 1 0 →
-    (rest : Script Item) → check_left s d m (behind (item ∷ []) rest) ≡ with_front (report (entry item (found_for s item))) (check_left t e n rest)
+    (rest : Script Item) → check_left s d m (prepended (item ∷ []) rest) ≡ with_front (report (entry item (found_for s item))) (check_left t e n rest)
 check-item s t d e m n item session directives mismatches rest =
-    rest-first d m (entry item (found_for s item)) (entries_of (session_after s item) rest.items) rest.fault
+    rest-first d m (entry item (found_for s item)) (answered_entries (session_after s item) rest.items) rest.fault
     ∙ ap (with_front (report (entry item (found_for s item)))) (sym (same-left t _ e _ n _ rest session directives mismatches))
 
 few-more : (directives more count after : ℕ) (c : Bool) → directives ≤ count → after ≡ count + 1 → more ≡ directives + cond c 1 0 → more ≤ after
@@ -80,24 +80,24 @@ checked-broken s d m item total parts more fault bytes before mid new checked sa
 
 -- the end of the input
 check-over : (session : SessionState) (directives mismatches : ℕ) →
-    check_left session directives mismatches (script [] None) ≡ record { text = counts_line directives mismatches; outcome = Ok (status_of (nat_lt 0 mismatches)) }
+    check_left session directives mismatches (script [] None) ≡ record { text = counts_line directives mismatches; outcome = Ok (check_status (nat_lt 0 mismatches)) }
 check-over session directives mismatches =
     let d : directives + 0 ≡ directives = omega arith in
     let m : mismatches + 0 ≡ mismatches = omega arith in
-    ap (λ k. record { text = counts_line k (mismatches + 0); outcome = Ok (status_of (nat_lt 0 mismatches || false)) }) d
-    ∙ ap (λ k. record { text = counts_line directives k; outcome = Ok (status_of (nat_lt 0 mismatches || false)) }) m
-    ∙ ap (λ b. record { text = counts_line directives mismatches; outcome = Ok (status_of b) }) (or-false (nat_lt 0 mismatches))
+    ap (λ k. record { text = counts_line k (mismatches + 0); outcome = Ok (check_status (nat_lt 0 mismatches || false)) }) d
+    ∙ ap (λ k. record { text = counts_line directives k; outcome = Ok (check_status (nat_lt 0 mismatches || false)) }) m
+    ∙ ap (λ b. record { text = counts_line directives mismatches; outcome = Ok (check_status b) }) (or-false (nat_lt 0 mismatches))
 
 pub checked-end : (session : SessionState) (directives mismatches : ℕ) (total : Script Item → Output) (parts : List Item) (bytes : List ℕ) (before mid new : Option (List ℕ)) →
     HasChecked session directives mismatches total parts before mid → bytes ≡ counts_line directives mismatches → Appends mid new bytes →
-    Wrote (total (script parts None)) (Ok (status_of (nat_lt 0 mismatches))) before new
+    Wrote (total (script parts None)) (Ok (check_status (nat_lt 0 mismatches))) before new
 checked-end session directives mismatches total parts bytes before mid new checked same appends =
-    wrote-end total (check_left session directives mismatches) parts None (counts_line directives mismatches) bytes (Ok (status_of (nat_lt 0 mismatches))) before mid new checked.front
+    wrote-end total (check_left session directives mismatches) parts None (counts_line directives mismatches) bytes (Ok (check_status (nat_lt 0 mismatches))) before mid new checked.front
     (check-over session directives mismatches) same appends
 
 pub checked-end_part : (session : SessionState) (directives mismatches : ℕ) (total : Script Item → Output) (parts : List Item) (bytes : List ℕ) (before mid new : Option (List ℕ)) →
     HasChecked session directives mismatches total parts before mid → bytes ≡ counts_line directives mismatches → AppendsPart mid new bytes →
     AppendsPart before new (total (script parts None)).text
 checked-end_part session directives mismatches total parts bytes before mid new checked same cut =
-    wrote-end_part total (check_left session directives mismatches) parts None (counts_line directives mismatches) bytes (Ok (status_of (nat_lt 0 mismatches))) before mid new checked.front
+    wrote-end_part total (check_left session directives mismatches) parts None (counts_line directives mismatches) bytes (Ok (check_status (nat_lt 0 mismatches))) before mid new checked.front
     (check-over session directives mismatches) same cut

@@ -9,8 +9,7 @@ use Rattle.conf_tool.specs.Outputs.{Output, planned_between}
 use Rattle.conf_tool.specs.TwoConfigurations.{configurations_in}
 use Rattle.conf_tool.specs.Run.{Means}
 use Rattle.conf_tool.specs.declared.status.Status.{Status}
-use Rattle.conf_tool.proofs.ModeOutput.KeptAnswers.{kept-part, keeps-appends, keeps-part}
-use Rattle.conf_tool.proofs.ModeOutput.FirstParts.{part-nothing}
+use Rattle.conf_tool.specs.AnsweredLaws.{keeps-appends, keeps-part}
 
 -- the first three lines tell all
 configurations_in-take : (lines : List (List ℕ)) → configurations_in (take 3 lines) ≡ configurations_in lines
@@ -18,11 +17,6 @@ configurations_in-take [] = refl
 configurations_in-take (a ∷ []) = refl
 configurations_in-take (a ∷ b ∷ []) = refl
 configurations_in-take (a ∷ b ∷ c ∷ rest) = refl
-
--- nothing is written before the end
-pub read-front : (texts : List (List ℕ)) (total : Script (List ℕ) → Output) (parts : List (List ℕ)) (before after : Option (List ℕ)) (text : List ℕ) →
-    HasRead texts total parts before after → AppendsPart before after text
-read-front texts total parts before after text read = kept-part before before after text (part-nothing before text) read.unwritten
 
 -- the output of an input without a fault
 planned-output : (texts : List (List ℕ)) (total : Script (List ℕ) → Output) (parts : List (List ℕ)) (before after : Option (List ℕ)) →

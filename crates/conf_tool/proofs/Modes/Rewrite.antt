@@ -17,9 +17,9 @@ use Rattle.conf_change.specs.declared.floor.Floor.{Floor}
 use Rattle.conf_session.specs.SessionState.{SessionState, new_session}
 use Rattle.conf_tool.specs.Reports.{found_for, session_after}
 use Rattle.conf_tool.specs.Outputs.{Output, rewritten_script, clean_unless}
-use Rattle.conf_tool.specs.Answered.{script, behind, with_front, ended, rewrite_left, HasRewritten}
+use Rattle.conf_tool.specs.Answered.{script, prepended, with_front, ended, rewrite_left, HasRewritten}
 use Rattle.conf_tool.specs.Run.{Wrote}
-use Rattle.conf_tool.proofs.ModeOutput.FirstParts.{behind-part, behind-nothing, with_front-append}
+use Rattle.conf_tool.proofs.ModeOutput.FirstParts.{prepended-part, prepended-nothing, with_front-append}
 
 pub rewritten-nothing : (history : ℕ) (floor : Floor) (session : SessionState) (rewriter : RewriterState) (held : Option (List ℕ)) → session ≡ new_session history floor → rewriter.stage ≡ Ready →
     ((start : Option (List ℕ)) → HasWritten rewriter.newlines start start []) → HasRewritten session rewriter (rewritten_script history floor) [] held held
@@ -32,15 +32,15 @@ rewritten-nothing history floor session rewriter held is_new ready nothing = rec
 
 -- an item in front
 rest-first : (s t : SessionState) (item : Item) (rest : Script Item) → t ≡ session_after s item →
-    rewrite_left s (behind (item ∷ []) rest) ≡ with_front (entry_text item (found_for s item)) (rewrite_left t rest)
+    rewrite_left s (prepended (item ∷ []) rest) ≡ with_front (entry_text item (found_for s item)) (rewrite_left t rest)
 rest-first s t item rest is = ap (λ u. with_front (entry_text item (found_for s item)) (rewrite_left u rest)) (sym is)
 
 -- the output with an item behind the text so far
 total-part : (s t : SessionState) (rewriter : RewriterState) (item : Item) (total : Script Item → Output) (parts : List Item) (before mid : Option (List ℕ)) →
     (rewritten : HasRewritten s rewriter total parts before mid) → t ≡ session_after s item → (rest : Script Item) →
-    total (behind parts (behind (item ∷ []) rest)) ≡ ended (with_front (rewritten.text ++ entry_text item (found_for s item)) (rewrite_left t rest))
+    total (prepended parts (prepended (item ∷ []) rest)) ≡ ended (with_front (rewritten.text ++ entry_text item (found_for s item)) (rewrite_left t rest))
 total-part s t rewriter item total parts before mid rewritten is rest =
-    rewritten.is (behind (item ∷ []) rest)
+    rewritten.is (prepended (item ∷ []) rest)
     ∙ ap (λ o. ended (with_front rewritten.text o)) (rest-first s t item rest is)
     ∙ ap ended (with_front-append rewritten.text (entry_text item (found_for s item)) (rewrite_left t rest))
 
@@ -51,16 +51,10 @@ rewritten-part s t rewriter after item found total parts before mid new rewritte
   text = rewritten.text ++ entry_text item (found_for s item);
   wrote = subst (λ f. HasWritten after.newlines before new (rewritten.text ++ entry_text item f)) found_is (continues before rewritten.text rewritten.wrote);
   ready = ready;
-  is = λ rest. ap total (behind-part parts item rest) ∙ total-part s t rewriter item total parts before mid rewritten is rest;
+  is = λ rest. ap total (prepended-part parts item rest) ∙ total-part s t rewriter item total parts before mid rewritten is rest;
 }
 
--- what was written is a front part of the output, whatever is left
-pub rewritten-front : (s : SessionState) (rewriter : RewriterState) (total : Script Item → Output) (parts more : List Item) (fault : Option FileFault) (before mid : Option (List ℕ)) →
-    HasRewritten s rewriter total parts before mid → AppendsPart before mid (total (script (parts ++ more) fault)).text
-rewritten-front s rewriter total parts more fault before mid rewritten =
-    subst (λ (o : Output). AppendsPart before mid o.text) (sym (rewritten.is (script more fault))) (rewritten.wrote.begun (rewrite_left s (script more fault)).text)
-
--- .. also where an item was broken off
+-- what was written is a prefix of the output, where an item was broken off too
 pub rewritten-broken : (s : SessionState) (rewriter : RewriterState) (item : Item) (found : List ℕ) (total : Script Item → Output) (parts more : List Item) (fault : Option FileFault) (before mid new : Option (List ℕ)) →
     HasRewritten s rewriter total parts before mid → found ≡ found_for s item → BreaksOff rewriter.newlines mid new (entry_text item found) →
     AppendsPart before new (total (script (parts ++ item ∷ more) fault)).text
@@ -77,7 +71,7 @@ breaks-nothing newlines held more start text is = begun-more start held text mor
 whole : (s : SessionState) (rewriter : RewriterState) (total : Script Item → Output) (parts : List Item) (fault : Option FileFault) (before mid : Option (List ℕ)) →
     (rewritten : HasRewritten s rewriter total parts before mid) → total (script parts fault) ≡ record { text = without_double_end rewritten.text; outcome = clean_unless fault }
 whole s rewriter total parts fault before mid rewritten =
-    ap total (behind-nothing parts fault) ∙ rewritten.is (script [] fault)
+    ap total (prepended-nothing parts fault) ∙ rewritten.is (script [] fault)
     ∙ ap (λ t. record { text = without_double_end t; outcome = clean_unless fault }) (append-nil rewritten.text)
 
 pub rewritten-end : (s : SessionState) (rewriter : RewriterState) (total : Script Item → Output) (parts : List Item) (fault : Option FileFault) (before mid new : Option (List ℕ)) →

@@ -18,14 +18,14 @@ use Rattle.conf_session.specs.SessionState.{SessionState, new_session}
 use Rattle.conf_tool.specs.Reports.{found_for, session_after, obeyed_text}
 use Rattle.conf_session.specs.Undo.{undo_plan_of}
 use Rattle.conf_tool.specs.UndoScript.{step_directive, comment, undo_items}
-use Rattle.conf_tool.specs.Outputs.{Output, session_after_all, undo_status, undone_by, undone_script}
-use Rattle.conf_tool.specs.Answered.{script, behind, undo_left, HasObeyed}
+use Rattle.conf_tool.specs.Outputs.{Output, session_after_all, undo_status, undone_with, undone_script}
+use Rattle.conf_tool.specs.Answered.{script, prepended, undo_left, HasObeyed}
 use Rattle.conf_tool.specs.Run.{Wrote}
 use Rattle.conf_tool.specs.declared.status.Status.{Status}
 use Rattle.conf_tool.specs.declared.tool_fault.ToolFault.TheVariants.{Script as ScriptFault}
 use Rattle.conf_tool.proofs.Modes.Rewrite.{breaks-nothing}
-use Rattle.conf_tool.proofs.ModeOutput.KeptAnswers.{keeps-still, kept-part, kept-appends, kept-written}
-use Rattle.conf_tool.proofs.ModeOutput.FirstParts.{appends-nothing, part-nothing, behind-part, behind-nothing}
+use Rattle.conf_tool.specs.AnsweredLaws.{keeps-still, kept-appends, kept-written}
+use Rattle.conf_tool.proofs.ModeOutput.FirstParts.{appends-nothing, prepended-part, prepended-nothing}
 
 pub obeyed-nothing : (history : ℕ) (floor : Floor) (count : ℕ) (session : SessionState) (rewriter : RewriterState) (held : Option (List ℕ)) → session ≡ new_session history floor → rewriter.stage ≡ Ready →
     ((start : Option (List ℕ)) → HasWritten rewriter.newlines start start []) → HasObeyed session rewriter count (undone_script history floor count) [] held held
@@ -43,13 +43,8 @@ obeyed-part s t rewriter count item total parts before held obeyed after = recor
   unwritten = obeyed.unwritten;
   ready = obeyed.ready;
   nothing = obeyed.nothing;
-  is = λ rest. ap total (behind-part parts item rest) ∙ obeyed.is (behind (item ∷ []) rest) ∙ ap (λ u. undo_left u count rest) (sym after);
+  is = λ rest. ap total (prepended-part parts item rest) ∙ obeyed.is (prepended (item ∷ []) rest) ∙ ap (λ u. undo_left u count rest) (sym after);
 }
-
--- nothing is a front part of each output
-pub obeyed-front : (s : SessionState) (rewriter : RewriterState) (count : ℕ) (total : Script Item → Output) (parts : List Item) (before held : Option (List ℕ)) (text : List ℕ) →
-    HasObeyed s rewriter count total parts before held → AppendsPart before held text
-obeyed-front s rewriter count total parts before held text obeyed = kept-part before before held text (part-nothing before text) obeyed.unwritten
 
 -- ---- the items that are written at the end
 session-append : (s : SessionState) (xs ys : List Item) → session_after_all s (xs ++ ys) ≡ session_after_all (session_after_all s xs) ys
@@ -152,12 +147,12 @@ steps-over s now a b old new plan place n is some past so_far =
 pub obeyed-fault : (s : SessionState) (rewriter : RewriterState) (count : ℕ) (total : Script Item → Output) (parts : List Item) (before held : Option (List ℕ)) (fault : FileFault) →
     HasObeyed s rewriter count total parts before held → Wrote (total (script parts (Some fault))) (Err (ScriptFault fault)) before held
 obeyed-fault s rewriter count total parts before held fault obeyed =
-    let is = ap total (behind-nothing parts (Some fault)) ∙ obeyed.is (script [] (Some fault)) in
+    let is = ap total (prepended-nothing parts (Some fault)) ∙ obeyed.is (script [] (Some fault)) in
     (ap (λ (o : Output). o.outcome) is, subst (λ t. Appends before held t) (sym (ap (λ (o : Output). o.text) is)) (kept-appends before before held [] (appends-nothing before) obeyed.unwritten))
 
 whole : (s : SessionState) (rewriter : RewriterState) (count : ℕ) (total : Script Item → Output) (parts : List Item) (before held : Option (List ℕ)) →
-    HasObeyed s rewriter count total parts before held → total (script parts None) ≡ undone_by s (undo_plan_of s count)
-whole s rewriter count total parts before held obeyed = ap total (behind-nothing parts None) ∙ obeyed.is (script [] None)
+    HasObeyed s rewriter count total parts before held → total (script parts None) ≡ undone_with s (undo_plan_of s count)
+whole s rewriter count total parts before held obeyed = ap total (prepended-nothing parts None) ∙ obeyed.is (script [] None)
 
 -- nothing was written before
 begun : (s : SessionState) (rewriter : RewriterState) (count : ℕ) (total : Script Item → Output) (parts : List Item) (before held : Option (List ℕ)) →

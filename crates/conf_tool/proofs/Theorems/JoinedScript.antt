@@ -23,10 +23,10 @@ use Rattle.conf_plan.specs.PlanText.{change_text}
 use Rattle.conf_change.specs.declared.floor.Floor.{Floor}
 use Rattle.conf_session.specs.SessionState.{SessionState, new_session}
 use Rattle.conf_session.specs.Commands.{answer, after_answers}
-use Rattle.conf_tool.specs.Reports.{entries_of, differs}
+use Rattle.conf_tool.specs.Reports.{answered_entries, differs}
 use Rattle.conf_session.specs.Undo.{undo_plan_of, undo_fault_text}
 use Rattle.conf_tool.specs.UndoScript.{step_command, change_lines, step_directive, comment, undo_items}
-use Rattle.conf_tool.specs.Outputs.{checked, checked_entries, status_of, session_after_all, undone_unless}
+use Rattle.conf_tool.specs.Outputs.{checked, checked_entries, check_status, session_after_all, undone_unless}
 use Rattle.conf_session.specs.Told.{is_line_byte}
 use Rattle.conf_tool.specs.Laws.{JoinedClean}
 use Rattle.conf_tool.specs.declared.status.Status.{Status}
@@ -42,7 +42,7 @@ abbrev any_differs : SessionState → List DirectiveText → Bool
 any_differs session [] = false
 any_differs session (directive ∷ directives) = not (bytes_eq (answer session directive).found directive.expected) || any_differs (answer session directive).session directives
 
-differs-by : (session : SessionState) (items : List Item) → list_any differs (entries_of session items) ≡ any_differs session (directives_of items)
+differs-by : (session : SessionState) (items : List Item) → list_any differs (answered_entries session items) ≡ any_differs session (directives_of items)
 differs-by session [] = refl
 differs-by session (Comment lines ∷ items) = differs-by session items
 differs-by session (Blank lines ∷ items) = differs-by session items
@@ -79,7 +79,7 @@ record IsCleanScript (entries : List Entry) (fault : Option FileFault) : Type 0 
 abbrev ended : Status → Result Status ToolFault
 ended status = Ok status
 
-status-clean : (b : Bool) → ended (status_of b) ≡ ended Clean → b ≡ false
+status-clean : (b : Bool) → ended (check_status b) ≡ ended Clean → b ≡ false
 status-clean true e = let bad : ⊥ = cc in absurd bad
 status-clean false e = refl
 
@@ -162,53 +162,53 @@ undo-short (Err fault) = refl
 
 -- ---- so what undoes changes is read again, and is clean
 pub undo-read : WrittenScript → DirectiveIsGiven → FoundStands → (session : SessionState) (plan : Result (List Step) UndoFault) →
-    let entries = entries_of session (undo_items plan) in
+    let entries = answered_entries session (undo_items plan) in
     length (rewritten_text entries) ≤ longest_input →
     let again = script_of (rewritten_text entries) in (again.fault ≡ None) × AreReadAgain entries again.items
 undo-read written given stands session plan fits =
     let items = undo_items plan in
-    let entries = entries_of session items in
+    let entries = answered_entries session items in
     let same = items-of session items in
     written entries (subst AreGiven (sym same) (undo-given given plan)) (found-outputs stands session items (undo-keys plan)) (ap ends_in_long_blank same ∙ undo-short plan) fits
 
 undo-clean : WrittenScript → DirectiveIsGiven → FoundStands → (session : SessionState) (plan : Result (List Step) UndoFault) →
-    let again = script_of (rewritten_text (entries_of session (undo_items plan))) in
-    length (rewritten_text (entries_of session (undo_items plan))) ≤ longest_input → IsCleanScript (entries_of session again.items) again.fault
+    let again = script_of (rewritten_text (answered_entries session (undo_items plan))) in
+    length (rewritten_text (answered_entries session (undo_items plan))) ≤ longest_input → IsCleanScript (answered_entries session again.items) again.fault
 undo-clean written given stands session plan fits =
     let items = undo_items plan in
-    let entries = entries_of session items in
+    let entries = answered_entries session items in
     let read = undo-read written given stands session plan fits in
     record { same = clean-items session items entries (script_of (rewritten_text entries)).items refl read.1; whole = read.0 }
 
 joined-text : WrittenScript → DirectiveIsGiven → JoinedItems → FoundStands → (script : List ℕ) (history : ℕ) (floor : Floor) (count : ℕ) →
     let session = session_after_all (new_session history floor) (script_of script).items in
-    let text = rewritten_text (entries_of session (undo_items (undo_plan_of session count))) in
-    IsComplete 1 (lines_of script) → IsCleanScript (entries_of (new_session history floor) (script_of script).items) (script_of script).fault →
+    let text = rewritten_text (answered_entries session (undo_items (undo_plan_of session count))) in
+    IsComplete 1 (lines_of script) → IsCleanScript (answered_entries (new_session history floor) (script_of script).items) (script_of script).fault →
     length ((script ++ newline ++ newline) ++ text) ≤ longest_input → (checked ((script ++ newline ++ newline) ++ text) history floor).outcome ≡ Ok Clean
 joined-text written given joined_items stands script history floor count complete clean fits =
     let begin = new_session history floor in
     let items = (script_of script).items in
     let session = session_after_all begin items in
     let plan = undo_plan_of session count in
-    let text = rewritten_text (entries_of session (undo_items plan)) in
+    let text = rewritten_text (answered_entries session (undo_items plan)) in
     let front = script ++ newline ++ newline in
     let before = length (lines_of front) in
     let again = (script_of text).items in
     let sum = length-append front text in
     let read = undo-clean written given stands session plan (omega (arith, sum, fits)) in
     let joined = joined_items script text complete fits in
-    let none : list_any differs (entries_of begin (script_of (front ++ text)).items) ≡ false =
+    let none : list_any differs (answered_entries begin (script_of (front ++ text)).items) ≡ false =
     differs-by begin (script_of (front ++ text)).items ∙ ap (any_differs begin) joined.0 ∙ differs-append begin (directives_of items) (map (moved before) (directives_of again))
     ∙ ap (λ b. b || any_differs (after_answers begin (directives_of items)) (map (moved before) (directives_of again))) (sym (differs-by begin items) ∙ clean.same)
     ∙ differs-moved before (after_answers begin (directives_of items)) (directives_of again)
     ∙ ap (λ s. any_differs s (directives_of again)) (sym (left-by begin items)) ∙ sym (differs-by session again) ∙ read.same in
-    ap (λ fault. (checked_entries (entries_of begin (script_of (front ++ text)).items) fault).outcome) (joined.1 ∙ ap (option_map (moved_fault before)) read.whole)
-    ∙ ap (λ b. Ok (status_of b)) none
+    ap (λ fault. (checked_entries (answered_entries begin (script_of (front ++ text)).items) fault).outcome) (joined.1 ∙ ap (option_map (moved_fault before)) read.whole)
+    ∙ ap (λ b. Ok (check_status b)) none
 
 pub joined-clean : WrittenScript → DirectiveIsGiven → JoinedItems → FoundStands → JoinedClean
 joined-clean written given joined_items stands script history floor count complete clean fits =
     let session = session_after_all (new_session history floor) (script_of script).items in
-    let is_clean = clean-script (entries_of (new_session history floor) (script_of script).items) (script_of script).fault clean in
+    let is_clean = clean-script (answered_entries (new_session history floor) (script_of script).items) (script_of script).fault clean in
     let same = ap (λ fault. (undone_unless session count fault).text) is_clean.whole in
     subst (λ text. length ((script ++ newline ++ newline) ++ text) ≤ longest_input → (checked ((script ++ newline ++ newline) ++ text) history floor).outcome ≡ Ok Clean) (sym same)
     (joined-text written given joined_items stands script history floor count complete is_clean) fits

@@ -12,8 +12,8 @@ use Rattle.dd_file.specs.declared.item.Item.{Item}
 use Rattle.dd_file.specs.declared.item.Item.TheVariants.{Comment, Blank, Directive}
 use Rattle.conf_session.specs.SessionState.{SessionState, new_session}
 use Rattle.conf_session.specs.Commands.{Answer, answer}
-use Rattle.conf_tool.specs.Reports.{found_for, session_after, entries_of, differs}
-use Rattle.conf_tool.specs.Outputs.{checked_entries, status_of}
+use Rattle.conf_tool.specs.Reports.{found_for, session_after, answered_entries, differs}
+use Rattle.conf_tool.specs.Outputs.{checked_entries, check_status}
 use Rattle.conf_session.specs.Told.{CanStand}
 use Rattle.conf_tool.specs.Laws.{RewrittenClean}
 use Rattle.conf_session.proofs.Offered.{and-first, and-second, and-both, same-answer}
@@ -28,11 +28,11 @@ found-output stands session (Blank lines) keys = refl
 found-output stands session (Directive directive) keys = (stands session directive keys).output
 
 -- so each text that is found for a script is an output
-pub found-outputs : FoundStands → (session : SessionState) (items : List Item) → list_all item_has_keys items ≡ true → list_all (λ entry. is_output entry.found) (entries_of session items) ≡ true
+pub found-outputs : FoundStands → (session : SessionState) (items : List Item) → list_all item_has_keys items ≡ true → list_all (λ entry. is_output entry.found) (answered_entries session items) ≡ true
 found-outputs stands session [] keys = refl
 found-outputs stands session (item ∷ items) keys = and-both _ _ (found-output stands session item (and-first _ _ keys)) (found-outputs stands (session_after session item) items (and-second _ _ keys))
 
-pub items-of : (session : SessionState) (items : List Item) → map (λ entry. entry.item) (entries_of session items) ≡ items
+pub items-of : (session : SessionState) (items : List Item) → map (λ entry. entry.item) (answered_entries session items) ≡ items
 items-of session [] = refl
 items-of session (item ∷ items) = ap (λ more. item ∷ more) (items-of (session_after session item) items)
 
@@ -50,8 +50,8 @@ clean-item session n (Directive directive) again is =
     rw is.1 (record { after = ap (λ (a : Answer). a.session) answers; same = ap not ((bytes_eq-Decides _ _).1 expected) })
 
 -- no item that is read again differs
-pub clean-items : (session : SessionState) (items : List Item) (entries : List Entry) (again : List Item) → entries ≡ entries_of session items → AreReadAgain entries again →
-    list_any differs (entries_of session again) ≡ false
+pub clean-items : (session : SessionState) (items : List Item) (entries : List Entry) (again : List Item) → entries ≡ answered_entries session items → AreReadAgain entries again →
+    list_any differs (answered_entries session again) ≡ false
 clean-items session items entries again e AreOver = refl
 clean-items session items entries again e (LastIsGone found) = refl
 clean-items session [] entries again e (ReadAgain n item other found more others is read) = cc
@@ -60,16 +60,16 @@ clean-items session (one ∷ items) entries again e (ReadAgain n item other foun
     let item_is = ap (λ (x : Entry). x.item) begins in
     let found_is = ap (λ (x : Entry). x.found) begins in
     let clean = clean-item session n one other (subst (λ text. IsSameItem n text one other) found_is (subst (λ i. IsSameItem n found i other) item_is is)) in
-    ap (λ s. differs (entry other (found_for session other)) || list_any differs (entries_of s others)) clean.after
-    ∙ ap (λ b. b || list_any differs (entries_of (session_after session one) others)) clean.same ∙ clean-items (session_after session one) items more others (cc) read
+    ap (λ s. differs (entry other (found_for session other)) || list_any differs (answered_entries s others)) clean.after
+    ∙ ap (λ b. b || list_any differs (answered_entries (session_after session one) others)) clean.same ∙ clean-items (session_after session one) items more others (cc) read
 
 pub rewritten-clean : WrittenScript → ItemsAreGiven → ItemsHaveKeys → FoundStands → RewrittenClean
 rewritten-clean written given keys stands input history floor short fits =
     let session = new_session history floor in
     let items = (script_of input).items in
-    let entries = entries_of session items in
+    let entries = answered_entries session items in
     let same = items-of session items in
     let read = written entries (subst AreGiven (sym same) (given input)) (found-outputs stands session items (keys input)) (ap ends_in_long_blank same ∙ short) fits in
     let again = (script_of (rewritten_text entries)).items in
-    ap (λ fault. (checked_entries (entries_of session again) fault).outcome) read.0
-    ∙ ap (λ b. Ok (status_of b)) (clean-items session items entries again refl read.1)
+    ap (λ fault. (checked_entries (answered_entries session again) fault).outcome) read.0
+    ∙ ap (λ b. Ok (check_status b)) (clean-items session items entries again refl read.1)

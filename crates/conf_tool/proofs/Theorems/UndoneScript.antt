@@ -38,7 +38,7 @@ use Rattle.conf_session.specs.declared.undo_fault.UndoFault.{UndoFault}
 use Rattle.conf_session.proofs.Offered.{same-answer}
 use Rattle.conf_tool.specs.Laws.{LeadsBackBy, UndoScriptLeadsBack}
 use Rattle.conf_tool.specs.Outputs.{session_after_all, undone_unless}
-use Rattle.conf_tool.specs.Reports.{entries_of, found_for}
+use Rattle.conf_tool.specs.Reports.{answered_entries, found_for}
 use Rattle.conf_tool.specs.UndoScript.{step_command, step_line, change_lines, comment, step_directive, undo_items, TakesSteps}
 use Rattle.conf_tool.proofs.Theorems.JoinedScript.{left-by, undo-read}
 use Rattle.conf_tool.proofs.Theorems.RewrittenScript.{FoundStands}
@@ -153,7 +153,7 @@ nothing_to_do = comment (codes "nothing to do")
 nothing-again : (again : List Item) → AreReadAgain [] again → again ≡ []
 nothing-again again AreOver = refl
 
-steps-again : (session : SessionState) (steps : List Step) (entries : List Entry) (again : List Item) → entries ≡ entries_of session (map step_directive steps) → AreReadAgain entries again
+steps-again : (session : SessionState) (steps : List Step) (entries : List Entry) (again : List Item) → entries ≡ answered_entries session (map step_directive steps) → AreReadAgain entries again
     → TakesSteps session (map directive_for steps) steps → Again session steps again
 steps-again session [] entries again e AreOver taken = record { taken = tt; after = refl }
 steps-again session (step ∷ steps) entries again e AreOver taken = cc
@@ -175,11 +175,11 @@ steps-again session (step ∷ steps) entries again e (ReadAgain n item other fou
       after = subst Left (sym after) rest.after;
     })
 
-undo-again : (session : SessionState) (steps : List Step) (again : List Item) → AreReadAgain (entries_of session (undo_items (Ok steps))) again
+undo-again : (session : SessionState) (steps : List Step) (again : List Item) → AreReadAgain (answered_entries session (undo_items (Ok steps))) again
     → TakesSteps session (map directive_for steps) steps → Again session steps again
 undo-again session [] again read taken = by _ again refl read
   where
-    by : (entries : List Entry) (again : List Item) → entries ≡ entries_of session (undo_items (Ok [])) → AreReadAgain entries again → Again session [] again
+    by : (entries : List Entry) (again : List Item) → entries ≡ answered_entries session (undo_items (Ok [])) → AreReadAgain entries again → Again session [] again
     by entries again e AreOver = cc
     by entries again e (LastIsGone found) = absurd (true≢false (ap begins_blank e))
     by entries again e (ReadAgain n item other found more others is read) =
@@ -191,7 +191,7 @@ undo-again session [] again read taken = by _ again refl read
 undo-again session (step ∷ steps) again read taken = steps-again session (step ∷ steps) _ again refl read taken
 
 undo_of-session : WrittenScript → DirectiveIsGiven → FoundStands → ChangesAreRead → (session : SessionState) (count : ℕ) (steps : List Step) → LeadsBack session count steps → IsPlan steps →
-    length (rewritten_text (entries_of session (undo_items (Ok steps)))) ≤ longest_input → LeadsBackBy session count steps (script_of (rewritten_text (entries_of session (undo_items (Ok steps)))))
+    length (rewritten_text (answered_entries session (undo_items (Ok steps)))) ≤ longest_input → LeadsBackBy session count steps (script_of (rewritten_text (answered_entries session (undo_items (Ok steps)))))
 undo_of-session written given stands changes session count steps back plan fits =
     let read = undo-read written given stands session (Ok steps) fits in
     let comes = run-comes changes session steps back.older plan.word_ids back.run in
@@ -208,6 +208,6 @@ undo_script-leads_back written given stands sessions leads changes script histor
     let session = session_after_all begin items in
     let is = subst IsSession (sym (left-by begin items)) (sessions history floor (directives_of items)) in
     let back = leads session count steps is some made in
-    let text = ap (λ fault. (undone_unless session count fault).text) whole ∙ ap (λ (p : Result (List Step) UndoFault). rewritten_text (entries_of session (undo_items p))) made in
+    let text = ap (λ fault. (undone_unless session count fault).text) whole ∙ ap (λ (p : Result (List Step) UndoFault). rewritten_text (answered_entries session (undo_items p))) made in
     let Fits : List ℕ → Type 0 = λ t. length t ≤ longest_input → LeadsBackBy session count steps (script_of t) in
     subst Fits (sym text) (undo_of-session written given stands changes session count steps back plan) fits

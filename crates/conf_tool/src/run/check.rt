@@ -1,7 +1,6 @@
 //! The mode `check`: a script is run, and each directive that finds another text than it expects is reported, with the
 //! counts at the end.
 ghost use Rattle.std.specs.Prelude.{◌≡◌, ◌<◌, ◌+◌, ◌^◌, ◌++◌, ℕ, List, [], Option, OnOk, IfOk, IsOkUnless, if◌then◌else◌};
-ghost use Rattle.dd_file.specs.ReaderState.{fresh};
 ghost use Rattle.dd_file.specs.Rewritten.{entry, is_directive};
 ghost use Rattle.conf_tool.specs.Outputs.{checked_script};
 ghost use Rattle.conf_tool.specs.Reports.{found_for, session_after, differs, report};
@@ -13,18 +12,16 @@ use crate::report::{Counts, append_difference};
 use crate::status::Status;
 use crate::tool_fault::ToolFault;
 use conf_session::Session;
-use dd_file::device::{Sink, Source};
+use dd_file::device::Sink;
 use dd_file::fault::FileFault;
 use dd_file::item::Item;
-use dd_file::reader::Reader;
 use dd_file::writing::write_all;
 use quorum_sets::NoMemory;
 use std::alloc::Global;
 
-/// The items of a script, the session that obeys them, and the counts so far.
+/// The session that runs the items of a script, and the counts so far.
 #[derive(Drop)]
 pub(super) struct Checking {
-    items: Reader,
     session: Session,
     counts: Counts,
     /// The report on the last item.
@@ -34,12 +31,10 @@ pub(super) struct Checking {
 impl Checking {
     /// Begins in a new session, by the options.
     pub(super) fn new(alloc: Global, options: Options) -> Result<Checking, ToolFault>
-        ensures unread { IfOk result (λ mode. ⟦<Checking as PartByPart>⟧.reading mode ≡ fresh) }
-        ensures unwritten { IfOk result (λ mode. (held : Option (List ℕ)) → ⟦<Checking as PartByPart>⟧.HasAnswered mode (checked_script options.history options.floor) [] held held) }
+        ensures unwritten { IfOk result (λ mode. (held : Option (List ℕ)) → ⟦<Checking as PartByPart<Item>>⟧.HasAnswered mode (checked_script options.history options.floor) [] held held) }
         ensures memory { IsOkUnless result OutOfMemory }
     {
         Ok(Checking {
-            items: Reader::new(alloc)?,
             session: Session::with_floor(alloc, options.history, options.floor)?,
             counts: Counts::new(),
             text: Vec::new(alloc),
@@ -53,7 +48,6 @@ impl Checking {
         ensures directives { OnOk result (self.new.counts.directives ≡ self.old.counts.directives + (if is_directive item.now then 1 else 0)) }
         ensures mismatches { OnOk result (self.new.counts.mismatches ≡ self.old.counts.mismatches + (if differs (entry item.now (found_for self.old.session item.now)) then 1 else 0)) }
         ensures text { OnOk result (self.new.text.items ≡ report (entry item.now (found_for self.old.session item.now))) }
-        ensures items { self.new.items ≡ self.old.items }
     {
         self.text.clear();
         match item {
@@ -72,55 +66,19 @@ impl Checking {
     }
 }
 
-impl PartByPart for Checking {
-    type Part = Item;
-
-    ghost use Rattle.dd_file.specs.Place.{longest_input};
-    ghost use Rattle.dd_file.specs.InHand.{is_item_in_hand};
-    ghost use Rattle.dd_file.specs.Reading.{next_item};
-    ghost use Rattle.dd_file.specs.Answer.{IsItemFault};
-    ghost use Rattle.dd_file.specs.declared.item.Item.{Item as ItemTold};
+impl PartByPart<Item> for Checking {
     ghost use Rattle.conf_tool.specs.Answered.{HasChecked};
     ghost use Rattle.conf_tool.specs.declared.mode.Mode.TheVariants.{Check as OfCheck};
-
-    ghost Told = { ItemTold };
-
-    ghost told = { λ item. item };
-
-    ghost coming = { next_item longest_input };
-
-    ghost in_hand = { is_item_in_hand };
-
-    ghost IsFault = { IsItemFault };
+    ghost use Rattle.conf_tool.specs.AnsweredLaws.{kept-checked, wrote-front};
 
     ghost mode = { OfCheck };
 
-    ghost reading = { λ s. s.items };
-
     ghost HasAnswered = { λ s. HasChecked s.session s.counts.directives s.counts.mismatches };
-
-    fn next_held<R: Source>(&mut self, reader: &R) -> Option<Result<Option<Item>, FileFault>> {
-        self.items.next_held(reader)
-    }
-
-    fn next<R: Source, W: Sink>(
-        &mut self,
-        reader: &mut R,
-        writer: &W,
-    ) -> Result<Option<Item>, FileFault> {
-        let _ = writer;
-        self.items.next(reader)
-    }
 
     fn answer<W: Sink>(&mut self, item: &Item, writer: &mut W) -> Result<(), ToolFault> {
         self.check_item(item)?;
         write_all(writer, self.text.as_slice())?;
         Ok(())
-    }
-
-    #[inline(always)]
-    fn reuse(&mut self, item: Item) {
-        self.items.reuse(item);
     }
 
     fn end<W: Sink>(
@@ -136,4 +94,8 @@ impl PartByPart for Checking {
         write_all(writer, self.text.as_slice())?;
         Ok(self.counts.status())
     }
+
+    ghost stays = { λ s. kept-checked s.session s.counts.directives s.counts.mismatches };
+
+    ghost prefix = { λ s total parts more fault before after checked. wrote-front total _ parts more fault before after checked.front };
 }

@@ -1,11 +1,10 @@
 //! The mode `rewrite`: a script is run, and written again with what each directive found.
 ghost use Rattle.std.specs.Prelude.{◌≡◌, ◌||◌, ℕ, List, [], Option, true, false, IfOk, IfErr, OnOk, OnErr, IsOkUnless};
-ghost use Rattle.dd_file.specs.ReaderState.{fresh};
 ghost use Rattle.dd_file.specs.Rewritten.{entry_text, has_blank_line, is_output};
 ghost use Rattle.dd_file.specs.RewriterState.{Continues, BreaksOff};
 ghost use Rattle.conf_tool.specs.Outputs.{rewritten_script};
 ghost use Rattle.conf_tool.specs.Reports.{found_for, session_after};
-ghost use Rattle.conf_tool.specs.Run.{IsAnswerFault, is_write_fault};
+ghost use Rattle.conf_tool.specs.Run.{IsAnswerFault, is_write_failure};
 ghost use Rattle.conf_tool.specs.declared.tool_fault.ToolFault.TheVariants.{NoMemory as OutOfMemory};
 
 use super::clean_unless::clean_unless;
@@ -14,10 +13,9 @@ use crate::options::Options;
 use crate::status::Status;
 use crate::tool_fault::ToolFault;
 use conf_session::Session;
-use dd_file::device::{Sink, Source};
+use dd_file::device::Sink;
 use dd_file::fault::{FileFault, WriteFault};
 use dd_file::item::Item;
-use dd_file::reader::Reader;
 use dd_file::rewriter::Rewriter;
 use dd_file::stage::Stage;
 use quorum_sets::NoMemory;
@@ -79,7 +77,7 @@ pub(super) fn rewrite_item<W: Sink>(
     ensures written { OnOk result (Continues rewriter.old.newlines rewriter.new.newlines (W.contents writer.old) (W.contents writer.new) (entry_text item.now (found_for session.old item.now))) }
     ensures part { OnErr result (BreaksOff rewriter.old.newlines (W.contents writer.old) (W.contents writer.new) (entry_text item.now (found_for session.old item.now))) }
     ensures stage { OnOk result (rewriter.new.stage ≡ Stage.Ready) }
-    ensures write { W.has_failed writer.new ≡ (W.has_failed writer.old || is_write_fault result) }
+    ensures write { W.has_failed writer.new ≡ (W.has_failed writer.old || is_write_failure result) }
     ensures kinds { IfErr result IsAnswerFault }
 {
     let found = run_item(alloc, session, item)?;
@@ -88,11 +86,10 @@ pub(super) fn rewrite_item<W: Sink>(
     Ok(())
 }
 
-/// The items of a script, the session that obeys them, and what writes them again.
+/// The session that runs the items of a script, and what writes them again.
 #[derive(Drop)]
 pub(super) struct Rewriting {
     alloc: Global,
-    items: Reader,
     session: Session,
     rewriter: Rewriter,
 }
@@ -100,58 +97,25 @@ pub(super) struct Rewriting {
 impl Rewriting {
     /// Begins in a new session, by the options.
     pub(super) fn new(alloc: Global, options: Options) -> Result<Rewriting, ToolFault>
-        ensures unread { IfOk result (λ mode. ⟦<Rewriting as PartByPart>⟧.reading mode ≡ fresh) }
-        ensures unwritten { IfOk result (λ mode. (held : Option (List ℕ)) → ⟦<Rewriting as PartByPart>⟧.HasAnswered mode (rewritten_script options.history options.floor) [] held held) }
+        ensures unwritten { IfOk result (λ mode. (held : Option (List ℕ)) → ⟦<Rewriting as PartByPart<Item>>⟧.HasAnswered mode (rewritten_script options.history options.floor) [] held held) }
         ensures memory { IsOkUnless result OutOfMemory }
     {
         Ok(Rewriting {
             alloc,
-            items: Reader::new(alloc)?,
             session: Session::with_floor(alloc, options.history, options.floor)?,
             rewriter: Rewriter::new(),
         })
     }
 }
 
-impl PartByPart for Rewriting {
-    type Part = Item;
-
-    ghost use Rattle.dd_file.specs.Place.{longest_input};
-    ghost use Rattle.dd_file.specs.InHand.{is_item_in_hand};
-    ghost use Rattle.dd_file.specs.Reading.{next_item};
-    ghost use Rattle.dd_file.specs.Answer.{IsItemFault};
-    ghost use Rattle.dd_file.specs.declared.item.Item.{Item as ItemTold};
+impl PartByPart<Item> for Rewriting {
     ghost use Rattle.conf_tool.specs.Answered.{HasRewritten};
     ghost use Rattle.conf_tool.specs.declared.mode.Mode.TheVariants.{Rewrite as OfRewrite};
-
-    ghost Told = { ItemTold };
-
-    ghost told = { λ item. item };
-
-    ghost coming = { next_item longest_input };
-
-    ghost in_hand = { is_item_in_hand };
-
-    ghost IsFault = { IsItemFault };
+    ghost use Rattle.conf_tool.specs.AnsweredLaws.{kept-rewritten, rewritten-front};
 
     ghost mode = { OfRewrite };
 
-    ghost reading = { λ s. s.items };
-
     ghost HasAnswered = { λ s. HasRewritten s.session s.rewriter };
-
-    fn next_held<R: Source>(&mut self, reader: &R) -> Option<Result<Option<Item>, FileFault>> {
-        self.items.next_held(reader)
-    }
-
-    fn next<R: Source, W: Sink>(
-        &mut self,
-        reader: &mut R,
-        writer: &W,
-    ) -> Result<Option<Item>, FileFault> {
-        let _ = writer;
-        self.items.next(reader)
-    }
 
     fn answer<W: Sink>(&mut self, item: &Item, writer: &mut W) -> Result<(), ToolFault> {
         rewrite_item(
@@ -163,11 +127,6 @@ impl PartByPart for Rewriting {
         )
     }
 
-    #[inline(always)]
-    fn reuse(&mut self, item: Item) {
-        self.items.reuse(item);
-    }
-
     fn end<W: Sink>(
         &mut self,
         fault: Option<FileFault>,
@@ -176,4 +135,8 @@ impl PartByPart for Rewriting {
         self.rewriter.end(writer)?;
         clean_unless(fault)
     }
+
+    ghost stays = { λ s. kept-rewritten s.session s.rewriter };
+
+    ghost prefix = { λ s. rewritten-front s.session s.rewriter };
 }

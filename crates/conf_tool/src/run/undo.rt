@@ -1,10 +1,9 @@
 //! The mode `undo`: a script is run, and then the script is written that undoes its last changes.
 ghost use Rattle.std.specs.Prelude.{◌≡◌, ◌≤◌, ◌||◌, ℕ, List, [], ◌∷◌, Option, Ok, IfOk, IfErr, OnOk, OnErr, IsOkUnless};
-ghost use Rattle.dd_file.specs.ReaderState.{fresh};
 ghost use Rattle.dd_file.specs.RewriterState.{Continues, BreaksOff};
 ghost use Rattle.conf_tool.specs.Outputs.{undone_script, undo_status};
 ghost use Rattle.conf_tool.specs.Reports.{session_after, obeyed_text};
-ghost use Rattle.conf_tool.specs.Run.{IsAnswerFault, is_write_fault};
+ghost use Rattle.conf_tool.specs.Run.{IsAnswerFault, is_write_failure};
 ghost use Rattle.conf_session.specs.Undo.{undo_plan_of};
 ghost use Rattle.conf_tool.specs.UndoScript as says;
 ghost use Rattle.conf_tool.specs.UndoScript.{undo_items};
@@ -18,19 +17,17 @@ use crate::tool_fault::ToolFault;
 use crate::undo_script::{comment, step_directive};
 use conf_plan::Plan;
 use conf_session::{Session, UndoFault, undo_fault_text};
-use dd_file::device::{Sink, Source};
+use dd_file::device::Sink;
 use dd_file::fault::FileFault;
 use dd_file::item::Item;
-use dd_file::reader::Reader;
 use dd_file::rewriter::Rewriter;
 use dd_file::stage::Stage;
 use std::alloc::Global;
 
-/// The items of a script, the session that obeys them, how many of its changes are undone, and what writes how.
+/// The session that runs the items of a script, how many of its changes are undone, and what writes how.
 #[derive(Drop)]
 pub(super) struct Undoing {
     alloc: Global,
-    items: Reader,
     session: Session,
     rewriter: Rewriter,
     steps: usize,
@@ -41,13 +38,11 @@ impl Undoing {
     /// Begins in a new session, by the options, to undo as many changes as they say, one at least.
     pub(super) fn new(alloc: Global, options: Options) -> Result<Undoing, ToolFault>
         requires { 1 ≤ options.steps }
-        ensures unread { IfOk result (λ mode. ⟦<Undoing as PartByPart>⟧.reading mode ≡ fresh) }
-        ensures unwritten { IfOk result (λ mode. (held : Option (List ℕ)) → ⟦<Undoing as PartByPart>⟧.HasAnswered mode (undone_script options.history options.floor options.steps) [] held held) }
+        ensures unwritten { IfOk result (λ mode. (held : Option (List ℕ)) → ⟦<Undoing as PartByPart<Item>>⟧.HasAnswered mode (undone_script options.history options.floor options.steps) [] held held) }
         ensures memory { IsOkUnless result OutOfMemory }
     {
         Ok(Undoing {
             alloc,
-            items: Reader::new(alloc)?,
             session: Session::with_floor(alloc, options.history, options.floor)?,
             rewriter: Rewriter::new(),
             steps: options.steps,
@@ -63,7 +58,7 @@ impl Undoing {
         ensures part { OnErr result (BreaksOff self.old.rewriter.newlines (W.contents writer.old) (W.contents writer.new)
             (obeyed_text self.old.session (undo_items (undo_plan_of self.old.session self.old.steps)))) }
         ensures stage { OnOk result (self.new.rewriter.stage ≡ Stage.Ready) }
-        ensures write { W.has_failed writer.new ≡ (W.has_failed writer.old || is_write_fault result) }
+        ensures write { W.has_failed writer.new ≡ (W.has_failed writer.old || is_write_failure result) }
         ensures kinds { IfErr result IsAnswerFault }
     {
         match self.session.undo_plan(self.steps) {
@@ -90,7 +85,7 @@ impl Undoing {
         ensures part { OnErr result (BreaksOff self.old.rewriter.newlines (W.contents writer.old) (W.contents writer.new)
             (obeyed_text self.old.session (undo_items (Ok plan.now)))) }
         ensures stage { OnOk result (self.new.rewriter.stage ≡ Stage.Ready) }
-        ensures write { W.has_failed writer.new ≡ (W.has_failed writer.old || is_write_fault result) }
+        ensures write { W.has_failed writer.new ≡ (W.has_failed writer.old || is_write_failure result) }
         ensures kinds { IfErr result IsAnswerFault }
     {
         if plan.len() == 0 {
@@ -113,7 +108,7 @@ impl Undoing {
         ensures part { OnErr result (BreaksOff self.old.rewriter.newlines (W.contents writer.old) (W.contents writer.new)
             (obeyed_text self.old.session (says.comment text.now ∷ []))) }
         ensures stage { OnOk result (self.new.rewriter.stage ≡ Stage.Ready) }
-        ensures write { W.has_failed writer.new ≡ (W.has_failed writer.old || is_write_fault result) }
+        ensures write { W.has_failed writer.new ≡ (W.has_failed writer.old || is_write_failure result) }
         ensures kinds { IfErr result IsAnswerFault }
     {
         let item = comment(self.alloc, text)?;
@@ -129,7 +124,7 @@ impl Undoing {
         ensures part { OnErr result (BreaksOff self.old.rewriter.newlines (W.contents writer.old) (W.contents writer.new)
             (obeyed_text self.old.session (item ∷ []))) }
         ensures stage { OnOk result (self.new.rewriter.stage ≡ Stage.Ready) }
-        ensures write { W.has_failed writer.new ≡ (W.has_failed writer.old || is_write_fault result) }
+        ensures write { W.has_failed writer.new ≡ (W.has_failed writer.old || is_write_failure result) }
         ensures kinds { IfErr result IsAnswerFault }
     {
         let written = rewrite_item(
@@ -144,45 +139,14 @@ impl Undoing {
     }
 }
 
-impl PartByPart for Undoing {
-    type Part = Item;
-
-    ghost use Rattle.dd_file.specs.Place.{longest_input};
-    ghost use Rattle.dd_file.specs.InHand.{is_item_in_hand};
-    ghost use Rattle.dd_file.specs.Reading.{next_item};
-    ghost use Rattle.dd_file.specs.Answer.{IsItemFault};
-    ghost use Rattle.dd_file.specs.declared.item.Item.{Item as ItemTold};
+impl PartByPart<Item> for Undoing {
     ghost use Rattle.conf_tool.specs.Answered.{HasObeyed};
     ghost use Rattle.conf_tool.specs.declared.mode.Mode.TheVariants.{Undo as OfUndo};
-
-    ghost Told = { ItemTold };
-
-    ghost told = { λ item. item };
-
-    ghost coming = { next_item longest_input };
-
-    ghost in_hand = { is_item_in_hand };
-
-    ghost IsFault = { IsItemFault };
+    ghost use Rattle.conf_tool.specs.AnsweredLaws.{kept-obeyed, obeyed-front};
 
     ghost mode = { OfUndo };
 
-    ghost reading = { λ s. s.items };
-
     ghost HasAnswered = { λ s. HasObeyed s.session s.rewriter s.steps };
-
-    fn next_held<R: Source>(&mut self, reader: &R) -> Option<Result<Option<Item>, FileFault>> {
-        self.items.next_held(reader)
-    }
-
-    fn next<R: Source, W: Sink>(
-        &mut self,
-        reader: &mut R,
-        writer: &W,
-    ) -> Result<Option<Item>, FileFault> {
-        let _ = writer;
-        self.items.next(reader)
-    }
 
     // What a directive expects is not looked at, and nothing is written yet.
     fn answer<W: Sink>(&mut self, item: &Item, writer: &mut W) -> Result<(), ToolFault> {
@@ -190,11 +154,6 @@ impl PartByPart for Undoing {
         let found = run_item(self.alloc, &mut self.session, item)?;
         self.session.reuse(found);
         Ok(())
-    }
-
-    #[inline(always)]
-    fn reuse(&mut self, item: Item) {
-        self.items.reuse(item);
     }
 
     fn end<W: Sink>(
@@ -209,4 +168,8 @@ impl PartByPart for Undoing {
         self.rewriter.end(writer)?;
         Ok(status)
     }
+
+    ghost stays = { λ s. kept-obeyed s.session s.rewriter s.steps };
+
+    ghost prefix = { λ s total parts more fault before after obeyed. obeyed-front s.session s.rewriter s.steps total parts before after _ obeyed };
 }

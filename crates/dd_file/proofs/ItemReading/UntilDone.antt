@@ -6,7 +6,7 @@ use Rattle.dd_file.specs.Place.{Place, longest_input, longest_lookahead}
 use Rattle.dd_file.specs.Script.{Front, first_of}
 use Rattle.dd_file.specs.Reading.{Over, Found, Faulty, next_line, next_item}
 use Rattle.dd_file.specs.ReaderState.{ReaderState, IsOver}
-use Rattle.dd_file.specs.Answer.{Agrees, TellsNext, MovesOn, ReadsOn, IsLineFault, IsItemFault, IsCutShort, answered, is_read_fault, fault_of}
+use Rattle.dd_file.specs.Answer.{Agrees, TellsNext, MovesOn, ReadsOn, IsLineFault, IsItemFault, IsCutShort, next_in_answer, is_read_fault, fault_of}
 use Rattle.dd_file.specs.InOrder.{GivenSoFar}
 use Rattle.dd_file.specs.Draft.{DraftText, blank_draft, Fits, AddsIn, front_of, front_in, is_done, found_of, found_in_front, IsDraftFault, at_line}
 use Rattle.dd_file.specs.declared.phase.Phase.TheVariants.{Begin}
@@ -67,7 +67,7 @@ reading-more remaining has_failed view old now new before between after draft ne
 
 -- the answer to a next one
 as-answered : (now new : ReaderState) (more : List ℕ) (result : Result (Option Item) FileFault) (rest : List ℕ) → now.place ≡ new.place → rest ≡ new.held ++ more →
-    as_next result now.place rest ≡ answered (λ item. item) new more result
+    as_next result now.place rest ≡ next_in_answer (λ item. item) new more result
 as-answered now new more (Ok None) rest place is = refl
 as-answered now new more (Ok (Some item)) rest place is = ap (λ (p : Place). Found item p rest) place ∙ ap (Found item new.place) is
 as-answered now new more (Err fault) rest place is = refl
@@ -296,7 +296,7 @@ end-reads remaining has_failed view old now new before between after draft resul
           let place = ap (λ (p : Place). p.lines) over.1 in
           omega (arith, room, some, place)
 
-      at : (input more : List ℕ) → Agrees old (remaining before) (remaining after) input more → next_item longest_input old.place input ≡ answered (λ item. item) (record new { fault = fault_of result }) more result
+      at : (input more : List ℕ) → Agrees old (remaining before) (remaining after) input more → next_item longest_input old.place input ≡ next_in_answer (λ item. item) (record new { fault = fault_of result }) more result
       at input more agrees =
           let turn = agrees-in_turn old now (remaining before) (remaining between) (remaining after) input more reading.given.moves.taken read.moves.taken reading.given.moves.met agrees in
           let bytes = now.held ++ turn.behind in

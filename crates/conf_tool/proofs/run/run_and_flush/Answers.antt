@@ -9,7 +9,7 @@ use Rattle.conf_tool.specs.Run.{Means}
 use Rattle.conf_tool.specs.declared.status.Status.{Status}
 use Rattle.conf_tool.specs.declared.tool_fault.ToolFault.{ToolFault}
 use Rattle.conf_tool.specs.declared.tool_fault.ToolFault.TheVariants.{Script, Configurations, Read, Write, NoMemory}
-use Rattle.conf_tool.proofs.ModeOutput.KeptAnswers.{kept-part}
+use Rattle.conf_tool.specs.AnsweredLaws.{kept-part}
 use Rattle.conf_tool.proofs.run.run_and_flush.Goals as goal
 
 -- a whole text is a front part of it

@@ -1,4 +1,4 @@
-use Rattle.std.proofs.Common.{◌+◌, vec_items, refl, sym, ap, subst, ◌∙◌, arith}
+use Rattle.std.proofs.Common.{◌+◌, List, ℕ, refl, sym, ap, subst, ◌∙◌, arith}
 use Rattle.dd_file.specs.Draft.{DraftText, AddsIn, blank_draft, is_done}
 use Rattle.dd_file.proofs.ItemReading.UntilDone.{reading-none, reading-more, done-reads, memory-reads, fault-item, end-reads, or-false}
 use Rattle.dd_file.proofs.reader.read_item.Goals as goal
@@ -17,8 +17,8 @@ read-preserved g c =
     let read = rw c.in-Ok-Some.field-0-is at c.in-Ok-Some.ensures in
     let loop = c.read.invariant in
     record {
-      reading = reading-more g.R.Source.remaining g.R.Source.has_failed vec_items c.args.lines.now c.read.lines c.next.new.self c.args.reader.now c.read.reader c.next.new.reader c.read.draft c.add.new.self c.in-Ok-Some.line
-          loop.reading read (subst (λ l. AddsIn c.read.draft.phase c.read.draft c.add.new.self l) c.as_slice.ensures.value c.in-Ok-false.ensures.added);
+      reading = reading-more g.R.Source.remaining g.R.Source.has_failed (λ (l : List ℕ). l) c.args.lines.now c.read.lines c.next.new.self c.args.reader.now c.read.reader c.next.new.reader c.read.draft c.add.new.self c.in-Ok-Some.line
+          loop.reading read (subst (λ l. AddsIn c.read.draft.phase c.read.draft c.add.new.self l) c.as_slice.ensures c.in-Ok-false.ensures.added);
       open_end = sym c.in-Ok-false.ensures.done ∙ c.in-Ok-false.field-0-test;
       sound = read.read loop.reading.faultless ∙ sym (or-false (g.R.Source.has_failed c.read.reader)) ∙ loop.sound;
     }
@@ -32,8 +32,8 @@ pub returns-in-Ok-true-clause-reads : goal.returns-in-Ok-true-clause-reads
 returns-in-Ok-true-clause-reads g c =
     let read = rw c.in-Ok-Some.field-0-is at c.in-Ok-Some.ensures in
     let loop = c.read.invariant in
-    let reading = reading-more g.R.Source.remaining g.R.Source.has_failed vec_items c.args.lines.now c.read.lines c.next.new.self c.args.reader.now c.read.reader c.next.new.reader c.read.draft c.add.new.self c.in-Ok-Some.line
-    loop.reading read (subst (λ l. AddsIn c.read.draft.phase c.read.draft c.add.new.self l) c.as_slice.ensures.value c.in-Ok-true.ensures.added) in
+    let reading = reading-more g.R.Source.remaining g.R.Source.has_failed (λ (l : List ℕ). l) c.args.lines.now c.read.lines c.next.new.self c.args.reader.now c.read.reader c.next.new.reader c.read.draft c.add.new.self c.in-Ok-Some.line
+    loop.reading read (subst (λ l. AddsIn c.read.draft.phase c.read.draft c.add.new.self l) c.as_slice.ensures c.in-Ok-true.ensures.added) in
     done-reads g.R.Source.remaining g.R.Source.has_failed c.args.lines.now c.next.new.self c.args.reader.now c.next.new.reader c.add.new.self c.finish.result c.requires.faultless c.requires.unended reading
     (sym c.in-Ok-true.ensures.done ∙ c.in-Ok-true.field-0-test) read.lookahead (read.read loop.reading.faultless ∙ sym (or-false (g.R.Source.has_failed c.read.reader)) ∙ loop.sound) c.finish.ensures.found c.finish.ensures.kind
 
@@ -41,18 +41,18 @@ pub returns-in-Err-add-clause-reads : goal.returns-in-Err-add-clause-reads
 returns-in-Err-add-clause-reads g c =
     let read = rw c.in-Ok-Some.field-0-is at c.in-Ok-Some.ensures in
     let loop = c.read.invariant in
-    memory-reads g.R.Source.remaining g.R.Source.has_failed vec_items c.args.lines.now c.read.lines c.next.new.self c.args.reader.now c.read.reader c.next.new.reader c.read.draft c.in-Ok-Some.line
+    memory-reads g.R.Source.remaining g.R.Source.has_failed (λ (l : List ℕ). l) c.args.lines.now c.read.lines c.next.new.self c.args.reader.now c.read.reader c.next.new.reader c.read.draft c.in-Ok-Some.line
     c.requires.faultless c.requires.unended loop.reading read loop.sound
 
 pub returns-in-Ok-None-clause-reads : goal.returns-in-Ok-None-clause-reads
 returns-in-Ok-None-clause-reads g c =
     let read = rw c.in-Ok-None.field-0-is at c.in-Ok-None.ensures in
     let loop = c.read.invariant in
-    end-reads g.R.Source.remaining g.R.Source.has_failed vec_items c.args.lines.now c.read.lines c.next.new.self c.args.reader.now c.read.reader c.next.new.reader c.read.draft c.finish-in-Ok-None.result
+    end-reads g.R.Source.remaining g.R.Source.has_failed (λ (l : List ℕ). l) c.args.lines.now c.read.lines c.next.new.self c.args.reader.now c.read.reader c.next.new.reader c.read.draft c.finish-in-Ok-None.result
     c.requires.faultless c.requires.unended loop.reading read loop.sound c.finish-in-Ok-None.ensures.found c.finish-in-Ok-None.ensures.kind
 
 pub returns-in-Err-clause-reads : goal.returns-in-Err-clause-reads
 returns-in-Err-clause-reads g c =
     let loop = c.read.invariant in
-    rw (c.fault_at.ensures) (fault-item g.R.Source.remaining g.R.Source.has_failed vec_items c.args.lines.now c.read.lines c.next.new.self c.args.reader.now c.read.reader c.next.new.reader c.read.draft c.in-Err.fault
+    rw (c.fault_at.ensures) (fault-item g.R.Source.remaining g.R.Source.has_failed (λ (l : List ℕ). l) c.args.lines.now c.read.lines c.next.new.self c.args.reader.now c.read.reader c.next.new.reader c.read.draft c.in-Err.fault
     c.requires.faultless c.requires.unended loop.reading loop.open_end c.in-Err.ensures loop.sound)

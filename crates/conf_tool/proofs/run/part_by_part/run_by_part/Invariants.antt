@@ -7,21 +7,21 @@ use Rattle.conf_tool.proofs.ModeInput.PlaceReached.{Reached}
 use Rattle.conf_tool.proofs.run.part_by_part.run_by_part.Given as goal
 
 -- the parts so far were read and answered, and no device failed
-abbrev pub invariant-loop-mode : goal.invariant-loop-mode
-invariant-loop-mode g l =
+abbrev pub invariant-each : goal.invariant-each
+invariant-each g l =
     let remaining = g.R.Source.remaining in
     let contents = g.W.Sink.contents in
     let mode = g.M.PartByPart in
     record {
-      parts : List mode.Told;
-      reached : Reached mode.coming (remaining l.fn.reader) (remaining l.reader) (mode.reading l.mode) parts;
-      answered : (total : Script mode.Told → Output) → ((held : Option (List ℕ)) → mode.HasAnswered l.fn.mode total [] held held) →
+      parts : List g.row.P.Denot;
+      reached : Reached g.S.Parts.coming (remaining l.fn.reader) (remaining l.reader) (g.S.Parts.reading l.parts) parts;
+      answered : (total : Script g.row.P.Denot → Output) → ((held : Option (List ℕ)) → mode.HasAnswered l.fn.mode total [] held held) →
           mode.HasAnswered l.mode total parts (contents l.fn.writer) (contents l.writer);
-      counted : (mode.reading l.mode).place.lines ≤ longest_input;
+      counted : (g.S.Parts.reading l.parts).place.lines ≤ longest_input;
       unread : g.R.Source.has_failed l.reader ≡ g.R.Source.has_failed l.fn.reader;
       unwritten : g.W.Sink.has_failed l.writer ≡ g.W.Sink.has_failed l.fn.writer;
     }
 
 -- an input has only so many lines, and each part has one
-abbrev pub decreases-loop-mode : goal.decreases-loop-mode
-decreases-loop-mode g l = longest_input - (g.M.PartByPart.reading l.mode).place.lines
+abbrev pub decreases-each : goal.decreases-each
+decreases-each g l = longest_input - (g.S.Parts.reading l.parts).place.lines

@@ -1,4 +1,4 @@
-use Rattle.std.proofs.Common.{◌≡◌, true, take, vec_items, refl, sym, ap, subst, ◌∙◌}
+use Rattle.std.proofs.Common.{◌≡◌, true, take, List, ℕ, refl, sym, ap, subst, ◌∙◌}
 use Rattle.std.specs.Prelude.{Ok, Some}
 use Rattle.ascii_text.specs.Lines.{first_len, line_of, is_whole}
 use Rattle.dd_file.specs.Place.{longest_input}
@@ -23,6 +23,6 @@ returns-in-Ok g c =
     let len : c.piece_len-len.result ≡ first_len state.held = c.piece_len-len.ensures.count ∙ ap first_len c.held-held.ensures in
     let piece = same-piece _ _ c.piece_len-len.result c.held-held.ensures c.piece_len-len.ensures.count in
     let whole : is_whole (take (first_len state.held) state.held) ≡ true = ap is_whole (sym piece) ∙ sym c.is_whole.ensures ∙ c.if-not-is_whole.false in
-    let line : c.in-Ok.line.items ≡ line_of (take (first_len state.held) state.held) = c.in-Ok.ensures.items ∙ c.line_of.ensures ∙ ap line_of piece in
-    let read = held-line remaining has_failed vec_items state c.args.reader.now c.in-Ok.line (c.can_tell.ensures.told c.if-not-can_tell.false) c.can_tell.ensures.within whole line in
-    subst (λ (s : ReaderState). ReadsOn remaining has_failed vec_items (next_line longest_input) IsLineFault state s c.args.reader.now c.args.reader.now (Ok (Some c.in-Ok.line))) (sym (c.pass.ensures ∙ ap (passed state 1) len)) read
+    let line : c.new.result ≡ line_of (take (first_len state.held) state.held) = c.new.ensures ∙ c.in-Ok.ensures.items ∙ c.line_of.ensures ∙ ap line_of piece in
+    let read = held-line remaining has_failed (λ (l : List ℕ). l) state c.args.reader.now c.new.result (c.can_tell.ensures.told c.if-not-can_tell.false) c.can_tell.ensures.within whole line in
+    subst (λ (s : ReaderState). ReadsOn remaining has_failed (λ (l : List ℕ). l) (next_line longest_input) IsLineFault state s c.args.reader.now c.args.reader.now (Ok (Some c.new.result))) (sym (c.pass.ensures ∙ ap (passed state 1) len)) read

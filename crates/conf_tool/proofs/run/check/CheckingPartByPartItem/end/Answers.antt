@@ -1,8 +1,9 @@
 use Rattle.std.proofs.Common.{◌∙◌, refl, []}
 use Rattle.std.proofs.lemmas.Result.{err_from_is_err_and}
-use Rattle.conf_tool.proofs.ModeOutput.FirstParts.{appends-nothing, part-nothing, wrote-end}
+use Rattle.conf_tool.proofs.ModeOutput.FirstParts.{appends-nothing, wrote-end}
+use Rattle.conf_tool.specs.AnsweredLaws.{part-nothing}
 use Rattle.conf_tool.proofs.Modes.Check.{checked-end, checked-end_part}
-use Rattle.conf_tool.proofs.run.check.CheckingPartByPart.end.Goals as goal
+use Rattle.conf_tool.proofs.run.check.CheckingPartByPartItem.end.Goals as goal
 
 pub returns-in-Some-clause-output : goal.returns-in-Some-clause-output
 returns-in-Some-clause-output g c =

@@ -1,6 +1,6 @@
 use Rattle.std.proofs.Common.{refl}
 use Rattle.conf_tool.proofs.Modes.Rewrite.{ok-by_three, err-by, rewritten-part, rewritten-broken}
-use Rattle.conf_tool.proofs.run.rewrite.RewritingPartByPart.answer.Goals as goal
+use Rattle.conf_tool.proofs.run.rewrite.RewritingPartByPartItem.answer.Goals as goal
 
 pub returns-clause-answered : goal.returns-clause-answered
 returns-clause-answered g c =

@@ -2,7 +2,7 @@ use Rattle.std.proofs.lemmas.Result.{err_from_is_err_and}
 use Rattle.conf_tool.specs.Answered.{script}
 use Rattle.conf_tool.proofs.ModeInput.Faults.{answer-means}
 use Rattle.conf_tool.proofs.Modes.Undo.{obeyed-fault, obeyed-broken, obeyed-end, obeyed-end_part}
-use Rattle.conf_tool.proofs.run.undo.UndoingPartByPart.end.Goals as goal
+use Rattle.conf_tool.proofs.run.undo.UndoingPartByPartItem.end.Goals as goal
 
 pub returns-in-Some-clause-output : goal.returns-in-Some-clause-output
 returns-in-Some-clause-output g c = rw c.in-Some.is (λ total parts before obeyed. obeyed-fault _ _ _ total parts before _ c.in-Some.fault obeyed)

@@ -1,7 +1,7 @@
 use Rattle.std.proofs.Common.{◌≡◌, Bool, true, false, ◌||◌, refl, sym, ◌∙◌}
 use Rattle.std.proofs.lemmas.Result.{err_from_is_err_and}
 use Rattle.conf_tool.proofs.Modes.Plan.{read-ends, read-ends_part}
-use Rattle.conf_tool.proofs.run.plan.PlanningPartByPart.end.Goals as goal
+use Rattle.conf_tool.proofs.run.plan.PlanningPartByPartLine.end.Goals as goal
 
 or-true : (mark : Bool) → (mark || true) ≡ true
 or-true true = refl

@@ -1,8 +1,8 @@
 use Rattle.std.proofs.Common.{◌∙◌}
 use Rattle.std.proofs.lemmas.Result.{err_from_is_err_and}
-use Rattle.conf_tool.proofs.ModeOutput.FirstParts.{wrote-front}
+use Rattle.conf_tool.specs.AnsweredLaws.{wrote-front}
 use Rattle.conf_tool.proofs.Modes.Check.{checked-part, checked-broken}
-use Rattle.conf_tool.proofs.run.check.CheckingPartByPart.answer.Goals as goal
+use Rattle.conf_tool.proofs.run.check.CheckingPartByPartItem.answer.Goals as goal
 
 pub returns-in_err-check_item-clause-part : goal.returns-in_err-check_item-clause-part
 returns-in_err-check_item-clause-part g c =

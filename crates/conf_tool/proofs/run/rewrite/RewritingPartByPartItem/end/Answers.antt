@@ -1,7 +1,7 @@
 use Rattle.std.proofs.lemmas.Result.{err_from_is_err_and}
 use Rattle.conf_tool.proofs.ModeOutput.FirstParts.{clean-means}
 use Rattle.conf_tool.proofs.Modes.Rewrite.{rewritten-end, rewritten-end_part}
-use Rattle.conf_tool.proofs.run.rewrite.RewritingPartByPart.end.Goals as goal
+use Rattle.conf_tool.proofs.run.rewrite.RewritingPartByPartItem.end.Goals as goal
 
 pub returns-in_err-end-clause-output : goal.returns-in_err-end-clause-output
 returns-in_err-end-clause-output g c =

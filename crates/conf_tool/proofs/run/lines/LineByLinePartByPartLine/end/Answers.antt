@@ -1,6 +1,6 @@
 use Rattle.std.proofs.Common.{refl, []}
 use Rattle.conf_tool.proofs.ModeOutput.FirstParts.{appends-nothing, wrote-end, clean-means}
-use Rattle.conf_tool.proofs.run.lines.LineByLinePartByPart.end.Goals as goal
+use Rattle.conf_tool.proofs.run.lines.LineByLinePartByPartLine.end.Goals as goal
 
 pub returns-clause-output : goal.returns-clause-output
 returns-clause-output g c = λ total parts before front.

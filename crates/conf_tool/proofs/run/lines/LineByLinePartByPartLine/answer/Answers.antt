@@ -1,7 +1,8 @@
 use Rattle.std.proofs.Common.{◌∙◌}
 use Rattle.std.proofs.lemmas.Result.{err_from_is_err_and}
-use Rattle.conf_tool.proofs.ModeOutput.FirstParts.{wrote-front, lined-part, lined-broken}
-use Rattle.conf_tool.proofs.run.lines.LineByLinePartByPart.answer.Goals as goal
+use Rattle.conf_tool.specs.AnsweredLaws.{wrote-front}
+use Rattle.conf_tool.proofs.ModeOutput.FirstParts.{lined-part, lined-broken}
+use Rattle.conf_tool.proofs.run.lines.LineByLinePartByPartLine.answer.Goals as goal
 
 pub returns-in_err-answer_line-clause-part : goal.returns-in_err-answer_line-clause-part
 returns-in_err-answer_line-clause-part g c =
@@ -11,11 +12,11 @@ returns-in_err-answer_line-clause-part g c =
 pub returns-in_err-write_all-clause-part : goal.returns-in_err-write_all-clause-part
 returns-in_err-write_all-clause-part g c =
     let p = err_from_is_err_and c.from_residual-in_err-write_all.result c.from_residual-in_err-write_all.ensures.1 in
-    let text = rw (c.as_slice.ensures.value, c.clear.ensures.items) at c.in_ok-answer_line.ensures.text in
+    let text = rw (c.as_slice.ensures, c.clear.ensures.items) at c.in_ok-answer_line.ensures.text in
     rw p.1 (λ total parts more fault before front. lined-broken _ _ total parts more fault _ before _ _ front (c.as_slice-2.ensures.value ∙ text) c.in_err-write_all.ensures.err)
 
 pub returns-clause-answered : goal.returns-clause-answered
 returns-clause-answered g c =
-    let text = rw (c.as_slice.ensures.value, c.clear.ensures.items) at c.in_ok-answer_line.ensures.text in
-    let after = rw c.as_slice.ensures.value at c.in_ok-answer_line.ensures.after in
+    let text = rw (c.as_slice.ensures, c.clear.ensures.items) at c.in_ok-answer_line.ensures.text in
+    let after = rw c.as_slice.ensures at c.in_ok-answer_line.ensures.after in
     λ total parts before front. lined-part _ _ _ total parts _ before _ _ front after (c.as_slice-2.ensures.value ∙ text) c.in_ok-write_all.ensures.ok

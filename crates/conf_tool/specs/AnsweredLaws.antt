@@ -1,14 +1,18 @@
--- What was answered stays answered where what waits is written on: known bytes stay as they were.
-use Rattle.std.proofs.Common.{ℕ, List, ◌++◌, refl, ◌∙◌, ap}
+-- What was answered stays answered where what waits is flushed, and is a prefix of the output. The modes state both as laws
+-- of a trait, which take their proofs from specs.
+use Rattle.std.proofs.Common.{ℕ, List, [], ◌++◌, refl, sym, ◌∙◌, ap, subst}
+use Rattle.std.proofs.lemmas.List.{append-nil}
 use Rattle.std.specs.Prelude.{Option, Some, None}
 use Rattle.std.specs.Io.KnownBytes.{Appends, Keeps}
 use Rattle.dd_file.specs.Device.{AppendsPart}
 use Rattle.dd_file.specs.Reading.{Script}
 use Rattle.dd_file.specs.RewriterState.{RewriterState, HasWritten}
 use Rattle.dd_file.specs.declared.item.Item.{Item}
+use Rattle.dd_file.specs.declared.fault.FileFault.{FileFault}
+use Rattle.dd_file.proofs.Offered.{part-append}
 use Rattle.conf_session.specs.SessionState.{SessionState}
 use Rattle.conf_tool.specs.Outputs.{Output}
-use Rattle.conf_tool.specs.Answered.{WroteFront, HasChecked, HasRewritten, HasObeyed, HasRead}
+use Rattle.conf_tool.specs.Answered.{script, WroteFront, HasChecked, HasRewritten, HasObeyed, HasRead, rewrite_left}
 
 pub keeps-still : (held : Option (List ℕ)) → Keeps held held
 keeps-still None = tt
@@ -81,3 +85,27 @@ kept-obeyed session rewriter count total parts before mid new obeyed k = record 
 pub kept-read : (texts : List (List ℕ)) (total : Script (List ℕ) → Output) (parts : List (List ℕ)) (before mid new : Option (List ℕ)) →
     HasRead texts total parts before mid → Keeps mid new → HasRead texts total parts before new
 kept-read texts total parts before mid new read k = record { unwritten = keeps-keeps before mid new read.unwritten k; texts_are = read.texts_are; is = read.is }
+
+pub part-nothing : (before : Option (List ℕ)) (text : List ℕ) → AppendsPart before before text
+part-nothing None text = tt
+part-nothing (Some bytes) text = ([], text, refl, sym (append-nil bytes))
+
+-- what was written is a prefix of the output, whatever is left
+pub wrote-front : {A : Type 0} (total left : Script A → Output) (parts more : List A) (fault : Option FileFault) (before mid : Option (List ℕ)) →
+    WroteFront total left parts before mid → AppendsPart before mid (total (script (parts ++ more) fault)).text
+wrote-front total left parts more fault before mid front =
+    subst (λ (o : Output). AppendsPart before mid o.text) (sym (front.is (script more fault))) (part-append before mid front.text (left (script more fault)).text front.wrote)
+
+pub rewritten-front : (s : SessionState) (rewriter : RewriterState) (total : Script Item → Output) (parts more : List Item) (fault : Option FileFault) (before mid : Option (List ℕ)) →
+    HasRewritten s rewriter total parts before mid → AppendsPart before mid (total (script (parts ++ more) fault)).text
+rewritten-front s rewriter total parts more fault before mid rewritten =
+    subst (λ (o : Output). AppendsPart before mid o.text) (sym (rewritten.is (script more fault))) (rewritten.wrote.begun (rewrite_left s (script more fault)).text)
+
+-- nothing is written before the end
+pub obeyed-front : (s : SessionState) (rewriter : RewriterState) (count : ℕ) (total : Script Item → Output) (parts : List Item) (before held : Option (List ℕ)) (text : List ℕ) →
+    HasObeyed s rewriter count total parts before held → AppendsPart before held text
+obeyed-front s rewriter count total parts before held text obeyed = kept-part before before held text (part-nothing before text) obeyed.unwritten
+
+pub read-front : (texts : List (List ℕ)) (total : Script (List ℕ) → Output) (parts : List (List ℕ)) (before after : Option (List ℕ)) (text : List ℕ) →
+    HasRead texts total parts before after → AppendsPart before after text
+read-front texts total parts before after text read = kept-part before before after text (part-nothing before text) read.unwritten

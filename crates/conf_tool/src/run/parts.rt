@@ -1,0 +1,122 @@
+//! The parts of an input that a mode answers one by one: its lines, or the items of a script.
+ghost use Rattle.std.specs.Prelude.{◌≡◌, ℕ, List, Bool};
+ghost use Rattle.dd_file.specs.Place.{Place};
+ghost use Rattle.dd_file.specs.Reading.{Next, script_from, followed};
+ghost use Rattle.dd_file.specs.ReaderState.{ReaderState};
+ghost use Rattle.dd_file.specs.Answer.{ReadsOn};
+ghost use Rattle.dd_file.specs.InHand.{HeldReadsOn};
+ghost use Rattle.dd_file.specs.declared.fault.FileFault.{FileFault as ReadFault};
+
+use dd_file::device::{Sink, Source};
+use dd_file::fault::FileFault;
+use dd_file::item::Item;
+use dd_file::line::Line;
+use dd_file::lines::Lines;
+use dd_file::reader::Reader;
+
+/// Reads the parts of an input.
+pub(super) trait Parts<P> {
+    /// The part that comes next of an input, from a place on.
+    ghost coming: { Place → List ℕ → Next P };
+
+    /// The faults of an input, from a place on.
+    ghost IsFault: { Place → ReadFault → Type 0 };
+
+    /// Whether a part is buffered, at a place and of the bytes that are held there.
+    ghost is_buffered: { Place → List ℕ → Bool };
+
+    /// Where the reading stands.
+    ghost reading: { Self → ReaderState };
+
+    /// The next part where the whole of it is buffered. No reader is asked.
+    fn buffered<R: Source>(&mut self, reader: &R) -> Option<Result<Option<P>, FileFault>>
+        ensures { HeldReadsOn R.remaining R.has_failed (λ part. part) coming IsFault is_buffered (reading self.old) (reading self.new) reader.now result };
+
+    /// The next part; none at the end. What was answered was flushed, so that nothing waits while a reader is asked.
+    fn read<R: Source, W: Sink>(
+        &mut self,
+        reader: &mut R,
+        writer: &W,
+    ) -> Result<Option<P>, FileFault>
+        requires { W.reached writer.now ≡ W.contents writer.now }
+        ensures { ReadsOn R.remaining R.has_failed (λ part. part) coming IsFault (reading self.old) (reading self.new) reader.old reader.new result };
+
+    /// Takes back a part that was answered, so that a later one may lie in its memory.
+    fn take_back(&mut self, part: P)
+        ensures { reading self.new ≡ reading self.old };
+
+    /// What is read is what comes next, and then the rest.
+    ghost in_turn: { (place : Place) (bytes : List ℕ) → script_from coming place bytes ≡ followed (script_from coming) (coming place bytes) };
+}
+
+impl Parts<Line> for Lines {
+    ghost use Rattle.dd_file.specs.Place.{longest_input};
+    ghost use Rattle.dd_file.specs.InHand.{is_line_in_hand};
+    ghost use Rattle.dd_file.specs.Reading.{next_line};
+    ghost use Rattle.dd_file.specs.Answer.{IsLineFault};
+    ghost use Rattle.dd_file.proofs.Offered.{script_from-followed, next_line-takes};
+
+    ghost coming = { next_line longest_input };
+
+    ghost IsFault = { IsLineFault };
+
+    ghost is_buffered = { is_line_in_hand };
+
+    ghost reading = { λ lines. lines };
+
+    fn buffered<R: Source>(&mut self, reader: &R) -> Option<Result<Option<Line>, FileFault>> {
+        self.next_held(reader)
+    }
+
+    fn read<R: Source, W: Sink>(
+        &mut self,
+        reader: &mut R,
+        writer: &W,
+    ) -> Result<Option<Line>, FileFault> {
+        let _ = writer;
+        self.next(reader)
+    }
+
+    fn take_back(&mut self, line: Line) {
+        let _ = &*self;
+        drop(line);
+    }
+
+    ghost in_turn = { script_from-followed (next_line longest_input) (next_line-takes longest_input) };
+}
+
+impl Parts<Item> for Reader {
+    ghost use Rattle.dd_file.specs.Place.{longest_input};
+    ghost use Rattle.dd_file.specs.InHand.{is_item_in_hand};
+    ghost use Rattle.dd_file.specs.Reading.{next_item};
+    ghost use Rattle.dd_file.specs.Answer.{IsItemFault};
+    ghost use Rattle.dd_file.proofs.Offered.{script_from-followed, next_item-takes};
+
+    ghost coming = { next_item longest_input };
+
+    ghost IsFault = { IsItemFault };
+
+    ghost is_buffered = { is_item_in_hand };
+
+    ghost reading = { λ items. items };
+
+    fn buffered<R: Source>(&mut self, reader: &R) -> Option<Result<Option<Item>, FileFault>> {
+        self.next_held(reader)
+    }
+
+    fn read<R: Source, W: Sink>(
+        &mut self,
+        reader: &mut R,
+        writer: &W,
+    ) -> Result<Option<Item>, FileFault> {
+        let _ = writer;
+        self.next(reader)
+    }
+
+    #[inline(always)]
+    fn take_back(&mut self, item: Item) {
+        self.reuse(item);
+    }
+
+    ghost in_turn = { script_from-followed (next_item longest_input) (next_item-takes longest_input) };
+}

@@ -1,0 +1,33 @@
+//! A line of an input.
+ghost use Rattle.std.specs.Prelude.{◌≡◌};
+
+use std::marker::Model;
+
+/// A line, without what ended it. Its value is the list of its bytes.
+#[derive(Drop)]
+pub struct Line {
+    bytes: Vec<u8>,
+}
+
+impl Model for Line {
+    ghost use Rattle.std.specs.Prelude.{List, ℕ};
+
+    ghost Value = { List ℕ };
+
+    ghost view = { λ a. a.bytes.items };
+}
+
+impl Line {
+    pub(crate) fn new(bytes: Vec<u8>) -> Line
+        ensures { result ≡ bytes.items }
+    {
+        Line { bytes }
+    }
+
+    /// Its bytes.
+    pub fn as_slice(&self) -> &[u8]
+        ensures { result.now ≡ self.now }
+    {
+        self.bytes.as_slice()
+    }
+}
