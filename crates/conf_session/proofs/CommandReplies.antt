@@ -1,25 +1,16 @@
--- What a fault or a saved form gives as the reply of a command, and how its texts grow.
+-- How the texts of replies grow, and that what is found can stand.
 use Rattle.std.proofs.Common.{◌≡◌, ℕ, zero, suc, ◌+◌, List, [], ◌∷◌, ◌++◌, take, sym, ap, ◌∙◌, subst, add-one}
 use Rattle.std.specs.Prelude.{Option, Some, None, unwrap_or, Result, Ok, Err, IfOk, OnOk, flat_map, slice_get}
 use Rattle.std.proofs.lemmas.List.{append_assoc, append-nil}
 use Rattle.conf_change.specs.Configuration.{Configuration}
-use Rattle.conf_change.specs.ConfState.{ConfStateLists, restored}
+use Rattle.conf_change.specs.ChangerState.{ChangerState}
 use Rattle.conf_change.specs.Text.{config_text, progress_text}
 use Rattle.conf_change.specs.TrackerState.{TrackerState}
 use Rattle.ascii_text.specs.Lines.{newline}
 use Rattle.conf_change.specs.declared.progress.Progress.{Progress}
 use Rattle.conf_session.specs.ReplyTexts.{line, member_line, member_lines, tracker_text}
 use Rattle.conf_session.specs.Told.{CanStand}
-use Rattle.conf_session.specs.Reply.{Reply}
-
--- there is neither input nor a fault of the arguments
-pub no-fault : (fault : Option Reply) (reply whole : Reply) → whole ≡ unwrap_or fault reply → fault ≡ None → whole ≡ reply
-no-fault fault reply whole e none = e ∙ ap (λ f. unwrap_or f reply) none
-
--- a saved form that is restored to nothing
-pub restored-none : (saved : ConfStateLists) (c : Option Configuration) → restored saved ≡ c → ((d : Configuration) → restored saved ≡ Some d → ⊥) → restored saved ≡ None
-restored-none saved None e none = e
-restored-none saved (Some c) e none = absurd (none c e)
+use Rattle.conf_session.specs.Reply.{Reply, ReplyParts, reply_in}
 
 -- a text that is begun with this
 pub append-begun : (old new part whole : List ℕ) → old ≡ [] → new ≡ old ++ part → part ≡ whole → new ≡ whole
@@ -33,11 +24,6 @@ flat_map-suc f (y ∷ xs) (suc i) x e = ap (λ rest. f y ++ rest) (flat_map-suc 
 pub flat_map-front : {X : Type 0} (f : X → List ℕ) (xs : List X) (i : ℕ) (x : X) → slice_get xs i ≡ Some x → flat_map f (take (i + 1) xs) ≡ flat_map f (take i xs) ++ f x
 flat_map-front f xs i x e = ap (λ n. flat_map f (take n xs)) (add-one i) ∙ flat_map-suc f xs i x e
 
--- a reply that is another by an equation
-pub same-reply : {E : Type 0} (r : Result Reply E) (a b : Reply) → a ≡ b → IfOk r (λ reply. reply ≡ a) → IfOk r (λ reply. reply ≡ b)
-same-reply (Ok reply) a b e h = h ∙ e
-same-reply (Err fault) a b e h = tt
-
 -- one member more is told
 pub members-one_more : (old now new : List ℕ) (members : List (ℕ × Progress)) (i id : ℕ) (p : Progress) → slice_get members i ≡ Some (id, p) → now ≡ old ++ flat_map member_line (take i members) →
     new ≡ now ++ line (progress_text id p) → new ≡ old ++ flat_map member_line (take (i + 1) members)
@@ -46,9 +32,9 @@ members-one_more old now new members i id p at so_far more =
     ∙ ap (λ t. old ++ t) (sym (flat_map-front member_line members i (id, p) at))
 
 -- what is found can stand, where it can for the reply
-pub reply-stands : {E : Type 0} (r : Result Reply E) {a b : Reply} → a ≡ b → CanStand b.found → IfOk r (λ reply. reply ≡ a) → IfOk r (λ reply. CanStand reply.found)
-reply-stands (Ok reply) e stands h = let P : Reply → Type 0 = λ x. CanStand x.found in subst P (sym (h ∙ e)) stands
-reply-stands (Err fault) e stands h = tt
+pub reply-stands : {E : Type 0} (r : Result ReplyParts E) (changer next : ChangerState) {a b : Reply} → a ≡ b → CanStand b.found → IfOk r (λ reply. reply_in changer next reply ≡ a) → IfOk r (λ reply. CanStand reply.found)
+reply-stands (Ok reply) changer next e stands h = let P : Reply → Type 0 = λ x. CanStand x.found in subst P (sym (h ∙ e)) stands
+reply-stands (Err fault) changer next e stands h = tt
 
 -- a configuration, a newline and the members behind a text
 pub tracker-appended : {E : Type 0} (r : Result (Unit {0}) E) (old one two new : List ℕ) (tracker : TrackerState) (config : Configuration) → config ≡ tracker.config →

@@ -1,46 +1,35 @@
 -- The configurations that a session keeps, and that an answer keeps what holds of every session.
 use Rattle.std.proofs.Common.{◌≡◌, ℕ, zero, suc, ◌-◌, ◌≤◌, Bool, true, false, cond, List, [], ◌∷◌, ◌++◌, length, take, drop, refl, sym, ap, ◌∙◌, subst, arith}
 use Rattle.std.specs.Prelude.{◌↔◌, Option, Some, None, option_map, unwrap_or, Result, Ok, Err, ⊤, codes, slice_get, nat_lt, option_and_then}
-use Rattle.std.specs.Option.{option_or}
 use Rattle.std.proofs.lemmas.List.{length-append, length-take, length-drop}
-use Rattle.std.proofs.lemmas.Bool.Decides.{nat_tests}
 use Rattle.dd_file.specs.DirectiveText.{DirectiveText}
 use Rattle.dd_file.specs.Words.{ArgumentText}
 use Rattle.conf_change.specs.Acknowledgement.{ack_answer, changer_with_progress}
 use Rattle.conf_change.specs.ChangerState.{ChangerState}
 use Rattle.conf_change.specs.Changer.{IsSound, Accepts, moved_to, begun_with, new_changer, changer_after}
-use Rattle.conf_change.specs.ChangeList.{BadToken, changes_in}
 use Rattle.conf_change.specs.ConfState.{ConfStateLists, Describes, restored}
-use Rattle.conf_change.specs.ConfStateLine.{conf_state_in}
 use Rattle.conf_change.specs.Configuration.{Configuration, has_voter, is_valid, has_voter_or_nobody, is_restorable}
-use Rattle.ascii_text.specs.Number.{number_in}
 use Rattle.conf_change.specs.Outcome.{outcome}
 use Rattle.conf_change.specs.Transition.{step_taken}
 use Rattle.conf_change.specs.declared.floor.Floor.{Floor}
 use Rattle.conf_change.specs.declared.acknowledgement.AckFault.{AckFault}
 use Rattle.conf_change.specs.declared.acknowledgement.AckFault.TheVariants.{NotMember, IndexTooLarge}
-use Rattle.conf_change.specs.declared.change.Change.{Change}
 use Rattle.conf_change.specs.declared.progress.Progress.{Progress}
 use Rattle.conf_change.specs.declared.refused.Refused.{Refused}
 use Rattle.conf_change.specs.declared.step.Step.{Step}
 use Rattle.conf_change.specs.declared.step.Step.TheVariants.{Simple as SimpleStep, EnterJoint as EnterStep, LeaveJoint as LeaveStep}
 use Rattle.conf_plan.specs.Planned.{planned}
 use Rattle.conf_plan.specs.Run.{IsRun, IsValidWithVoter, Takes, after_steps}
-use Rattle.conf_session.specs.SessionState.{SessionState, LedTo, IsSession, new_session, present, after_directive}
-use Rattle.conf_session.specs.Parameter.{key_of, at_least, number_from}
-use Rattle.conf_session.specs.Arguments.{bad_argument, missing_argument, argument_of}
-use Rattle.conf_session.specs.Reply.{Reply, told}
+use Rattle.conf_session.specs.SessionState.{SessionState, Becomes, Nothing, Acknowledged, Stepped, Restored, Undone, LedTo, IsSession, new_session, present, after_directive}
+use Rattle.conf_session.specs.Input.{Input, read_input}
+use Rattle.conf_session.specs.Values.{Values, read_arguments}
+use Rattle.conf_session.specs.Reply.{Reply}
 use Rattle.conf_session.specs.Undo.{IsEarlier, LeadsBack, plan_back, undo_plan_of, undone_changer}
-use Rattle.conf_session.specs.QuorumArguments.{number_given, is_one_each}
-use Rattle.conf_session.specs.Commands.{command_in, parameters_of, with_changes, with_no_input, with_arguments, after_step, asks_auto_leave, asked_transition, on_leave_joint, after_restored, restore_with, steps_of, after_planned, undo_last, after_ack, with_one_each, reply_of, answer, after_answers}
-use Rattle.conf_session.specs.declared.undo_fault.UndoFault.{UndoFault}
+use Rattle.conf_session.specs.Commands.{Row, row_of, after_step, after_restored, after_planned, undo_last, after_ack, if_read, reply_of, reply_by, answer, after_answers}
 use Rattle.conf_session.specs.declared.undo_fault.UndoFault.TheVariants.{NoVoterTarget}
-use Rattle.conf_session.specs.declared.effect.Effect.{Effect}
-use Rattle.conf_session.specs.declared.effect.Effect.TheVariants.{Nothing, Acknowledged, Stepped, Restored, Undone}
-use Rattle.conf_session.specs.declared.parameter.Parameter.{Parameter}
-use Rattle.conf_session.specs.declared.parameter.Parameter.TheVariants.{Steps, Id, Index, Indexes, Votes}
 use Rattle.conf_session.specs.declared.commands.Command.{Command}
 use Rattle.conf_session.specs.declared.commands.Command.TheVariants.{Simple, EnterJoint, LeaveJoint, ConfChange, ConfState, Restore, Undo, Ack, CommitIndex, Committed, Vote, Unknown}
+use Rattle.conf_session.proofs.ReadValues.{steps-some}
 use Rattle.conf_session.proofs.ToldLines.{and-first}
 
 -- ---- what the crates below say
@@ -121,14 +110,14 @@ led-drop now (c ∷ kept) zero older led e =
 led-drop now (c ∷ kept) (suc place) older led e = led-drop c kept place older led.2 e
 
 -- an effect that a command may have on a session
-abbrev IsDue : SessionState → Effect → Type 0
+abbrev IsDue : SessionState → Becomes → Type 0
 IsDue session Nothing = ⊤
 IsDue session (Acknowledged after) = IsSound after.tracker × (after.tracker.config ≡ present session)
 IsDue session (Stepped after) = (step : Step) × Accepts session.changer step after
 IsDue session (Restored after) = IsSound after.tracker
 IsDue session (Undone after count) = (1 ≤ count) × IsSound after.tracker × (slice_get session.kept (count - 1) ≡ Some after.tracker.config)
 
-due-stays : ChangeLaws → (session : SessionState) (effect : Effect) → IsSession session → IsDue session effect → IsSession (after_directive session effect)
+due-stays : ChangeLaws → (session : SessionState) (effect : Becomes) → IsSession session → IsDue session effect → IsSession (after_directive session effect)
 due-stays laws session Nothing is due = record { sound = is.sound; few = is.few; led = is.led }
 due-stays laws session (Acknowledged after) is due =
     let Leading : Configuration → Type 0 = λ c. LedTo c session.kept in
@@ -157,45 +146,14 @@ step-due : ChangeLaws → (session : SessionState) (step : Step) (made : Result 
 step-due laws session step (Ok after) e = (step, (laws.accepted session.changer after step).1 e)
 step-due laws session step (Err refused) e = tt
 
-changes-due : (session : SessionState) (reply : List Change → Reply) (read : Result (List Change) BadToken) → ((changes : List Change) → IsDue session (reply changes).effect) → IsDue session (with_changes reply read).effect
-changes-due session reply (Ok changes) h = h changes
-changes-due session reply (Err bad) h = tt
-
-no_input-due : (session : SessionState) (reply : Reply) (input : List ℕ) → IsDue session reply.effect → IsDue session (with_no_input reply input).effect
-no_input-due session reply [] h = h
-no_input-due session reply (b ∷ input) h = tt
-
-fault-due : (session : SessionState) (bad : Option (List ℕ)) (missing : Option Parameter) (reply : Reply) → IsDue session reply.effect →
-    IsDue session (unwrap_or (option_or (option_map (λ key. told (codes "bad argument: " ++ key)) bad) (option_map (λ parameter. told (codes "missing argument: " ++ key_of parameter)) missing)) reply).effect
-fault-due session (Some key) missing reply h = tt
-fault-due session None (Some parameter) reply h = tt
-fault-due session None None reply h = h
-
-arguments-due : (session : SessionState) (command : Command) (arguments : List ArgumentText) (reply : Reply) → IsDue session reply.effect → IsDue session (with_arguments command arguments reply).effect
-arguments-due session command arguments reply h = fault-due session (bad_argument (parameters_of command) arguments) (missing_argument (parameters_of command) arguments) reply h
-
-leave-due : ChangeLaws → (session : SessionState) (changes : List Change) → IsDue session (on_leave_joint session.changer changes).effect
-leave-due laws session [] = step-due laws session LeaveStep _ refl
-leave-due laws session (change ∷ changes) = tt
-
 restored-due : ChangeLaws → (session : SessionState) (saved : ConfStateLists) (found : Option Configuration) → restored saved ≡ found → IsDue session (after_restored session.changer found).effect
 restored-due laws session saved None e = tt
 restored-due laws session saved (Some c) e = laws.begun session.changer.tracker.floor session.changer.last_index c (((laws.described saved c).0 e).1)
-
-restore-due : ChangeLaws → (session : SessionState) (arguments : List ArgumentText) (read : Option ConfStateLists) → IsDue session (restore_with session.changer arguments read).effect
-restore-due laws session arguments None = tt
-restore-due laws session arguments (Some saved) = arguments-due session Restore arguments _ (restored-due laws session saved (restored saved) refl)
 
 ack-due : ChangeLaws → (session : SessionState) (id index : ℕ) (made : Result Progress AckFault) → IsSession session → ack_answer session.changer.tracker id index ≡ made → IsDue session (after_ack session.changer id made).effect
 ack-due laws session id index (Ok p) is e = (laws.acknowledged session.changer id index p is.sound e, refl)
 ack-due laws session id index (Err NotMember) is e = tt
 ack-due laws session id index (Err IndexTooLarge) is e = tt
-
-one_each-due : (session : SessionState) (parameter : Parameter) (arguments : List ArgumentText) (text : List ℕ) → IsDue session (with_one_each parameter arguments (told text)).effect
-one_each-due session parameter arguments text = by (is_one_each parameter arguments) where
-  by : (enough : Bool) → IsDue session (cond enough (told text) (told (codes "wrong number of values"))).effect
-  by true = tt
-  by false = tt
 
 -- ---- of undo
 taken-sound : ChangeLaws → (before : ChangerState) (steps : List Step) (after : ChangerState) → Takes before steps after → IsSound before.tracker → IsSound after.tracker
@@ -242,45 +200,31 @@ planned-due laws plans session count (Some older) is some e = voter-due laws pla
 undo-due : ChangeLaws → PlanLaws → (session : SessionState) (count : ℕ) → IsSession session → 1 ≤ count → IsDue session (undo_last session count).effect
 undo-due laws plans session count is some = planned-due laws plans session count (slice_get session.kept (count - 1)) is some refl
 
--- at least one change is undone
-some-number : (small : Bool) (n : ℕ) → nat_lt n 1 ≡ small → 1 ≤ unwrap_or (cond small None (Some n)) 1
-some-number true n e = omega arith
-some-number false n e = grind (arith, nat_tests)
+command-due : ChangeLaws → PlanLaws → (command : Command) (session : SessionState) (input : Input) (values : Values) → IsSession session → 1 ≤ values.steps → IsDue session (reply_of command session input values).effect
+command-due laws plans Simple session input values is some = step-due laws session (SimpleStep input.changes) _ refl
+command-due laws plans EnterJoint session input values is some = step-due laws session (EnterStep values.auto_leave input.changes) _ refl
+command-due laws plans LeaveJoint session input values is some = step-due laws session LeaveStep _ refl
+command-due laws plans ConfChange session input values is some = step-due laws session (step_taken values.transition input.changes) _ refl
+command-due laws plans ConfState session input values is some = tt
+command-due laws plans Restore session input values is some = restored-due laws session input.saved (restored input.saved) refl
+command-due laws plans Undo session input values is some = undo-due laws plans session values.steps is some
+command-due laws plans Ack session input values is some = ack-due laws session values.id values.index _ is refl
+command-due laws plans CommitIndex session input values is some = tt
+command-due laws plans Committed session input values is some = tt
+command-due laws plans Vote session input values is some = tt
+command-due laws plans Unknown session input values is some = tt
 
-some-read : (read : Option ℕ) → 1 ≤ unwrap_or (option_and_then (at_least 1) read) 1
-some-read None = omega arith
-some-read (Some n) = some-number (nat_lt n 1) n refl
+if_read-due : {V : Type 0} (session : SessionState) (reply : V → Reply) (read : Result V (List ℕ)) → ((v : V) → read ≡ Ok v → IsDue session (reply v).effect) → IsDue session (if_read reply read).effect
+if_read-due session reply (Ok v) h = h v refl
+if_read-due session reply (Err found) h = tt
 
-some-values : (values : List (List ℕ)) → 1 ≤ unwrap_or (number_from 1 values) 1
-some-values [] = omega arith
-some-values (first ∷ []) = some-read (number_in first)
-some-values (first ∷ second ∷ values) = omega arith
-
-some-argument : (argument : Option ArgumentText) → 1 ≤ unwrap_or (option_and_then (λ argument. number_from 1 argument.values) argument) 1
-some-argument None = omega arith
-some-argument (Some argument) = some-values argument.values
-
-command-due : ChangeLaws → PlanLaws → (command : Command) (session : SessionState) (input : List ℕ) (arguments : List ArgumentText) → IsSession session → IsDue session (reply_of command session input arguments).effect
-command-due laws plans Simple session input arguments is = changes-due session _ (changes_in input) (λ changes. step-due laws session (SimpleStep changes) _ refl)
-command-due laws plans EnterJoint session input arguments is =
-    changes-due session _ (changes_in input) (λ changes. arguments-due session EnterJoint arguments _ (step-due laws session (EnterStep (asks_auto_leave arguments) changes) _ refl))
-command-due laws plans LeaveJoint session input arguments is = changes-due session _ (changes_in input) (leave-due laws session)
-command-due laws plans ConfChange session input arguments is =
-    changes-due session _ (changes_in input) (λ changes. arguments-due session ConfChange arguments _ (step-due laws session (step_taken (asked_transition arguments) changes) _ refl))
-command-due laws plans ConfState session input arguments is = no_input-due session _ input (arguments-due session ConfState arguments _ tt)
-command-due laws plans Restore session input arguments is = restore-due laws session arguments (conf_state_in input)
-command-due laws plans Undo session input arguments is =
-    no_input-due session _ input (arguments-due session Undo arguments _ (undo-due laws plans session (steps_of arguments) is (some-argument (argument_of Steps arguments))))
-command-due laws plans Ack session input arguments is =
-    no_input-due session _ input (arguments-due session Ack arguments _ (ack-due laws session (number_given Id arguments) (number_given Index arguments) _ is refl))
-command-due laws plans CommitIndex session input arguments is = no_input-due session _ input (arguments-due session CommitIndex arguments _ tt)
-command-due laws plans Committed session input arguments is = no_input-due session _ input (arguments-due session Committed arguments _ (one_each-due session Indexes arguments _))
-command-due laws plans Vote session input arguments is = no_input-due session _ input (arguments-due session Vote arguments _ (one_each-due session Votes arguments _))
-command-due laws plans Unknown session input arguments is = changes-due session _ (changes_in input) (λ changes. tt)
+row-due : ChangeLaws → PlanLaws → (row : Row) (session : SessionState) (text : List ℕ) (arguments : List ArgumentText) → IsSession session → IsDue session (reply_by row session text arguments).effect
+row-due laws plans row session text arguments is =
+    if_read-due session _ (read_input row.input text) (λ input _. if_read-due session _ (read_arguments row.parameters arguments)
+    (λ values e. command-due laws plans row.command session input values is (steps-some row.parameters arguments values e)))
 
 pub answer-keeps : ChangeLaws → PlanLaws → (session : SessionState) (directive : DirectiveText) → IsSession session → IsSession (answer session directive).session
-answer-keeps laws plans session directive is =
-    due-stays laws session _ is (command-due laws plans (command_in directive.command) session directive.input directive.arguments is)
+answer-keeps laws plans session directive is = due-stays laws session _ is (row-due laws plans (row_of directive.command) session directive.input directive.arguments is)
 
 pub answers-keep : ((session : SessionState) (directive : DirectiveText) → IsSession session → IsSession (answer session directive).session)
     → (session : SessionState) (directives : List DirectiveText) → IsSession session → IsSession (after_answers session directives)

@@ -9,5 +9,4 @@ mod SameAnswer
 mod Kept
 mod EachOnce
 mod QuorumValues
-mod NamedQuorumRead
-mod QuorumParameters
+mod ReadValues

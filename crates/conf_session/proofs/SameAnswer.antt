@@ -1,6 +1,6 @@
 -- A directive whose input is the same but for white space at line ends is answered the same.
 use Rattle.std.proofs.Common.{◌≡◌, ℕ, Bool, true, false, List, [], ◌∷◌, map, refl, sym, ap, ◌∙◌, subst, arith}
-use Rattle.std.specs.Prelude.{Option, Some, None, flat_map}
+use Rattle.std.specs.Prelude.{Option, Some, None, Result, flat_map}
 use Rattle.std.specs.List.{list_all}
 use Rattle.dd_file.specs.DirectiveText.{DirectiveText}
 use Rattle.ascii_text.specs.WhiteSpace.{without_trailing_space, trimmed}
@@ -15,9 +15,11 @@ use Rattle.conf_change.specs.ConfStateLine.{line_in, conf_state_in}
 use Rattle.conf_change.proofs.Offered.{StandsForConfState-from_some}
 use Rattle.conf_session.specs.SessionState.{SessionState}
 use Rattle.conf_session.specs.Reply.{Reply}
-use Rattle.conf_session.specs.Commands.{command_in, with_changes, with_no_input, on_changes, restore_with, reply_of, reply_to, answered, answer}
-use Rattle.conf_session.specs.declared.commands.Command.{Command}
-use Rattle.conf_session.specs.declared.commands.Command.TheVariants.{Simple, EnterJoint, LeaveJoint, ConfChange, ConfState, Restore, Undo, Ack, CommitIndex, Committed, Vote, Unknown}
+use Rattle.conf_session.specs.Input.{Input, changes_read, no_change_read, conf_state_read, nothing_read, read_input}
+use Rattle.conf_session.specs.Values.{read_arguments}
+use Rattle.conf_session.specs.Commands.{row_of, if_read, reply_of, reply_by, reply_to, answered, answer}
+use Rattle.conf_session.specs.declared.input.InputKind.{InputKind}
+use Rattle.conf_session.specs.declared.input.InputKind.TheVariants.{Changes, NoChange, ConfStateLine, Nothing}
 use Rattle.conf_session.specs.Told.{is_line_byte}
 use Rattle.conf_session.proofs.ToldLines.{saved-bytes}
 use Rattle.conf_session.proofs.InputLines.{IsOneLine, has_one, first_line, ends_of, words-told, trimmed-told}
@@ -43,32 +45,26 @@ changes-same input other same = ap changes_in_words (words-told input ∙ ap (fl
 some-line : (b : ℕ) (bs : List ℕ) → [] ≡ ends_of (b ∷ bs) → ⊥
 some-line b bs none = let first = none ∙ ap (λ ps. map without_trailing_space (map line_of ps)) (pieces-first (b ∷ bs) (omega arith)) in cc
 
-no_input-same : (reply : Reply) (input other : List ℕ) → ends_of input ≡ ends_of other → with_no_input reply input ≡ with_no_input reply other
-no_input-same reply [] [] same = refl
-no_input-same reply [] (b ∷ other) same = absurd (some-line b other same)
-no_input-same reply (b ∷ input) [] same = absurd (some-line b input (sym same))
-no_input-same reply (b ∷ input) (c ∷ other) same = refl
+nothing-same : (input other : List ℕ) → ends_of input ≡ ends_of other → nothing_read input ≡ nothing_read other
+nothing-same [] [] same = refl
+nothing-same [] (b ∷ other) same = absurd (some-line b other same)
+nothing-same (b ∷ input) [] same = absurd (some-line b input (sym same))
+nothing-same (b ∷ input) (c ∷ other) same = refl
 
-command-same : (command : Command) (session : SessionState) (input other : List ℕ) (arguments : List ArgumentText) → ends_of input ≡ ends_of other → reply_of command session input arguments ≡ reply_of command session other arguments
-command-same Simple session input other arguments same = ap (with_changes (on_changes Simple session.changer arguments)) (changes-same input other same)
-command-same EnterJoint session input other arguments same = ap (with_changes (on_changes EnterJoint session.changer arguments)) (changes-same input other same)
-command-same LeaveJoint session input other arguments same = ap (with_changes (on_changes LeaveJoint session.changer arguments)) (changes-same input other same)
-command-same ConfChange session input other arguments same = ap (with_changes (on_changes ConfChange session.changer arguments)) (changes-same input other same)
-command-same ConfState session input other arguments same = no_input-same _ input other same
-command-same Restore session input other arguments same = ap (restore_with session.changer arguments) (conf_state-same input other same)
-command-same Undo session input other arguments same = no_input-same _ input other same
-command-same Ack session input other arguments same = no_input-same _ input other same
-command-same CommitIndex session input other arguments same = no_input-same _ input other same
-command-same Committed session input other arguments same = no_input-same _ input other same
-command-same Vote session input other arguments same = no_input-same _ input other same
-command-same Unknown session input other arguments same = ap (with_changes (on_changes Unknown session.changer arguments)) (changes-same input other same)
+input-same : (kind : InputKind) (input other : List ℕ) → ends_of input ≡ ends_of other → read_input kind input ≡ read_input kind other
+input-same Changes input other same = ap changes_read (changes-same input other same)
+input-same NoChange input other same = ap no_change_read (changes-same input other same)
+input-same ConfStateLine input other same = ap conf_state_read (conf_state-same input other same)
+input-same Nothing input other same = nothing-same input other same
 
 reply-same : (session : SessionState) (again directive : DirectiveText) → again.command ≡ directive.command → again.arguments ≡ directive.arguments → ends_of again.input ≡ ends_of directive.input →
     reply_to session again ≡ reply_to session directive
 reply-same session again directive command arguments input =
-    ap (λ name. reply_of (command_in name) session again.input again.arguments) command
-    ∙ ap (reply_of (command_in directive.command) session again.input) arguments
-    ∙ command-same (command_in directive.command) session again.input directive.input directive.arguments input
+    let row = row_of directive.command in
+    let reply : List ArgumentText → Result Input (List ℕ) → Reply = λ args read. if_read (λ i. if_read (λ values. reply_of row.command session i values) (read_arguments row.parameters args)) read in
+    ap (λ name. reply_by (row_of name) session again.input again.arguments) command
+    ∙ ap (λ args. reply args (read_input row.input again.input)) arguments
+    ∙ ap (reply directive.arguments) (input-same row.input again.input directive.input input)
 
 pub same-answer : (n : ℕ) (found : List ℕ) (directive again : DirectiveText) (session : SessionState) → IsSameDirective n found directive again → answer session again ≡ answer session directive
 same-answer n found directive again session same = ap (answered session) (reply-same session again directive same.command same.arguments same.input)

@@ -9,7 +9,7 @@ use Rattle.quorum_sets.specs.Committed.{Acks, greatest_index}
 use Rattle.quorum_sets.specs.declared.voting.VoteResult.{VoteResult}
 use Rattle.quorum_sets.specs.declared.voting.VoteResult.TheVariants.{VotePending, VoteLost, VoteWon}
 use Rattle.ascii_text.specs.Lines.{newline, text_of}
-use Rattle.conf_session.specs.QuorumArguments.{index_text, vote_text}
+use Rattle.conf_session.specs.Quorum.{index_text, vote_text}
 use Rattle.conf_session.specs.ReplyTexts.{line}
 use Rattle.conf_session.specs.Told.{is_line_byte, is_told_line, IsTold}
 use Rattle.conf_session.proofs.ToldLines.{and-both, all-append, is_mark, IsBytes, IsLine, IsTail, ◌▸◌, ◌▹◌, IsLine-from_mark, IsLine-told, IsTail-from_bytes, IsTail-number, decimal-high, decimal-bytes, high-mark, line-told, told-after}

@@ -1,7 +1,6 @@
 -- What each directive is answered is told lines.
-use Rattle.std.proofs.Common.{◌≡◌, ℕ, Bool, true, false, cond, not, List, [], ◌∷◌, ◌++◌, filter, refl, sym, ap, ◌∙◌, arith}
-use Rattle.std.specs.Prelude.{◌==◌, Option, Some, None, option_map, unwrap_or, Result, Ok, Err, codes}
-use Rattle.std.specs.Option.{option_or}
+use Rattle.std.proofs.Common.{◌≡◌, ℕ, Bool, true, false, cond, not, List, [], ◌∷◌, ◌++◌, filter, refl, sym, ap, ◌∙◌, subst, arith}
+use Rattle.std.specs.Prelude.{◌==◌, Option, Some, None, Result, Ok, Err, codes}
 use Rattle.std.specs.List.{list_all, slice_split, onto_first}
 use Rattle.std.proofs.lemmas.Bool.{eqb-true}
 use Rattle.std.proofs.lemmas.Bool.Decides.{nat_tests}
@@ -34,12 +33,17 @@ use Rattle.conf_session.specs.SessionState.{SessionState}
 use Rattle.conf_session.specs.Reply.{Reply, told}
 use Rattle.conf_session.specs.Undo.{undo_plan_of, undo_fault_text, undone_changer}
 use Rattle.conf_session.specs.declared.undo_fault.UndoFault.{UndoFault}
-use Rattle.conf_session.specs.QuorumArguments.{number_given, voters_given, acks_given, votes_given, is_one_each, committed_text, vote_text}
-use Rattle.conf_session.specs.Commands.{command_in, parameters_of, with_changes, with_no_input, with_arguments, after_step, asks_auto_leave, asked_transition, on_leave_joint, after_restored, restore_with, steps_of, after_planned, after_ack, with_one_each, reply_of, reply_to}
+use Rattle.conf_session.specs.Quorum.{voters_named, ids_named, map_given, is_one_each, committed_text, vote_text, with_one_each}
+use Rattle.conf_session.specs.Input.{Input, no_input_line, changes_read, no_change_read, conf_state_read, read_input}
+use Rattle.conf_session.specs.Values.{Values, values_in, values_read, read_arguments}
+use Rattle.conf_session.specs.ReplyTexts.{line}
+use Rattle.conf_session.specs.Commands.{row_of, after_step, after_restored, after_planned, after_ack, committed_by, if_read, reply_of, reply_to}
 use Rattle.conf_session.specs.Told.{is_line_byte, is_told_line, IsTold}
 use Rattle.dd_file.specs.Words.{has_keys}
 use Rattle.conf_session.specs.declared.parameter.Parameter.{Parameter}
 use Rattle.conf_session.specs.declared.parameter.Parameter.TheVariants.{AutoLeave, Transition, Steps, Id, Index, Incoming, Outgoing, Indexes, Votes}
+use Rattle.conf_session.specs.declared.input.InputKind.{InputKind}
+use Rattle.conf_session.specs.declared.input.InputKind.TheVariants.{Changes, NoChange, ConfStateLine, Nothing}
 use Rattle.conf_session.specs.declared.commands.Command.{Command}
 use Rattle.conf_session.specs.declared.commands.Command.TheVariants.{Simple, EnterJoint, LeaveJoint, ConfChange, ConfState, Restore, Undo, Ack, CommitIndex, Committed, Vote, Unknown}
 use Rattle.conf_session.proofs.ToldCharts.{chart-told, index-told, vote-told}
@@ -50,6 +54,9 @@ Tells reply = IsTold reply.found
 
 tells : (text : List ℕ) → is_told_line text ≡ true → Tells (told text)
 tells text h = line-told text h
+
+no_input-told : IsTold no_input_line
+no_input-told = line-told (codes "this command takes no input") refl
 
 -- ---- the words of an input
 unequal : (b : Bool) → (b ≡ true → ⊥) → not b ≡ true
@@ -107,9 +114,22 @@ bad-told first_bads text bad e =
     let is : IsFirstBad (words text) bad = first_bads text bad e in
     token-told bad (bytes-black (token_of bad) (among is.before (token_of bad) is.after (ap (list_all has_no_white) (sym is.place) ∙ words-whole text)))
 
-changes-tell : FirstBads → (reply : List Change → Reply) (text : List ℕ) (read : Result (List Change) BadToken) → changes_in text ≡ read → ((changes : List Change) → Tells (reply changes)) → Tells (with_changes reply read)
-changes-tell first_bads reply text (Ok changes) e h = h changes
-changes-tell first_bads reply text (Err bad) e h = tells (bad_token_text bad) (bad-told first_bads text bad e)
+input-told : FirstBads → (kind : InputKind) (text found : List ℕ) → read_input kind text ≡ Err found → IsTold found
+input-told first_bads Changes text found e = at (changes_in text) refl e where
+  at : (read : Result (List Change) BadToken) → changes_in text ≡ read → changes_read read ≡ Err found → IsTold found
+  at (Ok changes) is e = cc
+  at (Err bad) is e = let same : line (bad_token_text bad) ≡ found = cc in subst IsTold same (line-told (bad_token_text bad) (bad-told first_bads text bad is))
+input-told first_bads NoChange text found e = at (changes_in text) refl e where
+  at : (read : Result (List Change) BadToken) → changes_in text ≡ read → no_change_read read ≡ Err found → IsTold found
+  at (Ok []) is e = cc
+  at (Ok (change ∷ changes)) is e = let same : no_input_line ≡ found = cc in subst IsTold same no_input-told
+  at (Err bad) is e = let same : line (bad_token_text bad) ≡ found = cc in subst IsTold same (line-told (bad_token_text bad) (bad-told first_bads text bad is))
+input-told first_bads ConfStateLine text found e = at (conf_state_in text) e where
+  at : (read : Option ConfStateLists) → conf_state_read read ≡ Err found → IsTold found
+  at None e = let same : line (codes "bad conf state") ≡ found = cc in subst IsTold same (line-told (codes "bad conf state") refl)
+  at (Some saved) e = cc
+input-told first_bads Nothing [] found e = cc
+input-told first_bads Nothing (b ∷ text) found e = let same : no_input_line ≡ found = cc in subst IsTold same no_input-told
 
 -- ---- the arguments
 apart : (b n : ℕ) → is_key_byte n ≡ false → is_key_byte b ≡ true → not (b == n) ≡ true
@@ -145,39 +165,28 @@ parameter-bytes Outgoing = refl
 parameter-bytes Indexes = refl
 parameter-bytes Votes = refl
 
-fault-tells : (bad : Option (List ℕ)) (missing : Option Parameter) (reply : Reply) → ((key : List ℕ) → bad ≡ Some key → is_key key ≡ true) → Tells reply →
-    Tells (unwrap_or (option_or (option_map (λ key. told (codes "bad argument: " ++ key)) bad) (option_map (λ parameter. told (codes "missing argument: " ++ key_of parameter)) missing)) reply)
-fault-tells (Some key) missing reply h t =
-    tells (codes "bad argument: " ++ key) (told-append (codes "bad argument: ") key refl refl (bytes-key key (and-second _ _ (h key refl))))
-fault-tells None (Some parameter) reply h t =
-    tells (codes "missing argument: " ++ key_of parameter) (told-append (codes "missing argument: ") (key_of parameter) refl refl (parameter-bytes parameter))
-fault-tells None None reply h t = t
+values-told : (bad : Option (List ℕ)) (missing : Option Parameter) (values : Values) (found : List ℕ) → ((key : List ℕ) → bad ≡ Some key → is_key key ≡ true) → values_read bad missing values ≡ Err found → IsTold found
+values-told (Some key) missing values found h e =
+    let same : line (codes "bad argument: " ++ key) ≡ found = cc in
+    subst IsTold same (line-told (codes "bad argument: " ++ key) (told-append (codes "bad argument: ") key refl refl (bytes-key key (and-second _ _ (h key refl)))))
+values-told None (Some parameter) values found h e =
+    let same : line (codes "missing argument: " ++ key_of parameter) ≡ found = cc in
+    subst IsTold same (line-told (codes "missing argument: " ++ key_of parameter) (told-append (codes "missing argument: ") (key_of parameter) refl refl (parameter-bytes parameter)))
+values-told None None values found h e = cc
 
-arguments-tell : (command : Command) (arguments : List ArgumentText) (reply : Reply) → are_keys arguments ≡ true → Tells reply → Tells (with_arguments command arguments reply)
-arguments-tell command arguments reply h t =
-    fault-tells (bad_argument (parameters_of command) arguments) (missing_argument (parameters_of command) arguments) reply
-    (λ key e. bad-key (parameters_of command) [] arguments key h e) t
+arguments-told : (parameters : Option (List Parameter)) (arguments : List ArgumentText) (found : List ℕ) → are_keys arguments ≡ true → read_arguments parameters arguments ≡ Err found → IsTold found
+arguments-told None arguments found keys e = cc
+arguments-told (Some parameters) arguments found keys e =
+    values-told (bad_argument parameters arguments) (missing_argument parameters arguments) (values_in arguments) found (λ key bad. bad-key parameters [] arguments key keys bad) e
 
 -- ---- the commands
 step-tells : (made : Result ChangerState Refused) → Tells (after_step made)
 step-tells (Ok after) = tracker-told after.tracker
 step-tells (Err refused) = tells (refused_text refused) (refused-told refused)
 
-leave-tells : (changer : ChangerState) (changes : List Change) → Tells (on_leave_joint changer changes)
-leave-tells changer [] = step-tells (changer_after changer LeaveStep)
-leave-tells changer (change ∷ changes) = tells (codes "this command takes no input") refl
-
-no_input-tells : (reply : Reply) (input : List ℕ) → Tells reply → Tells (with_no_input reply input)
-no_input-tells reply [] h = h
-no_input-tells reply (b ∷ input) h = tells (codes "this command takes no input") refl
-
 restored-tells : (changer : ChangerState) (c : Option Configuration) → Tells (after_restored changer c)
 restored-tells changer None = tells (codes "not a configuration") refl
 restored-tells changer (Some c) = tracker-told (begun_with changer.tracker.floor changer.last_index c).tracker
-
-restore-tells : (changer : ChangerState) (arguments : List ArgumentText) (read : Option ConfStateLists) → are_keys arguments ≡ true → Tells (restore_with changer arguments read)
-restore-tells changer arguments None h = tells (codes "bad conf state") refl
-restore-tells changer arguments (Some saved) h = arguments-tell Restore arguments _ h (restored-tells changer (restored saved))
 
 undo-tells : (session : SessionState) (count : ℕ) (plan : Result (List Step) UndoFault) → Tells (after_planned session count plan)
 undo-tells session count (Ok steps) = told-after _ _ (plan-told steps) (tracker-told (undone_changer session steps).tracker)
@@ -188,40 +197,39 @@ ack-tells changer id (Ok p) = tells (progress_text id p) (progress-told id p)
 ack-tells changer id (Err NotMember) = tells (codes "not a member") refl
 ack-tells changer id (Err IndexTooLarge) = tells (codes "index too large") refl
 
-one_each-tells : (parameter : Parameter) (arguments : List ArgumentText) (reply : Reply) → Tells reply → Tells (with_one_each parameter arguments reply)
-one_each-tells parameter arguments reply t = by (is_one_each parameter arguments) where
-  by : (enough : Bool) → Tells (cond enough reply (told (codes "wrong number of values")))
+one_each-tells : {V : Type 0} (ids : List ℕ) (values : List (Option V)) (text : List ℕ) → Tells (told text) → Tells (told (with_one_each ids values text))
+one_each-tells ids values text t = by (is_one_each ids values) where
+  by : (enough : Bool) → Tells (told (cond enough text (codes "wrong number of values")))
   by true = t
   by false = tells (codes "wrong number of values") refl
 
-command-tells : FirstBads → (command : Command) (session : SessionState) (input : List ℕ) (arguments : List ArgumentText) → are_keys arguments ≡ true → Tells (reply_of command session input arguments)
-command-tells first_bads Simple session input arguments keys = changes-tell first_bads _ input _ refl (λ changes. step-tells (changer_after session.changer (SimpleStep changes)))
-command-tells first_bads EnterJoint session input arguments keys =
-    changes-tell first_bads _ input _ refl (λ changes. arguments-tell EnterJoint arguments _ keys (step-tells (changer_after session.changer (EnterStep (asks_auto_leave arguments) changes))))
-command-tells first_bads LeaveJoint session input arguments keys = changes-tell first_bads _ input _ refl (leave-tells session.changer)
-command-tells first_bads ConfChange session input arguments keys =
-    changes-tell first_bads _ input _ refl (λ changes. arguments-tell ConfChange arguments _ keys (step-tells (changer_after session.changer (step_taken (asked_transition arguments) changes))))
-command-tells first_bads ConfState session input arguments keys =
-    let saved = lists_of session.changer.tracker.config in
-    no_input-tells _ input (arguments-tell ConfState arguments _ keys (tells (conf_state_text saved) (conf_state-told saved)))
-command-tells first_bads Restore session input arguments keys = restore-tells session.changer arguments (conf_state_in input) keys
-command-tells first_bads Undo session input arguments keys =
-    let count = steps_of arguments in
-    no_input-tells _ input (arguments-tell Undo arguments _ keys (undo-tells session count (undo_plan_of session count)))
-command-tells first_bads Ack session input arguments keys =
-    let id = number_given Id arguments in
-    no_input-tells _ input (arguments-tell Ack arguments _ keys (ack-tells session.changer id (ack_answer session.changer.tracker id (number_given Index arguments))))
-command-tells first_bads CommitIndex session input arguments keys =
-    no_input-tells _ input (arguments-tell CommitIndex arguments _ keys (tells _ (index-told (joint_committed_index (voters_of session.changer.tracker.config) (matches session.changer.tracker)))))
-command-tells first_bads Committed session input arguments keys =
-    let voters = voters_given arguments in
-    let acks = acks_given arguments in
+command-tells : (command : Command) (session : SessionState) (input : Input) (values : Values) → Tells (reply_of command session input values)
+command-tells Simple session input values = step-tells (changer_after session.changer (SimpleStep input.changes))
+command-tells EnterJoint session input values = step-tells (changer_after session.changer (EnterStep values.auto_leave input.changes))
+command-tells LeaveJoint session input values = step-tells (changer_after session.changer LeaveStep)
+command-tells ConfChange session input values = step-tells (changer_after session.changer (step_taken values.transition input.changes))
+command-tells ConfState session input values = let saved = lists_of session.changer.tracker.config in tells (conf_state_text saved) (conf_state-told saved)
+command-tells Restore session input values = restored-tells session.changer (restored input.saved)
+command-tells Undo session input values = undo-tells session values.steps (undo_plan_of session values.steps)
+command-tells Ack session input values = ack-tells session.changer values.id (ack_answer session.changer.tracker values.id values.index)
+command-tells CommitIndex session input values = tells _ (index-told (committed_by session.changer.tracker))
+command-tells Committed session input values =
+    let voters = voters_named values in
+    let acks = map_given (ids_named values) values.indexes in
     let chart : Tells (told (committed_text voters acks)) = chart-told (ascending (union voters.incoming voters.outgoing)) acks (joint_committed_index voters acks) in
-    no_input-tells _ input (arguments-tell Committed arguments _ keys (one_each-tells Indexes arguments _ chart))
-command-tells first_bads Vote session input arguments keys =
-    let result = joint_vote_result (voters_given arguments) (votes_given arguments) in
-    no_input-tells _ input (arguments-tell Vote arguments _ keys (one_each-tells Votes arguments _ (tells (vote_text result) (vote-told result))))
-command-tells first_bads Unknown session input arguments keys = changes-tell first_bads _ input _ refl (λ changes. tells (codes "unknown command") refl)
+    one_each-tells (ids_named values) values.indexes (committed_text voters acks) chart
+command-tells Vote session input values =
+    let result = joint_vote_result (voters_named values) (map_given (ids_named values) values.votes) in
+    one_each-tells (ids_named values) values.votes (vote_text result) (tells (vote_text result) (vote-told result))
+command-tells Unknown session input values = tells (codes "unknown command") refl
+
+if_read-tells : {V : Type 0} (reply : V → Reply) (read : Result V (List ℕ)) → ((found : List ℕ) → read ≡ Err found → IsTold found) → ((v : V) → Tells (reply v)) → Tells (if_read reply read)
+if_read-tells reply (Ok v) bad good = good v
+if_read-tells reply (Err found) bad good = bad found refl
 
 pub reply-told : FirstBads → (session : SessionState) (directive : DirectiveText) → has_keys directive.arguments ≡ true → IsTold (reply_to session directive).found
-reply-told first_bads session directive keys = command-tells first_bads (command_in directive.command) session directive.input directive.arguments keys
+reply-told first_bads session directive keys =
+    let row = row_of directive.command in
+    if_read-tells _ (read_input row.input directive.input) (input-told first_bads row.input directive.input)
+    (λ input. if_read-tells _ (read_arguments row.parameters directive.arguments) (λ found. arguments-told row.parameters directive.arguments found keys)
+    (λ values. command-tells row.command session input values))

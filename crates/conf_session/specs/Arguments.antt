@@ -1,14 +1,17 @@
 -- The arguments of a directive, held against those that its command has.
-use Rattle.std.specs.Prelude.{ℕ, Bool, not, ◌&&◌, List, [], ◌∷◌, ◌++◌, Option, Some, None, if◌then◌else◌, bytes_eq}
+use Rattle.std.specs.Prelude.{ℕ, Bool, false, not, ◌&&◌, List, [], ◌∷◌, ◌++◌, Option, Some, None, option_map, unwrap_or, if◌then◌else◌, bytes_eq}
 use Rattle.std.specs.List.{list_any, find}
 use Rattle.dd_file.specs.Words.{ArgumentText}
 use Rattle.conf_session.specs.Parameter.{key_of, is_required, allows}
 use Rattle.conf_session.specs.declared.parameter.Parameter.{Parameter}
 
+-- the one of these that has the argument's key
+abbrev pub parameter_of : List Parameter → ArgumentText → Option Parameter
+parameter_of parameters argument = find (λ parameter. bytes_eq argument.key (key_of parameter)) parameters
+
 -- the argument is one of these, with values that it may have
 abbrev pub is_allowed : List Parameter → ArgumentText → Bool
-is_allowed parameters argument =
-    list_any (λ parameter. bytes_eq argument.key (key_of parameter) && allows parameter argument.values) parameters
+is_allowed parameters argument = unwrap_or (option_map (λ parameter. allows parameter argument.values) (parameter_of parameters argument)) false
 
 -- one of the arguments has the key
 abbrev pub has_key : List ArgumentText → List ℕ → Bool

@@ -3,9 +3,9 @@ pub mod History
 pub mod SessionState
 pub mod Parameter
 pub mod Arguments
-pub mod QuorumArguments
-pub mod NamedQuorum
-pub mod Given
+pub mod Values
+pub mod Input
+pub mod Quorum
 pub mod Reply
 pub mod Undo
 pub mod Commands

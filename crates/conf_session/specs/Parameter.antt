@@ -1,25 +1,11 @@
--- The arguments that commands have: how each is called, and which values it may have.
-use Rattle.std.specs.Prelude.{ℕ, Bool, true, false, ◌||◌, List, [], ◌∷◌, Option, Some, None, is_some, option_and_then, nat_lt, if◌then◌else◌, codes, bytes_eq}
+-- The arguments that commands have: how each is called, and what its values are read as.
+use Rattle.std.specs.Prelude.{ℕ, Bool, true, false, ◌||◌, List, [], ◌∷◌, Option, Some, None, is_some, option_map, option_and_then, nat_lt, if◌then◌else◌, codes, bytes_eq}
 use Rattle.std.specs.List.{list_all}
 use Rattle.ascii_text.specs.Number.{number_in}
+use Rattle.conf_change.specs.declared.transition.Transition.{Transition as HowTaken}
+use Rattle.conf_change.specs.declared.transition.Transition.TheVariants.{Auto, Implicit, Explicit}
 use Rattle.conf_session.specs.declared.parameter.Parameter.{Parameter}
 use Rattle.conf_session.specs.declared.parameter.Parameter.TheVariants.{AutoLeave, Transition, Steps, Id, Index, Incoming, Outgoing, Indexes, Votes}
-
--- this value and no other
-abbrev pub has_only : List ℕ → List (List ℕ) → Bool
-has_only value [] = false
-has_only value (first ∷ []) = bytes_eq first value
-has_only value (first ∷ second ∷ values) = false
-
--- the number, where it is at least this one
-abbrev pub at_least : ℕ → ℕ → Option ℕ
-at_least least number = if nat_lt number least then None else Some number
-
--- the number that is the only value, where it is at least this one
-abbrev pub number_from : ℕ → List (List ℕ) → Option ℕ
-number_from least [] = None
-number_from least (first ∷ []) = option_and_then (at_least least) (number_in first)
-number_from least (first ∷ second ∷ values) = None
 
 -- the key of its argument
 abbrev pub key_of : Parameter → List ℕ
@@ -35,44 +21,69 @@ key_of Votes = codes "votes"
 
 -- its argument may not be left out
 abbrev pub is_required : Parameter → Bool
-is_required AutoLeave = false
-is_required Transition = false
-is_required Steps = false
 is_required Id = true
 is_required Index = true
-is_required Incoming = false
-is_required Outgoing = false
-is_required Indexes = false
-is_required Votes = false
+is_required parameter = false
 
--- the value is a number, at least this one
-abbrev pub is_number_from : ℕ → List ℕ → Bool
-is_number_from least value = is_some (option_and_then (at_least least) (number_in value))
+-- ---- an argument of one value
+-- this value and no other
+abbrev pub has_only : List ℕ → List (List ℕ) → Bool
+has_only value [] = false
+has_only value (first ∷ []) = bytes_eq first value
+has_only value (first ∷ second ∷ values) = false
 
--- the value says that nothing is known
+-- the flag that is the only value
+abbrev pub flag_in : List (List ℕ) → Option Bool
+flag_in values = if has_only (codes "true") values then Some true else (if has_only (codes "false") values then Some false else None)
+
+-- the transition that is the only value
+abbrev pub transition_in : List (List ℕ) → Option HowTaken
+transition_in values =
+    if has_only (codes "auto") values then Some Auto
+    else (if has_only (codes "implicit") values then Some Implicit
+    else (if has_only (codes "explicit") values then Some Explicit else None))
+
+-- the number, where it is at least this one
+abbrev pub at_least : ℕ → ℕ → Option ℕ
+at_least least number = if nat_lt number least then None else Some number
+
+-- the number that is the only value, where it is at least this one
+abbrev pub number_from : ℕ → List (List ℕ) → Option ℕ
+number_from least [] = None
+number_from least (first ∷ []) = option_and_then (at_least least) (number_in first)
+number_from least (first ∷ second ∷ values) = None
+
+-- ---- a value of a list
+-- the id
+abbrev pub id_in : List ℕ → Option ℕ
+id_in value = option_and_then (at_least 1) (number_in value)
+
+-- the value of what is not known
 abbrev pub is_unknown : List ℕ → Bool
 is_unknown value = bytes_eq value (codes "_")
 
--- the value may stand in the list of its argument; the others have no list
-abbrev pub may_stand_in : Parameter → List ℕ → Bool
-may_stand_in AutoLeave value = false
-may_stand_in Transition value = false
-may_stand_in Steps value = false
-may_stand_in Id value = false
-may_stand_in Index value = false
-may_stand_in Incoming value = is_number_from 1 value
-may_stand_in Outgoing value = is_number_from 1 value
-may_stand_in Indexes value = is_unknown value || is_number_from 1 value
-may_stand_in Votes value = bytes_eq value (codes "y") || bytes_eq value (codes "n") || is_unknown value
+-- the acknowledged index, from 1, if it is known
+abbrev pub index_in : List ℕ → Option (Option ℕ)
+index_in value = if is_unknown value then Some None else option_map (λ index. Some index) (id_in value)
+
+-- the vote, if it is known
+abbrev pub vote_in : List ℕ → Option (Option Bool)
+vote_in value =
+    if bytes_eq value (codes "y") then Some (Some true)
+    else (if bytes_eq value (codes "n") then Some (Some false) else (if is_unknown value then Some None else None))
+
+-- each value can be read so
+abbrev pub all_read : {V : Type 0} → (List ℕ → Option V) → List (List ℕ) → Bool
+all_read read values = list_all (λ value. is_some (read value)) values
 
 -- its argument may have these values
 abbrev pub allows : Parameter → List (List ℕ) → Bool
-allows AutoLeave values = has_only (codes "true") values || has_only (codes "false") values
-allows Transition values = has_only (codes "auto") values || has_only (codes "implicit") values || has_only (codes "explicit") values
+allows AutoLeave values = is_some (flag_in values)
+allows Transition values = is_some (transition_in values)
 allows Steps values = is_some (number_from 1 values)
 allows Id values = is_some (number_from 1 values)
 allows Index values = is_some (number_from 0 values)
-allows Incoming values = list_all (may_stand_in Incoming) values
-allows Outgoing values = has_only (codes "zero") values || list_all (may_stand_in Outgoing) values
-allows Indexes values = list_all (may_stand_in Indexes) values
-allows Votes values = list_all (may_stand_in Votes) values
+allows Incoming values = all_read id_in values
+allows Outgoing values = has_only (codes "zero") values || all_read id_in values
+allows Indexes values = all_read index_in values
+allows Votes values = all_read vote_in values

@@ -8,8 +8,6 @@ use Rattle.conf_change.specs.ConfigurationCode.{configuration_code}
 use Rattle.conf_change.specs.Outcome.{outcome}
 use Rattle.conf_change.specs.declared.floor.Floor.{Floor}
 use Rattle.conf_change.specs.declared.step.Step.{Step}
-use Rattle.conf_session.specs.declared.effect.Effect.{Effect}
-use Rattle.conf_session.specs.declared.effect.Effect.TheVariants.{Nothing, Acknowledged, Stepped, Restored, Undone}
 
 -- the changer, how many earlier configurations may be kept, and those that are, the newest first
 pub record SessionState : Type 0 where
@@ -31,8 +29,17 @@ abbrev pub present : SessionState → Configuration
 present session = session.changer.tracker.config
 
 -- ---- what a command makes of it
+-- it stays as it is; or it has this changer, after an acknowledgement, after an accepted change, restored, or with so many
+-- changes undone
+pub data Becomes : Type 0 where
+  Nothing : Becomes
+  Acknowledged : ChangerState → Becomes
+  Stepped : ChangerState → Becomes
+  Restored : ChangerState → Becomes
+  Undone : ChangerState → ℕ → Becomes
+
 -- the changer afterwards
-abbrev pub changer_left : SessionState → Effect → ChangerState
+abbrev pub changer_left : SessionState → Becomes → ChangerState
 changer_left session Nothing = session.changer
 changer_left session (Acknowledged after) = after
 changer_left session (Stepped after) = after
@@ -41,7 +48,7 @@ changer_left session (Undone after count) = after
 
 -- The configurations that are kept afterwards: that of before an accepted change is the newest, and the oldest goes where
 -- there would be too many.
-abbrev pub kept_after : SessionState → Effect → List Configuration
+abbrev pub kept_after : SessionState → Becomes → List Configuration
 kept_after session Nothing = session.kept
 kept_after session (Acknowledged after) = session.kept
 kept_after session (Stepped after) = take session.history (present session ∷ session.kept)
@@ -52,8 +59,8 @@ kept_after session (Undone after count) = drop count session.kept
 abbrev pub index_after : ℕ → ℕ
 index_after index = min (index + 1) (2 ^ 64 - 1)
 
--- the session after a directive with this effect: the last index rises
-abbrev pub after_directive : SessionState → Effect → SessionState
+-- the session after a directive that makes this of it: the last index rises
+abbrev pub after_directive : SessionState → Becomes → SessionState
 after_directive session effect =
     let left = changer_left session effect in
     record { changer = with_last_index left (index_after left.last_index); history = session.history; kept = kept_after session effect }

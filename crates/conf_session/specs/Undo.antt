@@ -6,10 +6,9 @@ use Rattle.conf_change.specs.declared.step.Step.{Step}
 use Rattle.conf_plan.specs.Planned.{planned}
 use Rattle.conf_plan.specs.PlanText.{plan_text}
 use Rattle.conf_plan.specs.Run.{IsRun, after_steps}
-use Rattle.conf_session.specs.SessionState.{SessionState, present}
+use Rattle.conf_session.specs.SessionState.{SessionState, present, Undone}
 use Rattle.conf_session.specs.ReplyTexts.{tracker_text}
 use Rattle.conf_session.specs.Reply.{Reply}
-use Rattle.conf_session.specs.declared.effect.Effect.TheVariants.{Undone}
 use Rattle.conf_session.specs.declared.undo_fault.UndoFault.{UndoFault}
 use Rattle.conf_session.specs.declared.undo_fault.UndoFault.TheVariants.{NotKept, NoVoterTarget, NoMemory}
 

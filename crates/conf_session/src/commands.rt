@@ -1,32 +1,27 @@
-//! The commands of a script: how each is called, which arguments it has, and where it is carried out. A command reads
-//! its input first and then its arguments, and leaves the session as it is: what it makes of it is part of the reply.
-ghost use Rattle.std.specs.Prelude.{◌≡◌, IfOk};
+//! The commands of a script. Each is a row: its name, the input that it takes, and its arguments. A directive's input is
+//! read first, then its arguments, and then the command is run: it leaves the session as it is, and what it makes of it is
+//! part of the reply.
+ghost use Rattle.std.specs.Prelude.{◌≡◌, ◌≤◌, option_map, IfOk};
+ghost use Rattle.conf_session.specs.Reply.{reply_in};
 ghost use Rattle.conf_session.specs.Told.{CanStand};
 ghost use Rattle.conf_session.specs.Commands as says;
 
 mod ack;
-mod change;
-mod commit_index;
 mod committed;
-mod conf_state;
-mod enter_joint;
-mod leave_joint;
-mod reading;
 mod restore;
-mod simple;
-mod telling;
+mod step;
 mod undo;
-mod unknown;
 mod vote;
 
-use self::telling::tell_token;
+use crate::input::{Input, InputKind, read_input};
 use crate::laws::found_text_stands;
 use crate::parameter::Parameter;
 use crate::reply::Reply;
-use crate::scratch::Scratch;
+use crate::reply_texts::{conf_state_line, line_of};
 use crate::session::Session;
 use crate::session_ids::SessionIds;
-use conf_change::{Changer, read_changes_into};
+use crate::values::{Values, read_arguments};
+use conf_change::{Changer, StepKind, taken};
 use dd_file::item::{Argument, Directive};
 use quorum_sets::NoMemory;
 use std::alloc::Global;
@@ -48,126 +43,134 @@ pub(crate) enum Command {
     Unknown,
 }
 
-/// The command of a name.
-fn command_in(name: &[u8]) -> Command
-    ensures { result ≡ says.command_in name.now }
+// A command, the input that it takes, and the arguments that it has, required ones in the order in which missing ones are
+// reported. Without parameters its arguments are not looked at.
+#[derive(Drop)]
+struct Row {
+    command: Command,
+    input: InputKind,
+    parameters: Option<&'static [Parameter]>,
+}
+
+impl Row {
+    ghost use Rattle.std.specs.Prelude.{◌≡◌};
+
+    fn new(command: Command, input: InputKind, parameters: Option<&'static [Parameter]>) -> Row
+        ensures command { result.command ≡ command }
+        ensures input { result.input ≡ input }
+        ensures parameters { result.parameters ≡ parameters.entry }
+    {
+        Row {
+            command,
+            input,
+            parameters,
+        }
+    }
+}
+
+// The row of a name.
+fn row_of(name: &[u8]) -> Row
+    ensures command { result.command ≡ (says.row_of name.now).command }
+    ensures input { result.input ≡ (says.row_of name.now).input }
+    ensures parameters { option_map (λ p. p.now) result.parameters ≡ (says.row_of name.now).parameters }
 {
     if name == b"simple".as_slice() {
-        Command::Simple
+        Row::new(Command::Simple, InputKind::Changes, None)
     } else if name == b"enter-joint".as_slice() {
-        Command::EnterJoint
+        Row::new(Command::EnterJoint, InputKind::Changes, Some(&[Parameter::AutoLeave]))
     } else if name == b"leave-joint".as_slice() {
-        Command::LeaveJoint
+        Row::new(Command::LeaveJoint, InputKind::NoChange, None)
     } else if name == b"conf-change".as_slice() {
-        Command::ConfChange
+        Row::new(Command::ConfChange, InputKind::Changes, Some(&[Parameter::Transition]))
     } else if name == b"conf-state".as_slice() {
-        Command::ConfState
+        Row::new(Command::ConfState, InputKind::Nothing, Some(&[]))
     } else if name == b"restore".as_slice() {
-        Command::Restore
+        Row::new(Command::Restore, InputKind::ConfStateLine, Some(&[]))
     } else if name == b"undo".as_slice() {
-        Command::Undo
+        Row::new(Command::Undo, InputKind::Nothing, Some(&[Parameter::Steps]))
     } else if name == b"ack".as_slice() {
-        Command::Ack
+        Row::new(Command::Ack, InputKind::Nothing, Some(&[Parameter::Id, Parameter::Index]))
     } else if name == b"commit-index".as_slice() {
-        Command::CommitIndex
+        Row::new(Command::CommitIndex, InputKind::Nothing, Some(&[]))
     } else if name == b"committed".as_slice() {
-        Command::Committed
+        Row::new(Command::Committed, InputKind::Nothing, Some(&[Parameter::Incoming, Parameter::Outgoing, Parameter::Indexes]))
     } else if name == b"vote".as_slice() {
-        Command::Vote
+        Row::new(Command::Vote, InputKind::Nothing, Some(&[Parameter::Incoming, Parameter::Outgoing, Parameter::Votes]))
     } else {
-        Command::Unknown
+        Row::new(Command::Unknown, InputKind::Changes, None)
     }
 }
 
-/// The arguments that a command has, required ones in the order in which they are missed. Those of `simple`,
-/// `leave-joint` and of what is no command are not looked at.
-fn parameters_of(command: Command) -> &'static [Parameter]
-    ensures { result.now ≡ says.parameters_of command }
-{
-    match command {
-        Command::EnterJoint => &[Parameter::AutoLeave],
-        Command::ConfChange => &[Parameter::Transition],
-        Command::Undo => &[Parameter::Steps],
-        Command::Ack => &[Parameter::Id, Parameter::Index],
-        Command::Committed => &[Parameter::Incoming, Parameter::Outgoing, Parameter::Indexes],
-        Command::Vote => &[Parameter::Incoming, Parameter::Outgoing, Parameter::Votes],
-        _ => &[],
-    }
-}
-
-/// Carries out a directive. It reads changes into the list of those before, makes the next changer of a spare one, and writes a
-/// long text into the spare one.
+/// Runs a directive. If it leads to another changer, that one is written into the next one, whose contents are else
+/// unspecified.
 pub(crate) fn run_directive(
     alloc: Global,
     session: &Session,
-    scratch: &mut Scratch,
+    next: &mut Changer<SessionIds>,
     directive: &Directive,
 ) -> Result<Reply, NoMemory>
-    ensures reply { IfOk result (λ reply. reply ≡ says.reply_to session.now directive.now) }
+    ensures reply { IfOk result (λ reply. reply_in session.now.changer next.new reply ≡ says.reply_to session.now directive.now) }
     ensures stands { IfOk result (λ reply. CanStand reply.found) }
 {
     found_text_stands();
-    let command = command_in(directive.command());
-    run_command(
-        alloc,
-        session,
-        scratch,
-        command,
-        directive.input(),
-        directive.arguments(),
-    )
+    let row = row_of(directive.command());
+    run_row(alloc, session, next, &row, directive.input(), directive.arguments())
 }
 
-// Carries out a command with its input and its arguments.
+// Reads what the row takes, and runs its command.
+fn run_row(
+    alloc: Global,
+    session: &Session,
+    next: &mut Changer<SessionIds>,
+    row: &Row,
+    text: &[u8],
+    arguments: &[Argument],
+) -> Result<Reply, NoMemory>
+    ensures { IfOk result (λ reply. reply_in session.now.changer next.new reply
+        ≡ says.reply_by (says.row_with row.now.command row.now.input (option_map (λ p. p.now) row.now.parameters)) session.now text.now arguments.now) }
+{
+    let input = match read_input(alloc, row.input, text)? {
+        Ok(input) => input,
+        Err(found) => return Ok(Reply::of_text(found)),
+    };
+    let values = match read_arguments(alloc, row.parameters, arguments)? {
+        Ok(values) => values,
+        Err(found) => return Ok(Reply::of_text(found)),
+    };
+    run_command(alloc, session, next, row.command, &input, &values)
+}
+
+// Runs a command.
 fn run_command(
     alloc: Global,
     session: &Session,
-    scratch: &mut Scratch,
+    next: &mut Changer<SessionIds>,
     command: Command,
-    input: &[u8],
-    arguments: &[Argument],
+    input: &Input,
+    values: &Values,
 ) -> Result<Reply, NoMemory>
-    ensures { IfOk result (λ reply. reply ≡ says.reply_of command session.now input.now arguments.now) }
+    requires { 1 ≤ values.now.steps }
+    ensures { IfOk result (λ reply. reply_in session.now.changer next.new reply ≡ says.reply_of command session.now input.now values.now) }
 {
     let changer = session.changer();
+    let tracker = changer.tracker();
+    let changes = input.changes.as_slice();
     match command {
-        Command::Simple
-        | Command::EnterJoint
-        | Command::LeaveJoint
-        | Command::ConfChange
-        | Command::Unknown => run_over_changes(alloc, changer, scratch, command, input, arguments),
-        Command::ConfState => conf_state::run(alloc, changer, input, arguments),
-        Command::Restore => restore::run(alloc, changer, &mut scratch.spare, input, arguments),
-        Command::Undo => undo::run(alloc, session, &mut scratch.spare, input, arguments),
-        Command::Ack => ack::run(alloc, changer, input, arguments),
-        Command::CommitIndex => commit_index::run(alloc, changer, input, arguments),
-        Command::Committed => committed::run(alloc, &mut scratch.spare, input, arguments),
-        Command::Vote => vote::run(alloc, &mut scratch.spare, input, arguments),
-    }
-}
-
-// Carries out a command whose input is a list of changes, or tells which word of the input spells none. The input of what
-// is no command is read as such a list all the same.
-fn run_over_changes(
-    alloc: Global,
-    changer: &Changer<SessionIds>,
-    scratch: &mut Scratch,
-    command: Command,
-    input: &[u8],
-    arguments: &[Argument],
-) -> Result<Reply, NoMemory>
-    ensures { IfOk result (λ reply. reply ≡ says.over_changes command changer.now input.now arguments.now) }
-{
-    if let Err(fault) = read_changes_into(&mut scratch.changes, input) {
-        return tell_token(alloc, fault);
-    }
-    let changes = scratch.changes.as_slice();
-    let spare = &mut scratch.spare;
-    match command {
-        Command::Simple => simple::run(alloc, changer, spare, changes),
-        Command::EnterJoint => enter_joint::run(alloc, changer, spare, arguments, changes),
-        Command::LeaveJoint => leave_joint::run(alloc, changer, spare, changes),
-        Command::ConfChange => change::run(alloc, changer, spare, arguments, changes),
-        _ => unknown::run(alloc),
+        Command::Simple => step::run(alloc, changer, next, StepKind::Simple, changes),
+        Command::EnterJoint => {
+            step::run(alloc, changer, next, StepKind::Enter(values.auto_leave), changes)
+        }
+        Command::LeaveJoint => step::run(alloc, changer, next, StepKind::Leave, changes),
+        Command::ConfChange => {
+            step::run(alloc, changer, next, taken(values.transition, changes), changes)
+        }
+        Command::ConfState => Ok(Reply::of_text(conf_state_line(alloc, tracker.config())?)),
+        Command::Restore => restore::run(alloc, changer, next, &input.saved),
+        Command::Undo => undo::run(alloc, session, next, values.steps as usize),
+        Command::Ack => ack::run(alloc, changer, values.id, values.index),
+        Command::CommitIndex => Ok(Reply::of_text(committed::commit_index(alloc, tracker)?)),
+        Command::Committed => Ok(Reply::of_text(committed::committed(alloc, values)?)),
+        Command::Vote => Ok(Reply::of_text(vote::vote(alloc, values)?)),
+        Command::Unknown => Ok(Reply::of_text(line_of(alloc, b"unknown command", b"")?)),
     }
 }

@@ -1,18 +1,16 @@
 //! What a command makes of a session.
-use crate::boxed_changer::BoxedChanger;
 
-/// What becomes of a session: a changer that takes the place of its own, and what that means for the configurations that
-/// it keeps.
-#[derive(Drop)]
+/// What becomes of a session.
+#[derive(Clone, Copy)]
 pub(crate) enum Effect {
     /// It stays as it is.
     Nothing,
-    /// A member acknowledged an index: what is kept stays.
-    Acknowledged(BoxedChanger),
-    /// A change was accepted: the configuration of before is kept.
-    Stepped(BoxedChanger),
-    /// It began again: no earlier configuration is kept.
-    Restored(BoxedChanger),
-    /// So many changes were undone: the configurations of before them are kept no more.
-    Undone(BoxedChanger, usize),
+    /// The member of this id acknowledged this index.
+    Acknowledged(u64, u64),
+    /// A change was accepted, after which its changer is the next one: the configuration of before is kept.
+    Stepped,
+    /// It begins again with the next changer: no earlier configuration is kept.
+    Restored,
+    /// So many changes were undone, after which its changer is the next one: the configurations of before them are dropped.
+    Undone(usize),
 }

@@ -2,22 +2,20 @@
 #![tactic(auto)]
 
 mod arguments;
-mod boxed_changer;
 mod commands;
 mod effect;
 mod given;
 mod history;
+mod input;
 pub mod laws;
-mod named_quorum;
 mod parameter;
-mod quorum_arguments;
+mod quorum;
 mod reply;
 mod reply_texts;
-mod scratch;
 pub mod session;
 pub mod session_ids;
-mod spare;
 pub mod undo_fault;
+mod values;
 
 pub use session::Session;
 pub use session_ids::SessionIds;

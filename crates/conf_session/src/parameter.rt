@@ -1,8 +1,9 @@
-//! The arguments that commands have: how each is called, and which values it may have.
+//! The arguments that commands have: how each is called, and what its values are read as.
 ghost use Rattle.std.specs.Prelude.{◌≡◌};
 ghost use Rattle.conf_session.specs.Parameter as says;
 
 use ascii_text::number::read_number;
+use conf_change::Transition as HowTaken;
 use dd_file::item::Argument;
 
 /// An argument that a command has.
@@ -30,7 +31,6 @@ pub(crate) enum Parameter {
 
 impl Parameter {
     ghost use Rattle.std.specs.Prelude.{◌≡◌};
-    ghost use Rattle.std.specs.List.{list_all};
     ghost use Rattle.conf_session.specs.Parameter as says;
 
     /// The key of its argument.
@@ -56,49 +56,6 @@ impl Parameter {
     {
         matches!(self, Parameter::Id | Parameter::Index)
     }
-
-    /// Whether its argument may have the values of this one.
-    pub(crate) fn allows(self, argument: &Argument) -> bool
-        ensures { result ≡ says.allows self argument.now.values }
-    {
-        match self {
-            Parameter::AutoLeave => has_only(argument, b"true") || has_only(argument, b"false"),
-            Parameter::Transition => has_only(argument, b"auto")
-                || has_only(argument, b"implicit")
-                || has_only(argument, b"explicit"),
-            Parameter::Steps | Parameter::Id => number_from(1, argument).is_some(),
-            Parameter::Index => number_from(0, argument).is_some(),
-            Parameter::Outgoing => has_only(argument, b"zero") || self.has_list(argument),
-            Parameter::Incoming | Parameter::Indexes | Parameter::Votes => self.has_list(argument),
-        }
-    }
-
-    // Whether each value of the argument may stand in the list of this one.
-    fn has_list(self, argument: &Argument) -> bool
-        ensures { result ≡ list_all (says.may_stand_in self) argument.now.values }
-    {
-        let mut values = argument.values();
-        while let Some(value) = values.next() {
-            if !self.may_stand_in(value) {
-                return false;
-            }
-        }
-        true
-    }
-
-    // Whether the value may stand in its list.
-    fn may_stand_in(self, value: &[u8]) -> bool
-        ensures { result ≡ says.may_stand_in self value.now }
-    {
-        match self {
-            Parameter::Incoming | Parameter::Outgoing => is_number_from(1, value),
-            Parameter::Indexes => is_unknown(value) || is_number_from(1, value),
-            Parameter::Votes => value == b"y".as_slice()
-                || value == b"n".as_slice()
-                || is_unknown(value),
-            _ => false,
-        }
-    }
 }
 
 /// Whether the argument has this value and no other.
@@ -109,6 +66,34 @@ pub(crate) fn has_only(argument: &Argument, value: &[u8]) -> bool
     match values.next() {
         Some(first) => first == value && values.next().is_none(),
         None => false,
+    }
+}
+
+/// The flag that is its only value.
+pub(crate) fn flag_in(argument: &Argument) -> Option<bool>
+    ensures { result ≡ says.flag_in argument.now.values }
+{
+    if has_only(argument, b"true") {
+        Some(true)
+    } else if has_only(argument, b"false") {
+        Some(false)
+    } else {
+        None
+    }
+}
+
+/// The transition that is its only value.
+pub(crate) fn transition_in(argument: &Argument) -> Option<HowTaken>
+    ensures { result ≡ says.transition_in argument.now.values }
+{
+    if has_only(argument, b"auto") {
+        Some(HowTaken::Auto)
+    } else if has_only(argument, b"implicit") {
+        Some(HowTaken::Implicit)
+    } else if has_only(argument, b"explicit") {
+        Some(HowTaken::Explicit)
+    } else {
+        None
     }
 }
 
@@ -128,18 +113,70 @@ pub(crate) fn number_from(least: u64, argument: &Argument) -> Option<u64>
     Some(number)
 }
 
-// Whether the value is a number, at least this one.
-fn is_number_from(least: u64, value: &[u8]) -> bool
-    ensures { result ≡ says.is_number_from least value.now }
-{
-    match read_number(value) {
-        Some(number) => number >= least,
-        None => false,
+/// A value of a list.
+pub(crate) trait Listed: Copy + Drop {
+    ghost use Rattle.std.specs.Prelude.{◌≡◌, ℕ, List, Option};
+
+    /// What a value is read as.
+    ghost reads: { List ℕ → Option Self };
+
+    /// Reads a value.
+    fn read(value: &[u8]) -> Option<Self>
+        ensures { result ≡ reads value.now };
+}
+
+/// An id.
+impl Listed for u64 {
+    ghost use Rattle.conf_session.specs.Parameter.{id_in};
+
+    ghost reads = { id_in };
+
+    fn read(value: &[u8]) -> Option<u64> {
+        match read_number(value) {
+            Some(0) | None => None,
+            id => id,
+        }
     }
 }
 
-/// Whether the value says that nothing is known.
-pub(crate) fn is_unknown(value: &[u8]) -> bool
+/// An acknowledged index, if it is known.
+impl Listed for Option<u64> {
+    ghost use Rattle.conf_session.specs.Parameter.{index_in};
+
+    ghost reads = { index_in };
+
+    fn read(value: &[u8]) -> Option<Option<u64>> {
+        if is_unknown(value) {
+            return Some(None);
+        }
+        match read_number(value) {
+            Some(0) | None => None,
+            index => Some(index),
+        }
+    }
+}
+
+/// A vote, if it is known.
+impl Listed for Option<bool> {
+    ghost use Rattle.conf_session.specs.Parameter.{vote_in};
+
+    ghost reads = { vote_in };
+
+    fn read(value: &[u8]) -> Option<Option<bool>> {
+        if value == b"y".as_slice() {
+            Some(Some(true))
+        } else if value == b"n".as_slice() {
+            Some(Some(false))
+        } else if is_unknown(value) {
+            Some(None)
+        } else {
+            None
+        }
+    }
+}
+
+// Whether the value is that of what is not known.
+fn is_unknown(value: &[u8]) -> bool
     ensures { result ≡ says.is_unknown value.now }
 {
     value == b"_".as_slice()

@@ -15,9 +15,7 @@ pub(crate) struct Reply {
 impl Model for Reply {
     ghost use Rattle.conf_session.specs.Reply as says;
 
-    ghost Value = { says.Reply };
-
-    ghost coded = { says.reply_code };
+    ghost Value = { says.ReplyParts };
 
     ghost view = { λ r. record { found = r.found.items; effect = r.effect } };
 }
@@ -31,7 +29,7 @@ impl Reply {
     }
 
     /// A text in lines, after which the session stays.
-    pub(crate) fn told(found: Vec<u8>) -> Reply
+    pub(crate) fn of_text(found: Vec<u8>) -> Reply
         ensures { result ≡ record { found = found.items; effect = Effect.Nothing } }
     {
         Reply::new(found, Effect::Nothing)

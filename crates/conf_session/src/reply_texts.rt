@@ -5,21 +5,20 @@ ghost use Rattle.conf_change.specs.ChangeList.{bad_token};
 ghost use Rattle.conf_change.specs.ConfState.{lists_of};
 ghost use Rattle.conf_change.specs.Text.{refused_text, progress_text, bad_token_text};
 ghost use Rattle.conf_change.specs.ConfStateLine.{conf_state_text};
-ghost use Rattle.conf_session.specs.Given.{given_in};
-ghost use Rattle.conf_session.specs.QuorumArguments.{index_text, committed_text};
+ghost use Rattle.conf_session.specs.Quorum.{given_in, index_text, committed_text, vote_text};
+ghost use Rattle.quorum_sets.specs.Votes.{joint_vote_result};
 ghost use Rattle.conf_session.specs.ReplyTexts.{line, member_lines, tracker_text};
 ghost use Rattle.conf_session.specs.Undo as says;
 
 use crate::given::Given;
 use crate::session_ids::SessionIds;
-use crate::spare::Spare;
 use crate::undo_fault::{UndoFault, undo_fault_text};
 use ascii_text::append::append_number;
 use conf_change::{
     Config, Progress, Refused, TokenFault, Tracker, conf_state, write_conf_state, write_config,
     write_progress, write_refused, write_token_fault,
 };
-use quorum_sets::{MemberSet, NoMemory, joint_chart, joint_committed};
+use quorum_sets::{MemberSet, NoMemory, VoteResult, joint_chart, joint_committed, joint_vote};
 use std::alloc::Global;
 
 // Ends a text, so that it is whole lines.
@@ -39,19 +38,6 @@ pub(crate) fn line_of(alloc: Global, front: &[u8], back: &[u8]) -> Result<Vec<u8
     let mut text = Vec::with_capacity(alloc, room)?;
     text.extend_from_slice(front)?;
     text.extend_from_slice(back)?;
-    end_line(text)
-}
-
-/// A text as a line, in a spare text.
-pub(crate) fn spare_line(
-    alloc: Global,
-    spare: &mut Spare,
-    bytes: &[u8],
-) -> Result<Vec<u8>, NoMemory>
-    ensures { IfOk result (λ text. text.items ≡ line bytes.now) }
-{
-    let mut text = spare.take_text(alloc);
-    text.extend_from_slice(bytes)?;
     end_line(text)
 }
 
@@ -109,21 +95,43 @@ pub(crate) fn index_line(alloc: Global, index: u64) -> Result<Vec<u8>, NoMemory>
     end_line(text)
 }
 
-/// The chart of the ids of both sets, and the index that the two commit, in a spare text.
+/// The chart of the ids of both sets, and the index that the two commit.
 pub(crate) fn committed_lines(
     alloc: Global,
-    spare: &mut Spare,
     incoming: &SessionIds,
     outgoing: &SessionIds,
-    acks: &Given<'_, u64>,
+    acks: &Given<u64>,
 ) -> Result<Vec<u8>, NoMemory>
     ensures { IfOk result (λ text. text.items ≡ line (committed_text (pair incoming.now outgoing.now) (given_in acks.now))) }
 {
-    let mut text = spare.take_text(alloc);
+    let mut text = Vec::new(alloc);
     text.reserve(usual_chart_room(incoming, outgoing))?;
     joint_chart(&mut text, incoming, outgoing, acks)?;
     append_index(&mut text, joint_committed(alloc, incoming, outgoing, acks)?)?;
     end_line(text)
+}
+
+/// How the vote of both sets stands.
+pub(crate) fn vote_line(
+    alloc: Global,
+    incoming: &SessionIds,
+    outgoing: &SessionIds,
+    votes: &Given<bool>,
+) -> Result<Vec<u8>, NoMemory>
+    ensures { IfOk result (λ text. text.items ≡ line (vote_text (joint_vote_result (pair incoming.now outgoing.now) (given_in votes.now)))) }
+{
+    line_of(alloc, b"", vote_name(joint_vote(incoming, outgoing, votes)))
+}
+
+// The name of a result.
+fn vote_name(vote: VoteResult) -> &'static [u8]
+    ensures { result.now ≡ vote_text vote }
+{
+    match vote {
+        VoteResult::VotePending => b"VotePending",
+        VoteResult::VoteLost => b"VoteLost",
+        VoteResult::VoteWon => b"VoteWon",
+    }
 }
 
 // The room that a chart of few ids needs, so that it seldom grows while it is written.
@@ -144,15 +152,14 @@ fn append_index(text: &mut Vec<u8>, index: u64) -> Result<(), NoMemory>
     Ok(())
 }
 
-/// A configuration, and behind it each member with its progress, in ascending order of the ids, in a spare text.
+/// A configuration, and behind it each member with its progress, in ascending order of the ids.
 pub(crate) fn tracker_lines(
     alloc: Global,
-    spare: &mut Spare,
     tracker: &Tracker<SessionIds>,
 ) -> Result<Vec<u8>, NoMemory>
     ensures { IfOk result (λ text. text.items ≡ tracker_text tracker.now) }
 {
-    let mut text = spare.take_text(alloc);
+    let mut text = Vec::new(alloc);
     append_tracker(&mut text, tracker)?;
     Ok(text)
 }

@@ -6,16 +6,15 @@ ghost use Rattle.conf_change.specs.Configuration.{Configuration};
 ghost use Rattle.conf_plan.specs.Best.{IsBest};
 ghost use Rattle.conf_session.specs.SessionState.{IsSession, new_session, present, after_directive};
 ghost use Rattle.conf_session.specs.Commands.{answer};
+ghost use Rattle.conf_session.specs.Reply.{becomes};
 ghost use Rattle.conf_session.specs.Undo.{LeadsBack, undo_plan_of};
 ghost use Rattle.conf_session.specs.Told.{CanStand};
 ghost use Rattle.conf_session.specs.declared.undo_fault.UndoFault.{UndoFault as WhyNot};
 
-use crate::boxed_changer::BoxedChanger;
 use crate::commands::run_directive;
 use crate::effect::Effect;
 use crate::history::History;
 use crate::laws::{answer_keeps_session, kept_lead_to_now};
-use crate::scratch::Scratch;
 use crate::session_ids::SessionIds;
 use crate::undo_fault::UndoFault;
 use conf_change::{Changer, Config, Floor};
@@ -25,13 +24,14 @@ use dd_file::item::Directive;
 use quorum_sets::NoMemory;
 use std::alloc::Global;
 use std::marker::Model;
-use std::mem::replace;
+use std::mem::{replace, swap};
 
 /// A changer that directives act on, and the configurations of before its accepted changes.
 #[derive(Drop)]
 pub struct Session {
-    changer: BoxedChanger,
-    scratch: Scratch,
+    changer: Changer<SessionIds>,
+    // A directive writes the changer of after it here; an accepted one swaps the two. No directive reads what another left.
+    next: Changer<SessionIds>,
     history: History,
     alloc: Global,
 }
@@ -62,8 +62,8 @@ impl Session {
         ensures { IfOk result (λ session. session ≡ new_session history floor) }
     {
         Ok(Session {
-            changer: BoxedChanger::new(alloc, Changer::new_with_floor(alloc, 0, floor))?,
-            scratch: Scratch::new(alloc),
+            changer: Changer::new_with_floor(alloc, 0, floor),
+            next: Changer::new(alloc, 0),
             history: History::new(alloc, history)?,
             alloc,
         })
@@ -75,7 +75,7 @@ impl Session {
         ensures sound { IsSound self.now.changer.tracker }
         ensures session { IsSession self.now }
     {
-        self.changer.changer()
+        &self.changer
     }
 
     /// How many earlier configurations are kept. It takes no memory.
@@ -128,48 +128,38 @@ impl Session {
         ensures unchanged { OnErr result (self.new ≡ self.old) }
     {
         answer_keeps_session();
-        let mut scratch = replace(&mut self.scratch, Scratch::new(self.alloc));
-        let reply = run_directive(self.alloc, self, &mut scratch, directive)?;
-        self.scratch = scratch;
+        let mut next = replace(&mut self.next, Changer::new(self.alloc, 0));
+        let reply = run_directive(self.alloc, self, &mut next, directive)?;
         let (found, effect) = reply.into_parts();
-        self.take_on(effect);
+        self.apply(effect, next);
         Ok(found)
     }
 
-    /// Takes back a text that was found and is done with, so that a later one is written into its memory (own). It takes
-    /// none.
-    pub fn reuse(&mut self, found: Vec<u8>)
-        ensures { self.new ≡ self.old }
+    // Applies the effect of a directive that wrote the next changer. It takes no memory.
+    fn apply(&mut self, effect: Effect, next: Changer<SessionIds>)
+        requires { IsSession (after_directive self.old (becomes self.old.changer next effect)) }
+        ensures { self.new ≡ after_directive self.old (becomes self.old.changer next effect) }
     {
-        self.scratch.spare.put_back_text(found);
-    }
-
-    // Takes on what a directive makes of it. No memory is taken.
-    fn take_on(&mut self, effect: Effect)
-        requires { IsSession (after_directive self.old effect) }
-        ensures { self.new ≡ after_directive self.old effect }
-    {
+        self.next = next;
         match effect {
             Effect::Nothing => {}
-            Effect::Acknowledged(after) => {
-                self.changer = after;
+            Effect::Acknowledged(id, index) => {
+                let _ = self.changer.ack(id, index);
             }
-            Effect::Stepped(after) => {
-                let mut before = replace(&mut self.changer, after);
-                self.history.keep(before.take_config());
-                self.scratch.spare.put_back_changer(before);
+            Effect::Stepped => {
+                swap(&mut self.changer, &mut self.next);
+                self.history.keep(self.next.take_config());
             }
-            Effect::Restored(after) => {
-                self.changer = after;
+            Effect::Restored => {
+                swap(&mut self.changer, &mut self.next);
                 self.history.clear();
             }
-            Effect::Undone(after, count) => {
-                let before = replace(&mut self.changer, after);
-                self.scratch.spare.put_back_changer(before);
+            Effect::Undone(count) => {
+                swap(&mut self.changer, &mut self.next);
                 self.history.forget(count);
             }
         }
-        let last_index = self.changer().last_index();
+        let last_index = self.changer.last_index();
         self.changer.set_last_index(last_index.saturating_add(1));
     }
 }

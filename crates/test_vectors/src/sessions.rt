@@ -178,7 +178,7 @@ fn is_same_session(session: &Session, other: &Session) -> bool {
     is_so
 }
 
-// Whether a directive finds a text, which the session then takes back; where it found no memory it is its copy from before.
+// Whether a directive finds a text; where it found no memory the session is its copy from before.
 fn is_found(session: &mut Session, copy: &Session, directive: &Directive, wanted: &[u8]) -> bool {
     let mut answer = session.step(directive);
     let mut stays = true;
@@ -187,16 +187,12 @@ fn is_found(session: &mut Session, copy: &Session, directive: &Directive, wanted
         answer = session.step(directive);
     }
     match answer {
-        Ok(found) => {
-            let is_so = found.as_slice() == wanted;
-            session.reuse(found);
-            stays & is_so
-        }
+        Ok(found) => stays & (found.as_slice() == wanted),
         Err(_) => false,
     }
 }
 
-// Whether the copy, which takes no text back, finds it too.
+// Whether the copy finds it too.
 fn follows(copy: &mut Session, directive: &Directive, wanted: &[u8]) -> bool {
     let mut answer = copy.step(directive);
     if answer.is_err() {

@@ -1,49 +1,37 @@
-//! `committed`: the chart and the committed index of a quorum, where its ids have acknowledged these indexes.
-ghost use Rattle.std.specs.Prelude.{◌≡◌, [], IfOk};
-ghost use Rattle.conf_session.specs.Commands.{on_committed};
+//! `commit-index` and `committed`: the index that a quorum commits.
+ghost use Rattle.std.specs.Prelude.{◌≡◌, IfOk};
+ghost use Rattle.conf_session.specs.Commands.{committed_by};
+ghost use Rattle.conf_session.specs.Quorum.{committed_reply, index_text};
+ghost use Rattle.conf_session.specs.ReplyTexts.{line};
 
-use super::reading::tell_quorum_fault;
-use crate::named_quorum::NamedQuorum;
-use crate::quorum_arguments::Quorum;
-use crate::reply::Reply;
-use crate::reply_texts::committed_lines;
-use crate::spare::Spare;
-use dd_file::item::Argument;
-use quorum_sets::NoMemory;
+use crate::quorum::Quorum;
+use crate::reply_texts::{committed_lines, index_line, line_of};
+use crate::session_ids::SessionIds;
+use crate::values::Values;
+use conf_change::Tracker;
+use quorum_sets::{NoMemory, joint_committed};
 use std::alloc::Global;
 
-/// Prints them, where there is no input and each id has an index.
-pub(super) fn run(
+/// The index that the configuration commits, where each member has acknowledged its match.
+pub(super) fn commit_index(
     alloc: Global,
-    spare: &mut Spare,
-    input: &[u8],
-    arguments: &[Argument],
-) -> Result<Reply, NoMemory>
-    ensures { IfOk result (λ reply. reply ≡ on_committed input.now arguments.now) }
+    tracker: &Tracker<SessionIds>,
+) -> Result<Vec<u8>, NoMemory>
+    ensures { IfOk result (λ found. found.items ≡ line (index_text (committed_by tracker.now))) }
 {
-    let mut quorum = Quorum::new(alloc);
-    let mut named = NamedQuorum::new(alloc);
-    run_with(alloc, spare, &mut quorum, &mut named, input, arguments)
+    let config = tracker.config();
+    let index = joint_committed(alloc, &config.incoming, &config.outgoing, tracker)?;
+    index_line(alloc, index)
 }
 
-// The same, with a quorum to read, and lists for what is named.
-fn run_with(
-    alloc: Global,
-    spare: &mut Spare,
-    quorum: &mut Quorum,
-    named: &mut NamedQuorum<u64>,
-    input: &[u8],
-    arguments: &[Argument],
-) -> Result<Reply, NoMemory>
-    requires incoming { named.old.incoming.items ≡ [] }
-    requires outgoing { named.old.outgoing.items ≡ [] }
-    requires said { named.old.said.items ≡ [] }
-    ensures { IfOk result (λ reply. reply ≡ on_committed input.now arguments.now) }
+/// The chart and the committed index of the quorum that is named, where its ids have acknowledged these indexes.
+pub(super) fn committed(alloc: Global, values: &Values) -> Result<Vec<u8>, NoMemory>
+    ensures { IfOk result (λ found. found.items ≡ line (committed_reply values.now)) }
 {
-    if let Some(fault) = tell_quorum_fault(alloc, quorum, named, input, arguments)? {
-        return Ok(fault);
-    }
-    let given = named.given(alloc)?;
-    let found = committed_lines(alloc, spare, &quorum.incoming, &quorum.outgoing, &given)?;
-    Ok(Reply::told(found))
+    let incoming = values.incoming.as_slice();
+    let outgoing = values.outgoing.as_slice();
+    let Some(quorum) = Quorum::of(alloc, incoming, outgoing, values.indexes.as_slice())? else {
+        return line_of(alloc, b"wrong number of values", b"");
+    };
+    committed_lines(alloc, &quorum.incoming, &quorum.outgoing, &quorum.given)
 }

@@ -1,61 +1,22 @@
-//! `vote`: how the vote of a quorum stands, where its ids have voted so.
-ghost use Rattle.std.specs.Prelude.{◌≡◌, [], IfOk};
-ghost use Rattle.conf_session.specs.Commands.{on_vote};
-ghost use Rattle.conf_session.specs.QuorumArguments.{vote_text};
+//! `vote`: how the vote of a quorum stands.
+ghost use Rattle.std.specs.Prelude.{◌≡◌, IfOk};
+ghost use Rattle.conf_session.specs.Quorum.{vote_reply};
+ghost use Rattle.conf_session.specs.ReplyTexts.{line};
 
-use super::reading::tell_quorum_fault;
-use crate::named_quorum::NamedQuorum;
-use crate::quorum_arguments::Quorum;
-use crate::reply::Reply;
-use crate::reply_texts::spare_line;
-use crate::spare::Spare;
-use dd_file::item::Argument;
-use quorum_sets::{NoMemory, VoteResult, joint_vote};
+use crate::quorum::Quorum;
+use crate::reply_texts::{line_of, vote_line};
+use crate::values::Values;
+use quorum_sets::NoMemory;
 use std::alloc::Global;
 
-/// Prints it, where there is no input and each id has a vote or `_`.
-pub(super) fn run(
-    alloc: Global,
-    spare: &mut Spare,
-    input: &[u8],
-    arguments: &[Argument],
-) -> Result<Reply, NoMemory>
-    ensures { IfOk result (λ reply. reply ≡ on_vote input.now arguments.now) }
+/// How the vote of the quorum that is named stands, where its ids have voted so.
+pub(super) fn vote(alloc: Global, values: &Values) -> Result<Vec<u8>, NoMemory>
+    ensures { IfOk result (λ found. found.items ≡ line (vote_reply values.now)) }
 {
-    let mut quorum = Quorum::new(alloc);
-    let mut named = NamedQuorum::new(alloc);
-    run_with(alloc, spare, &mut quorum, &mut named, input, arguments)
-}
-
-// The same, with a quorum to read, and lists for what is named.
-fn run_with(
-    alloc: Global,
-    spare: &mut Spare,
-    quorum: &mut Quorum,
-    named: &mut NamedQuorum<bool>,
-    input: &[u8],
-    arguments: &[Argument],
-) -> Result<Reply, NoMemory>
-    requires incoming { named.old.incoming.items ≡ [] }
-    requires outgoing { named.old.outgoing.items ≡ [] }
-    requires said { named.old.said.items ≡ [] }
-    ensures { IfOk result (λ reply. reply ≡ on_vote input.now arguments.now) }
-{
-    if let Some(fault) = tell_quorum_fault(alloc, quorum, named, input, arguments)? {
-        return Ok(fault);
-    }
-    let given = named.given(alloc)?;
-    let result = joint_vote(&quorum.incoming, &quorum.outgoing, &given);
-    Ok(Reply::told(spare_line(alloc, spare, name_of(result))?))
-}
-
-// The name of a result.
-fn name_of(vote: VoteResult) -> &'static [u8]
-    ensures { result.now ≡ vote_text vote }
-{
-    match vote {
-        VoteResult::VotePending => b"VotePending",
-        VoteResult::VoteLost => b"VoteLost",
-        VoteResult::VoteWon => b"VoteWon",
-    }
+    let incoming = values.incoming.as_slice();
+    let outgoing = values.outgoing.as_slice();
+    let Some(quorum) = Quorum::of(alloc, incoming, outgoing, values.votes.as_slice())? else {
+        return line_of(alloc, b"wrong number of values", b"");
+    };
+    vote_line(alloc, &quorum.incoming, &quorum.outgoing, &quorum.given)
 }

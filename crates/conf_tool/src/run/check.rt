@@ -57,7 +57,6 @@ impl Checking {
                 if differs {
                     append_difference(&mut self.text, directive, found.as_slice())?;
                 }
-                self.session.reuse(found);
                 self.counts.add(differs);
                 Ok(())
             }

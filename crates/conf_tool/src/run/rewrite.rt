@@ -82,7 +82,6 @@ pub(super) fn rewrite_item<W: Sink>(
 {
     let found = run_item(alloc, session, item)?;
     write_entry(rewriter, writer, item, found.as_slice())?;
-    session.reuse(found);
     Ok(())
 }
 

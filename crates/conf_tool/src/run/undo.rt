@@ -151,8 +151,7 @@ impl PartByPart<Item> for Undoing {
     // What a directive expects is not looked at, and nothing is written yet.
     fn answer<W: Sink>(&mut self, item: &Item, writer: &mut W) -> Result<(), ToolFault> {
         let _ = &*writer;
-        let found = run_item(self.alloc, &mut self.session, item)?;
-        self.session.reuse(found);
+        run_item(self.alloc, &mut self.session, item)?;
         Ok(())
     }
 

@@ -1,0 +1,248 @@
+-- What one more argument adds to the values that are read.
+use Rattle.std.proofs.Common.{◌≡◌, ℕ, ◌+◌, ◌≤◌, take, drop, Bool, true, false, cond, List, [], ◌∷◌, ◌++◌, filter_map, refl, sym, ap, ◌∙◌, subst, arith}
+use Rattle.std.specs.Prelude.{◌||◌, Option, Some, None, option_map, option_and_then, unwrap_or, IsSomeAnd, Result, Ok, Err, bytes_eq, slice_get, nat_lt}
+use Rattle.std.specs.Option.{option_or}
+use Rattle.std.specs.List.{find, list_any}
+use Rattle.std.proofs.lemmas.Bool.Decides.{nat_tests}
+use Rattle.std.proofs.lemmas.List.Folds.{find-append}
+use Rattle.std.proofs.lemmas.Slice.Eq.{bytes_eq-Decides}
+use Rattle.ascii_text.specs.Number.{number_in}
+use Rattle.dd_file.specs.Words.{ArgumentText}
+use Rattle.quorum_sets.proofs.Offered.{take-one_more}
+use Rattle.conf_change.specs.declared.transition.Transition.TheVariants.{Auto}
+use Rattle.conf_session.proofs.QuorumValues.{drop-here}
+use Rattle.conf_session.specs.Arguments.{parameter_of, has_key, is_good, first_bad, bad_argument, missing_argument, argument_of}
+use Rattle.conf_session.specs.Parameter.{key_of, at_least, flag_in, transition_in, number_from, id_in, index_in, vote_in}
+use Rattle.conf_session.specs.Values.{Values, given, listed, values_in, with_more, HasMore, values_read, read_arguments}
+use Rattle.conf_session.specs.declared.parameter.Parameter.{Parameter}
+use Rattle.conf_session.specs.declared.parameter.Parameter.TheVariants.{AutoLeave, Transition as TransitionAsked, Steps, Id, Index, Incoming, Outgoing, Indexes, Votes}
+
+-- ---- what is found
+find-none : {X : Type 0} (p : X → Bool) (xs : List X) → list_any p xs ≡ false → find p xs ≡ None
+find-none p [] e = refl
+find-none p (x ∷ xs) e = at (p x) refl (find-none p xs) where
+  at : (b : Bool) → p x ≡ b → (list_any p xs ≡ false → find p xs ≡ None) → find p (x ∷ xs) ≡ None
+  at true is rest = let some : true ≡ false = ap (λ b. b || list_any p xs) (sym is) ∙ e in cc
+  at false is rest = rw is (rest (ap (λ b. b || list_any p xs) (sym is) ∙ e))
+
+find-some : {X : Type 0} (p : X → Bool) (xs : List X) (x : X) → find p xs ≡ Some x → p x ≡ true
+find-some p [] x e = cc
+find-some p (y ∷ ys) x e = at (p y) refl (find-some p ys x) e where
+  at : (b : Bool) → p y ≡ b → (find p ys ≡ Some x → p x ≡ true) → cond b (Some y) (find p ys) ≡ Some x → p x ≡ true
+  at true is rest e = let same : y ≡ x = cc in ap p (sym same) ∙ is
+  at false is rest e = rest e
+
+or-none : {X : Type 0} (o : Option X) → option_or o None ≡ o
+or-none None = refl
+or-none (Some x) = refl
+
+-- ---- one more argument, whose key is new
+-- it is not that of another parameter
+other : (q : Parameter) (before : List ArgumentText) (a : ArgumentText) → bytes_eq a.key (key_of q) ≡ false → argument_of q (before ++ a ∷ []) ≡ argument_of q before
+other q before a is =
+    find-append (λ x. bytes_eq x.key (key_of q)) before (a ∷ [])
+    ∙ ap (λ b. option_or (argument_of q before) (cond b (Some a) None)) is ∙ or-none (argument_of q before)
+
+-- it is that of its own
+record Own (q : Parameter) (before : List ArgumentText) (a : ArgumentText) : Type 0 where
+  after : argument_of q (before ++ a ∷ []) ≡ Some a
+  none : argument_of q before ≡ None
+
+own : (q : Parameter) (before : List ArgumentText) (a : ArgumentText) → a.key ≡ key_of q → has_key before a.key ≡ false → Own q before a
+own q before a key new =
+    let none : argument_of q before ≡ None = find-none _ before (ap (has_key before) (sym key) ∙ new) in
+    let is : bytes_eq a.key (key_of q) ≡ true = (bytes_eq-Decides a.key (key_of q)).1 key in
+    record {
+      after = find-append (λ x. bytes_eq x.key (key_of q)) before (a ∷ []) ∙ (λ i. option_or (none i) (cond (is i) (Some a) None));
+      none = none;
+    }
+
+given-other : {V : Type 0} (read : List (List ℕ) → Option V) (default : V) (q : Parameter) (before : List ArgumentText) (a : ArgumentText) → bytes_eq a.key (key_of q) ≡ false →
+    given read default q (before ++ a ∷ []) ≡ given read default q before
+given-other read default q before a is = ap (λ o. unwrap_or (option_and_then (λ argument. read argument.values) o) default) (other q before a is)
+
+given-own : {V : Type 0} (read : List (List ℕ) → Option V) (default : V) (q : Parameter) (before : List ArgumentText) (a : ArgumentText) → a.key ≡ key_of q → has_key before a.key ≡ false →
+    given read default q (before ++ a ∷ []) ≡ unwrap_or (read a.values) (given read default q before)
+given-own {V = V} read default q before a key new =
+    let value : Option ArgumentText → V = λ o. unwrap_or (option_and_then (λ argument. read argument.values) o) default in
+    let is = own q before a key new in
+    ap value is.after ∙ ap (λ d. unwrap_or (read a.values) d) (sym (ap value is.none))
+
+listed-other : {V : Type 0} (read : List ℕ → Option V) (q : Parameter) (before : List ArgumentText) (a : ArgumentText) → bytes_eq a.key (key_of q) ≡ false →
+    listed read q (before ++ a ∷ []) ≡ listed read q before
+listed-other read q before a is = ap (λ o. unwrap_or (option_map (λ argument. filter_map read argument.values) o) []) (other q before a is)
+
+listed-own : {V : Type 0} (read : List ℕ → Option V) (q : Parameter) (before : List ArgumentText) (a : ArgumentText) → a.key ≡ key_of q → has_key before a.key ≡ false →
+    listed read q (before ++ a ∷ []) ≡ listed read q before ++ filter_map read a.values
+listed-own {V = V} read q before a key new =
+    let value : Option ArgumentText → List V = λ o. unwrap_or (option_map (λ argument. filter_map read argument.values) o) [] in
+    let is = own q before a key new in
+    ap value is.after ∙ ap (λ xs. xs ++ filter_map read a.values) (sym (ap value is.none))
+
+values-more : (p : Parameter) (before : List ArgumentText) (a : ArgumentText) → a.key ≡ key_of p → has_key before a.key ≡ false → values_in (before ++ a ∷ []) ≡ with_more (values_in before) p a.values
+values-more AutoLeave before a key new =
+    let apart : (q : Parameter) → bytes_eq a.key (key_of q) ≡ bytes_eq (key_of AutoLeave) (key_of q) = λ q. ap (λ k. bytes_eq k (key_of q)) key in
+    λ i. record {
+      auto_leave = given-own flag_in false AutoLeave before a key new i;
+      transition = given-other transition_in Auto TransitionAsked before a (apart TransitionAsked) i;
+      steps = given-other (number_from 1) 1 Steps before a (apart Steps) i;
+      id = given-other (number_from 1) 0 Id before a (apart Id) i;
+      index = given-other (number_from 0) 0 Index before a (apart Index) i;
+      incoming = listed-other id_in Incoming before a (apart Incoming) i;
+      outgoing = listed-other id_in Outgoing before a (apart Outgoing) i;
+      indexes = listed-other index_in Indexes before a (apart Indexes) i;
+      votes = listed-other vote_in Votes before a (apart Votes) i;
+    }
+values-more TransitionAsked before a key new =
+    let apart : (q : Parameter) → bytes_eq a.key (key_of q) ≡ bytes_eq (key_of TransitionAsked) (key_of q) = λ q. ap (λ k. bytes_eq k (key_of q)) key in
+    λ i. record {
+      auto_leave = given-other flag_in false AutoLeave before a (apart AutoLeave) i;
+      transition = given-own transition_in Auto TransitionAsked before a key new i;
+      steps = given-other (number_from 1) 1 Steps before a (apart Steps) i;
+      id = given-other (number_from 1) 0 Id before a (apart Id) i;
+      index = given-other (number_from 0) 0 Index before a (apart Index) i;
+      incoming = listed-other id_in Incoming before a (apart Incoming) i;
+      outgoing = listed-other id_in Outgoing before a (apart Outgoing) i;
+      indexes = listed-other index_in Indexes before a (apart Indexes) i;
+      votes = listed-other vote_in Votes before a (apart Votes) i;
+    }
+values-more Steps before a key new =
+    let apart : (q : Parameter) → bytes_eq a.key (key_of q) ≡ bytes_eq (key_of Steps) (key_of q) = λ q. ap (λ k. bytes_eq k (key_of q)) key in
+    λ i. record {
+      auto_leave = given-other flag_in false AutoLeave before a (apart AutoLeave) i;
+      transition = given-other transition_in Auto TransitionAsked before a (apart TransitionAsked) i;
+      steps = given-own (number_from 1) 1 Steps before a key new i;
+      id = given-other (number_from 1) 0 Id before a (apart Id) i;
+      index = given-other (number_from 0) 0 Index before a (apart Index) i;
+      incoming = listed-other id_in Incoming before a (apart Incoming) i;
+      outgoing = listed-other id_in Outgoing before a (apart Outgoing) i;
+      indexes = listed-other index_in Indexes before a (apart Indexes) i;
+      votes = listed-other vote_in Votes before a (apart Votes) i;
+    }
+values-more Id before a key new =
+    let apart : (q : Parameter) → bytes_eq a.key (key_of q) ≡ bytes_eq (key_of Id) (key_of q) = λ q. ap (λ k. bytes_eq k (key_of q)) key in
+    λ i. record {
+      auto_leave = given-other flag_in false AutoLeave before a (apart AutoLeave) i;
+      transition = given-other transition_in Auto TransitionAsked before a (apart TransitionAsked) i;
+      steps = given-other (number_from 1) 1 Steps before a (apart Steps) i;
+      id = given-own (number_from 1) 0 Id before a key new i;
+      index = given-other (number_from 0) 0 Index before a (apart Index) i;
+      incoming = listed-other id_in Incoming before a (apart Incoming) i;
+      outgoing = listed-other id_in Outgoing before a (apart Outgoing) i;
+      indexes = listed-other index_in Indexes before a (apart Indexes) i;
+      votes = listed-other vote_in Votes before a (apart Votes) i;
+    }
+values-more Index before a key new =
+    let apart : (q : Parameter) → bytes_eq a.key (key_of q) ≡ bytes_eq (key_of Index) (key_of q) = λ q. ap (λ k. bytes_eq k (key_of q)) key in
+    λ i. record {
+      auto_leave = given-other flag_in false AutoLeave before a (apart AutoLeave) i;
+      transition = given-other transition_in Auto TransitionAsked before a (apart TransitionAsked) i;
+      steps = given-other (number_from 1) 1 Steps before a (apart Steps) i;
+      id = given-other (number_from 1) 0 Id before a (apart Id) i;
+      index = given-own (number_from 0) 0 Index before a key new i;
+      incoming = listed-other id_in Incoming before a (apart Incoming) i;
+      outgoing = listed-other id_in Outgoing before a (apart Outgoing) i;
+      indexes = listed-other index_in Indexes before a (apart Indexes) i;
+      votes = listed-other vote_in Votes before a (apart Votes) i;
+    }
+values-more Incoming before a key new =
+    let apart : (q : Parameter) → bytes_eq a.key (key_of q) ≡ bytes_eq (key_of Incoming) (key_of q) = λ q. ap (λ k. bytes_eq k (key_of q)) key in
+    λ i. record {
+      auto_leave = given-other flag_in false AutoLeave before a (apart AutoLeave) i;
+      transition = given-other transition_in Auto TransitionAsked before a (apart TransitionAsked) i;
+      steps = given-other (number_from 1) 1 Steps before a (apart Steps) i;
+      id = given-other (number_from 1) 0 Id before a (apart Id) i;
+      index = given-other (number_from 0) 0 Index before a (apart Index) i;
+      incoming = listed-own id_in Incoming before a key new i;
+      outgoing = listed-other id_in Outgoing before a (apart Outgoing) i;
+      indexes = listed-other index_in Indexes before a (apart Indexes) i;
+      votes = listed-other vote_in Votes before a (apart Votes) i;
+    }
+values-more Outgoing before a key new =
+    let apart : (q : Parameter) → bytes_eq a.key (key_of q) ≡ bytes_eq (key_of Outgoing) (key_of q) = λ q. ap (λ k. bytes_eq k (key_of q)) key in
+    λ i. record {
+      auto_leave = given-other flag_in false AutoLeave before a (apart AutoLeave) i;
+      transition = given-other transition_in Auto TransitionAsked before a (apart TransitionAsked) i;
+      steps = given-other (number_from 1) 1 Steps before a (apart Steps) i;
+      id = given-other (number_from 1) 0 Id before a (apart Id) i;
+      index = given-other (number_from 0) 0 Index before a (apart Index) i;
+      incoming = listed-other id_in Incoming before a (apart Incoming) i;
+      outgoing = listed-own id_in Outgoing before a key new i;
+      indexes = listed-other index_in Indexes before a (apart Indexes) i;
+      votes = listed-other vote_in Votes before a (apart Votes) i;
+    }
+values-more Indexes before a key new =
+    let apart : (q : Parameter) → bytes_eq a.key (key_of q) ≡ bytes_eq (key_of Indexes) (key_of q) = λ q. ap (λ k. bytes_eq k (key_of q)) key in
+    λ i. record {
+      auto_leave = given-other flag_in false AutoLeave before a (apart AutoLeave) i;
+      transition = given-other transition_in Auto TransitionAsked before a (apart TransitionAsked) i;
+      steps = given-other (number_from 1) 1 Steps before a (apart Steps) i;
+      id = given-other (number_from 1) 0 Id before a (apart Id) i;
+      index = given-other (number_from 0) 0 Index before a (apart Index) i;
+      incoming = listed-other id_in Incoming before a (apart Incoming) i;
+      outgoing = listed-other id_in Outgoing before a (apart Outgoing) i;
+      indexes = listed-own index_in Indexes before a key new i;
+      votes = listed-other vote_in Votes before a (apart Votes) i;
+    }
+values-more Votes before a key new =
+    let apart : (q : Parameter) → bytes_eq a.key (key_of q) ≡ bytes_eq (key_of Votes) (key_of q) = λ q. ap (λ k. bytes_eq k (key_of q)) key in
+    λ i. record {
+      auto_leave = given-other flag_in false AutoLeave before a (apart AutoLeave) i;
+      transition = given-other transition_in Auto TransitionAsked before a (apart TransitionAsked) i;
+      steps = given-other (number_from 1) 1 Steps before a (apart Steps) i;
+      id = given-other (number_from 1) 0 Id before a (apart Id) i;
+      index = given-other (number_from 0) 0 Index before a (apart Index) i;
+      incoming = listed-other id_in Incoming before a (apart Incoming) i;
+      outgoing = listed-other id_in Outgoing before a (apart Outgoing) i;
+      indexes = listed-other index_in Indexes before a (apart Indexes) i;
+      votes = listed-own vote_in Votes before a key new i;
+    }
+
+pub HasMore-values : (ps : List Parameter) (args : List ArgumentText) (i : ℕ) (a : ArgumentText) (old new : Values) → slice_get args i ≡ Some a → old ≡ values_in (take i args) → has_key (take i args) a.key ≡ false →
+    HasMore old ps a new → new ≡ values_in (take (i + 1) args)
+HasMore-values ps args i a old new here same fresh more = at (parameter_of ps a) refl more ∙ ap values_in (sym (take-one_more args i a here)) where
+  at : (o : Option Parameter) → parameter_of ps a ≡ o → IsSomeAnd o (λ p. new ≡ with_more old p a.values) → new ≡ values_in (take i args ++ a ∷ [])
+  at None e h = absurd h
+  at (Some p) e h =
+      h ∙ ap (λ v. with_more v p a.values) same
+      ∙ sym (values-more p (take i args) a ((bytes_eq-Decides a.key (key_of p)).0 (find-some (λ p. bytes_eq a.key (key_of p)) ps p e)) fresh)
+
+-- ---- an argument is good, or bad
+pub bad-here : (ps : List Parameter) (args : List ArgumentText) (i : ℕ) (a : ArgumentText) → slice_get args i ≡ Some a → first_bad ps (take i args) (drop i args) ≡ bad_argument ps args →
+    is_good ps (take i args) a ≡ false → Some a.key ≡ bad_argument ps args
+bad-here ps args i a here so_far bad =
+    sym (ap (first_bad ps (take i args)) (drop-here args i a here) ∙ ap (λ b. cond b (first_bad ps (take i args ++ a ∷ []) (drop (i + 1) args)) (Some a.key)) bad) ∙ so_far
+
+pub good-here : (ps : List Parameter) (args : List ArgumentText) (i : ℕ) (a : ArgumentText) → slice_get args i ≡ Some a → first_bad ps (take i args) (drop i args) ≡ bad_argument ps args →
+    is_good ps (take i args) a ≡ true → first_bad ps (take (i + 1) args) (drop (i + 1) args) ≡ bad_argument ps args
+good-here ps args i a here so_far good =
+    ap (λ before. first_bad ps before (drop (i + 1) args)) (take-one_more args i a here)
+    ∙ sym (ap (first_bad ps (take i args)) (drop-here args i a here) ∙ ap (λ b. cond b (first_bad ps (take i args ++ a ∷ []) (drop (i + 1) args)) (Some a.key)) good) ∙ so_far
+
+-- ---- at least one change is undone
+some-number : (small : Bool) (n : ℕ) → nat_lt n 1 ≡ small → 1 ≤ unwrap_or (cond small None (Some n)) 1
+some-number true n e = omega arith
+some-number false n e = grind (arith, nat_tests)
+
+some-read : (read : Option ℕ) → 1 ≤ unwrap_or (option_and_then (at_least 1) read) 1
+some-read None = omega arith
+some-read (Some n) = some-number (nat_lt n 1) n refl
+
+some-values : (values : List (List ℕ)) → 1 ≤ unwrap_or (number_from 1 values) 1
+some-values [] = omega arith
+some-values (first ∷ []) = some-read (number_in first)
+some-values (first ∷ second ∷ values) = omega arith
+
+some-argument : (argument : Option ArgumentText) → 1 ≤ unwrap_or (option_and_then (λ argument. number_from 1 argument.values) argument) 1
+some-argument None = omega arith
+some-argument (Some argument) = some-values argument.values
+
+pub steps-some : (ps : Option (List Parameter)) (arguments : List ArgumentText) (values : Values) → read_arguments ps arguments ≡ Ok values → 1 ≤ values.steps
+steps-some None arguments values e =
+    let same : values_in [] ≡ values = cc in let AtLeastOne : Values → Type 0 = λ v. 1 ≤ v.steps in subst AtLeastOne same (omega arith)
+steps-some (Some ps) arguments values e = at (bad_argument ps arguments) (missing_argument ps arguments) e where
+  at : (bad : Option (List ℕ)) (missing : Option Parameter) → values_read bad missing (values_in arguments) ≡ Ok values → 1 ≤ values.steps
+  at (Some key) missing e = cc
+  at None (Some parameter) e = cc
+  at None None e =
+      let same : values_in arguments ≡ values = cc in let AtLeastOne : Values → Type 0 = λ v. 1 ≤ v.steps in subst AtLeastOne same (some-argument (argument_of Steps arguments))

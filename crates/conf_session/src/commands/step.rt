@@ -1,0 +1,30 @@
+//! The commands that take a step.
+ghost use Rattle.std.specs.Prelude.{◌≡◌, IfOk};
+ghost use Rattle.conf_change.specs.Transition.{step_of};
+ghost use Rattle.conf_session.specs.Reply.{reply_in};
+ghost use Rattle.conf_session.specs.Commands as says;
+
+use crate::effect::Effect;
+use crate::reply::Reply;
+use crate::reply_texts::{refused_line, tracker_lines};
+use crate::session_ids::SessionIds;
+use conf_change::{Change, Changer, Refused, StepKind};
+use quorum_sets::NoMemory;
+use std::alloc::Global;
+
+/// Writes the next changer, and prints it, or prints why the step is refused.
+pub(super) fn run(
+    alloc: Global,
+    changer: &Changer<SessionIds>,
+    next: &mut Changer<SessionIds>,
+    kind: StepKind,
+    changes: &[Change],
+) -> Result<Reply, NoMemory>
+    ensures { IfOk result (λ reply. reply_in changer.now next.new reply ≡ says.on_step changer.now (step_of kind changes.now)) }
+{
+    match next.become_next(changer, kind, changes) {
+        Ok(()) => Ok(Reply::new(tracker_lines(alloc, next.tracker())?, Effect::Stepped)),
+        Err(Refused::NoMemory) => Err(NoMemory),
+        Err(refused) => Ok(Reply::of_text(refused_line(alloc, refused)?)),
+    }
+}

@@ -1,0 +1,186 @@
+//! What the arguments of a directive are read as.
+ghost use Rattle.std.specs.Prelude.{◌≡◌, true, ◌++◌, filter_map, is_some, option_map, unwrap_or, Ok, Err, IfOk, MatchResult};
+ghost use Rattle.conf_session.specs.Parameter.{allows, all_read, id_in};
+ghost use Rattle.conf_session.specs.Values as says;
+
+use crate::arguments::{has_key, missing_argument, parameter_of};
+use crate::parameter::{Listed, Parameter, flag_in, has_only, number_from, transition_in};
+use crate::reply_texts::line_of;
+use conf_change::Transition;
+use dd_file::item::Argument;
+use quorum_sets::NoMemory;
+use std::alloc::Global;
+use std::marker::Model;
+
+/// What each argument says; an argument that is left out says what it usually does.
+#[derive(Drop)]
+pub(crate) struct Values {
+    /// False where it is left out.
+    pub(crate) auto_leave: bool,
+    /// Auto where it is left out.
+    pub(crate) transition: Transition,
+    /// From 1, which it is where it is left out.
+    pub(crate) steps: u64,
+    pub(crate) id: u64,
+    pub(crate) index: u64,
+    /// The ids of `cfg`.
+    pub(crate) incoming: Vec<u64>,
+    /// The ids of `cfgj`.
+    pub(crate) outgoing: Vec<u64>,
+    pub(crate) indexes: Vec<Option<u64>>,
+    pub(crate) votes: Vec<Option<bool>>,
+}
+
+impl Model for Values {
+    ghost use Rattle.conf_session.specs.Values as says;
+
+    ghost Value = { says.Values };
+
+    ghost view = { λ v. record {
+      auto_leave = v.auto_leave;
+      transition = v.transition;
+      steps = v.steps;
+      id = v.id;
+      index = v.index;
+      incoming = v.incoming.items;
+      outgoing = v.outgoing.items;
+      indexes = v.indexes.items;
+      votes = v.votes.items;
+    } };
+}
+
+/// Reads the arguments of a command that has these parameters, or gives the line that reports a fault: the first bad
+/// argument, or else the first that is missing. Without parameters they are not looked at.
+pub(crate) fn read_arguments(
+    alloc: Global,
+    parameters: Option<&[Parameter]>,
+    arguments: &[Argument],
+) -> Result<Result<Values, Vec<u8>>, NoMemory>
+    ensures { IfOk result (λ read. MatchResult read (λ values. says.read_arguments (option_map (λ p. p.now) parameters.entry) arguments.now ≡ Ok values)
+        (λ found. says.read_arguments (option_map (λ p. p.now) parameters.entry) arguments.now ≡ Err found.items)) }
+{
+    let mut values = Values::new(alloc);
+    let Some(parameters) = parameters else {
+        return Ok(Ok(values));
+    };
+    if let Some(key) = values.read(parameters, arguments)? {
+        return Ok(Err(line_of(alloc, b"bad argument: ", key)?));
+    }
+    if let Some(parameter) = missing_argument(parameters, arguments) {
+        return Ok(Err(line_of(alloc, b"missing argument: ", parameter.key())?));
+    }
+    Ok(Ok(values))
+}
+
+impl Values {
+    ghost use Rattle.std.specs.Prelude.{◌≡◌, true, [], None, option_map, IfOk};
+    ghost use Rattle.conf_session.specs.Arguments.{bad_argument, is_allowed};
+    ghost use Rattle.conf_session.specs.Parameter.{allows};
+    ghost use Rattle.conf_session.specs.Values as says;
+
+    // Nothing is said.
+    fn new(alloc: Global) -> Values
+        ensures { result ≡ says.values_in [] }
+    {
+        Values {
+            auto_leave: false,
+            transition: Transition::Auto,
+            steps: 1,
+            id: 0,
+            index: 0,
+            incoming: Vec::new(alloc),
+            outgoing: Vec::new(alloc),
+            indexes: Vec::new(alloc),
+            votes: Vec::new(alloc),
+        }
+    }
+
+    // Reads the arguments, and gives the key of the first that is bad, if there is one: it is none of these with values that
+    // it may have, or its key came before.
+    fn read<'a>(
+        &mut self,
+        parameters: &[Parameter],
+        arguments: &'a [Argument],
+    ) -> Result<Option<&'a [u8]>, NoMemory>
+        requires { self.old ≡ says.values_in [] }
+        ensures bad { IfOk result (λ bad. option_map (λ key. key.now) bad ≡ bad_argument parameters.now arguments.now) }
+        ensures values { IfOk result (λ bad. bad ≡ None → self.new ≡ says.values_in arguments.now) }
+    {
+        for (place, argument) in arguments.iter().enumerate() {
+            if has_key(&arguments[..place], argument.key()) || !self.take(parameters, argument)? {
+                return Ok(Some(argument.key()));
+            }
+        }
+        Ok(None)
+    }
+
+    // Reads an argument, and returns whether it is one of these with values that it may have.
+    fn take(&mut self, parameters: &[Parameter], argument: &Argument) -> Result<bool, NoMemory>
+        ensures allowed { IfOk result (λ good. good ≡ is_allowed parameters.now argument.now) }
+        ensures values { IfOk result (λ good. good ≡ true → says.HasMore self.old parameters.now argument.now self.new) }
+    {
+        match parameter_of(parameters, argument) {
+            Some(parameter) => self.put(*parameter, argument),
+            None => Ok(false),
+        }
+    }
+
+    // Reads the values of an argument, and returns whether it may have them.
+    fn put(&mut self, parameter: Parameter, argument: &Argument) -> Result<bool, NoMemory>
+        ensures allowed { IfOk result (λ good. good ≡ allows parameter argument.now.values) }
+        ensures values { IfOk result (λ good. good ≡ true → self.new ≡ says.with_more self.old parameter argument.now.values) }
+    {
+        match parameter {
+            Parameter::AutoLeave => Ok(set(&mut self.auto_leave, flag_in(argument))),
+            Parameter::Transition => Ok(set(&mut self.transition, transition_in(argument))),
+            Parameter::Steps => Ok(set(&mut self.steps, number_from(1, argument))),
+            Parameter::Id => Ok(set(&mut self.id, number_from(1, argument))),
+            Parameter::Index => Ok(set(&mut self.index, number_from(0, argument))),
+            Parameter::Incoming => read_list(&mut self.incoming, argument),
+            Parameter::Outgoing => read_list_or_zero(&mut self.outgoing, argument),
+            Parameter::Indexes => read_list(&mut self.indexes, argument),
+            Parameter::Votes => read_list(&mut self.votes, argument),
+        }
+    }
+}
+
+// Sets what was read, and returns whether it was.
+fn set<T: Copy + Drop>(slot: &mut T, read: Option<T>) -> bool
+    ensures read { result ≡ is_some read }
+    ensures set { slot.new ≡ unwrap_or read slot.old }
+{
+    match read {
+        Some(value) => {
+            *slot = value;
+            true
+        }
+        None => false,
+    }
+}
+
+// Reads a list of ids, and returns whether each value is one; `zero` is an empty list.
+fn read_list_or_zero(list: &mut Vec<u64>, argument: &Argument) -> Result<bool, NoMemory>
+    ensures all { IfOk result (λ all. all ≡ allows Parameter.Outgoing argument.now.values) }
+    ensures list { IfOk result (λ all. all ≡ true → list.new.items ≡ list.old.items ++ filter_map id_in argument.now.values) }
+{
+    if has_only(argument, b"zero") {
+        Ok(true)
+    } else {
+        read_list(list, argument)
+    }
+}
+
+// Reads the values of a list after the others, and returns whether each of them can be read.
+fn read_list<T: Listed>(list: &mut Vec<T>, argument: &Argument) -> Result<bool, NoMemory>
+    ensures all { IfOk result (λ all. all ≡ all_read T.reads argument.now.values) }
+    ensures list { IfOk result (λ all. all ≡ true → list.new.items ≡ list.old.items ++ filter_map T.reads argument.now.values) }
+{
+    let mut values = argument.values();
+    while let Some(value) = values.next() {
+        let Some(one) = T::read(value) else {
+            return Ok(false);
+        };
+        list.push(one)?;
+    }
+    Ok(true)
+}
