@@ -1,6 +1,6 @@
 -- How the texts of replies grow, and that what is found can stand.
 use Rattle.std.proofs.Common.{◌≡◌, ℕ, zero, suc, ◌+◌, List, [], ◌∷◌, ◌++◌, take, sym, ap, ◌∙◌, subst, add-one}
-use Rattle.std.specs.Prelude.{Option, Some, None, unwrap_or, Result, Ok, Err, IfOk, OnOk, flat_map, slice_get}
+use Rattle.std.specs.Prelude.{Some, Result, Ok, Err, IfOk, OnOk, flat_map, slice_get}
 use Rattle.std.proofs.lemmas.List.{append_assoc, append-nil}
 use Rattle.conf_change.specs.Configuration.{Configuration}
 use Rattle.conf_change.specs.ChangerState.{ChangerState}

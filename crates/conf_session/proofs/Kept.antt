@@ -1,6 +1,6 @@
 -- The configurations that a session keeps, and that an answer keeps what holds of every session.
 use Rattle.std.proofs.Common.{◌≡◌, ℕ, zero, suc, ◌-◌, ◌≤◌, Bool, true, false, cond, List, [], ◌∷◌, ◌++◌, length, take, drop, refl, sym, ap, ◌∙◌, subst, arith}
-use Rattle.std.specs.Prelude.{◌↔◌, Option, Some, None, option_map, unwrap_or, Result, Ok, Err, ⊤, codes, slice_get, nat_lt, option_and_then}
+use Rattle.std.specs.Prelude.{◌↔◌, Option, Some, None, unwrap_or, Result, Ok, Err, ⊤, slice_get}
 use Rattle.std.proofs.lemmas.List.{length-append, length-take, length-drop}
 use Rattle.dd_file.specs.DirectiveText.{DirectiveText}
 use Rattle.dd_file.specs.Words.{ArgumentText}
@@ -26,6 +26,7 @@ use Rattle.conf_session.specs.Values.{Values, read_arguments}
 use Rattle.conf_session.specs.Reply.{Reply}
 use Rattle.conf_session.specs.Undo.{IsEarlier, LeadsBack, plan_back, undo_plan_of, undone_changer}
 use Rattle.conf_session.specs.Commands.{Row, row_of, after_step, after_restored, after_planned, undo_last, after_ack, if_read, reply_of, reply_by, answer, after_answers}
+use Rattle.conf_session.specs.declared.undo_fault.UndoFault.{UndoFault}
 use Rattle.conf_session.specs.declared.undo_fault.UndoFault.TheVariants.{NoVoterTarget}
 use Rattle.conf_session.specs.declared.commands.Command.{Command}
 use Rattle.conf_session.specs.declared.commands.Command.TheVariants.{Simple, EnterJoint, LeaveJoint, ConfChange, ConfState, Restore, Undo, Ack, CommitIndex, Committed, Vote, Unknown}

@@ -1,6 +1,6 @@
 -- What one more argument adds to the values that are read.
 use Rattle.std.proofs.Common.{◌≡◌, ℕ, ◌+◌, ◌≤◌, take, drop, Bool, true, false, cond, List, [], ◌∷◌, ◌++◌, filter_map, refl, sym, ap, ◌∙◌, subst, arith}
-use Rattle.std.specs.Prelude.{◌||◌, Option, Some, None, option_map, option_and_then, unwrap_or, IsSomeAnd, Result, Ok, Err, bytes_eq, slice_get, nat_lt}
+use Rattle.std.specs.Prelude.{◌||◌, Option, Some, None, option_map, option_and_then, unwrap_or, IsSomeAnd, Ok, bytes_eq, slice_get, nat_lt}
 use Rattle.std.specs.Option.{option_or}
 use Rattle.std.specs.List.{find, list_any}
 use Rattle.std.proofs.lemmas.Bool.Decides.{nat_tests}

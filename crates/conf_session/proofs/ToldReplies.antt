@@ -10,8 +10,8 @@ use Rattle.quorum_sets.specs.Votes.{joint_vote_result}
 use Rattle.dd_file.specs.DirectiveText.{DirectiveText}
 use Rattle.dd_file.specs.Words.{ArgumentText, is_key, is_key_byte}
 use Rattle.conf_change.specs.ChangerState.{ChangerState}
-use Rattle.conf_change.specs.Acknowledgement.{ack_answer, matches}
-use Rattle.conf_change.specs.Configuration.{Configuration, voters_of}
+use Rattle.conf_change.specs.Acknowledgement.{ack_answer}
+use Rattle.conf_change.specs.Configuration.{Configuration}
 use Rattle.ascii_text.specs.WhiteSpace.{is_space}
 use Rattle.ascii_text.specs.Words.{has_bytes, words}
 use Rattle.conf_change.specs.ChangeList.{BadToken, unknown_token, unknown_input, bad_number, token_of, IsFirstBad, changes_in}

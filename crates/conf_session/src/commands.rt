@@ -93,9 +93,17 @@ fn row_of(name: &[u8]) -> Row
     } else if name == b"commit-index".as_slice() {
         Row::new(Command::CommitIndex, InputKind::Nothing, Some(&[]))
     } else if name == b"committed".as_slice() {
-        Row::new(Command::Committed, InputKind::Nothing, Some(&[Parameter::Incoming, Parameter::Outgoing, Parameter::Indexes]))
+        Row::new(
+            Command::Committed,
+            InputKind::Nothing,
+            Some(&[Parameter::Incoming, Parameter::Outgoing, Parameter::Indexes]),
+        )
     } else if name == b"vote".as_slice() {
-        Row::new(Command::Vote, InputKind::Nothing, Some(&[Parameter::Incoming, Parameter::Outgoing, Parameter::Votes]))
+        Row::new(
+            Command::Vote,
+            InputKind::Nothing,
+            Some(&[Parameter::Incoming, Parameter::Outgoing, Parameter::Votes]),
+        )
     } else {
         Row::new(Command::Unknown, InputKind::Changes, None)
     }

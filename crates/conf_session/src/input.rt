@@ -66,10 +66,7 @@ fn of_changes(alloc: Global, changes: Vec<Change>) -> Input
     Input { changes, saved }
 }
 
-fn read_change_list(
-    alloc: Global,
-    text: &[u8],
-) -> Result<Result<Input, Vec<u8>>, NoMemory>
+fn read_change_list(alloc: Global, text: &[u8]) -> Result<Result<Input, Vec<u8>>, NoMemory>
     ensures { IfOk result (λ read. MatchResult read (λ input. says.read_input InputKind.Changes text.now ≡ Ok input) (λ found. says.read_input InputKind.Changes text.now ≡ Err found.items)) }
 {
     match read_changes(alloc, text) {
@@ -79,10 +76,7 @@ fn read_change_list(
     }
 }
 
-fn read_no_change(
-    alloc: Global,
-    text: &[u8],
-) -> Result<Result<Input, Vec<u8>>, NoMemory>
+fn read_no_change(alloc: Global, text: &[u8]) -> Result<Result<Input, Vec<u8>>, NoMemory>
     ensures { IfOk result (λ read. MatchResult read (λ input. says.read_input InputKind.NoChange text.now ≡ Ok input) (λ found. says.read_input InputKind.NoChange text.now ≡ Err found.items)) }
 {
     match read_changes(alloc, text) {

@@ -1,5 +1,5 @@
-use Rattle.std.proofs.Common.{sym, ap, ◌∙◌, List, ℕ}
-use Rattle.conf_session.specs.Reply.{Reply, reply_in, replied}
+use Rattle.std.proofs.Common.{sym, ap, ◌∙◌}
+use Rattle.conf_session.specs.Reply.{reply_in, replied}
 use Rattle.conf_session.specs.Commands.{after_planned}
 use Rattle.conf_session.proofs.commands.undo.run.Goals as goal
 
