@@ -78,7 +78,9 @@ enum confscript_status {
     /* confscript_committed and _vote: there are more or fewer values than ids. */
     CONFSCRIPT_DIFFERENT_LENGTHS = 21,
     /* confscript_vote: a byte is neither 0 nor 1. */
-    CONFSCRIPT_BAD_VOTE = 22
+    CONFSCRIPT_BAD_VOTE = 22,
+    /* confscript_may_be_down: the voters are no quorum even with none down. */
+    CONFSCRIPT_NO_QUORUM = 23
 };
 
 /* The number of confscript_vote, if it is done. */
@@ -145,6 +147,14 @@ struct confscript_answer confscript_committed(const uint64_t *incoming, size_t i
 struct confscript_answer confscript_vote(const uint64_t *incoming, size_t incoming_len, const uint64_t *outgoing,
                                          size_t outgoing_len, const uint64_t *ids, size_t ids_len, const uint8_t *votes,
                                          size_t votes_len);
+
+/*
+ * Returns how many ids may be down, whichever they are, while the other voters in `incoming`, and in `outgoing` if there are
+ * any, are a quorum. The ids in `uncounted`, as those of members whose logs are still empty, are no help to a quorum, whether
+ * they are down or not. The number is the greatest such count.
+ */
+struct confscript_answer confscript_may_be_down(const uint64_t *incoming, size_t incoming_len, const uint64_t *outgoing,
+                                                size_t outgoing_len, const uint64_t *uncounted, size_t uncounted_len);
 
 #ifdef __cplusplus
 }

@@ -85,6 +85,10 @@ static struct confscript_answer vote(void) {
     return confscript_vote(incoming, incoming_len, outgoing, outgoing_len, ids, ids_len, votes, values_len);
 }
 
+static struct confscript_answer may_be_down(void) {
+    return confscript_may_be_down(incoming, incoming_len, outgoing, outgoing_len, ids, ids_len);
+}
+
 static uint32_t code;
 static struct confscript_answer status_text(void) { return confscript_status_text(code, out, room); }
 
@@ -120,7 +124,8 @@ static void texts(void) {
         "can't leave a non-joint config", "can't apply simple config change in joint config", "removed all voters",
         "more than one voter changed without entering joint config", "the id 0", "a next learner is not an outgoing voter",
         "a next learner is an incoming voter", "a learner is a voter", "next learners without outgoing voters",
-        "auto-leave without outgoing voters", "not as many values as ids", "a vote is neither 0 nor 1", "unknown status"};
+        "auto-leave without outgoing voters", "not as many values as ids", "a vote is neither 0 nor 1", "the voters are no quorum",
+        "unknown status"};
     room = ROOM;
     for (code = 0; code < sizeof words / sizeof *words; code++)
         expect(words[code], status_text, CONFSCRIPT_DONE, strlen(words[code]), words[code]);
@@ -261,6 +266,22 @@ static void quorums(void) {
     SET(ids, 2, 2);
     values_len = 2;
     expect("vote: an id twice", vote, CONFSCRIPT_REPEATED_ID, 0, "");
+
+    SET(incoming, 1, 2, 3);
+    outgoing_len = ids_len = 0;
+    expect("may be down: one of three", may_be_down, CONFSCRIPT_DONE, 1, "");
+    SET(ids, 3, 9);
+    expect("may be down: two of three count", may_be_down, CONFSCRIPT_DONE, 0, "");
+    SET(ids, 3, 1);
+    expect("may be down: one of three counts", may_be_down, CONFSCRIPT_NO_QUORUM, 0, "");
+    SET(incoming, 1, 2, 3, 4, 5);
+    SET(outgoing, 1, 2, 3);
+    ids_len = 0;
+    expect("may be down: the weaker of both", may_be_down, CONFSCRIPT_DONE, 1, "");
+    SET(ids, 2);
+    expect("may be down: the weaker, where one does not count", may_be_down, CONFSCRIPT_DONE, 0, "");
+    incoming_len = 0;
+    expect("may be down: nobody votes", may_be_down, CONFSCRIPT_NO_QUORUM, 0, "");
 }
 
 /* Plans from each line to each other, and applies the plan: the other line comes out. */

@@ -93,6 +93,13 @@ func Vote(incoming, outgoing []uint64, votes map[uint64]bool) (VoteResult, error
 	return VoteResult(result), err
 }
 
+// MayBeDown returns how many ids may be down, whichever they are, while the other voters are a quorum without the
+// uncounted ones. They are no quorum even with none down if the error is a Refused with the status 23.
+func MayBeDown(incoming, outgoing, uncounted []uint64) (uint64, error) {
+	return number(C.confscript_may_be_down(first(incoming), C.size_t(len(incoming)), first(outgoing), C.size_t(len(outgoing)),
+		first(uncounted), C.size_t(len(uncounted))))
+}
+
 // Version returns the version of the library: 10,000 for each major one, 100 for each minor one, and the patch.
 func Version() uint32 {
 	return uint32(C.confscript_version())

@@ -68,6 +68,15 @@ func TestQuorums(t *testing.T) {
 	}
 }
 
+func TestMayBeDown(t *testing.T) {
+	if count, err := MayBeDown([]uint64{1, 2, 3}, nil, nil); err != nil || count != 1 {
+		t.Errorf("MayBeDown: %d, %v", count, err)
+	}
+	if _, err := MayBeDown(nil, nil, nil); err == nil || err.Error() != "the voters are no quorum" {
+		t.Errorf("MayBeDown: %v", err)
+	}
+}
+
 func TestVersion(t *testing.T) {
 	if Version() != 100 {
 		t.Error(Version())

@@ -12,9 +12,9 @@ import ctypes
 import os
 from enum import IntEnum
 
-__all__ = ["Refused", "Vote", "apply", "check", "committed", "plan", "version", "vote"]
+__all__ = ["Refused", "Vote", "apply", "check", "committed", "may_be_down", "plan", "version", "vote"]
 
-DONE, TOO_SMALL, NO_MEMORY = 0, 1, 2
+DONE, TOO_SMALL, NO_MEMORY, NO_QUORUM = 0, 1, 2, 23
 
 
 class Refused(Exception):
@@ -46,6 +46,7 @@ for _name, _types in {
     "check": _BYTES,
     "committed": _IDS * 4,
     "vote": _IDS * 3 + _BYTES,
+    "may_be_down": _IDS * 3,
     "status_text": (ctypes.c_uint32, *_OUT),
 }.items():
     _call = getattr(_library, f"confscript_{_name}")
@@ -109,6 +110,13 @@ def vote(incoming, outgoing, votes):
     """Returns the result of a vote of a voter set, or of a joint pair; `votes` has True or False of each id that has voted."""
     said = bytes(bool(it) for it in votes.values())
     return Vote(_number(_library.confscript_vote(*_ids([*incoming]), *_ids([*outgoing]), *_ids([*votes]), *_bytes(said))))
+
+
+def may_be_down(incoming, outgoing, uncounted=()):
+    """Returns how many ids may be down, whichever they are, while the other voters are a quorum without the uncounted ones; None if they are
+    no quorum even with none down."""
+    answer = _library.confscript_may_be_down(*_ids([*incoming]), *_ids([*outgoing]), *_ids([*uncounted]))
+    return None if answer.status == NO_QUORUM else _number(answer)
 
 
 def version():

@@ -37,6 +37,11 @@ class Calls(unittest.TestCase):
         self.assertEqual(confscript.vote([1, 2, 3], [], {1: False, 2: False}), confscript.Vote.LOST)
         self.assertEqual(confscript.vote([1, 2, 3], [], {}), confscript.Vote.PENDING)
 
+    def test_may_be_down(self):
+        self.assertEqual(confscript.may_be_down([1, 2, 3], []), 1)
+        self.assertEqual(confscript.may_be_down([1, 2, 3], [], [3]), 0)
+        self.assertIsNone(confscript.may_be_down([], []))
+
     def test_version(self):
         self.assertEqual(confscript.version(), (0, 1, 0))
 

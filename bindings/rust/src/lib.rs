@@ -23,6 +23,9 @@ extern "C" {
         incoming: *const u64, incoming_len: usize, outgoing: *const u64, outgoing_len: usize, ids: *const u64, ids_len: usize,
         votes: *const u8, votes_len: usize,
     ) -> Answer;
+    fn confscript_may_be_down(
+        incoming: *const u64, incoming_len: usize, outgoing: *const u64, outgoing_len: usize, uncounted: *const u64, uncounted_len: usize,
+    ) -> Answer;
 }
 
 const DONE: u32 = 0;
@@ -48,6 +51,7 @@ pub enum Error {
     Broken(u32),
     DifferentLengths,
     BadVote,
+    NoQuorum,
 }
 
 impl Error {
@@ -62,6 +66,7 @@ impl Error {
             (8, _) => Error::TooManySteps,
             (21, _) => Error::DifferentLengths,
             (22, _) => Error::BadVote,
+            (23, _) => Error::NoQuorum,
             (status @ 9..=14, number) => Error::Step(status, number),
             (status, _) => Error::Broken(status),
         }
@@ -80,6 +85,7 @@ impl Error {
             Error::Step(status, _) | Error::Broken(status) => status,
             Error::DifferentLengths => 21,
             Error::BadVote => 22,
+            Error::NoQuorum => 23,
         }
     }
 }
@@ -166,6 +172,15 @@ pub fn vote(incoming: &[u64], outgoing: &[u64], votes: &[(u64, bool)]) -> Result
         0 => VoteResult::Pending,
         1 => VoteResult::Lost,
         _ => VoteResult::Won,
+    })
+}
+
+/// How many ids may be down, whichever they are, while the other voters are a quorum without the uncounted ones; `Error::NoQuorum` if they
+/// are none even with none down.
+pub fn may_be_down(incoming: &[u64], outgoing: &[u64], uncounted: &[u64]) -> Result<u64, Error> {
+    // SAFETY: as in `committed`.
+    number(unsafe {
+        confscript_may_be_down(incoming.as_ptr(), incoming.len(), outgoing.as_ptr(), outgoing.len(), uncounted.as_ptr(), uncounted.len())
     })
 }
 

@@ -1,5 +1,5 @@
 //! The calls of the binding, as a Rust program meets them.
-use confscript::{apply, check, committed, plan, version, vote, Error, VoteResult};
+use confscript::{apply, check, committed, may_be_down, plan, version, vote, Error, VoteResult};
 
 const NOW: &str = "Voters:[1 2 3] VotersOutgoing:[] Learners:[] LearnersNext:[] AutoLeave:false";
 const TARGET: &str = "Voters:[2 3 5] VotersOutgoing:[] Learners:[] LearnersNext:[] AutoLeave:false";
@@ -38,6 +38,8 @@ fn counts() {
     assert_eq!(vote(&[1, 2, 3], &[], &[(1, true), (2, true)]), Ok(VoteResult::Won));
     assert_eq!(vote(&[1, 2, 3], &[], &[(1, false), (2, false)]), Ok(VoteResult::Lost));
     assert_eq!(vote(&[1, 2, 3], &[], &[]), Ok(VoteResult::Pending));
+    assert_eq!(may_be_down(&[1, 2, 3], &[], &[]), Ok(1));
+    assert_eq!(may_be_down(&[], &[], &[]), Err(Error::NoQuorum));
 }
 
 #[test]

@@ -1,18 +1,19 @@
 -- What is committed and how a vote stands, where ids and what is known of each come as two lists.
-use Rattle.std.specs.Prelude.{ℕ, Bool, not, ◌==◌, ◌||◌, List, length, map, nat_eq, if◌then◌else◌}
+use Rattle.std.specs.Prelude.{ℕ, Bool, not, ◌==◌, ◌||◌, List, length, map, nat_eq, Option, Some, None, if◌then◌else◌}
 use Rattle.std.specs.List.{zip, list_all}
 use Rattle.std.specs.Ordering.{nat_cmp}
 use Rattle.std.specs.FinMap as finite
 use Rattle.quorum_sets.specs.Ids.{ids_of}
 use Rattle.quorum_sets.specs.Voters.{Voters, pair}
 use Rattle.quorum_sets.specs.Committed.{joint_committed_index}
+use Rattle.quorum_sets.specs.Tolerance.{may_be_down}
 use Rattle.quorum_sets.specs.Votes.{joint_vote_result}
 use Rattle.quorum_sets.specs.declared.voting.VoteResult.{VoteResult}
 use Rattle.quorum_sets.specs.declared.voting.VoteResult.TheVariants.{VotePending, VoteLost, VoteWon}
 use Rattle.conf_change.specs.ConfState.{names_once}
 use Rattle.confscript_c.specs.Answer.{answer, done}
 use Rattle.confscript_c.specs.declared.answer.Answer.{Answer}
-use Rattle.confscript_c.specs.declared.status.Status.TheVariants.{RepeatedId, DifferentLengths, BadVote}
+use Rattle.confscript_c.specs.declared.status.Status.TheVariants.{RepeatedId, DifferentLengths, BadVote, NoQuorum}
 
 -- the voters of two lists, each id counting once
 abbrev pub voters_named : List ℕ → List ℕ → Voters
@@ -51,3 +52,12 @@ vote_told incoming outgoing ids votes =
     of_each ids votes
     (if not (list_all is_vote votes) then answer BadVote 0
     else done (vote_number (joint_vote_result (voters_named incoming outgoing) (known ids (map is_yes votes)))))
+
+-- how many ids may be down, or that the voters are no quorum even with none down
+abbrev pub count_told : Option ℕ → Answer
+count_told (Some count) = done count
+count_told None = answer NoQuorum 0
+
+-- how many ids may be down while the voters of a pair of sets, without the uncounted ones, are a quorum
+abbrev pub may_be_down_told : List ℕ → List ℕ → List ℕ → Answer
+may_be_down_told incoming outgoing uncounted = count_told (may_be_down (voters_named incoming outgoing) (ids_of uncounted))

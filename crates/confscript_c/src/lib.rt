@@ -16,6 +16,6 @@ pub use answer::Answer;
 pub use applying::confscript_apply;
 pub use checking::confscript_check;
 pub use planning::confscript_plan;
-pub use quorums::{confscript_committed, confscript_vote};
+pub use quorums::{confscript_committed, confscript_may_be_down, confscript_vote};
 pub use status::confscript_status_text;
 pub use version::confscript_version;

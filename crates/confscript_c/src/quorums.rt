@@ -8,11 +8,13 @@ ghost use Rattle.quorum_sets.specs.Votes.{joint_vote_result};
 ghost use Rattle.conf_change.specs.ConfState.{names_once};
 ghost use Rattle.confscript_c.specs.Answer.{no_memory};
 ghost use Rattle.confscript_c.specs.Quorums as says;
-ghost use Rattle.confscript_c.specs.Quorums.{committed_told, vote_told, voters_named, is_vote, is_yes};
+ghost use Rattle.confscript_c.specs.Quorums.{committed_told, vote_told, may_be_down_told, voters_named, is_vote, is_yes};
 
 use crate::answer::Answer;
 use crate::status::Status;
-use quorum_sets::{InlineIds, MemberSet, NoMemory, VoteResult, joint_committed, joint_vote};
+use quorum_sets::{
+    InlineIds, MemberSet, NoMemory, VoteResult, joint_committed, joint_vote, may_be_down,
+};
 use std::alloc::Global;
 use std::collections::BTreeMap;
 
@@ -120,6 +122,43 @@ fn result_of(
     let outgoing = InlineIds::of_list(alloc, outgoing)?;
     let votes = known(alloc, ids, said)?;
     Ok(joint_vote(&incoming, &outgoing, &votes))
+}
+
+/// The greatest number of ids that may be down, whichever they are, while the other voters of a pair of sets, or of one set
+/// where `outgoing` is empty, are a quorum without the uncounted ids.
+#[unsafe(no_mangle)]
+pub extern "C" fn confscript_may_be_down(
+    alloc: Global,
+    incoming: &[u64],
+    outgoing: &[u64],
+    uncounted: &[u64],
+) -> Answer
+    ensures { (result ≡ no_memory) ⊎ (result ≡ may_be_down_told incoming.now outgoing.now uncounted.now) }
+{
+    may_be_down_answer(alloc, incoming, outgoing, uncounted).unwrap_or(Answer::no_memory())
+}
+
+fn may_be_down_answer(
+    alloc: Global,
+    incoming: &[u64],
+    outgoing: &[u64],
+    uncounted: &[u64],
+) -> Result<Answer, NoMemory>
+    ensures { IfOk result (λ told. told ≡ may_be_down_told incoming.now outgoing.now uncounted.now) }
+{
+    let incoming = InlineIds::of_list(alloc, incoming)?;
+    let outgoing = InlineIds::of_list(alloc, outgoing)?;
+    let uncounted = InlineIds::of_list(alloc, uncounted)?;
+    Ok(count_answer(may_be_down((&incoming, &outgoing), &uncounted)))
+}
+
+fn count_answer(count: Option<usize>) -> Answer
+    ensures { result ≡ says.count_told count }
+{
+    match count {
+        Some(count) => Answer::done(count as u64),
+        None => Answer::new(Status::NoQuorum, 0),
+    }
 }
 
 // Whether each byte is a vote.

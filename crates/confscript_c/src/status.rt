@@ -32,6 +32,7 @@ pub enum Status {
     NotJointButAutoLeave = 20,
     DifferentLengths = 21,
     BadVote = 22,
+    NoQuorum = 23,
 }
 
 impl Status {
@@ -70,6 +71,7 @@ impl Status {
             Status::NotJointButAutoLeave => "auto-leave without outgoing voters",
             Status::DifferentLengths => "not as many values as ids",
             Status::BadVote => "a vote is neither 0 nor 1",
+            Status::NoQuorum => "the voters are no quorum",
         }
     }
 }
@@ -110,6 +112,7 @@ fn text_of_code(code: u32) -> &'static str
         20 => Status::NotJointButAutoLeave.text(),
         21 => Status::DifferentLengths.text(),
         22 => Status::BadVote.text(),
+        23 => Status::NoQuorum.text(),
         _ => "unknown status",
     }
 }
