@@ -188,8 +188,8 @@ pub(crate) fn plan_of(alloc: Global, text: &str) -> Result<Plan, PlanTextFault> 
     )
 }
 
-// Whether a path has the steps of a plan.
-fn has_steps(path: &Path, wanted: &Plan) -> bool {
+/// Whether a path has the steps of a plan.
+pub(crate) fn has_steps(path: &Path, wanted: &Plan) -> bool {
     let mut is_so = path.len() == wanted.len();
     for index in 0..path.len() {
         is_so &= path.step(index) == wanted.step(index);

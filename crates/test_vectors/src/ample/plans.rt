@@ -1,9 +1,16 @@
-//! Plans as they are applied, and their texts.
+//! Plans as they are applied, and their texts; paths by each strategy.
+ghost use Rattle.std.specs.Prelude.{◌≡◌, true};
+ghost use Rattle.conf_change.specs.Configuration.{is_valid};
+
 use crate::ample::configurations::{Sets, config_of};
 use crate::ample::runtime::Runtime;
-use conf_change::{Change, Changer, Kind, Refused};
-use conf_plan::{Plan, StepRefused, apply_plan, print_plan, read_plan};
-use quorum_sets::TreeIds;
+use crate::ample::sets_and_quorums::set_of;
+use crate::plans::has_steps;
+use conf_change::{Change, Changer, Config, Kind, Refused, check};
+use conf_plan::{
+    NoPath, Plan, StepRefused, Strategy, apply_plan, catching_up, plan_by, print_plan, read_plan,
+};
+use quorum_sets::{TreeIds, symdiff};
 
 fn plan_of(rt: &impl Runtime, text: &str) -> Plan {
     read_plan(rt.alloc(), text.as_bytes()).expect(rt, "a plan")
@@ -86,5 +93,148 @@ fn prints_what_it_reads(rt: HostRuntime) {
         let plan = plan_of(&rt, *text);
         assert!(rt; is_printed(&rt, &plan, *wanted), "row {place}");
         assert!(rt; is_told_apart(&rt, place, &plan), "row {place}");
+    }
+}
+
+const FIVE: Sets = [&[1, 2, 3, 4, 5], &[], &[], &[]];
+
+const TWO_OF_FIVE_REPLACED: Sets = [&[3, 4, 5, 6, 7], &[], &[], &[]];
+
+// A strategy, the current configuration, the target, and the text of the path.
+static PATHS: [(Strategy, Sets, Sets, &str); 7] = [
+    (Strategy::Shortest, FIVE, FIVE, "nothing to do\n"),
+    (
+        Strategy::Shortest,
+        FIVE,
+        TWO_OF_FIVE_REPLACED,
+        "enter-joint autoleave=false r1 r2 v6 v7\nleave-joint\n",
+    ),
+    (Strategy::LearnersFirst, FIVE, FIVE, "nothing to do\n"),
+    (
+        Strategy::LearnersFirst,
+        FIVE,
+        TWO_OF_FIVE_REPLACED,
+        "simple l6 l7\nenter-joint autoleave=false r1 r2 v6 v7\nleave-joint\n",
+    ),
+    (
+        Strategy::LearnersFirst,
+        TWO_OF_FIVE_REPLACED,
+        [&[3, 4, 5, 6], &[], &[7], &[]],
+        "simple l7\n",
+    ),
+    (
+        Strategy::LearnersFirst,
+        [&[1], &[2], &[], &[]],
+        [&[4], &[1], &[], &[]],
+        "leave-joint\nsimple l4\nenter-joint autoleave=false r1 v4\n",
+    ),
+    (
+        Strategy::LearnersFirst,
+        ONE,
+        [&[1, 18446744073709551615], &[], &[], &[]],
+        "simple l18446744073709551615\nsimple v18446744073709551615\n",
+    ),
+];
+
+// Whether the path between two configurations is this plan.
+fn leads_by(
+    rt: &impl Runtime,
+    strategy: Strategy,
+    now: &Config<TreeIds>,
+    target: &Config<TreeIds>,
+    wanted: &Plan,
+) -> bool
+    requires now { is_valid now.now ≡ true }
+    requires target { is_valid target.now ≡ true }
+{
+    plan_by(rt.alloc(), strategy, now, target).is_ok_and(|path| has_steps(&path, wanted))
+}
+
+fn is_path(rt: &impl Runtime, strategy: Strategy, now: Sets, target: Sets, text: &str) -> bool {
+    let now = config_of(rt, now, false);
+    let target = config_of(rt, target, false);
+    let wanted = plan_of(rt, text);
+    check(&now).is_ok() && check(&target).is_ok() && leads_by(rt, strategy, &now, &target, &wanted)
+}
+
+#[test]
+fn goes_by_each_strategy(rt: HostRuntime) {
+    for (row, (strategy, now, target, text)) in PATHS.iter().enumerate() {
+        assert!(rt; is_path(&rt, *strategy, *now, *target, *text), "row {row}");
+    }
+}
+
+// Why there is no path between two configurations, of which one has no voter.
+fn no_path(
+    rt: &impl Runtime,
+    strategy: Strategy,
+    now: &Config<TreeIds>,
+    target: &Config<TreeIds>,
+) -> Option<NoPath>
+    requires now { is_valid now.now ≡ true }
+    requires target { is_valid target.now ≡ true }
+{
+    plan_by(rt.alloc(), strategy, now, target).err()
+}
+
+fn is_without_path(rt: &impl Runtime, now: Sets, target: Sets, wanted: NoPath) -> bool {
+    let now = config_of(rt, now, false);
+    let target = config_of(rt, target, false);
+    check(&now).is_ok()
+        && check(&target).is_ok()
+        && no_path(rt, Strategy::Shortest, &now, &target) == Some(wanted)
+        && no_path(rt, Strategy::LearnersFirst, &now, &target) == Some(wanted)
+}
+
+const NOBODY: Sets = [&[], &[], &[], &[]];
+
+#[test]
+fn goes_nowhere_without_voters(rt: HostRuntime) {
+    assert!(rt; is_without_path(&rt, NOBODY, ONE, NoPath::NoVoterNow));
+    assert!(rt; is_without_path(&rt, NOBODY, NOBODY, NoPath::NoVoterNow));
+    assert!(rt; is_without_path(&rt, ONE, NOBODY, NoPath::NoVoterTarget));
+}
+
+const ONE_DEMOTED: Sets = [&[1, 2], &[], &[3], &[]];
+
+// A configuration, a step, the configuration that it gives, and the members that have to catch up then.
+static CATCHING_UP: [(Sets, &str, Sets, &[u64]); 4] = [
+    (
+        FIVE,
+        "enter-joint autoleave=false r1 r2 v6 v7",
+        [&[3, 4, 5, 6, 7], &[1, 2, 3, 4, 5], &[], &[]],
+        &[6, 7],
+    ),
+    (
+        [&[3, 4, 5, 6, 7], &[1, 2, 3, 4, 5], &[], &[]],
+        "leave-joint",
+        TWO_OF_FIVE_REPLACED,
+        &[],
+    ),
+    ([&[1, 2, 3], &[], &[], &[]], "simple l3", ONE_DEMOTED, &[]),
+    (
+        [&[1, 2, 3], &[], &[], &[]],
+        "simple r3 l3",
+        ONE_DEMOTED,
+        &[3],
+    ),
+];
+
+fn is_waited_for(rt: &impl Runtime, before: Sets, text: &str, after: Sets, wanted: &[u64]) -> bool {
+    let before = config_of(rt, before, false);
+    let after = config_of(rt, after, false);
+    let plan = plan_of(rt, text);
+    let step = plan.step(0).expect(rt, "a step");
+    let ids = catching_up(rt.alloc(), &before, step, &after).expect(rt, "a set");
+    symdiff(&ids, &set_of(rt, wanted)) == 0
+}
+
+#[test]
+fn waits_for_members_without_progress(rt: HostRuntime) {
+    for (row, (before, text, after, wanted)) in CATCHING_UP.iter().enumerate() {
+        assert!(rt;
+            is_waited_for(&rt, *before, *text, *after, *wanted),
+            "row {row}"
+        );
     }
 }

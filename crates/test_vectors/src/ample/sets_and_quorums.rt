@@ -1,7 +1,10 @@
 //! Sets of ids, and the worked values of majorities, quorums, and of what is looked up.
 use crate::ample::runtime::Runtime;
 use crate::sets::with_acks;
-use quorum_sets::{AckSource, MemberSet, TreeIds, common_member, has_next, is_quorum, quorum};
+use quorum_sets::{
+    AckSource, MemberSet, TreeIds, commits_without, common_member, has_next, is_quorum,
+    may_be_down, quorum,
+};
 use std::collections::BTreeMap;
 
 pub(crate) fn set_of(rt: &impl Runtime, ids: &[u64]) -> TreeIds {
@@ -32,6 +35,36 @@ fn quorums(rt: HostRuntime) {
         let ids = set_of(&rt, *ids);
         assert!(rt;
             is_quorum((&incoming, &outgoing), &ids) == *wanted,
+            "row {place}"
+        );
+    }
+}
+
+// The incoming and the outgoing voters, the ids that do not count, and how many of the others may be down.
+static TOLERATED: [(&[u64], &[u64], &[u64], Option<usize>); 9] = [
+    (&[], &[], &[], None),
+    (&[], &[1, 2, 3], &[], None),
+    (&[18446744073709551615], &[], &[], Some(0)),
+    (&[1, 2, 3], &[], &[], Some(1)),
+    (&[1, 2, 3, 4, 5], &[], &[6, 7], Some(2)),
+    (&[1, 2, 3, 4, 5, 6], &[], &[], Some(2)),
+    (&[3, 4, 5, 6, 7], &[1, 2, 3, 4, 5], &[], Some(2)),
+    (&[3, 4, 5, 6, 7], &[1, 2, 3, 4, 5], &[6, 7], Some(0)),
+    (&[3, 4, 5], &[1, 2, 3], &[4, 5], None),
+];
+
+#[test]
+fn failures_that_are_tolerated(rt: HostRuntime) {
+    for (place, (incoming, outgoing, uncounted, wanted)) in TOLERATED.iter().enumerate() {
+        let incoming = set_of(&rt, *incoming);
+        let outgoing = set_of(&rt, *outgoing);
+        let uncounted = set_of(&rt, *uncounted);
+        assert!(rt;
+            may_be_down((&incoming, &outgoing), &uncounted) == *wanted,
+            "row {place}"
+        );
+        assert!(rt;
+            commits_without((&incoming, &outgoing), &uncounted) == wanted.is_some(),
             "row {place}"
         );
     }
