@@ -13,6 +13,7 @@ use Rattle.dd_file.specs.DirectiveText.{DirectiveText}
 use Rattle.dd_file.specs.Laws.{AreReadAgain, AreOver, LastIsGone, ReadAgain, DirectiveIsGiven, IsSameItem, WrittenScript, directives_of}
 use Rattle.dd_file.specs.Place.{longest_input}
 use Rattle.dd_file.specs.Reading.{script_of}
+use Rattle.dd_file.specs.Words.{ArgumentText}
 use Rattle.dd_file.specs.Rewritten.{Entry, entry, rewritten_text}
 use Rattle.dd_file.specs.declared.item.Item.{Item}
 use Rattle.dd_file.specs.declared.item.Item.TheVariants.{Comment, Blank, Directive}
@@ -30,10 +31,12 @@ use Rattle.conf_change.specs.declared.step.Step.TheVariants.{Simple, EnterJoint,
 use Rattle.conf_plan.specs.PlanSteps.{HasWordIds, IsPlan}
 use Rattle.conf_plan.specs.PlanText.{change_text}
 use Rattle.conf_plan.specs.Run.{IsRun}
-use Rattle.conf_session.specs.Commands.{Answer, answer, answered, after_answers, after_step, command_in, on_changes, with_changes}
-use Rattle.conf_session.specs.Reply.{stepped}
+use Rattle.conf_session.specs.Commands.{Answer, Row, answer, answered, after_answers, after_step, if_read, reply_of, row_of}
+use Rattle.conf_session.specs.Input.{changes_read}
+use Rattle.conf_session.specs.Reply.{Reply, stepped}
 use Rattle.conf_session.specs.SessionState.{SessionState, IsSession, new_session, present, after_directive}
 use Rattle.conf_session.specs.Undo.{LeadsBack, undo_plan_of}
+use Rattle.conf_session.specs.Values.{read_arguments}
 use Rattle.conf_session.specs.declared.undo_fault.UndoFault.{UndoFault}
 use Rattle.conf_session.proofs.Offered.{same-answer}
 use Rattle.conf_tool.specs.Laws.{LeadsBackBy, UndoScriptLeadsBack}
@@ -103,14 +106,21 @@ Read = Result (List Change) BadToken
 abbrev Made : Type 0
 Made = Result ChangerState Refused
 
+-- the reply of a row whose input is a list of changes that is read so
+abbrev reply_read : Row → SessionState → List ArgumentText → Read → Reply
+reply_read row session arguments read =
+    if_read (λ input. if_read (λ values. reply_of row.command session input values) (read_arguments row.parameters arguments)) (changes_read read)
+
 step-answer : (session : SessionState) (step : Step) (next : ChangerState) → changes_in (input_of (changes_of step)) ≡ Ok (changes_of step) → changer_after session.changer step ≡ Ok next
     → answer session (directive_for step) ≡ answered session (stepped next)
 step-answer session (Simple changes) next read made =
-    ap (λ (r : Read). answered session (with_changes (on_changes (command_in (codes "simple")) session.changer []) r)) read ∙ ap (λ (r : Made). answered session (after_step r)) made
+    ap (λ (r : Read). answered session (reply_read (row_of (codes "simple")) session [] r)) read ∙ ap (λ (r : Made). answered session (after_step r)) made
 step-answer session (EnterJoint true changes) next read made =
-    ap (λ (r : Read). answered session (with_changes (on_changes (command_in (codes "enter-joint")) session.changer (step_command (EnterJoint true changes)).arguments) r)) read ∙ ap (λ (r : Made). answered session (after_step r)) made
+    ap (λ (r : Read). answered session (reply_read (row_of (codes "enter-joint")) session (step_command (EnterJoint true changes)).arguments r)) read
+    ∙ ap (λ (r : Made). answered session (after_step r)) made
 step-answer session (EnterJoint false changes) next read made =
-    ap (λ (r : Read). answered session (with_changes (on_changes (command_in (codes "enter-joint")) session.changer (step_command (EnterJoint false changes)).arguments) r)) read ∙ ap (λ (r : Made). answered session (after_step r)) made
+    ap (λ (r : Read). answered session (reply_read (row_of (codes "enter-joint")) session (step_command (EnterJoint false changes)).arguments r)) read
+    ∙ ap (λ (r : Made). answered session (after_step r)) made
 step-answer session LeaveJoint next read made = ap (λ (r : Made). answered session (after_step r)) made
 
 -- ---- so it takes the steps of a run in turn
