@@ -1,4 +1,28 @@
-//! Configurations of a replicated log's members, the changes of them, and the progress of the members.
+//! Configurations of a Raft cluster and how they change: etcd's package `confchange`, with the progress of each member.
+//!
+//! A configuration says who votes and who learns. Adding or removing one voter at a time is safe, since each majority
+//! before such a change shares a member with each majority after it: this is a simple change. Every other change of the
+//! voters goes through a joint configuration, in which the incoming and the outgoing voters both have to agree
+//! (sections 4.1 and 4.3 of Ongaro's dissertation):
+//!
+//! ```text
+//! (1 2 3)        --enter-joint v4 r1-->  (2 3 4)&&(1 2 3)  --leave-joint-->  (2 3 4)
+//! ```
+//!
+//! A voter that is to become a learner goes on voting among the outgoing voters until the joint configuration is left. Till
+//! then it is a next learner:
+//!
+//! ```text
+//! (1 2 3)                                --enter-joint l3-->
+//! (1 2)&&(1 2 3) learners_next=(3)       --leave-joint-->
+//! (1 2) learners=(3)
+//! ```
+//!
+//! A list of changes is read as etcd reads it: `v1` makes 1 a voter, `l1` a learner, `r1` removes it and `u1` changes
+//! nothing; of several changes of one id the last one decides. A [`Changer`] has a configuration with the progress of its
+//! members, and gives the next one or says why the change is refused. A refused change alters nothing.
+//!
+//! A saved configuration, etcd's ConfState, is restored by [`Changer::restore`], without the steps that led to it.
 #![tactic(auto)]
 
 pub mod acknowledgement;

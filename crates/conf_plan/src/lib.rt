@@ -1,4 +1,20 @@
-//! Plans: the steps from one configuration to another.
+//! Plans: the membership changes that lead from one configuration to another.
+//!
+//! A plan is a list of steps that are accepted one after another: simple changes, entering a joint configuration, leaving
+//! it. [`plan`] gives the shortest one. Of all ways to the target it also preserves the progress of the most members, and
+//! names each id in the fewest changes. It has at most four steps. One with four leads from a joint configuration to another:
+//!
+//! ```text
+//! (1 2)&&(1 3)  leave-joint                  -->  (1 2)
+//!               enter-joint r1 r2 v3 v4      -->  (3 4)&&(1 2)
+//!               leave-joint                  -->  (3 4)
+//!               enter-joint r3 v5            -->  (4 5)&&(3 4)
+//! ```
+//!
+//! That a step is accepted does not say that the cluster goes on serving: a new voter begins with an empty log, and counts
+//! as missing until it has caught up.
+//!
+//! [`apply_plan`] takes the steps of a plan. [`print_plan`] writes one step a line, and [`read_plan`] reads them back.
 #![tactic(auto)]
 
 pub mod apply;

@@ -1,4 +1,20 @@
-//! A session, which carries out the directives of a script: what each command answers, and the configurations that are kept.
+//! Sessions: a configuration on which the directives of a script act, one after another.
+//!
+//! A directive's command is a change (`simple`, `enter-joint`, `leave-joint`, `conf-change`, `restore`, `ack`, `undo`) or a
+//! question (`conf-state`, `commit-index`, `committed`, `vote`). The reply is what the script file expects below `----`:
+//!
+//! ```text
+//! simple
+//! v1
+//! ----
+//! voters=(1)
+//! 1: StateProbe match=0 next=1
+//! ```
+//!
+//! A command reads its input first and then its arguments, and the first error is the reply. A refused change replies with
+//! the refusal and alters nothing but the last index, which rises by one after every directive.
+//!
+//! A session keeps the configurations before its last accepted changes. `undo` plans the way back to one of them and takes it.
 #![tactic(auto)]
 
 mod arguments;

@@ -1,4 +1,4 @@
-//! The words of the command line.
+//! The arguments of the command line.
 ghost use Rattle.std.specs.Prelude.{◌≡◌, ◌≤◌, ◌<◌, ◌^◌, true, false, map, codes, option_map, IfOk, IfErr};
 ghost use Rattle.clap.specs.Words.{FailsBy, app_of, fault_of, first_of, found_of, kind_of, new_rule, rows_of, rule_of, subcommand_of, subcommand_rows_of, takes};
 ghost use Rattle.conf_tool.specs.Program.{program as the_program, OfProgram, with_mode, mode_command, script_command, undo_command, number_rule, words_rule, asked_mode, mode_named, asked_text, asked_floor, floor_named, IsAsked};
@@ -15,7 +15,7 @@ use conf_change::Floor;
 use std::alloc::Global;
 use std::convert::AsStr;
 
-/// What `--version` tells behind the program's name.
+/// The version that `--version` prints after the program's name.
 const VERSION: &str = "0.1.0";
 
 /// What the words ask for, the program's name being the first. A fault is `clap`'s own: of help, of a usage fault or
@@ -164,11 +164,11 @@ fn program<'a>(alloc: Global, floors: &'a [&'a str]) -> Result<Command<'a>, Erro
     ensures memory { IfErr result (λ error. kind_of error ≡ ErrorKind.OutOfMemory) }
 {
     let program = Command::new(alloc, "confscript")
-        .about("Tries changes of who votes, as etcd's raft library makes them")
+        .about("Simulates membership changes of etcd's raft library")
         .after_long_help(PROGRAM)
         .version(VERSION)
         .subcommand_required(true);
-    let program = add_mode(alloc, program, "lines", "Makes one change a line", LINES)?;
+    let program = add_mode(alloc, program, "lines", "Applies one change a line", LINES)?;
     let program = add_script_mode(
         alloc,
         program,
@@ -181,7 +181,7 @@ fn program<'a>(alloc: Global, floors: &'a [&'a str]) -> Result<Command<'a>, Erro
         alloc,
         program,
         "rewrite",
-        "Runs a script and prints it with what was found",
+        "Runs a script and prints it with its actual output",
         REWRITE,
         floors,
     )?;
@@ -250,7 +250,7 @@ fn add_undo_mode<'a>(
         "steps",
         1,
         1000,
-        "How many changes are undone (1 if left out)",
+        "Changes to undo (1 if left out)",
     );
     let mode = Command::new(alloc, "undo")
         .about("Runs a script and prints the script that undoes its last changes")
@@ -273,7 +273,7 @@ fn history_option<'a>(alloc: Global) -> Arg<'a>
         "history",
         0,
         1000,
-        "How many earlier configurations are kept (100 if left out)",
+        "Earlier configurations to keep (100 if left out)",
     )
 }
 
@@ -286,7 +286,8 @@ fn floor_option<'a>(alloc: Global, floors: &'a [&'a str]) -> Arg<'a>
         .value_parser(ValueParser::Names(floors))
         .long("next-floor")
         .value_name("N")
-        .help("The least next (1 if left out)")
+        .help("Initial next index of a member")
+        .long_help("The next index of a new member in an empty log (1 if left out)")
 }
 
 // The file to read.
@@ -294,7 +295,7 @@ fn file_argument<'a>(alloc: Global) -> Arg<'a>
     ensures rule { rule_of result ≡ new_rule (codes "FILE") }
     ensures local { result.global ≡ false }
 {
-    Arg::new(alloc, "FILE").help("The file to read; standard input where it is left out or -")
+    Arg::new(alloc, "FILE").help("The file to read; standard input if it is left out or -")
 }
 
 // An option with a number from the least to the most.

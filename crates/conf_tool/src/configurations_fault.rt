@@ -11,6 +11,6 @@ pub enum ConfigurationsFault {
     #[error("line {0}: not a configuration")]
     NotAConfiguration(usize),
     /// There are more or fewer lines.
-    #[error("two lines are wanted")]
+    #[error("expected two lines")]
     NotTwoLines,
 }

@@ -1,6 +1,6 @@
-//! What `--help` tells of the program and of each mode, behind its usage.
+//! What `--help` prints of the program and of each mode, after its usage.
 
-/// Of the program.
+/// The help of the program.
 pub(crate) const PROGRAM: &str = "Examples:
   printf 'v1\\nv2\\nl3\\n' | confscript lines
   confscript check script.txt
@@ -10,16 +10,15 @@ pub(crate) const PROGRAM: &str = "Examples:
 Exit statuses:
   0  done
   1  check found a difference, or undo or plan has no plan
-  2  the words or the input are at fault
-  3  a file, a device or memory failed
+  2  the arguments or the input are wrong
+  3  a file, a read or a write failed, or memory ran out
 
-'confscript help MODE' tells what a mode reads and what it prints.";
+'confscript help MODE' says what a mode reads and what it prints.";
 
-/// Of `lines`.
+/// The help of `lines`.
 pub(crate) const LINES: &str =
-    "Reads one change a line and makes it on the configuration so far, which
-begins empty. Prints the configuration after each line, or why the change is
-refused.
+    "Reads one change a line and applies it to the configuration, which begins
+empty. Prints the configuration after each line, or why the change is refused.
 
 Changes:
   v1  server 1 becomes a voter
@@ -41,15 +40,26 @@ it prints
   voters=(2) learners=(3)
   removed all voters";
 
-/// Of `check`.
+/// The help of `check`.
 pub(crate) const CHECK: &str =
-    "Runs a script, and reports each directive that finds another text than it
-expects, with both texts. The counts come last. The status is 1 where a
-directive differs.
+    "Runs a script, and reports each directive whose actual output differs from the
+expected one, with both. The counts come last. The status is 1 if a directive
+differs.
 
-A directive is a command with its arguments, lines of input, a line ----, the
-lines that are expected, and an empty line. A command's line that ends in a
-backslash goes on in the next. A line that begins with # is a comment.
+A directive is a line with a command and its arguments, lines of input, a line
+of four dashes, lines of expected output, and an empty line:
+
+  simple
+  v1
+  ----
+  voters=(1)
+  1: StateProbe match=0 next=1
+
+Changes stand on the lines below the command, not after it on its line. Without
+the line of dashes the next directive is read as input. A blank line ends the
+expected output, unless the output stands between two pairs of lines of dashes.
+A directive line that ends in a backslash goes on in the next line. A line that
+begins with # is a comment.
 
 Commands that read changes (see confscript help lines), none or more of them:
   simple         at most one of them changes who votes
@@ -60,14 +70,13 @@ Commands that read changes (see confscript help lines), none or more of them:
 
 Commands that read something else, or nothing:
   conf-state     prints the configuration as a ConfState
-  restore        begins again with the ConfState that it reads
+  restore        starts again from the ConfState that it reads
   undo           undoes the last changes; steps=N (default 1)
   ack            a member acknowledges an index; id=N index=N
   commit-index   prints the index that the configuration commits
-  committed      charts what a quorum has acknowledged, and prints what it
-                 commits; cfg=(1,2) cfgj=(3) idx=(7,_,9)
-  vote           prints how a quorum's vote stands; cfg=(1,2) cfgj=(3)
-                 votes=(y,n,_)
+  committed      charts what the voters have acknowledged, and prints what
+                 they commit; cfg=(1,2) cfgj=(3) idx=(7,_,9)
+  vote           prints the result of a vote; cfg=(1,2) cfgj=(3) votes=(y,n,_)
 
 For the script
   simple
@@ -82,10 +91,10 @@ it prints
   + 1: StateProbe match=0 next=1
   1 directives, 1 mismatches";
 
-/// Of `rewrite`.
+/// The help of `rewrite`.
 pub(crate) const REWRITE: &str =
-    "Runs a script (see confscript help check), and prints it again with what each
-directive found in the place of what it expects. What it prints checks clean.
+    "Runs a script (see confscript help check), and prints it again with the actual
+output of each directive in place of the expected one. The result checks clean.
 
 For the script
   # the first voter
@@ -100,14 +109,14 @@ it prints
   voters=(1)
   1: StateProbe match=0 next=1";
 
-/// Of `undo`.
+/// The help of `undo`.
 pub(crate) const UNDO: &str =
-    "Runs a script (see confscript help check), whatever it expects, and prints the
-script that undoes its last changes. The two checked as one, with an empty line
-between them, are clean where the first is.
+    "Runs a script (see confscript help check), whatever output it expects, and
+prints a second script, which undoes the last changes of the first. If the first
+checks clean, so do both as one, with an empty line between them.
 
-Where there is nothing to do it prints a comment. Where there is no plan it
-prints why, in a comment, and the status is 1.
+If there is nothing to do, it prints a comment. If there is no plan, it prints
+the reason in a comment, and the status is 1.
 
 For the script
   simple
@@ -125,7 +134,7 @@ it prints
   voters=(1)
   1: StateProbe match=0 next=1";
 
-/// Of `plan`.
+/// The help of `plan`.
 pub(crate) const PLAN: &str =
     "Reads two lines, the current configuration and the target, each as the command
 conf-state prints it. Prints the steps that lead from the one to the other, at

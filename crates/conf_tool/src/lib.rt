@@ -1,4 +1,15 @@
-//! The modes of the program, over any reader and writer, and its command line.
+//! The program without its files: its command line, and its modes over any source and sink.
+//!
+//! ```text
+//! lines     one change a line           -> the configuration after each
+//! check     a script                    -> each directive whose output differs, and the counts
+//! rewrite   a script                    -> the script with its actual output
+//! undo      a script                    -> a second script that undoes its last changes
+//! plan      two ConfState lines         -> the steps from the first to the second
+//! ```
+//!
+//! What a mode prints is a function of its input, so each is proved to print exactly that, and a prefix of
+//! it if a read, a write or an allocation fails. An answer goes out before the mode waits for more input.
 #![tactic(auto)]
 
 pub mod command_line;

@@ -1,4 +1,4 @@
-//! The program: its words, its input, its output and its status.
+//! The program: its arguments, its input, its output and its exit status.
 #![tactic(auto)]
 
 ghost use Rattle.conf_tool.specs.Ranges.{IsInRange};
@@ -13,43 +13,43 @@ use std::fs::File;
 use std::process::ExitCode;
 use std::{env, io};
 
-/// The status where the words of the command line or the input are at fault.
+/// The exit status if the arguments or the input are wrong.
 const BAD_INPUT: u8 = 2;
 
-/// The status where a device or memory is at fault.
+/// The exit status if a file, a read or a write failed, or memory ran out.
 const NO_DEVICE: u8 = 3;
 
 fn main(rt: HostRuntime) -> ExitCode {
-    match words(&rt) {
-        Ok(words) => run_words(&rt, words.as_slice()),
-        Err(error) => tell_of_words(&rt, &error),
+    match arguments(&rt) {
+        Ok(arguments) => run_arguments(&rt, arguments.as_slice()),
+        Err(error) => report_arguments(&rt, &error),
     }
 }
 
-// The words of the command line, the program's name being the first.
-fn words(rt: &HostRuntime) -> io::Result<Vec<String>> {
-    let words = env::args(rt)?.collect(rt.alloc())?;
-    Ok(words)
+// The arguments, of which the first is the program's name.
+fn arguments(rt: &HostRuntime) -> io::Result<Vec<String>> {
+    let arguments = env::args(rt)?.collect(rt.alloc())?;
+    Ok(arguments)
 }
 
-// Tells why there are no words: one of them is no text, or memory is wanting.
-fn tell_of_words(rt: &HostRuntime, error: &io::Error) -> ExitCode {
+// Reports why there are no arguments: one of them is not UTF-8, or memory ran out.
+fn report_arguments(rt: &HostRuntime, error: &io::Error) -> ExitCode {
     if error.kind() != io::ErrorKind::InvalidData {
         return fail(rt, ToolFault::NoMemory);
     }
-    let _ = eprintln!(rt; "confscript: a word of the command line is not UTF-8");
+    let _ = eprintln!(rt; "confscript: an argument is not UTF-8");
     ExitCode::from(BAD_INPUT)
 }
 
-// Does what the words ask for.
-fn run_words(rt: &HostRuntime, words: &[String]) -> ExitCode {
-    match command_line(rt.alloc(), words) {
+// Runs the mode that the arguments name.
+fn run_arguments(rt: &HostRuntime, arguments: &[String]) -> ExitCode {
+    match command_line(rt.alloc(), arguments) {
         Ok(invocation) => open(rt, invocation),
         Err(error) => explain(rt, &error),
     }
 }
 
-// Prints the help that was asked for, or what is wrong with the words.
+// Prints the help that was asked for, or what is wrong with the arguments.
 fn explain(rt: &HostRuntime, error: &clap::Error) -> ExitCode {
     if error.kind() == ErrorKind::OutOfMemory {
         return fail(rt, ToolFault::NoMemory);
@@ -64,7 +64,7 @@ fn explain(rt: &HostRuntime, error: &clap::Error) -> ExitCode {
     }
 }
 
-// Runs over the file that is asked for, or over standard input where it is left out or `-`.
+// Reads the file that is named, or standard input if none is, or `-`.
 fn open(rt: &HostRuntime, invocation: Invocation<'_>) -> ExitCode
     requires { IsInRange invocation.options }
 {
@@ -81,7 +81,7 @@ fn open(rt: &HostRuntime, invocation: Invocation<'_>) -> ExitCode
     }
 }
 
-// Runs over a reader and standard output, which is written in blocks.
+// Runs the mode with this reader and standard output, which is written in blocks.
 fn run_over<R: Source>(rt: &HostRuntime, invocation: Invocation<'_>, reader: &mut R) -> ExitCode
     requires { IsInRange invocation.options }
 {
@@ -104,7 +104,7 @@ fn run_over<R: Source>(rt: &HostRuntime, invocation: Invocation<'_>, reader: &mu
     }
 }
 
-// Tells the fault in one line on standard error.
+// Reports the error in one line on standard error.
 fn fail(rt: &HostRuntime, fault: ToolFault) -> ExitCode {
     let _ = eprintln!(rt; "confscript: {fault}");
     match fault {

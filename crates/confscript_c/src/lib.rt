@@ -1,5 +1,15 @@
-//! The decisions of this project for programs in other languages: each call takes numbers and slices, keeps nothing, and
-//! answers a status with a number. The calls are declared in `include/confscript.h`.
+//! The library for C, Go, Rust and Python, declared in `include/confscript.h`.
+//!
+//! Each call takes numbers and slices and keeps nothing between calls. It returns a status and a number, and writes its
+//! text, if it has one, into the caller's buffer:
+//!
+//! ```text
+//! confscript_plan("Voters:[1 2 3] ..", "Voters:[2 3 5] ..")  ->  done, 46 bytes
+//!     enter-joint autoleave=false r1 v5
+//!     leave-joint
+//! ```
+//!
+//! If the buffer is too small, nothing is written and the number is the length that the text needs.
 #![tactic(auto)]
 
 mod answer;

@@ -197,7 +197,7 @@ static CONFIGURATIONS: [(ConfigurationsFault, &str); 4] = [
         ConfigurationsFault::NotAConfiguration(1),
         "line 1: not a configuration",
     ),
-    (ConfigurationsFault::NotTwoLines, "two lines are wanted"),
+    (ConfigurationsFault::NotTwoLines, "expected two lines"),
 ];
 
 static RUNS: [(ToolFault, &str); 7] = [
@@ -215,7 +215,7 @@ static RUNS: [(ToolFault, &str); 7] = [
     ),
     (
         ToolFault::Configurations(ConfigurationsFault::NotTwoLines),
-        "two lines are wanted",
+        "expected two lines",
     ),
     (ToolFault::Read, "cannot read"),
     (ToolFault::Write, "cannot write"),
