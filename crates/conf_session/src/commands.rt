@@ -77,11 +77,19 @@ fn row_of(name: &[u8]) -> Row
     if name == b"simple".as_slice() {
         Row::new(Command::Simple, InputKind::Changes, None)
     } else if name == b"enter-joint".as_slice() {
-        Row::new(Command::EnterJoint, InputKind::Changes, Some(&[Parameter::AutoLeave]))
+        Row::new(
+            Command::EnterJoint,
+            InputKind::Changes,
+            Some(&[Parameter::AutoLeave]),
+        )
     } else if name == b"leave-joint".as_slice() {
         Row::new(Command::LeaveJoint, InputKind::NoChange, None)
     } else if name == b"conf-change".as_slice() {
-        Row::new(Command::ConfChange, InputKind::Changes, Some(&[Parameter::Transition]))
+        Row::new(
+            Command::ConfChange,
+            InputKind::Changes,
+            Some(&[Parameter::Transition]),
+        )
     } else if name == b"conf-state".as_slice() {
         Row::new(Command::ConfState, InputKind::Nothing, Some(&[]))
     } else if name == b"restore".as_slice() {
@@ -89,7 +97,11 @@ fn row_of(name: &[u8]) -> Row
     } else if name == b"undo".as_slice() {
         Row::new(Command::Undo, InputKind::Nothing, Some(&[Parameter::Steps]))
     } else if name == b"ack".as_slice() {
-        Row::new(Command::Ack, InputKind::Nothing, Some(&[Parameter::Id, Parameter::Index]))
+        Row::new(
+            Command::Ack,
+            InputKind::Nothing,
+            Some(&[Parameter::Id, Parameter::Index]),
+        )
     } else if name == b"commit-index".as_slice() {
         Row::new(Command::CommitIndex, InputKind::Nothing, Some(&[]))
     } else if name == b"committed".as_slice() {
@@ -122,7 +134,14 @@ pub(crate) fn run_directive(
 {
     found_text_stands();
     let row = row_of(directive.command());
-    run_row(alloc, session, next, &row, directive.input(), directive.arguments())
+    run_row(
+        alloc,
+        session,
+        next,
+        &row,
+        directive.input(),
+        directive.arguments(),
+    )
 }
 
 // Reads what the row takes, and runs its command.
@@ -166,11 +185,23 @@ fn run_command(
     match command {
         Command::Simple => step::run(alloc, changer, next, StepKind::Simple, changes),
         Command::EnterJoint => {
-            step::run(alloc, changer, next, StepKind::Enter(values.auto_leave), changes)
+            step::run(
+                alloc,
+                changer,
+                next,
+                StepKind::Enter(values.auto_leave),
+                changes,
+            )
         }
         Command::LeaveJoint => step::run(alloc, changer, next, StepKind::Leave, changes),
         Command::ConfChange => {
-            step::run(alloc, changer, next, taken(values.transition, changes), changes)
+            step::run(
+                alloc,
+                changer,
+                next,
+                taken(values.transition, changes),
+                changes,
+            )
         }
         Command::ConfState => Ok(Reply::of_text(conf_state_line(alloc, tracker.config())?)),
         Command::Restore => restore::run(alloc, changer, next, &input.saved),

@@ -245,13 +245,7 @@ fn add_undo_mode<'a>(
     ensures app { IfOk result (λ command. app_of command ≡ with_mode (undo_command (codes "undo") floors.entry) (app_of program.entry)) }
     ensures memory { IfErr result (λ error. kind_of error ≡ ErrorKind.OutOfMemory) }
 {
-    let steps = number_option(
-        alloc,
-        "steps",
-        1,
-        1000,
-        "Changes to undo (1 if left out)",
-    );
+    let steps = number_option(alloc, "steps", 1, 1000, "Changes to undo (1 if left out)");
     let mode = Command::new(alloc, "undo")
         .about("Runs a script and prints the script that undoes its last changes")
         .after_long_help(UNDO)

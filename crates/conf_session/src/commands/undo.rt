@@ -64,11 +64,7 @@ fn take_steps(
 const USUAL_PLAN_ROOM: usize = 128;
 
 // The steps of the plan, and then where they lead.
-fn undone_text(
-    alloc: Global,
-    plan: &Plan,
-    after: &Tracker<SessionIds>,
-) -> Result<Vec<u8>, NoMemory>
+fn undone_text(alloc: Global, plan: &Plan, after: &Tracker<SessionIds>) -> Result<Vec<u8>, NoMemory>
     ensures { IfOk result (λ text. text.items ≡ plan_text plan.now ++ tracker_text after.now) }
 {
     let mut text = Vec::with_capacity(alloc, usual_room(after).saturating_add(USUAL_PLAN_ROOM))?;
