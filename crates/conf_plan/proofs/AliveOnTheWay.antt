@@ -5,5 +5,6 @@ pub mod Tolerance
 pub mod Newcomers
 pub mod ReadyVoters
 pub mod LearnersFirst
+pub mod OneChange
 pub mod EachStrategy
 pub mod CatchingUp

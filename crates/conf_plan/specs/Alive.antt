@@ -1,5 +1,5 @@
 -- What a cluster that takes the steps of a path can count on while it serves.
-use Rattle.std.specs.Prelude.{◌≡◌, ℕ, ◌+◌, ◌≤◌, true, false, not, ◌||◌, IsTrue, List, length}
+use Rattle.std.specs.Prelude.{◌≡◌, ℕ, ◌+◌, ◌≤◌, true, false, not, ◌||◌, IsTrue, List, length, ⊤, ⊥}
 use Rattle.quorum_sets.specs.Ids.{Ids, no_ids, has, ids_where}
 use Rattle.quorum_sets.specs.Voters.{is_quorum}
 use Rattle.quorum_sets.specs.Overlap.{Overlap}
@@ -7,6 +7,7 @@ use Rattle.quorum_sets.specs.Tolerance.{Endures}
 use Rattle.conf_change.specs.Configuration.{Configuration, voters_of, members}
 use Rattle.conf_change.specs.Progress.{keeps_progress}
 use Rattle.conf_change.specs.declared.step.Step.{Step}
+use Rattle.conf_change.specs.declared.step.Step.TheVariants.{Simple, EnterJoint, LeaveJoint}
 use Rattle.conf_plan.specs.Best.{IsBest}
 use Rattle.conf_plan.specs.Run.{IsRun, IsRunWith}
 
@@ -53,6 +54,18 @@ MakesVotersOfReady before step after =
 abbrev pub VotersLearnFirst : Configuration → List Step → Configuration → Type 0
 VotersLearnFirst = IsRunWith MakesVotersOfReady
 
+-- ---- one member at a time
+-- a step of one change, or the leaving of a joint configuration
+abbrev pub IsOneChange : Step → Type 0
+IsOneChange (Simple changes) = length changes ≡ 1
+IsOneChange (EnterJoint auto_leave changes) = ⊥
+IsOneChange LeaveJoint = ⊤
+
+-- a step of one change that makes no voter of an id that was not a learner
+pub record ChangesOneLearnerFirst (before : Configuration) (step : Step) (after : Configuration) : Type 0 where
+  pub one : IsOneChange step
+  pub learners : (id : ℕ) → has after.incoming id ≡ true → (has before.incoming id || has before.outgoing id) ≡ false → has before.learners id ≡ true
+
 -- ---- what each strategy promises
 -- The steps are the best plan, of which there are at most four. A quorum of both ends is one on the whole way, and no configuration there tolerates fewer failures than the weaker end.
 pub record ShortestServes (now : Configuration) (steps : List Step) (target : Configuration) : Type 0 where
@@ -67,6 +80,14 @@ pub record LearnersFirstServes (now : Configuration) (steps : List Step) (target
   pub one_more : (other : List Step) → IsRun now other target → length steps ≤ length other + 1
   pub at_most_five : length steps ≤ 5
   pub quorums : KeepsQuorums now steps target
+  pub tolerance : KeepsTolerance now steps target
+  pub voters : VotersLearnFirst now steps target
+  pub overlap : IsRunWith (λ before step after. Overlap (voters_of before) (voters_of after)) now steps target
+
+-- The steps change one member each, and no other run of such steps, on which nobody becomes a voter who was not a learner before, has fewer.
+pub record OneAtATimeServes (now : Configuration) (steps : List Step) (target : Configuration) : Type 0 where
+  pub run : IsRunWith ChangesOneLearnerFirst now steps target
+  pub least : (other : List Step) → IsRunWith ChangesOneLearnerFirst now other target → length steps ≤ length other
   pub tolerance : KeepsTolerance now steps target
   pub voters : VotersLearnFirst now steps target
   pub overlap : IsRunWith (λ before step after. Overlap (voters_of before) (voters_of after)) now steps target

@@ -8,4 +8,5 @@ pub mod PlanText
 pub mod PlanCode
 pub mod Alive
 pub mod LearnersFirst
+pub mod OneAtATime
 pub mod PathBy

@@ -1,19 +1,21 @@
 -- The path from one configuration to another by each strategy.
-use Rattle.std.specs.Prelude.{List, [], ◌∷◌, if◌then◌else◌}
+use Rattle.std.specs.Prelude.{Bool, true, not, ◌||◌, List, [], ◌∷◌, if◌then◌else◌}
 use Rattle.conf_change.specs.Configuration.{Configuration, is_joint, is_same}
 use Rattle.conf_change.specs.Outcome.{after_leave}
 use Rattle.conf_change.specs.declared.step.Step.{Step}
 use Rattle.conf_change.specs.declared.step.Step.TheVariants.{LeaveJoint}
-use Rattle.conf_plan.specs.Alive.{ShortestServes, LearnersFirstServes}
+use Rattle.conf_plan.specs.Alive.{ShortestServes, LearnersFirstServes, OneAtATimeServes}
 use Rattle.conf_plan.specs.LearnersFirst.{learners_first_from_single}
+use Rattle.conf_plan.specs.OneAtATime.{one_at_a_time_from_single}
 use Rattle.conf_plan.specs.Planned.{planned_from_single}
 use Rattle.conf_plan.specs.declared.strategy.Strategy.{Strategy}
-use Rattle.conf_plan.specs.declared.strategy.Strategy.TheVariants.{Shortest, LearnersFirst}
+use Rattle.conf_plan.specs.declared.strategy.Strategy.TheVariants.{Shortest, LearnersFirst, OneAtATime}
 
 -- from a configuration that is not joint
 abbrev pub from_single_by : Strategy → Configuration → Configuration → List Step
 from_single_by Shortest = planned_from_single
 from_single_by LearnersFirst = learners_first_from_single
+from_single_by OneAtATime = one_at_a_time_from_single
 
 -- from any: a joint configuration is left first
 abbrev pub path_by : Strategy → Configuration → Configuration → List Step
@@ -21,7 +23,14 @@ path_by strategy now target =
     if is_same now target then []
     else (if is_joint now then LeaveJoint ∷ from_single_by strategy (after_leave now) target else from_single_by strategy now target)
 
+-- whether the strategy has a path between configurations with voters: one member at a time leads into no joint configuration
+abbrev pub has_path : Strategy → Configuration → Configuration → Bool
+has_path Shortest now target = true
+has_path LearnersFirst now target = true
+has_path OneAtATime now target = is_same now target || not (is_joint target)
+
 -- what the strategy promises of its path
 abbrev pub Serves : Strategy → Configuration → List Step → Configuration → Type 0
 Serves Shortest = ShortestServes
 Serves LearnersFirst = LearnersFirstServes
+Serves OneAtATime = OneAtATimeServes
