@@ -1,12 +1,12 @@
 -- From a configuration that is not joint, with new voters as learners first (Ongaro's dissertation, 4.2.1).
 use Rattle.std.specs.Prelude.{not, List, ◌∷◌, ◌++◌, map, if◌then◌else◌}
-use Rattle.quorum_sets.specs.Ids.{Ids, ascending, ids_where, is_empty}
+use Rattle.quorum_sets.specs.Ids.{Ids, ascending, ids_where, is_empty, union}
 use Rattle.conf_change.specs.Configuration.{Configuration, is_member}
 use Rattle.conf_change.specs.declared.change.Change.{Change}
 use Rattle.conf_change.specs.declared.change.Kind.TheVariants.{Learner}
 use Rattle.conf_change.specs.declared.step.Step.{Step}
 use Rattle.conf_change.specs.declared.step.Step.TheVariants.{Simple}
-use Rattle.conf_plan.specs.Planned.{union_of, planned}
+use Rattle.conf_plan.specs.Planned.{planned}
 
 -- the voters of the target, incoming or outgoing, that are no members of the configuration
 abbrev pub newcomers : Configuration → Configuration → Ids
@@ -18,7 +18,7 @@ learner_changes ids = map (λ id. record { kind = Learner; id = id }) (ascending
 
 -- the configuration with these learners too
 abbrev pub with_learners : Configuration → Ids → Configuration
-with_learners c ids = record c { learners = union_of c.learners ids }
+with_learners c ids = record c { learners = union c.learners ids }
 
 -- one step makes the newcomers learners, if there are any; then comes the shortest plan
 abbrev pub learners_first_from_single : Configuration → Configuration → List Step

@@ -1,13 +1,13 @@
 -- From a configuration that is not joint, one member at a time, as etcd's server changes its members.
 use Rattle.std.specs.Prelude.{ℕ, not, ◌||◌, List, [], ◌∷◌, ◌++◌, filter, Option, None, option_map, filter_map, if◌then◌else◌}
-use Rattle.quorum_sets.specs.Ids.{has, ascending}
+use Rattle.quorum_sets.specs.Ids.{has, ascending, union}
 use Rattle.conf_change.specs.Configuration.{Configuration}
 use Rattle.conf_change.specs.declared.change.Change.{Change}
 use Rattle.conf_change.specs.declared.change.Kind.{Kind}
 use Rattle.conf_change.specs.declared.change.Kind.TheVariants.{Voter, Learner, Remove}
 use Rattle.conf_change.specs.declared.step.Step.{Step}
 use Rattle.conf_change.specs.declared.step.Step.TheVariants.{Simple}
-use Rattle.conf_plan.specs.Planned.{kind_by, union_of}
+use Rattle.conf_plan.specs.Planned.{kind_by}
 
 -- a simple step of one change
 abbrev pub one_change : Kind → ℕ → Step
@@ -43,7 +43,7 @@ learner_change c target id =
 
 -- the steps for these ids, ascending
 abbrev pub learner_steps : Configuration → Configuration → List Step
-learner_steps c target = filter_map (λ id. option_map (λ kind. one_change kind id) (learner_change c target id)) (ascending (union_of c.learners target.learners))
+learner_steps c target = filter_map (λ id. option_map (λ kind. one_change kind id) (learner_change c target id)) (ascending (union c.learners target.learners))
 
 abbrev pub one_at_a_time_from_single : Configuration → Configuration → List Step
 one_at_a_time_from_single c target = in_turn c target (joining c target) (retiring c target) ++ learner_steps c target

@@ -1,7 +1,7 @@
 -- The plan from one configuration to another.
 use Rattle.std.specs.Prelude.{ℕ, Bool, false, not, ◌&&◌, ◌||◌, List, [], ◌∷◌, ◌++◌, Option, Some, None, option_map, filter_map, fold, nat_le, if◌then◌else◌}
 use Rattle.std.specs.Result.{result_unwrap_or}
-use Rattle.quorum_sets.specs.Ids.{Ids, no_ids, has, ascending, ids_of, ids_where, difference_count}
+use Rattle.quorum_sets.specs.Ids.{Ids, no_ids, has, ascending, ids_where, difference_count, union}
 use Rattle.conf_change.specs.Configuration.{Configuration, is_joint, is_member, members, is_same_set, is_same}
 use Rattle.conf_change.specs.Outcome.{outcome, after_leave}
 use Rattle.conf_change.specs.declared.change.Change.{Change}
@@ -25,10 +25,6 @@ kind_of_move c voters learners id = kind_by (has voters id) (has learners id) (h
 abbrev pub move_of : Configuration → Ids → Ids → ℕ → Option Change
 move_of c voters learners id = option_map (λ kind. record { kind = kind; id = id }) (kind_of_move c voters learners id)
 
--- the ids of either set
-abbrev pub union_of : Ids → Ids → Ids
-union_of a b = ids_of (ascending a ++ ascending b)
-
 -- the configuration with these voters and learners that is not joint
 abbrev pub single_with : Ids → Ids → Configuration
 single_with voters learners = record { incoming = voters; outgoing = no_ids; learners = learners; learners_next = no_ids; auto_leave = false }
@@ -36,7 +32,7 @@ single_with voters learners = record { incoming = voters; outgoing = no_ids; lea
 -- the changes from a configuration that is not joint to these voters and learners, by ascending id
 abbrev pub moves : Configuration → Ids → Ids → List Change
 moves c voters learners =
-    filter_map (move_of c voters learners) (ascending (union_of (union_of voters learners) (union_of c.incoming c.learners)))
+    filter_map (move_of c voters learners) (ascending (union (union voters learners) (union c.incoming c.learners)))
 
 -- from a configuration that is not joint to the one with these voters and learners that is not joint either
 abbrev pub single_steps : Configuration → Ids → Ids → List Step
@@ -64,7 +60,7 @@ configuration_after c steps = fold (λ at step. result_unwrap_or (outcome at ste
 
 -- the step into a joint configuration, from one that is not joint and has its outgoing voters as incoming ones
 abbrev pub entering_step : Configuration → Configuration → Step
-entering_step c target = EnterJoint target.auto_leave (moves c target.incoming (union_of target.learners target.learners_next))
+entering_step c target = EnterJoint target.auto_leave (moves c target.incoming (union target.learners target.learners_next))
 
 -- from a configuration that is not joint to a joint one
 abbrev pub joint_steps : Configuration → Configuration → List Step

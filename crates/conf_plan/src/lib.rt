@@ -22,6 +22,7 @@ mod catching;
 pub mod laws;
 mod learners_first;
 mod moves;
+mod one_at_a_time;
 pub mod path;
 mod picked;
 pub mod planner;

@@ -91,7 +91,7 @@ fn earlier(a: Option<u64>, b: Option<u64>) -> Option<u64>
 }
 
 // What an id has to become, if anything.
-fn kind_of_move(
+pub(crate) fn kind_of_move(
     wanted_voter: bool,
     wanted_learner: bool,
     voter: bool,

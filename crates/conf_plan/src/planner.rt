@@ -9,6 +9,7 @@ ghost use Rattle.conf_plan.specs.Walking.{IsAdded};
 
 use crate::learners_first::add_learners_first;
 use crate::moves::moves_to;
+use crate::one_at_a_time::add_one_at_a_time;
 use crate::shared_members::shared_members;
 use crate::step_list::Plan;
 use crate::strategy::Strategy;
@@ -22,7 +23,7 @@ use thiserror::Error;
 pub enum PlanFault {
     #[error("no plan: the current configuration has no voter")]
     NoVoterNow,
-    #[error("no plan: the target configuration has no voter")]
+    #[error("no plan: the target has no voter")]
     NoVoterTarget,
     #[error("out of memory")]
     NoMemory,
@@ -104,6 +105,7 @@ fn add_from_single_by<S: MemberSet>(
     match strategy {
         Strategy::Shortest => add_from_single(alloc, steps, incoming, learners, target),
         Strategy::LearnersFirst => add_learners_first(alloc, steps, incoming, learners, target),
+        Strategy::OneAtATime => add_one_at_a_time(alloc, steps, incoming, learners, target),
     }
 }
 

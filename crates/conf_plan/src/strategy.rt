@@ -1,7 +1,7 @@
 //! Paths from one configuration to another, by the strategy that a cluster which serves can afford.
 ghost use Rattle.std.specs.Prelude.{◌≡◌, ◌↔◌, true, false, Err, IfOk, OnOk};
 ghost use Rattle.conf_change.specs.Configuration.{is_valid, has_voter};
-ghost use Rattle.conf_plan.specs.PathBy.{path_by, Serves};
+ghost use Rattle.conf_plan.specs.PathBy.{has_path, path_by, Serves};
 
 use crate::path::Path;
 use crate::planner::add_path;
@@ -17,15 +17,19 @@ pub enum Strategy {
     Shortest,
     /// New voters are learners first, so that they can catch up before they vote (Ongaro's dissertation, 4.2.1).
     LearnersFirst,
+    /// One member changes at a time, as etcd's server does it; no path leads into a joint configuration.
+    OneAtATime,
 }
 
 /// Why there is no path.
 #[derive(Clone, Copy, Debug, PartialEq, Eq, Error)]
 pub enum NoPath {
-    #[error("the current configuration has no voter")]
+    #[error("no plan: the current configuration has no voter")]
     NoVoterNow,
-    #[error("the target has no voter")]
+    #[error("no plan: the target has no voter")]
     NoVoterTarget,
+    #[error("no plan: the target is joint")]
+    JointTarget,
     #[error("out of memory")]
     NoMemory,
 }
@@ -41,7 +45,8 @@ impl From<NoMemory> for NoPath {
 }
 
 /// The path from one configuration to another by a strategy, which keeps what the strategy promises (`Serves`). Between
-/// configurations without voters there is none, which is found before any memory is taken (own).
+/// configurations without voters there is none, nor one member at a time into a joint configuration, unless the current
+/// one equals it. That is found before any memory is taken (own).
 pub fn plan_by<S: MemberSet>(
     alloc: Global,
     strategy: Strategy,
@@ -54,6 +59,7 @@ pub fn plan_by<S: MemberSet>(
     ensures serves { IfOk result (λ path. Serves strategy now.now path target.now) }
     ensures no_voter_now { (result ≡ Err NoPath.NoVoterNow) ↔ (has_voter now.now ≡ false) }
     ensures no_voter_target { (result ≡ Err NoPath.NoVoterTarget) ↔ ((has_voter now.now ≡ true) × (has_voter target.now ≡ false)) }
+    ensures joint_target { (result ≡ Err NoPath.JointTarget) ↔ ((has_voter now.now ≡ true) × (has_voter target.now ≡ true) × (has_path strategy now.now target.now ≡ false)) }
 {
     if now.incoming.len() == 0 {
         return Err(NoPath::NoVoterNow);
@@ -61,7 +67,20 @@ pub fn plan_by<S: MemberSet>(
     if target.incoming.len() == 0 {
         return Err(NoPath::NoVoterTarget);
     }
+    if !has_path(strategy, now, target) {
+        return Err(NoPath::JointTarget);
+    }
     let mut steps = Vec::new(alloc);
     add_path(alloc, strategy, &mut steps, now, target)?;
     Ok(Path::of_steps(steps))
+}
+
+// Whether the strategy has a path between configurations with voters.
+fn has_path<S: MemberSet>(strategy: Strategy, now: &Config<S>, target: &Config<S>) -> bool
+    ensures { result ≡ has_path strategy now.now target.now }
+{
+    match strategy {
+        Strategy::Shortest | Strategy::LearnersFirst => true,
+        Strategy::OneAtATime => now.same(target) || target.outgoing.len() == 0,
+    }
 }

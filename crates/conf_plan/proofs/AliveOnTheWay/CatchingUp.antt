@@ -3,7 +3,7 @@ use Rattle.std.proofs.Common.{◌≡◌, ℕ, ◌+◌, ◌<◌, Bool, true, fals
 use Rattle.std.specs.List.{list_any}
 use Rattle.std.specs.Cmp.{nat_eq_equiv}
 use Rattle.std.proofs.lemmas.List.Folds.{list_any_more}
-use Rattle.quorum_sets.specs.Ids.{Ids, has, with_id, ascending, ids_where}
+use Rattle.quorum_sets.specs.Ids.{Ids, has, with_id, ascending, ids_where, union}
 use Rattle.quorum_sets.proofs.Offered.{has-ascending, has-ids_where, has-same_ids, has-with_id}
 use Rattle.conf_change.specs.Change.{is_removal, removes}
 use Rattle.conf_change.specs.Configuration.{Configuration, is_member, members}
@@ -13,11 +13,10 @@ use Rattle.conf_change.specs.declared.change.Change.{Change}
 use Rattle.conf_change.specs.declared.step.Step.{Step}
 use Rattle.conf_change.proofs.Offered.{any-members}
 use Rattle.conf_plan.specs.Alive.{catching_up}
-use Rattle.conf_plan.specs.Planned.{union_of}
-use Rattle.conf_plan.proofs.FindingMoves.OfEachId.{has-union_of}
+use Rattle.conf_plan.proofs.FindingMoves.OfEachId.{has-union}
 
 -- a member after the step that was none before, or whose place a new one takes
-pub catching_up-picked : (before after : Configuration) (step : Step) (voters all removed picked : Ids) → voters ≡ union_of after.incoming after.outgoing → all ≡ union_of voters after.learners
+pub catching_up-picked : (before after : Configuration) (step : Step) (voters all removed picked : Ids) → voters ≡ union after.incoming after.outgoing → all ≡ union voters after.learners
     → ((q : ℕ) → has removed q ≡ removes (changes_of step) q)
     → picked ≡ ids_where (λ id. not (is_member before id) || (has removed id && not (has after.outgoing id))) (ascending all)
     → picked ≡ catching_up before step after
@@ -31,8 +30,8 @@ catching_up-picked before after step voters all removed picked voters_are all_ar
   where
     member : (q : ℕ) → list_any (λ x. q == x) (ascending all) ≡ is_member after q
     member q =
-        sym (has-ascending all q) ∙ ap (λ s. has s q) all_are ∙ has-union_of voters after.learners q
-        ∙ ap (λ b. b || has after.learners q) (ap (λ s. has s q) voters_are ∙ has-union_of after.incoming after.outgoing q)
+        sym (has-ascending all q) ∙ ap (λ s. has s q) all_are ∙ has-union voters after.learners q
+        ∙ ap (λ b. b || has after.learners q) (ap (λ s. has s q) voters_are ∙ has-union after.incoming after.outgoing q)
 
     either : (m a x : Bool) → ((not m || x) && a) ≡ (not (m && a && not x) && a)
     either true true true = refl

@@ -3,7 +3,7 @@ use Rattle.std.proofs.Common.{◌≡◌, ◌+◌, ◌≤◌, true, false, cond, 
 use Rattle.std.specs.Prelude.{nat_le}
 use Rattle.std.proofs.lemmas.Bool.{cases_Bool, cond_both, cond-true, cond-false, both_ways, eqb-true, le-leb, not-false}
 use Rattle.std.proofs.lemmas.List.{length-append}
-use Rattle.quorum_sets.specs.Ids.{Ids, is_empty, difference_count}
+use Rattle.quorum_sets.specs.Ids.{Ids, is_empty, difference_count, union}
 use Rattle.conf_change.specs.Configuration.{Configuration, is_joint, is_same}
 use Rattle.conf_change.specs.Outcome.{after_leave}
 use Rattle.conf_change.specs.declared.step.Step.{Step}
@@ -12,7 +12,7 @@ use Rattle.conf_change.proofs.Offered.{outcome-leave_accepted, is_same-equal, is
 use Rattle.conf_plan.specs.Alive.{HasQuorumsOf, KeepsQuorums, MakesVotersOfReady, VotersLearnFirst, LearnersFirstServes}
 use Rattle.conf_plan.specs.LearnersFirst.{newcomers, learner_changes, with_learners, learners_first_from_single}
 use Rattle.conf_plan.specs.PathBy.{path_by}
-use Rattle.conf_plan.specs.Planned.{union_of, single_with, single_steps, shared_members, entering_step, planned_from_single, planned}
+use Rattle.conf_plan.specs.Planned.{single_with, single_steps, shared_members, entering_step, planned_from_single, planned}
 use Rattle.conf_plan.specs.Run.{IsValidWithVoter, IsRunWith}
 use Rattle.conf_plan.specs.declared.strategy.Strategy.TheVariants.{LearnersFirst}
 use Rattle.conf_plan.proofs.FindingMoves.ResultingConfiguration.{IsSingle}
@@ -43,11 +43,11 @@ learners_first-nobody c target single nobody = cond-true (is_empty (newcomers c 
 
 -- with newcomers, the step that makes them learners is the one by the moves
 pub learners_first-somebody : (c target : Configuration) → IsSingle c → IsValidWithVoter target → is_empty (newcomers c target) ≡ false
-    → learners_first_from_single c target ≡ single_steps c c.incoming (union_of c.learners (newcomers c target)) ++ planned_from_single (with_learners c (newcomers c target)) target
+    → learners_first_from_single c target ≡ single_steps c c.incoming (union c.learners (newcomers c target)) ++ planned_from_single (with_learners c (newcomers c target)) target
 learners_first-somebody c target single settled somebody =
     let new = newcomers c target in
     let none = eqb-true (difference_count c.incoming c.incoming) 0 (is_same_set-refl c.incoming) in
-    let step : single_steps c c.incoming (union_of c.learners new) ≡ Simple (learner_changes new) ∷ [] =
+    let step : single_steps c c.incoming (union c.learners new) ≡ Simple (learner_changes new) ∷ [] =
     cond-true (nat_le (difference_count c.incoming c.incoming) 1) _ _ (le-leb (difference_count c.incoming c.incoming) 1 (omega arith))
     ∙ ap (λ changes. Simple changes ∷ []) (moves-learner_changes c new (newcomers-strangers c target)) in
     cond-false (is_empty new) _ _ somebody

@@ -6,7 +6,7 @@ use Rattle.std.specs.List.{list_any, cons_option}
 use Rattle.std.proofs.lemmas.Bool.{true≢false, or_from, or_left, or_right, false_from_ne_true}
 use Rattle.std.proofs.lemmas.List.Folds.{list_any-append}
 use Rattle.std.proofs.lemmas.List.Kept.{IsStrictlySortedBy-filter}
-use Rattle.quorum_sets.specs.Ids.{Ids, no_ids, has, ascending, ids_of, ids_where, is_empty, difference_count}
+use Rattle.quorum_sets.specs.Ids.{Ids, no_ids, has, ascending, ids_of, ids_where, is_empty, difference_count, union}
 use Rattle.quorum_sets.proofs.Offered.{ascending-ids_of, ascending-is_sorted, has-ascending, has-ids_of, has-ids_where, has-no_ids, has-same_ids}
 use Rattle.conf_change.specs.Configuration.{Configuration, is_member}
 use Rattle.conf_change.specs.declared.change.Change.{Change}
@@ -14,10 +14,10 @@ use Rattle.conf_change.specs.declared.change.Kind.TheVariants.{Learner}
 use Rattle.conf_change.specs.declared.step.Step.TheVariants.{Simple}
 use Rattle.conf_change.proofs.Offered.{ValidByMember-from_is_valid, has-none_in_empty, is_empty-no_ids, is_same_set-refl}
 use Rattle.conf_plan.specs.LearnersFirst.{newcomers, learner_changes, with_learners}
-use Rattle.conf_plan.specs.Planned.{kind_by, kind_of_move, move_of, moves, single_with, union_of}
+use Rattle.conf_plan.specs.Planned.{kind_by, kind_of_move, move_of, moves, single_with}
 use Rattle.conf_plan.specs.Run.{IsValidWithVoter, Gives}
 use Rattle.conf_plan.proofs.BestPlan.SparedMembers.{is_member-single_with}
-use Rattle.conf_plan.proofs.FindingMoves.OfEachId.{change_of, has-union_of}
+use Rattle.conf_plan.proofs.FindingMoves.OfEachId.{change_of, has-union}
 use Rattle.conf_plan.proofs.FindingMoves.ResultingConfiguration.{IsSingle, AreWanted}
 use Rattle.conf_plan.proofs.PlannedSteps.BetweenSingle.{simple_moves-accepted}
 use Rattle.conf_plan.proofs.PlannedSteps.RunToTarget.{single_with-own, own-are_wanted}
@@ -95,28 +95,28 @@ filter-within all ids within =
     has-ids_where (has ids) (ascending all) q ∙ and_implied (has ids q) _ (λ here. sym (has-ascending all q) ∙ within q here)))
 
 -- they are the moves to those learners too
-pub moves-learner_changes : (c : Configuration) (ids : Ids) → ((q : ℕ) → has ids q ≡ true → is_member c q ≡ false) → moves c c.incoming (union_of c.learners ids) ≡ learner_changes ids
+pub moves-learner_changes : (c : Configuration) (ids : Ids) → ((q : ℕ) → has ids q ≡ true → is_member c q ≡ false) → moves c c.incoming (union c.learners ids) ≡ learner_changes ids
 moves-learner_changes c ids strangers =
-    let learners = union_of c.learners ids in
-    let all = union_of (union_of c.incoming learners) (union_of c.incoming c.learners) in
+    let learners = union c.learners ids in
+    let all = union (union c.incoming learners) (union c.incoming c.learners) in
     filter_map-where (move_of c c.incoming learners) (has ids) (λ q. ap (option_map (change_of q)) (kind q)) (ascending all)
     ∙ ap (map (λ id. change_of id Learner)) (filter-within all ids (λ q here.
-    has-union_of (union_of c.incoming learners) (union_of c.incoming c.learners) q
-    ∙ or_left (has (union_of c.incoming learners) q) _ (has-union_of c.incoming learners q
-    ∙ or_right (has c.incoming q) _ (has-union_of c.learners ids q ∙ or_right (has c.learners q) _ here))))
+    has-union (union c.incoming learners) (union c.incoming c.learners) q
+    ∙ or_left (has (union c.incoming learners) q) _ (has-union c.incoming learners q
+    ∙ or_right (has c.incoming q) _ (has-union c.learners ids q ∙ or_right (has c.learners q) _ here))))
   where
     not_either : (i o l : Bool) → (i || o || l) ≡ false → (i || l) ≡ false
     not_either true o l e = cc
     not_either false true l e = cc
     not_either false false l e = e
 
-    kind : (q : ℕ) → kind_of_move c c.incoming (union_of c.learners ids) q ≡ cond (has ids q) (Some Learner) None
+    kind : (q : ℕ) → kind_of_move c c.incoming (union c.learners ids) q ≡ cond (has ids q) (Some Learner) None
     kind q =
-        ap (λ b. kind_by (has c.incoming q) b (has c.incoming q) (has c.learners q)) (has-union_of c.learners ids q)
+        ap (λ b. kind_by (has c.incoming q) b (has c.incoming q) (has c.learners q)) (has-union c.learners ids q)
         ∙ kind_of_new (has c.incoming q) (has c.learners q) (has ids q) (λ here. not_either (has c.incoming q) (has c.outgoing q) (has c.learners q) (strangers q here))
 
 -- ---- the step
-newcomers-are_wanted : (c target : Configuration) → IsSingle c → IsValidWithVoter target → AreWanted c.incoming (union_of c.learners (newcomers c target))
+newcomers-are_wanted : (c target : Configuration) → IsSingle c → IsValidWithVoter target → AreWanted c.incoming (union c.learners (newcomers c target))
 newcomers-are_wanted c target single settled =
     let own = own-are_wanted c single.settled in
     let new = newcomers c target in
@@ -125,10 +125,10 @@ newcomers-are_wanted c target single settled =
       voter = own.voter;
       zero_voters = own.zero_voters;
       zero_learners =
-          has-union_of c.learners new 0
+          has-union c.learners new 0
           ∙ or_from _ _ own.zero_learners (has-newcomers c target 0 ∙ (λ i. not (is_member c 0) && (valid.zero_incoming i || valid.zero_outgoing i)) ∙ neither (not (is_member c 0)));
       apart = λ q votes.
-          has-union_of c.learners new q
+          has-union c.learners new q
           ∙ or_from _ _ (own.apart q votes) (false_from_ne_true _ (λ here.
           true≢false (sym (or_left (has c.incoming q || has c.outgoing q) _ (or_left (has c.incoming q) _ votes)) ∙ newcomers-strangers c target q here)));
     }
@@ -141,7 +141,7 @@ pub newcomers-learn : (c target : Configuration) → IsSingle c → IsValidWithV
     → Gives c (Simple (learner_changes (newcomers c target))) (with_learners c (newcomers c target))
 newcomers-learn c target single settled =
     let new = newcomers c target in
-    let learners = union_of c.learners new in
+    let learners = union c.learners new in
     let none = eqb-true (difference_count c.incoming c.incoming) 0 (is_same_set-refl c.incoming) in
     let P : List Change → Configuration → Type 0 = λ changes d. Gives c (Simple changes) d in
     let given : Gives c (Simple (moves c c.incoming learners)) (single_with c.incoming learners) =
@@ -162,7 +162,7 @@ with_newcomers-is_single c target single settled = record {
 pub HasNoNewcomer-with_newcomers : (c target : Configuration) → HasNoNewcomer (with_learners c (newcomers c target)) target
 HasNoNewcomer-with_newcomers c target q here =
     let new = newcomers c target in
-    ap (λ b. has c.incoming q || has c.outgoing q || b) (has-union_of c.learners new q ∙ ap (λ b. has c.learners q || b) (has-newcomers c target q))
+    ap (λ b. has c.incoming q || has c.outgoing q || b) (has-union c.learners new q ∙ ap (λ b. has c.learners q || b) (has-newcomers c target q))
     ∙ any_way (has c.incoming q) (has c.outgoing q) (has c.learners q) (has target.incoming q || has target.outgoing q) here
   where
     any_way : (i o l votes : Bool) → votes ≡ true → (i || o || (l || (not (i || o || l) && votes))) ≡ true

@@ -8,9 +8,8 @@ use Rattle.quorum_sets.proofs.Offered.{has-ascending, has-ids_where, is_quorum-w
 use Rattle.conf_change.specs.Configuration.{Configuration, voters_of}
 use Rattle.conf_change.specs.declared.step.Step.{Step}
 use Rattle.conf_plan.specs.Alive.{HasQuorumsOf, IsAsTolerant, KeepsQuorums, KeepsTolerance}
-use Rattle.conf_plan.specs.Planned.{union_of}
 use Rattle.conf_plan.specs.Run.{IsRunWith}
-use Rattle.conf_plan.proofs.FindingMoves.OfEachId.{has-union_of}
+use Rattle.conf_plan.proofs.FindingMoves.OfEachId.{has-union}
 
 -- ---- those of some ids that are not away
 abbrev staying : Ids → Ids → Ids
@@ -25,7 +24,7 @@ has-staying all away q here = has-ids_where (λ id. not (has away id)) (ascendin
 
 -- the voters of both sets
 abbrev voter_ids : Configuration → Ids
-voter_ids c = union_of c.incoming c.outgoing
+voter_ids c = union c.incoming c.outgoing
 
 -- among the ids are all voters of the configuration, so it commits exactly where those that stay are a quorum
 staying-commits : (c : Configuration) (all away : Ids) → ((q : ℕ) → (has c.incoming q || has c.outgoing q) ≡ true → has all q ≡ true)
@@ -36,16 +35,16 @@ staying-commits c all away among = is_quorum-without (voters_of c) away (staying
 pub IsAsTolerant-from_quorums : (now target c : Configuration) → HasQuorumsOf now target c → IsAsTolerant now target c
 IsAsTolerant-from_quorums now target c quorums k by_now by_target down few =
     let away = union down no_ids in
-    let others = union_of (voter_ids now) (voter_ids target) in
-    let all = union_of (voter_ids c) others in
+    let others = union (voter_ids now) (voter_ids target) in
+    let all = union (voter_ids c) others in
     let in_now : (q : ℕ) → (has now.incoming q || has now.outgoing q) ≡ true → has all q ≡ true =
-    λ q here. has-union_of (voter_ids c) others q ∙ or_right (has (voter_ids c) q) (has others q)
-    (has-union_of (voter_ids now) (voter_ids target) q ∙ or_left (has (voter_ids now) q) (has (voter_ids target) q) (has-union_of now.incoming now.outgoing q ∙ here)) in
+    λ q here. has-union (voter_ids c) others q ∙ or_right (has (voter_ids c) q) (has others q)
+    (has-union (voter_ids now) (voter_ids target) q ∙ or_left (has (voter_ids now) q) (has (voter_ids target) q) (has-union now.incoming now.outgoing q ∙ here)) in
     let in_target : (q : ℕ) → (has target.incoming q || has target.outgoing q) ≡ true → has all q ≡ true =
-    λ q here. has-union_of (voter_ids c) others q ∙ or_right (has (voter_ids c) q) (has others q)
-    (has-union_of (voter_ids now) (voter_ids target) q ∙ or_right (has (voter_ids now) q) (has (voter_ids target) q) (has-union_of target.incoming target.outgoing q ∙ here)) in
+    λ q here. has-union (voter_ids c) others q ∙ or_right (has (voter_ids c) q) (has others q)
+    (has-union (voter_ids now) (voter_ids target) q ∙ or_right (has (voter_ids now) q) (has (voter_ids target) q) (has-union target.incoming target.outgoing q ∙ here)) in
     let in_c : (q : ℕ) → (has c.incoming q || has c.outgoing q) ≡ true → has all q ≡ true =
-    λ q here. has-union_of (voter_ids c) others q ∙ or_left (has (voter_ids c) q) (has others q) (has-union_of c.incoming c.outgoing q ∙ here) in
+    λ q here. has-union (voter_ids c) others q ∙ or_left (has (voter_ids c) q) (has others q) (has-union c.incoming c.outgoing q ∙ here) in
     sym (staying-commits c all away in_c)
     ∙ quorums (staying all away) (staying-commits now all away in_now ∙ by_now down few) (staying-commits target all away in_target ∙ by_target down few)
 

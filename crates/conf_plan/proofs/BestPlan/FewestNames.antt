@@ -8,7 +8,7 @@ use Rattle.std.specs.Ordering.{nat_cmp}
 use Rattle.std.specs.Cmp.{nat_eq_equiv}
 use Rattle.std.proofs.lemmas.Bool.{true≢false, false_from_ne_true, cond_both, and_right, or_from}
 use Rattle.std.proofs.lemmas.List.Sums.{sum_by-cons, sum_by-append}
-use Rattle.quorum_sets.specs.Ids.{Ids, has, difference_count}
+use Rattle.quorum_sets.specs.Ids.{Ids, has, difference_count, union}
 use Rattle.quorum_sets.proofs.Offered.{has-no_ids, ascending-is_sorted}
 use Rattle.conf_change.specs.Configuration.{Configuration, is_joint, is_member}
 use Rattle.conf_change.specs.Change.{names, is_update}
@@ -20,11 +20,11 @@ use Rattle.conf_change.specs.declared.step.Step.{Step}
 use Rattle.conf_change.specs.declared.step.Step.TheVariants.{Simple, EnterJoint, LeaveJoint}
 use Rattle.conf_change.proofs.Offered.{outgoing-none, ValidByMember-from_is_valid}
 use Rattle.conf_plan.specs.Best.{times_named, is_any_learner}
-use Rattle.conf_plan.specs.Planned.{kind_by, kind_of_move, union_of, single_with, moves, single_steps, shared_members, entering_step, planned_from_single, planned}
+use Rattle.conf_plan.specs.Planned.{kind_by, kind_of_move, single_with, moves, single_steps, shared_members, entering_step, planned_from_single, planned}
 use Rattle.conf_plan.specs.Run.{IsValidWithVoter, IsRun}
 use Rattle.conf_plan.proofs.PlannedSteps.IntoJoint.{has-shared_members, at_outgoing-is_single}
 use Rattle.conf_plan.proofs.FindingMoves.ResultingConfiguration.{IsSingle, IsSingle-no_next}
-use Rattle.conf_plan.proofs.FindingMoves.OfEachId.{change_of, has-union_of}
+use Rattle.conf_plan.proofs.FindingMoves.OfEachId.{change_of, has-union}
 use Rattle.conf_plan.proofs.Runs.PartOfEachId.{run-same_part}
 use Rattle.conf_plan.proofs.PlannedSteps.RunToTarget.{single_with-own, after_leave-is_single}
 use Rattle.conf_plan.proofs.FindingMoves.RisingIds.{holds-above, holds}
@@ -85,7 +85,7 @@ in_either false n m le = omega arith
 moves-name_once : (c : Configuration) (voters learners : Ids) (q : ℕ)
     → count_by (names q) (moves c voters learners) ≤ once (kind_by (has voters q) (has learners q) (has c.incoming q) (has c.learners q))
 moves-name_once c voters learners q =
-    in_either _ _ _ (each_named_once (kind_of_move c voters learners) _ q (ascending-is_sorted (union_of (union_of voters learners) (union_of c.incoming c.learners))))
+    in_either _ _ _ (each_named_once (kind_of_move c voters learners) _ q (ascending-is_sorted (union (union voters learners) (union c.incoming c.learners))))
 
 -- ---- an id whose part has to change is named
 -- once, if the id is an incoming voter, a learner of either kind or neither in the one configuration, and something else in the other
@@ -128,9 +128,9 @@ single_steps-name c voters learners q single =
 
 entering_step-names : (c target : Configuration) (q : ℕ) → IsSingle c → times_named q (entering_step c target ∷ []) ≤ differing c target q
 entering_step-names c target q single =
-    let few = moves-name_once c target.incoming (union_of target.learners target.learners_next) q in
-    let is : differing c target q ≡ once (kind_by (has target.incoming q) (has (union_of target.learners target.learners_next) q) (has c.incoming q) (has c.learners q)) =
-    λ i. once (kind_by (has target.incoming q) (sym (has-union_of target.learners target.learners_next q) i) (has c.incoming q) (is_any_learner-single c q single i)) in
+    let few = moves-name_once c target.incoming (union target.learners target.learners_next) q in
+    let is : differing c target q ≡ once (kind_by (has target.incoming q) (has (union target.learners target.learners_next) q) (has c.incoming q) (has c.learners q)) =
+    λ i. once (kind_by (has target.incoming q) (sym (has-union target.learners target.learners_next q) i) (has c.incoming q) (is_any_learner-single c q single i)) in
     let named = named_by q (entering_step c target) [] in
     omega arith
 

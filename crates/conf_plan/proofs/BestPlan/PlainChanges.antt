@@ -4,7 +4,7 @@ use Rattle.std.specs.Prelude.{Option, Some, None, IfSome, option_map, filter_map
 use Rattle.std.specs.List.{All, cons_option}
 use Rattle.std.proofs.lemmas.Bool.{cond_both, true≢false}
 use Rattle.std.proofs.lemmas.List.Elements.{All-nil, All-cons, All-append}
-use Rattle.quorum_sets.specs.Ids.{Ids, has, difference_count}
+use Rattle.quorum_sets.specs.Ids.{Ids, has, difference_count, union}
 use Rattle.conf_change.specs.Configuration.{Configuration}
 use Rattle.conf_change.specs.Change.{is_update}
 use Rattle.conf_change.specs.Outcome.{after_leave}
@@ -15,7 +15,7 @@ use Rattle.conf_change.specs.declared.step.Step.{Step}
 use Rattle.conf_change.specs.declared.step.Step.TheVariants.{Simple, EnterJoint, LeaveJoint}
 use Rattle.conf_change.proofs.Offered.{ValidByMember-from_is_valid}
 use Rattle.conf_plan.specs.Best.{IsPlain}
-use Rattle.conf_plan.specs.Planned.{kind_of_move, union_of, single_with, moves, single_steps, shared_members, entering_step, planned_from_single, planned}
+use Rattle.conf_plan.specs.Planned.{kind_of_move, single_with, moves, single_steps, shared_members, entering_step, planned_from_single, planned}
 use Rattle.conf_plan.specs.Run.{IsValidWithVoter}
 use Rattle.conf_plan.proofs.PlannedSteps.IntoJoint.{outgoing-are_wanted, incoming-are_wanted, at_outgoing-is_single}
 use Rattle.conf_plan.proofs.FindingMoves.ResultingConfiguration.{IsSingle, AreWanted, kind_of_move-zero}
@@ -60,7 +60,7 @@ single_steps-are_plain c voters learners single wanted =
 entering_step-is_plain : (c target : Configuration) → IsSingle c → IsValidWithVoter target → All ArePlain (entering_step c target ∷ [])
 entering_step-is_plain c target single settled =
     All-cons ArePlain (entering_step c target) []
-    (moves-are_plain c target.incoming (union_of target.learners target.learners_next) single (incoming-are_wanted target settled)) (All-nil ArePlain)
+    (moves-are_plain c target.incoming (union target.learners target.learners_next) single (incoming-are_wanted target settled)) (All-nil ArePlain)
 
 planned_from_single-is_plain : (c target : Configuration) → IsSingle c → IsValidWithVoter target → All ArePlain (planned_from_single c target)
 planned_from_single-is_plain c target single settled =

@@ -4,7 +4,7 @@ use Rattle.std.proofs.Math.Bool.{or-false}
 use Rattle.std.specs.Prelude.{Option, Some, None, IfSome, option_map, filter_map}
 use Rattle.std.specs.List.{cons_option}
 use Rattle.std.proofs.lemmas.Bool.{and_parts, and_from, and_left, and_right, not_from_true, not_from_false}
-use Rattle.quorum_sets.specs.Ids.{Ids, has}
+use Rattle.quorum_sets.specs.Ids.{Ids, has, union}
 use Rattle.quorum_sets.proofs.Offered.{has-no_ids}
 use Rattle.conf_change.specs.Configuration.{Configuration, is_member}
 use Rattle.conf_change.specs.Change.{is_removal, removes}
@@ -16,11 +16,11 @@ use Rattle.conf_change.specs.declared.step.Step.{Step}
 use Rattle.conf_change.specs.declared.step.Step.TheVariants.{Simple, EnterJoint, LeaveJoint}
 use Rattle.conf_change.proofs.Offered.{LeaveTaken-from_outcome, outcome-leave_accepted, ValidByMember-from_is_valid}
 use Rattle.conf_plan.specs.Best.{Spares, outlasts_leave}
-use Rattle.conf_plan.specs.Planned.{kind_by, kind_of_move, union_of, single_with, moves, single_steps, shared_members, entering_step, planned_from_single, planned}
+use Rattle.conf_plan.specs.Planned.{kind_by, kind_of_move, single_with, moves, single_steps, shared_members, entering_step, planned_from_single, planned}
 use Rattle.conf_plan.specs.Run.{IsValidWithVoter, Gives}
 use Rattle.conf_plan.proofs.PlannedSteps.IntoJoint.{has-shared_members, outgoing-are_wanted, at_outgoing-is_single, entering-reaches}
 use Rattle.conf_plan.proofs.FindingMoves.ResultingConfiguration.{IsSingle, AreWanted, moves-has_wanted}
-use Rattle.conf_plan.proofs.FindingMoves.OfEachId.{change_of, has-union_of}
+use Rattle.conf_plan.proofs.FindingMoves.OfEachId.{change_of, has-union}
 use Rattle.conf_plan.proofs.PlannedSteps.RunToTarget.{single_with-own, own-are_wanted, after_leave-is_single}
 use Rattle.conf_plan.proofs.Runs.JointEnds.{LeavesFirst-from_IsRun}
 use Rattle.conf_plan.proofs.Runs.Chains.{IsChain-append, IsRun-from_IsRunWith}
@@ -120,8 +120,8 @@ entering_step-keeps c target q member stays = keeps q c (entering_step c target)
     same : (out : Bool) → has target.outgoing q ≡ out → is_replaced (entering_step c target) target q ≡ false
     same true goes = and_right _ _ (not_from_true (has target.outgoing q) goes)
     same false apart =
-        and_left _ _ (moves-remove_no_wanted c target.incoming (union_of target.learners target.learners_next) q
-        (ap (λ b. has target.incoming q || b) (has-union_of target.learners target.learners_next q)
+        and_left _ _ (moves-remove_no_wanted c target.incoming (union target.learners target.learners_next) q
+        (ap (λ b. has target.incoming q || b) (has-union target.learners target.learners_next q)
         ∙ voter_or_learner (has target.incoming q) (has target.outgoing q) (has target.learners q) (has target.learners_next q) apart stays))
 
 -- whoever is a member of both stays while the target's outgoing voters are made the incoming ones

@@ -6,14 +6,14 @@ use Rattle.std.proofs.lemmas.Bool.{true≢false, or_left, or_right, ltb-true, lt
 use Rattle.std.proofs.lemmas.List.{drop_all, append_assoc, append-nil}
 use Rattle.std.proofs.lemmas.List.Elements.{All-nil, All-push}
 use Rattle.std.proofs.lemmas.Option.{slice_get_within, get_or_from_slice_get, slice_get-get_or}
-use Rattle.quorum_sets.specs.Ids.{Ids, has, ascending}
+use Rattle.quorum_sets.specs.Ids.{Ids, has, ascending, union}
 use Rattle.quorum_sets.proofs.Offered.{has-ascending, ascending-is_sorted}
 use Rattle.conf_change.specs.Configuration.{Configuration}
 use Rattle.conf_change.specs.declared.change.Change.{Change}
 use Rattle.conf_change.specs.declared.change.Kind.{Kind}
-use Rattle.conf_plan.specs.Planned.{kind_by, move_of, union_of, moves}
+use Rattle.conf_plan.specs.Planned.{kind_by, move_of, moves}
 use Rattle.conf_plan.specs.Walking.{IsNoLater, IsEarlier, IsPassed}
-use Rattle.conf_plan.proofs.FindingMoves.OfEachId.{has-union_of}
+use Rattle.conf_plan.proofs.FindingMoves.OfEachId.{has-union}
 use Rattle.conf_plan.proofs.FindingMoves.RisingIds.{ids_from, ids_from-start, ids_from-later, ids_from-here, holds-none_left, ids_from-nothing, IsFirstFrom-from_ids}
 
 -- ---- one set
@@ -162,10 +162,10 @@ four-none a b c d ab cd xs ys zs ws p q r s ea eb ec ed left right both = record
 
 -- ---- the four sets
 abbrev all_ids : Ids → Ids → Ids → Ids → Ids
-all_ids a b c d = union_of (union_of a b) (union_of c d)
+all_ids a b c d = union (union a b) (union c d)
 
 has-all_ids : (a b c d : Ids) (q : ℕ) → has (all_ids a b c d) q ≡ ((has a q || has b q) || (has c q || has d q))
-has-all_ids a b c d q = has-union_of (union_of a b) (union_of c d) q ∙ (λ i. has-union_of a b q i || has-union_of c d q i)
+has-all_ids a b c d q = has-union (union a b) (union c d) q ∙ (λ i. has-union a b q i || has-union c d q i)
 
 -- the changes so far, and those of the ids from the bound on, are the moves
 pub record IsWalked (c : Configuration) (voters learners : Ids) (voter_place learner_place to_voter_place to_learner_place : ℕ) (changes : List Change) : Type 0 where

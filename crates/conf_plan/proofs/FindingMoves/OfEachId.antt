@@ -7,14 +7,14 @@ use Rattle.std.specs.List.{list_any, cons_option}
 use Rattle.std.proofs.lemmas.Bool.{not-false}
 use Rattle.std.proofs.lemmas.List.{reverse-append}
 use Rattle.std.proofs.lemmas.List.Folds.{find-append, list_any-append}
-use Rattle.quorum_sets.specs.Ids.{Ids, has, ascending}
+use Rattle.quorum_sets.specs.Ids.{Ids, has, ascending, union}
 use Rattle.quorum_sets.proofs.Offered.{has-ascending, has-ids_of}
 use Rattle.conf_change.specs.Configuration.{Configuration}
 use Rattle.conf_change.specs.Change.{names, last_word, is_update}
 use Rattle.conf_change.specs.declared.change.Change.{Change}
 use Rattle.conf_change.specs.declared.change.Kind.{Kind}
 use Rattle.conf_change.proofs.Offered.{last_word-one}
-use Rattle.conf_plan.specs.Planned.{kind_by, kind_of_move, union_of, moves}
+use Rattle.conf_plan.specs.Planned.{kind_by, kind_of_move, moves}
 
 -- ---- a list with one change per id
 abbrev pub change_of : ℕ → Kind → Change
@@ -68,8 +68,8 @@ last_word-each kind_for plain [] q = refl
 last_word-each kind_for plain (x ∷ xs) q = with_first kind_for x q _ _ (kind_for x) refl (plain x) (last_word-each kind_for plain xs q)
 
 -- ---- the moves
-pub has-union_of : (a b : Ids) (q : ℕ) → has (union_of a b) q ≡ (has a q || has b q)
-has-union_of a b q =
+pub has-union : (a b : Ids) (q : ℕ) → has (union a b) q ≡ (has a q || has b q)
+has-union a b q =
     has-ids_of _ q ∙ list_any-append (λ x. q == x) (ascending a) (ascending b) ∙ sym (λ i. has-ascending a q i || has-ascending b q i)
 
 pub kind_by-no_update : (v m i l : Bool) → IfSome (kind_by v m i l) (λ kind. is_update kind ≡ false)
@@ -99,7 +99,7 @@ pub last_word-moves : (c : Configuration) (voters learners : Ids) (q : ℕ) → 
 last_word-moves c voters learners q zero =
     last_word-each (kind_of_move c voters learners) (λ id. kind_by-no_update (has voters id) (has learners id) (has c.incoming id) (has c.learners id)) _ q
     ∙ ap (λ b. cond (b && not (q == 0)) (kind_of_move c voters learners q) None)
-    (sym (has-ascending _ q) ∙ has-union_of (union_of voters learners) (union_of c.incoming c.learners) q
-    ∙ (λ i. has-union_of voters learners q i || has-union_of c.incoming c.learners q i))
+    (sym (has-ascending _ q) ∙ has-union (union voters learners) (union c.incoming c.learners) q
+    ∙ (λ i. has-union voters learners q i || has-union c.incoming c.learners q i))
     ∙ moves_all (has voters q) (has learners q) (has c.incoming q) (has c.learners q) (not (q == 0))
     (λ is. ap (kind_of_move c voters learners) (eqb-true q 0 (not-false (q == 0) is)) ∙ zero)

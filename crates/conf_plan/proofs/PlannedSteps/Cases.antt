@@ -6,7 +6,7 @@ use Rattle.std.specs.List.{All}
 use Rattle.std.proofs.lemmas.Bool.{true≢false, false_from_ne_true, and_parts, ne_eqb, cond-true, cond-false}
 use Rattle.std.proofs.lemmas.List.{append_assoc, append-nil}
 use Rattle.std.proofs.lemmas.List.Elements.{All-append, All-nil, All-push}
-use Rattle.quorum_sets.specs.Ids.{Ids, size, difference_count}
+use Rattle.quorum_sets.specs.Ids.{Ids, size, difference_count, union}
 use Rattle.conf_change.specs.Configuration.{Configuration, is_joint, has_voter, is_same_set, is_same}
 use Rattle.conf_change.specs.declared.step.Step.{Step}
 use Rattle.conf_change.specs.declared.step.Step.TheVariants.{LeaveJoint}
@@ -15,7 +15,7 @@ use Rattle.conf_plan.specs.Run.{IsValidWithVoter}
 use Rattle.conf_plan.specs.PlanSteps.{HasWordIds, IsPlan}
 use Rattle.conf_plan.specs.PathBy.{from_single_by, path_by}
 use Rattle.conf_plan.specs.declared.strategy.Strategy.{Strategy}
-use Rattle.conf_plan.specs.Planned.{union_of, single_with, single_steps, shared_members, inserted_steps, configuration_after, entering_step, joint_steps, planned_from_single, planned}
+use Rattle.conf_plan.specs.Planned.{single_with, single_steps, shared_members, inserted_steps, configuration_after, entering_step, joint_steps, planned_from_single, planned}
 use Rattle.conf_plan.specs.Walking.{IsAdded}
 use Rattle.conf_plan.proofs.Runs.Chains.{configuration_after-run}
 use Rattle.conf_plan.proofs.FindingMoves.ResultingConfiguration.{IsSingle}
@@ -110,10 +110,10 @@ path_by-single strategy now target single other =
     ∙ ap (λ c. from_single_by strategy c target) (sym (single_with-own now single))
 
 pub path_by-leaving : (strategy : Strategy) (now target : Configuration) → is_joint now ≡ true → is_same now target ≡ false
-    → path_by strategy now target ≡ LeaveJoint ∷ from_single_by strategy (single_with now.incoming (union_of now.learners now.learners_next)) target
+    → path_by strategy now target ≡ LeaveJoint ∷ from_single_by strategy (single_with now.incoming (union now.learners now.learners_next)) target
 path_by-leaving strategy now target joint other = cond-false (is_same now target) _ _ other ∙ cond-true (is_joint now) _ _ joint
 
-pub left-is_settled : (now : Configuration) → IsValidWithVoter now → is_joint now ≡ true → IsValidWithVoter (single_with now.incoming (union_of now.learners now.learners_next))
+pub left-is_settled : (now : Configuration) → IsValidWithVoter now → is_joint now ≡ true → IsValidWithVoter (single_with now.incoming (union now.learners now.learners_next))
 left-is_settled now settled joint = (after_leave-is_single now settled joint).settled
 
 pub own-is_settled : (now : Configuration) → IsSingle now → IsValidWithVoter (single_with now.incoming now.learners)

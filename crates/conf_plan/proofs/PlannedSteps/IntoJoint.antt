@@ -3,7 +3,7 @@ use Rattle.std.proofs.Common.{◌≡◌, ℕ, ◌≤◌, Bool, true, false, not,
 use Rattle.std.specs.Prelude.{Ok}
 use Rattle.std.proofs.lemmas.Bool.{cond_both, not-true, true≢false, or_from, and_right, false_from_ne_true}
 use Rattle.std.proofs.lemmas.List.{length-append}
-use Rattle.quorum_sets.specs.Ids.{has, is_empty}
+use Rattle.quorum_sets.specs.Ids.{has, is_empty, union}
 use Rattle.quorum_sets.proofs.Offered.{has-ids_where}
 use Rattle.conf_change.specs.Configuration.{Configuration, is_joint, is_member, members, is_same_set}
 use Rattle.conf_change.specs.Change.{result_of}
@@ -11,9 +11,9 @@ use Rattle.conf_change.specs.Outcome.{outcome, with_outgoing}
 use Rattle.conf_change.specs.declared.step.Step.{Step}
 use Rattle.conf_change.proofs.Offered.{outcome-enter_accepted, any-members, configuration-by_members, ValidByMember-from_is_valid, is_empty-no_ids, is_same_set-equal}
 use Rattle.conf_plan.specs.Run.{IsValidWithVoter, Gives, IsRun}
-use Rattle.conf_plan.specs.Planned.{single_with, moves, union_of, shared_members, inserted_steps, configuration_after, entering_step, joint_steps}
+use Rattle.conf_plan.specs.Planned.{single_with, moves, shared_members, inserted_steps, configuration_after, entering_step, joint_steps}
 use Rattle.conf_plan.proofs.Runs.Chains.{run-is_settled, IsChain-append, IsRun-one, configuration_after-run}
-use Rattle.conf_plan.proofs.FindingMoves.OfEachId.{has-union_of}
+use Rattle.conf_plan.proofs.FindingMoves.OfEachId.{has-union}
 use Rattle.conf_plan.proofs.FindingMoves.ResultingConfiguration.{IsSingle, AreWanted, moves-has_wanted}
 use Rattle.conf_plan.proofs.PlannedSteps.BetweenSingle.{single_steps-is_run, single_steps-at_most_two}
 
@@ -75,31 +75,31 @@ next_kept true n o learns waits apart = learns refl ∙ sym (apart refl)
 next_kept false true o learns waits apart = waits refl
 next_kept false false o learns waits apart = refl
 
-pub incoming-are_wanted : (target : Configuration) → IsValidWithVoter target → AreWanted target.incoming (union_of target.learners target.learners_next)
+pub incoming-are_wanted : (target : Configuration) → IsValidWithVoter target → AreWanted target.incoming (union target.learners target.learners_next)
 incoming-are_wanted target settled =
     let valid = ValidByMember-from_is_valid target settled.valid in
     record {
       voter = not-true (is_empty target.incoming) settled.voter;
       zero_voters = valid.zero_incoming;
-      zero_learners = has-union_of target.learners target.learners_next 0 ∙ or_from _ _ valid.zero_learners valid.zero_next;
+      zero_learners = has-union target.learners target.learners_next 0 ∙ or_from _ _ valid.zero_learners valid.zero_next;
       apart = λ q here.
-          has-union_of target.learners target.learners_next q
+          has-union target.learners target.learners_next q
           ∙ or_from _ _ (apart_from (has target.incoming q) _ (valid.learner_incoming q) here) (apart_from (has target.incoming q) _ (valid.next_incoming q) here);
     }
 
 pub entering-reaches : (c target : Configuration) → IsSingle c → IsValidWithVoter target → c.incoming ≡ target.outgoing → outcome c (entering_step c target) ≡ Ok target
 entering-reaches c target single settled same =
     let valid = ValidByMember-from_is_valid target settled.valid in
-    let wanted = union_of target.learners target.learners_next in
+    let wanted = union target.learners target.learners_next in
     let changes = moves c target.incoming wanted in
     let moved = moves-has_wanted c c.incoming target.incoming wanted target.auto_leave single (incoming-are_wanted target settled)
     (ValidByMember-from_is_valid c single.settled.valid).learner_incoming in
     let made : result_of (with_outgoing c target.auto_leave) changes ≡ target =
     configuration-by_members (result_of (with_outgoing c target.auto_leave) changes) target
     (λ q. ap (λ s. has s q) moved.incoming) same
-    (λ q. moved.learners q ∙ (λ i. has-union_of target.learners target.learners_next q i && not (has (same i) q))
+    (λ q. moved.learners q ∙ (λ i. has-union target.learners target.learners_next q i && not (has (same i) q))
     ∙ learners_kept (has target.learners q) (has target.learners_next q) (has target.outgoing q) (valid.learner_outgoing q) (valid.next_outgoing q))
-    (λ q. moved.next q ∙ (λ i. has-union_of target.learners target.learners_next q i && has (same i) q)
+    (λ q. moved.next q ∙ (λ i. has-union target.learners target.learners_next q i && has (same i) q)
     ∙ next_kept (has target.learners q) (has target.learners_next q) (has target.outgoing q) (valid.learner_outgoing q) (valid.next_outgoing q)
     (λ learns. false_from_ne_true _ (λ waits. true≢false (sym (valid.next_outgoing q waits) ∙ valid.learner_outgoing q learns))))
     refl in

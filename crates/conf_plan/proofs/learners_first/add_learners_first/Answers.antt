@@ -1,11 +1,11 @@
 use Rattle.std.proofs.Common.{◌≡◌, ◌++◌, false, true, List, sym, ap, subst, ◌∙◌, eq-eqb}
 use Rattle.std.specs.Prelude.{OnOk}
 use Rattle.std.proofs.lemmas.Bool.{ne_eqb}
-use Rattle.quorum_sets.specs.Ids.{size, is_empty}
+use Rattle.quorum_sets.specs.Ids.{size, is_empty, union}
 use Rattle.conf_change.specs.declared.step.Step.{Step}
 use Rattle.conf_plan.specs.LearnersFirst as first
 use Rattle.conf_plan.specs.LearnersFirst.{learners_first_from_single}
-use Rattle.conf_plan.specs.Planned.{union_of, single_with, single_steps, planned_from_single}
+use Rattle.conf_plan.specs.Planned.{single_with, single_steps, planned_from_single}
 use Rattle.conf_plan.specs.Run.{IsValidWithVoter}
 use Rattle.conf_plan.specs.Walking.{IsAdded}
 use Rattle.conf_plan.proofs.AliveOnTheWay.LearnersFirst.{learners_first-nobody, learners_first-somebody}
@@ -28,7 +28,7 @@ add_from_single-requires-2-clause-start g c =
     let learners = g.S.MemberSet.ids c.args.learners.now in
     let start = single_with incoming learners in
     let single = single_with-is_single incoming learners c.requires.start in
-    subst (λ s. IsValidWithVoter (single_with incoming s)) (sym (c.in_ok-learning.ensures ∙ ap (λ s. union_of learners s) c.in_ok-newcomers.ensures))
+    subst (λ s. IsValidWithVoter (single_with incoming s)) (sym (c.in_ok-learning.ensures ∙ ap (λ s. union learners s) c.in_ok-newcomers.ensures))
     (with_newcomers-is_single start c.args.target.now single c.requires.target).settled
 
 pub returns : goal.returns
@@ -40,7 +40,7 @@ returns g c =
     let single = single_with-is_single incoming learners c.requires.start in
     let somebody : is_empty (first.newcomers start target) ≡ false =
     ap is_empty (sym c.in_ok-newcomers.ensures) ∙ ne_eqb (size (g.S.MemberSet.ids c.in_ok-newcomers.newcomers)) 0 (λ none. c.if-len-eq0.false (c.len.ensures ∙ none)) in
-    let learning = c.in_ok-learning.ensures ∙ ap (λ s. union_of learners s) c.in_ok-newcomers.ensures in
+    let learning = c.in_ok-learning.ensures ∙ ap (λ s. union learners s) c.in_ok-newcomers.ensures in
     let whole : single_steps start incoming (g.S.MemberSet.ids c.in_ok-learning.learning) ++ planned_from_single (single_with incoming (g.S.MemberSet.ids c.in_ok-learning.learning)) target ≡ learners_first_from_single start target =
     (λ i. single_steps start incoming (learning i) ++ planned_from_single (single_with incoming (learning i)) target) ∙ sym (learners_first-somebody start target single c.requires.target somebody) in
     let P : List Step → Type 0 = λ more. IsAdded c.args.steps.now.items more c.add_from_single-2.new.steps.items in

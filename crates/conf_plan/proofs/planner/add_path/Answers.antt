@@ -1,12 +1,12 @@
 use Rattle.std.proofs.Common.{List, [], ◌∷◌, sym, ap, subst, ◌∙◌}
 use Rattle.std.specs.Prelude.{OnOk}
-use Rattle.quorum_sets.specs.Ids.{size}
+use Rattle.quorum_sets.specs.Ids.{size, union}
 use Rattle.conf_change.specs.declared.step.Step.{Step}
 use Rattle.conf_change.specs.declared.step.Step.TheVariants.{LeaveJoint}
 use Rattle.conf_change.specs.Configuration.{Configuration}
 use Rattle.conf_plan.specs.Run.{IsValidWithVoter}
 use Rattle.conf_plan.specs.PathBy.{from_single_by}
-use Rattle.conf_plan.specs.Planned.{union_of, single_with}
+use Rattle.conf_plan.specs.Planned.{single_with}
 use Rattle.conf_plan.specs.Walking.{IsAdded}
 use Rattle.conf_plan.proofs.PlannedSteps.Cases.{OnOk-weaker, is_joint-from_count, is_joint-not_from_count, path_by-single, path_by-leaving, own-is_settled, left-is_settled, added-leave, added-more}
 use Rattle.conf_plan.proofs.planner.add_path.Goals as goal
@@ -33,7 +33,7 @@ add_from_single_by-requires-2-clause-start g c =
     let now = c.args.now.now in
     let joint = is_joint-from_count now c.len.result (c.len.ensures ∙ ap (λ d. size d.outgoing) c.now.view_is) c.if-len-eq0.false in
     subst (λ s. IsValidWithVoter (single_with (g.S.MemberSet.ids c.now.inside.incoming) s)) (sym c.in_ok-learners.ensures)
-    (subst (λ (d : Configuration). IsValidWithVoter (single_with d.incoming (union_of d.learners d.learners_next))) (sym c.now.view_is) (left-is_settled now c.requires.now joint))
+    (subst (λ (d : Configuration). IsValidWithVoter (single_with d.incoming (union d.learners d.learners_next))) (sym c.now.view_is) (left-is_settled now c.requires.now joint))
 
 pub returns : goal.returns
 returns g c =
@@ -42,7 +42,7 @@ returns g c =
     let joint = is_joint-from_count now c.len.result (c.len.ensures ∙ ap (λ d. size d.outgoing) c.now.view_is) c.if-len-eq0.false in
     let rest =
     ap (λ s. from_single_by c.args.strategy (single_with (g.S.MemberSet.ids c.now.inside.incoming) s) target) c.in_ok-learners.ensures
-    ∙ ap (λ d. from_single_by c.args.strategy (single_with d.incoming (union_of d.learners d.learners_next)) target) c.now.view_is in
+    ∙ ap (λ d. from_single_by c.args.strategy (single_with d.incoming (union d.learners d.learners_next)) target) c.now.view_is in
     let P : List Step → Type 0 = λ more. IsAdded c.args.steps.now.items more c.add_from_single_by-2.new.steps.items in
     OnOk-weaker c.add_from_single_by-2.result
     (λ added.
