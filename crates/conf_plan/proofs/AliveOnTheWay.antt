@@ -6,5 +6,7 @@ pub mod Newcomers
 pub mod ReadyVoters
 pub mod LearnersFirst
 pub mod OneChange
+pub mod FewestSingleChanges
+pub mod OneAtATimeTolerance
 pub mod EachStrategy
 pub mod CatchingUp
