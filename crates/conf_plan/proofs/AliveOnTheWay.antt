@@ -6,5 +6,6 @@ pub mod Newcomers
 pub mod ReadyVoters
 pub mod LearnersFirst
 pub mod OneChange
+pub mod OneAtATime
 pub mod EachStrategy
 pub mod CatchingUp

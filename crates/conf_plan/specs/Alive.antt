@@ -1,5 +1,5 @@
 -- What a cluster that takes the steps of a path can count on while it serves.
-use Rattle.std.specs.Prelude.{◌≡◌, ℕ, ◌+◌, ◌≤◌, true, false, not, ◌||◌, IsTrue, List, length, ⊤, ⊥}
+use Rattle.std.specs.Prelude.{◌≡◌, ℕ, ◌+◌, ◌≤◌, true, false, not, ◌||◌, IsTrue, List, length, ⊤}
 use Rattle.quorum_sets.specs.Ids.{Ids, no_ids, has, ids_where}
 use Rattle.quorum_sets.specs.Voters.{is_quorum}
 use Rattle.quorum_sets.specs.Overlap.{Overlap}

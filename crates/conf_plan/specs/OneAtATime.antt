@@ -1,5 +1,5 @@
 -- From a configuration that is not joint, one member at a time, as etcd's server changes its members.
-use Rattle.std.specs.Prelude.{ℕ, not, ◌||◌, List, [], ◌∷◌, ◌++◌, filter, Option, None, option_map, filter_map, if◌then◌else◌}
+use Rattle.std.specs.Prelude.{ℕ, false, not, ◌||◌, List, [], ◌∷◌, ◌++◌, filter, Option, None, option_map, filter_map, if◌then◌else◌}
 use Rattle.quorum_sets.specs.Ids.{has, ascending, union}
 use Rattle.conf_change.specs.Configuration.{Configuration}
 use Rattle.conf_change.specs.declared.change.Change.{Change}
