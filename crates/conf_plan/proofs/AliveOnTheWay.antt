@@ -7,5 +7,8 @@ pub mod ReadyVoters
 pub mod LearnersFirst
 pub mod OneChange
 pub mod OneAtATime
+pub mod InTurn
+pub mod FewestSingleChanges
+pub mod OneAtATimeTolerance
 pub mod EachStrategy
 pub mod CatchingUp

@@ -9,8 +9,10 @@ use Rattle.conf_plan.specs.Planned.{planned}
 use Rattle.conf_plan.specs.Run.{IsValidWithVoter}
 use Rattle.conf_plan.specs.declared.strategy.Strategy.{Strategy}
 use Rattle.conf_plan.specs.declared.strategy.Strategy.TheVariants.{Shortest, LearnersFirst, OneAtATime}
+use Rattle.conf_plan.proofs.AliveOnTheWay.FewestSingleChanges.{one_at_a_time-least}
 use Rattle.conf_plan.proofs.AliveOnTheWay.LearnersFirst.{learners_first-serves}
 use Rattle.conf_plan.proofs.AliveOnTheWay.OneAtATime.{IsTurn, one_at_a_time-has_turns}
+use Rattle.conf_plan.proofs.AliveOnTheWay.OneAtATimeTolerance.{IsAsTolerant-from_size}
 use Rattle.conf_plan.proofs.AliveOnTheWay.Quorums.{planned-keeps_quorums}
 use Rattle.conf_plan.proofs.AliveOnTheWay.Tolerance.{IsRunWith-weaker, KeepsTolerance-from_quorums}
 use Rattle.conf_plan.proofs.BestPlan.Theorem.{planned-is_best, run-overlaps}
@@ -35,8 +37,8 @@ one_at_a_time-serves now target settled_now settled way =
     let turns = one_at_a_time-has_turns now target settled_now settled way in
     record {
       run = IsRunWith-weaker (IsTurn bound) ChangesOneLearnerFirst (λ before after step turn. record { one = turn.one; learners = λ id votes new. (turn.ready id votes new).learner }) now target steps turns;
-      least = λ other is. ?;
-      tolerance = IsRunWith-weaker (IsTurn bound) (λ before step after. IsAsTolerant now target after) (λ before after step turn. ?) now target steps turns;
+      least = λ other is. one_at_a_time-least now target other is;
+      tolerance = IsRunWith-weaker (IsTurn bound) (λ before step after. IsAsTolerant now target after) (λ before after step turn. IsAsTolerant-from_size now target after turn.enough turn.single) now target steps turns;
       voters = IsRunWith-weaker (IsTurn bound) MakesVotersOfReady (λ before after step turn. turn.ready) now target steps turns;
       overlap = run-overlaps now target steps (IsRun-from_IsRunWith (IsTurn bound) now target steps turns);
     }

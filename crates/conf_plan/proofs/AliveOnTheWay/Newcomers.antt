@@ -87,7 +87,7 @@ and_implied true b f = f refl
 and_implied false b f = refl
 
 -- those of an ascending list that a set within it has are the set's
-filter-within : (all ids : Ids) → ((q : ℕ) → has ids q ≡ true → has all q ≡ true) → filter (has ids) (ascending all) ≡ ascending ids
+pub filter-within : (all ids : Ids) → ((q : ℕ) → has ids q ≡ true → has all q ≡ true) → filter (has ids) (ascending all) ≡ ascending ids
 filter-within all ids within =
     let kept = filter (has ids) (ascending all) in
     sym (ascending-ids_of kept (IsStrictlySortedBy-filter nat_cmp (has ids) (ascending all) (ascending-is_sorted all)))

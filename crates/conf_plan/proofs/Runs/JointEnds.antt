@@ -13,7 +13,7 @@ use Rattle.conf_plan.specs.Run.{IsRun}
 pub is_joint-from_no_outgoing : (c : Configuration) → c.outgoing ≡ no_ids → is_joint c ≡ false
 is_joint-from_no_outgoing c none = ap (λ s. not (is_empty s)) none ∙ ap not is_empty-no_ids
 
-not_both : {P : Type 0} (c : Configuration) → is_joint c ≡ true → is_joint c ≡ false → P
+pub not_both : {P : Type 0} (c : Configuration) → is_joint c ≡ true → is_joint c ≡ false → P
 not_both c joint single = absurd (true≢false (sym joint ∙ single))
 
 -- ---- the first step
