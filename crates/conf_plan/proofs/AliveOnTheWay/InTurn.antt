@@ -1,12 +1,14 @@
 -- The steps of single changes, as they are added one after another.
-use Rattle.std.proofs.Common.{◌≡◌, ℕ, ◌+◌, ◌^◌, ◌<◌, ◌≤◌, cond, List, [], ◌∷◌, ◌++◌, length, drop, take, slice_get, inl, inr, refl, sym, ap, subst, ◌∙◌, arith}
-use Rattle.std.specs.Prelude.{Option, Some, None, option_map, filter_map}
+use Rattle.std.proofs.Common.{◌≡◌, ℕ, ◌+◌, ◌^◌, ◌<◌, ◌≤◌, Bool, cond, List, [], ◌∷◌, ◌++◌, length, drop, take, slice_get, inl, inr, refl, sym, ap, subst, ◌∙◌, arith}
+use Rattle.std.specs.Prelude.{Option, Some, None, option_map, filter, filter_map}
+use Rattle.std.specs.Ordering.{nat_cmp}
 use Rattle.std.specs.List.{All, cons_option}
 use Rattle.std.proofs.lemmas.List.{append_assoc, append-nil, drop_all, take_all}
 use Rattle.std.proofs.lemmas.List.Elements.{All-nil, All-push, filter_map-append}
+use Rattle.std.proofs.lemmas.List.Kept.{IsStrictlySortedBy-filter}
 use Rattle.std.proofs.lemmas.Option.{slice_get_cases}
-use Rattle.quorum_sets.specs.Ids.{has}
-use Rattle.quorum_sets.proofs.Offered.{take-one_more}
+use Rattle.quorum_sets.specs.Ids.{Ids, has, ascending, ids_where}
+use Rattle.quorum_sets.proofs.Offered.{ascending-ids_of, ascending-is_sorted, take-one_more}
 use Rattle.conf_change.specs.Configuration.{Configuration}
 use Rattle.conf_change.specs.declared.change.Change.{Change}
 use Rattle.conf_change.specs.declared.change.Kind.{Kind}
@@ -102,6 +104,10 @@ IsInTurn-ended before now c target joins retires index joined retired at =
     let all : at.so_far ≡ in_turn c target joins retires =
     sym (append-nil at.so_far) ∙ (λ i. at.so_far ++ in_turn c target (sym (drop_all index joins joined) i) (sym (drop_all index retires retired) i)) ∙ at.left in
     subst (λ more. IsAdded before more now) all at.added
+
+-- the ids of a set that pass, in order
+pub ascending-where : (test : ℕ → Bool) (ids : Ids) → ascending (ids_where test (ascending ids)) ≡ filter test (ascending ids)
+ascending-where test ids = ascending-ids_of (filter test (ascending ids)) (IsStrictlySortedBy-filter nat_cmp test (ascending ids) (ascending-is_sorted ids))
 
 -- only the learners of the current configuration matter
 join_steps-same : (c d : Configuration) → c.learners ≡ d.learners → (id : ℕ) → join_steps c id ≡ join_steps d id
