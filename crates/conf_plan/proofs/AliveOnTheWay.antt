@@ -6,6 +6,8 @@ pub mod Newcomers
 pub mod ReadyVoters
 pub mod LearnersFirst
 pub mod OneChange
+pub mod OneAtATime
+pub mod InTurn
 pub mod FewestSingleChanges
 pub mod OneAtATimeTolerance
 pub mod EachStrategy

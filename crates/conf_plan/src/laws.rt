@@ -14,7 +14,7 @@ ghost use Rattle.conf_plan.specs.declared.strategy.Strategy.{Strategy};
 ghost use Rattle.conf_plan.specs.declared.strategy.Strategy.TheVariants.{Shortest, LearnersFirst};
 ghost use Rattle.conf_plan.specs.declared.text.PlanTextFault.{PlanTextFault};
 ghost use Rattle.conf_plan.specs.Best.{times_named, HasSamePart, IsBest};
-ghost use Rattle.conf_plan.specs.PathBy.{path_by, Serves};
+ghost use Rattle.conf_plan.specs.PathBy.{has_path, path_by, Serves};
 ghost use Rattle.conf_plan.specs.Planned.{planned};
 ghost use Rattle.conf_plan.specs.PlanSteps.{HasWordIds, IsPlan};
 ghost use Rattle.conf_plan.specs.PlanText.{StandsForPlan, HasFault, change_text, plan_text};
@@ -43,13 +43,14 @@ pub fn planned_is_best()
     ensures { (now target : Configuration) → IsValidWithVoter now → IsValidWithVoter target → IsBest now (planned now target) target }
 {}
 
-/// The path of each strategy keeps what the strategy promises. On the way, a set of ids that is a quorum of both ends is a quorum
-/// of each configuration, and none of these tolerates fewer failures than the weaker end. The shortest path is the plan. The one
-/// on which new voters are learners first is at most one step longer, and nobody becomes a voter there who was not a learner
-/// with progress before.
+/// The path of each strategy keeps what the strategy promises. No configuration on the way tolerates fewer failures than the
+/// weaker end. The shortest path is the plan. The path on which new voters are learners first is at most one step longer, and
+/// each new voter was a learner with progress before. On both, a set of ids that is a quorum of both ends is a quorum of each
+/// configuration on the way. The path that changes one member at a time has the fewest steps of its kind, and its new voters
+/// were learners with progress too; it leads into no joint configuration.
 pub fn paths_serve()
     ensures shortest { (now target : Configuration) → path_by Shortest now target ≡ planned now target }
-    ensures serves { (strategy : Strategy) (now target : Configuration) → IsValidWithVoter now → IsValidWithVoter target → Serves strategy now (path_by strategy now target) target }
+    ensures serves { (strategy : Strategy) (now target : Configuration) → IsValidWithVoter now → IsValidWithVoter target → has_path strategy now target ≡ true → Serves strategy now (path_by strategy now target) target }
 {}
 
 /// A member that keeps its progress in a step keeps its match and next in each changer that takes the step.

@@ -3,7 +3,7 @@ ghost use Rattle.std.specs.Prelude.{◌≡◌, [], ◌∷◌, ◌<◌, ◌^◌, 
 ghost use Rattle.std.specs.List.{cons_option};
 ghost use Rattle.quorum_sets.specs.Ids.{no_ids, ascending};
 ghost use Rattle.conf_plan.specs.OneAtATime as spec;
-ghost use Rattle.conf_plan.specs.OneAtATime.{one_change, in_turn, learner_steps, one_at_a_time_from_single};
+ghost use Rattle.conf_plan.specs.OneAtATime.{one_change, join_steps, retire_step, in_turn, learner_steps, one_at_a_time_from_single};
 ghost use Rattle.conf_plan.specs.Planned.{single_with};
 ghost use Rattle.conf_plan.specs.Walking.{IsAdded};
 
@@ -53,7 +53,7 @@ fn add_turns<S: MemberSet>(
     Ok(())
 }
 
-// One id joins, first as a learner if it is none, and one retires.
+// One id joins, and one retires.
 fn add_turn<S: MemberSet>(
     alloc: Global,
     steps: &mut Vec<Step>,
@@ -65,20 +65,43 @@ fn add_turn<S: MemberSet>(
     ensures { OnOk result (IsAdded steps.old.items (in_turn (single_with no_ids (S.ids learners.now)) target.now (cons_option joining []) (cons_option retiring [])) steps.new.items) }
 {
     if let Some(id) = joining {
-        if !learners.contains(id) {
-            add_change(alloc, steps, Kind::Learner, id)?;
-        }
-        add_change(alloc, steps, Kind::Voter, id)?;
+        add_join_steps(alloc, steps, learners, id)?;
     }
     if let Some(id) = retiring {
-        let kind = if target.learners.contains(id) {
-            Kind::Learner
-        } else {
-            Kind::Remove
-        };
-        add_change(alloc, steps, kind, id)?;
+        add_retire_step(alloc, steps, target, id)?;
     }
     Ok(())
+}
+
+// The id becomes a voter, and first a learner if it is none of these.
+fn add_join_steps<S: MemberSet>(
+    alloc: Global,
+    steps: &mut Vec<Step>,
+    learners: &S,
+    id: u64,
+) -> Result<(), NoMemory>
+    ensures { OnOk result (IsAdded steps.old.items (join_steps (single_with no_ids (S.ids learners.now)) id) steps.new.items) }
+{
+    if !learners.contains(id) {
+        add_change(alloc, steps, Kind::Learner, id)?;
+    }
+    add_change(alloc, steps, Kind::Voter, id)
+}
+
+// The voter becomes a learner if the target has it as one, and else it is removed.
+fn add_retire_step<S: MemberSet>(
+    alloc: Global,
+    steps: &mut Vec<Step>,
+    target: &Config<S>,
+    id: u64,
+) -> Result<(), NoMemory>
+    ensures { OnOk result (IsAdded steps.old.items (retire_step target.now id ∷ []) steps.new.items) }
+{
+    if target.learners.contains(id) {
+        add_change(alloc, steps, Kind::Learner, id)
+    } else {
+        add_change(alloc, steps, Kind::Remove, id)
+    }
 }
 
 // The other learners come and go, in ascending order.

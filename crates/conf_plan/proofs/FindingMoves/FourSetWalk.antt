@@ -24,14 +24,14 @@ IsLeft place bound s = drop place (ascending s) ≡ ids_from bound (ascending s)
 none-some : (x : ℕ) → None ≡ Some x → ⊥
 none-some x e = cc
 
-left-none : (xs : List ℕ) (k : ℕ) → slice_get xs k ≡ None → drop k xs ≡ []
+pub left-none : (xs : List ℕ) (k : ℕ) → slice_get xs k ≡ None → drop k xs ≡ []
 left-none xs k none = by (nat_lt k (length xs)) refl
   where
     by : (c : Bool) → nat_lt k (length xs) ≡ c → drop k xs ≡ []
     by true p = absurd (none-some _ (sym none ∙ slice_get-get_or xs k 0 (ltb-true k (length xs) p)))
     by false p = drop_all k xs (ltb-false k (length xs) p)
 
-left-some : (xs : List ℕ) (k x : ℕ) → slice_get xs k ≡ Some x → drop k xs ≡ x ∷ drop (k + 1) xs
+pub left-some : (xs : List ℕ) (k x : ℕ) → slice_get xs k ≡ Some x → drop k xs ≡ x ∷ drop (k + 1) xs
 left-some xs k x here =
     drop-cons xs k x (slice_get_within xs k x here) ∙ (λ i. get_or_from_slice_get xs k x x here i ∷ drop (sym (add-one k) i) xs)
 

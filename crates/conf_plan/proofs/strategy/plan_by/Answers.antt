@@ -23,4 +23,5 @@ returns-clause-serves g c =
     subst (λ steps. Serves c.args.strategy now steps target) (sym is)
     (path_by-serves c.args.strategy now target
     (record { valid = c.requires.valid_now; voter = has_voter-from_count now c.len.result (c.len.ensures ∙ ap (λ d. size d.incoming) c.now.view_is) c.if-len-eq0.false })
-    (record { valid = c.requires.valid_target; voter = has_voter-from_count target c.len-2.result (c.len-2.ensures ∙ ap (λ d. size d.incoming) c.target.view_is) c.if-len-eq0-2.false }))
+    (record { valid = c.requires.valid_target; voter = has_voter-from_count target c.len-2.result (c.len-2.ensures ∙ ap (λ d. size d.incoming) c.target.view_is) c.if-len-eq0-2.false })
+    (sym c.if-not-has_path.ensures))
