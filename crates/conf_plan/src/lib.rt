@@ -14,7 +14,8 @@
 //! That a step is accepted does not say that the cluster goes on serving: a new voter begins with an empty log, and counts
 //! as missing until it has caught up.
 //!
-//! [`apply_plan`] takes the steps of a plan. [`print_plan`] writes one step a line, and [`read_plan`] reads them back.
+//! [`apply_plan`] takes the steps of a plan. [`print_plan`] and [`print_path`] write one step a line, and [`read_plan`]
+//! reads a plan back.
 #![tactic(auto)]
 
 pub mod apply;
@@ -37,4 +38,4 @@ pub use path::Path;
 pub use planner::{PlanFault, plan};
 pub use step_list::Plan;
 pub use strategy::{NoPath, Strategy, plan_by};
-pub use text::{PlanTextFault, changes_text, command_text, print_plan, read_plan};
+pub use text::{PlanTextFault, changes_text, command_text, print_path, print_plan, read_plan};

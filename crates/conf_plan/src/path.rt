@@ -34,6 +34,13 @@ impl Path {
         Path { steps }
     }
 
+    /// The steps in order.
+    pub fn as_slice(&self) -> &[Step]
+        ensures { result.now ≡ self.now }
+    {
+        self.steps.as_slice()
+    }
+
     /// How many steps it has.
     pub fn len(&self) -> usize
         ensures { result ≡ length self.now }

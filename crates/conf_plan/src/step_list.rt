@@ -44,8 +44,8 @@ impl Plan {
         Plan { steps }
     }
 
-    // The steps in order.
-    pub(crate) fn as_slice(&self) -> &[Step]
+    /// The steps in order.
+    pub fn as_slice(&self) -> &[Step]
         ensures steps { result.now ≡ self.now }
         ensures plan { IsPlan self.now }
     {

@@ -10,6 +10,7 @@ ghost use Rattle.conf_plan.specs.PlanCode as code;
 ghost use Rattle.conf_plan.specs.PlanCode.{plan_in, step_in, enter_in, list_in};
 ghost use Rattle.conf_plan.specs.declared.text.PlanTextFault.{PlanTextFault};
 
+use crate::path::Path;
 use crate::step_list::Plan;
 use ascii_text::append::append_number;
 use ascii_text::cut::far_place_of;
@@ -61,8 +62,24 @@ pub fn print_plan(text: &mut Vec<u8>, plan: &Plan) -> Result<(), NoMemory>
     ensures reads_back { plan_in (plan_text plan.now) ≡ Ok plan.now }
     ensures err { OnErr result (text.new.items ≡ text.old.items) }
 {
+    print_steps(text, plan.as_slice())
+}
+
+/// Appends the lines of a path, in the form of `print_plan`.
+pub fn print_path(text: &mut Vec<u8>, path: &Path) -> Result<(), NoMemory>
+    ensures ok { OnOk result (text.new.items ≡ text.old.items ++ plan_text path.now) }
+    ensures err { OnErr result (text.new.items ≡ text.old.items) }
+{
+    print_steps(text, path.as_slice())
+}
+
+// Appends the lines of these steps, or nothing if memory runs out.
+fn print_steps(text: &mut Vec<u8>, steps: &[Step]) -> Result<(), NoMemory>
+    ensures ok { OnOk result (text.new.items ≡ text.old.items ++ plan_text steps.now) }
+    ensures err { OnErr result (text.new.items ≡ text.old.items) }
+{
     let len = text.len();
-    let printed = append_plan(text, plan.as_slice());
+    let printed = append_plan(text, steps);
     if printed.is_err() {
         text.truncate(len);
     }

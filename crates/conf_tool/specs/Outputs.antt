@@ -16,6 +16,9 @@ use Rattle.conf_tool.specs.UndoScript.{undo_items}
 use Rattle.conf_tool.specs.declared.mode.Mode.{Mode}
 use Rattle.conf_tool.specs.declared.mode.Mode.TheVariants.{Lines, Check, Rewrite, Undo, Plan}
 use Rattle.conf_tool.specs.declared.options.Options.{Options}
+use Rattle.conf_tool.specs.declared.plan_options.PlanOptions.{PlanOptions}
+use Rattle.conf_tool.specs.declared.plan_options.PlanOutput.TheVariants.{Steps}
+use Rattle.conf_plan.specs.declared.strategy.Strategy.TheVariants.{Shortest}
 use Rattle.conf_tool.specs.declared.status.Status.{Status}
 use Rattle.conf_tool.specs.declared.status.Status.TheVariants.{Clean, Different}
 use Rattle.conf_session.specs.declared.undo_fault.UndoFault.{UndoFault}
@@ -99,9 +102,13 @@ undone_script history floor count script = undone_unless (session_after_all (new
 abbrev pub undone_output : List ℕ → ℕ → Floor → ℕ → Output
 undone_output input history floor count = undone_script history floor count (script_of input)
 
+-- the options of `plan` where none is given
+abbrev pub default_plan_options : PlanOptions
+default_plan_options = record { strategy = Shortest; output = Steps; down = None }
+
 -- the plan between two configurations, or why there is none
 abbrev pub planned_between : Result (Configuration × Configuration) ConfigurationsFault → Output
-planned_between (Ok ends) = record { text = plan_text_between ends.0 ends.1; outcome = Ok (plan_status ends.0 ends.1) }
+planned_between (Ok ends) = record { text = plan_text_between default_plan_options 1 ends.0 ends.1; outcome = Ok (plan_status default_plan_options ends.0 ends.1) }
 planned_between (Err fault) = record { text = []; outcome = Err (Configurations fault) }
 
 -- nothing is planned of an input with a fault

@@ -8,6 +8,7 @@ use crate::help::{CHECK, LINES, PLAN, PROGRAM, REWRITE, UNDO};
 use crate::invocation::Invocation;
 use crate::mode::Mode;
 use crate::options::Options;
+use crate::plan_options::PlanOptions;
 use clap::builder::ValueParser;
 use clap::error::ErrorKind;
 use clap::{Arg, ArgMatches, Command, Error};
@@ -91,6 +92,7 @@ fn options_of(found: &ArgMatches<'_>) -> Options
         history: number_of(found, "history", 0, 1000, 100),
         steps: number_of(found, "steps", 1, 1000, 1),
         floor: floor_of(found),
+        plan: PlanOptions::default(),
     }
 }
 

@@ -1,9 +1,9 @@
-//! What the words of a command line ask for.
+//! What the arguments of a command line ask for.
 use crate::mode::Mode;
 use crate::options::Options;
 
-/// A mode with its options, and the file to read: standard input where it is left out.
-#[derive(Clone, Copy, Debug, PartialEq, Eq)]
+/// A mode with its options, and the file to read: standard input if it is left out.
+#[derive(Drop)]
 pub struct Invocation<'a> {
     pub mode: Mode,
     pub options: Options,

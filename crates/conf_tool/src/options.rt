@@ -1,27 +1,34 @@
 //! The options of the modes.
-ghost use Rattle.std.specs.Prelude.{◌≡◌};
+ghost use Rattle.std.specs.Prelude.{◌≡◌, None};
 ghost use Rattle.conf_change.specs.declared.floor.Floor.TheVariants.{One};
+ghost use Rattle.conf_plan.specs.declared.strategy.Strategy.TheVariants.{Shortest};
+ghost use Rattle.conf_tool.specs.declared.plan_options.PlanOutput.TheVariants.{Steps};
 
+use crate::plan_options::PlanOptions;
 use conf_change::Floor;
 
-/// How many earlier configurations are kept, from 0 to 1000, how many changes are undone, from 1 to 1000, and the floor of
-/// fresh next.
-#[derive(Clone, Copy, Debug, PartialEq, Eq)]
+/// How many earlier configurations are kept, from 0 to 1000, how many changes are undone, from 1 to 1000, the initial next
+/// index, and the options of `plan`.
+#[derive(Drop)]
 pub struct Options {
     pub history: usize,
     pub steps: usize,
     pub floor: Floor,
+    pub plan: PlanOptions,
 }
 
 impl Default for Options {
-    ghost is_default = { λ options. (options.history ≡ 100) × (options.steps ≡ 1) × (options.floor ≡ One) };
+    ghost is_default = { λ options. (options.history ≡ 100) × (options.steps ≡ 1) × (options.floor ≡ One)
+        × (options.plan.strategy ≡ Shortest) × (options.plan.output ≡ Steps) × (options.plan.down ≡ None) };
 
-    /// Where nothing is asked for, 100 configurations are kept, one change is undone, and the floor is one.
+    /// If nothing is asked for, 100 configurations are kept, one change is undone, the initial next index is 1, and the
+    /// shortest plan is printed as steps.
     fn default() -> Options {
         Options {
             history: 100,
             steps: 1,
             floor: Floor::One,
+            plan: PlanOptions::default(),
         }
     }
 }

@@ -4,6 +4,7 @@ ghost use Rattle.conf_change.specs.Configuration.{is_valid};
 ghost use Rattle.conf_tool.specs.PlanAnswer.{plan_text_between, plan_status};
 ghost use Rattle.conf_tool.specs.declared.tool_fault.ToolFault.TheVariants.{NoMemory as OutOfMemory};
 
+use crate::plan_options::PlanOptions;
 use crate::status::Status;
 use crate::tool_fault::ToolFault;
 use conf_change::Config;
@@ -14,13 +15,15 @@ use std::alloc::Global;
 /// The text of the plan between two configurations, or that there is none, and how a run ends that writes it.
 pub(crate) fn plan_answer(
     alloc: Global,
+    options: &PlanOptions,
+    number: u64,
     now: &Config<SessionIds>,
     target: &Config<SessionIds>,
 ) -> Result<(Vec<u8>, Status), ToolFault>
     requires valid_now { is_valid now.now ≡ true }
     requires valid_target { is_valid target.now ≡ true }
-    ensures text { IfOk result (λ answer. answer.0.items ≡ plan_text_between now.now target.now) }
-    ensures status { IfOk result (λ answer. answer.1 ≡ plan_status now.now target.now) }
+    ensures text { IfOk result (λ answer. answer.0.items ≡ plan_text_between options.now number now.now target.now) }
+    ensures status { IfOk result (λ answer. answer.1 ≡ plan_status options.now now.now target.now) }
     ensures memory { IsOkUnless result OutOfMemory }
 {
     match plan(alloc, now, target) {
@@ -31,11 +34,11 @@ pub(crate) fn plan_answer(
         }
         Err(PlanFault::NoVoterNow) => no_plan(
             alloc,
-            b"# no plan: the present configuration has no voter\n",
+            b"# no plan: the current configuration has no voter\n",
         ),
         Err(PlanFault::NoVoterTarget) => no_plan(
             alloc,
-            b"# no plan: the wanted configuration has no voter\n",
+            b"# no plan: the target has no voter\n",
         ),
         Err(PlanFault::NoMemory) => Err(ToolFault::NoMemory),
     }

@@ -6,6 +6,7 @@ ghost use Rattle.conf_tool.specs.declared.tool_fault.ToolFault.TheVariants.{NoMe
 
 use super::part_by_part::PartByPart;
 use crate::plan_answer::plan_answer;
+use crate::plan_options::PlanOptions;
 use crate::status::Status;
 use crate::tool_fault::ToolFault;
 use crate::two_configurations::read_configurations;
@@ -54,7 +55,7 @@ fn answer_lines(alloc: Global, lines: &[Vec<u8>]) -> Result<(Vec<u8>, Status), T
     ensures fault { IfErr result (IsToldOf (configurations_in (map (λ line. line.items) lines.now))) }
 {
     let (now, target) = read_configurations(alloc, lines)?;
-    plan_answer(alloc, &now, &target)
+    plan_answer(alloc, &PlanOptions::default(), 1, &now, &target)
 }
 
 impl PartByPart<Line> for Planning {

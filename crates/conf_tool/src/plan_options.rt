@@ -1,0 +1,37 @@
+//! The options of the mode `plan`.
+ghost use Rattle.std.specs.Prelude.{◌≡◌, None};
+ghost use Rattle.conf_plan.specs.declared.strategy.Strategy.TheVariants.{Shortest};
+ghost use Rattle.conf_tool.specs.declared.plan_options.PlanOutput.TheVariants.{Steps};
+
+use conf_plan::Strategy;
+use conf_session::SessionIds;
+
+/// The form in which a plan is printed.
+#[derive(Clone, Copy, Debug, PartialEq, Eq)]
+pub enum PlanOutput {
+    /// One step a line.
+    Steps,
+    /// A script that starts from the current configuration and takes the steps.
+    Script,
+}
+
+/// The strategy of a plan, the form in which it is printed, and the ids that are down, if some are given.
+#[derive(Drop)]
+pub struct PlanOptions {
+    pub strategy: Strategy,
+    pub output: PlanOutput,
+    pub down: Option<SessionIds>,
+}
+
+impl Default for PlanOptions {
+    ghost is_default = { λ options. (options.strategy ≡ Shortest) × (options.output ≡ Steps) × (options.down ≡ None) };
+
+    /// The shortest plan, printed as steps; no id is down.
+    fn default() -> PlanOptions {
+        PlanOptions {
+            strategy: Strategy::Shortest,
+            output: PlanOutput::Steps,
+            down: None,
+        }
+    }
+}
