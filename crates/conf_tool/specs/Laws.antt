@@ -1,5 +1,5 @@
 -- Laws of what the modes write.
-use Rattle.std.specs.Prelude.{◌≡◌, ◌≤◌, ◌-◌, ℕ, true, false, List, ◌++◌, length, slice_get, Ok, Some, None}
+use Rattle.std.specs.Prelude.{◌≡◌, ◌≤◌, ◌-◌, ℕ, true, false, List, ◌++◌, [], ◌∷◌, length, slice_get, Result, Ok, Err, Some, None}
 use Rattle.ascii_text.specs.Lines.{newline, lines_of}
 use Rattle.dd_file.specs.Laws.{ends_in_long_blank, directives_of, IsComplete}
 use Rattle.dd_file.specs.Place.{longest_input}
@@ -13,7 +13,9 @@ use Rattle.conf_plan.specs.PlanSteps.{IsPlan}
 use Rattle.conf_plan.specs.PlanText.{plan_text}
 use Rattle.conf_session.specs.SessionState.{SessionState, new_session, present}
 use Rattle.conf_session.specs.Undo.{undo_plan_of}
-use Rattle.conf_tool.specs.TwoConfigurations.{configurations_in}
+use Rattle.conf_tool.specs.Pairs.{NumberedLine, numbered, configuration_lines, configuration_at, both_of}
+use Rattle.conf_tool.specs.declared.configurations_fault.ConfigurationsFault.{ConfigurationsFault}
+use Rattle.conf_tool.specs.declared.plan_options.PlanOptions.{PlanOptions}
 use Rattle.conf_tool.specs.Outputs.{session_after_all, checked, rewritten, undone_output, planned_output}
 use Rattle.conf_tool.specs.UndoScript.{TakesSteps}
 use Rattle.conf_tool.specs.declared.status.Status.TheVariants.{Clean}
@@ -49,8 +51,30 @@ UndoScriptLeadsBack = (script : List ℕ) (history : ℕ) (floor : Floor) (count
     (script_of script).fault ≡ None → 1 ≤ count → undo_plan_of session count ≡ Ok steps → IsPlan steps → length printed ≤ longest_input →
     LeadsBackBy session count steps (script_of printed)
 
--- Between two configurations with voters `plan` prints the text of steps that lead from the one to the other, the best there are, and ends clean.
+-- a text has this part
+pub record HasPart (text part : List ℕ) : Type 0 where
+  pub before : List ℕ
+  pub after : List ℕ
+  pub is : text ≡ (before ++ part) ++ after
+
+-- a pair before others, if both lines name configurations
+abbrev pub pair_before : Result (Configuration × Configuration) ConfigurationsFault → List (Configuration × Configuration) → List (Configuration × Configuration)
+pair_before (Err bad) pairs = []
+pair_before (Ok pair) pairs = pair ∷ pairs
+
+-- the pairs of configurations that the lines name, up to the first line that names none
+abbrev pub named_pairs : List NumberedLine → List (Configuration × Configuration)
+named_pairs [] = []
+named_pairs (line ∷ []) = []
+named_pairs (first ∷ second ∷ lines) = pair_before (both_of (configuration_at first) (configuration_at second)) (named_pairs lines)
+
+-- the pairs of an input
+abbrev pub pairs_in : List ℕ → List (Configuration × Configuration)
+pairs_in input = named_pairs (configuration_lines (numbered 1 (listing_of input).items))
+
+-- Between the configurations with voters of each pair `plan` prints the text of steps that lead from the one to the other,
+-- the best there are.
 abbrev pub PrintedPlanIsBest : Type 0
-PrintedPlanIsBest = (input : List ℕ) (now target : Configuration) →
-    (listing_of input).fault ≡ None → configurations_in (listing_of input).items ≡ Ok (now, target) → has_voter now ≡ true → has_voter target ≡ true →
-    (steps : List Step) × (planned_output input ≡ record { text = plan_text steps; outcome = Ok Clean }) × IsBest now steps target
+PrintedPlanIsBest = (options : PlanOptions) (input : List ℕ) (place : ℕ) (now target : Configuration) →
+    slice_get (pairs_in input) place ≡ Some (now, target) → has_voter now ≡ true → has_voter target ≡ true →
+    (steps : List Step) × HasPart (planned_output options input).text (plan_text steps) × IsBest now steps target
