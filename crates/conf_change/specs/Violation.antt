@@ -1,5 +1,6 @@
 -- What is wrong with a configuration that is not valid, and with a saved form or a line that names no valid one.
-use Rattle.std.specs.Prelude.{ℕ, not, ◌||◌, List, [], ◌∷◌, Option, Some, None, Result, Ok, Err, find, option_map, option_and_then, option_or, slice_get, if◌then◌else◌}
+use Rattle.std.specs.Prelude.{ℕ, not, ◌||◌, List, [], ◌∷◌, Option, Some, None, Result, Ok, Err, find, option_map, option_and_then, slice_get, if◌then◌else◌}
+use Rattle.std.specs.Option.{option_or}
 use Rattle.quorum_sets.specs.Ids.{has, ascending, ids_of}
 use Rattle.conf_change.specs.Configuration.{Configuration, first_broken}
 use Rattle.conf_change.specs.ConfState.{ConfStateLists, named_by}

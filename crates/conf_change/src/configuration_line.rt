@@ -18,7 +18,7 @@ use thiserror::Error;
 #[derive(Clone, Copy, Debug, PartialEq, Eq, Error)]
 pub enum ConfigurationFault {
     /// It is no ConfState line.
-    #[error("bad conf state")]
+    #[error("bad conf state: expected Voters:[1 2] VotersOutgoing:[] Learners:[3] LearnersNext:[] AutoLeave:false")]
     BadConfState,
     /// It names no valid configuration.
     #[error("not a configuration: {0}")]

@@ -47,17 +47,20 @@ fn violation_by<S: MemberSet>(config: &Config<S>, invariant: Invariant) -> Optio
     let next = &config.learners_next;
     match invariant {
         Invariant::ZeroId => Some(Violation::ZeroId),
-        Invariant::NextNotOutgoing => {
-            first_outside(next, &config.outgoing).map(Violation::NextNotOutgoing)
-        }
-        Invariant::NextAndIncoming => {
-            first_inside(next, &config.incoming).map(Violation::NextAndIncoming)
-        }
-        Invariant::LearnerAndVoter => {
-            first_in_either(&config.learners, &config.incoming, &config.outgoing)
-                .map(Violation::LearnerAndVoter)
-        }
-        Invariant::NotJointButNext => next.at(0).map(Violation::NotJointButNext),
+        Invariant::NextNotOutgoing => Some(Violation::NextNotOutgoing(first_outside(
+            next,
+            &config.outgoing,
+        )?)),
+        Invariant::NextAndIncoming => Some(Violation::NextAndIncoming(first_inside(
+            next,
+            &config.incoming,
+        )?)),
+        Invariant::LearnerAndVoter => Some(Violation::LearnerAndVoter(first_in_either(
+            &config.learners,
+            &config.incoming,
+            &config.outgoing,
+        )?)),
+        Invariant::NotJointButNext => Some(Violation::NotJointButNext(next.at(0)?)),
         Invariant::NotJointButAutoLeave => Some(Violation::NotJointButAutoLeave),
     }
 }

@@ -31,8 +31,6 @@ pub(crate) fn configuration_at(
     match read_configuration(alloc, line) {
         Ok(config) => Ok(config),
         Err(ConfigurationFault::NoMemory) => Err(ToolFault::NoMemory),
-        Err(fault) => Err(ToolFault::Configurations(ConfigurationsFault::BadLine(
-            number, fault,
-        ))),
+        Err(fault) => Err(ToolFault::Configurations(ConfigurationsFault::BadLine(number, fault))),
     }
 }
