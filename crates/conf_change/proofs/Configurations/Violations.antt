@@ -1,5 +1,5 @@
 -- What is wrong with a configuration or a saved form is there exactly if it is not valid.
-use Rattle.std.proofs.Common.{◌≡◌, ℕ, ◌+◌, ◌<◌, ◌≤◌, Bool, true, false, cond, not, ◌&&◌, ◌||◌, List, [], ◌∷◌, length, refl, sym, ap, ◌∙◌, eq-eqb, eqb-true, arith, slice_get}
+use Rattle.std.proofs.Common.{◌≡◌, ℕ, ◌+◌, ◌<◌, ◌≤◌, Bool, true, false, cond, not, ◌&&◌, ◌||◌, List, [], ◌∷◌, length, refl, sym, ap, ◌∙◌, eq-eqb, eqb-true, arith, slice_get, suc}
 use Rattle.std.specs.Prelude.{Option, Some, None, Result, Ok, Err, find, option_map, option_and_then, nat_eq}
 use Rattle.std.specs.Option.{option_or}
 use Rattle.std.specs.List.{list_all}
@@ -97,7 +97,7 @@ size-few : (list : List ℕ) → size (ids_of list) ≤ length list
 size-few [] = let none : size (ids_of []) ≡ 0 = ap length ascending-no_ids in omega (arith, none)
 size-few (x ∷ list) = by_case (has (ids_of list) x) (size (ids_of list)) (size (ids_of (x ∷ list))) (size-with_id (ids_of list) x) (size-few list)
   where
-    by_case : (b : Bool) (before after : ℕ) → after ≡ cond b before (before + 1) → before ≤ length list → after ≤ length list + 1
+    by_case : (b : Bool) (before after : ℕ) → after ≡ cond b before (before + 1) → before ≤ length list → after ≤ suc (length list)
     by_case true before after e few = omega arith
     by_case false before after e few = omega arith
 
@@ -107,7 +107,7 @@ size-once [] e = ap length ascending-no_ids
 size-once (x ∷ list) e = by_case (has (ids_of list) x) (size (ids_of (x ∷ list))) (size-with_id (ids_of list) x) (size-once list) e
   where
     by_case : (b : Bool) (after : ℕ) → after ≡ cond b (size (ids_of list)) (size (ids_of list) + 1) → (first_repeat list ≡ None → size (ids_of list) ≡ length list) →
-        cond b (Some x) (first_repeat list) ≡ None → after ≡ length list + 1
+        cond b (Some x) (first_repeat list) ≡ None → after ≡ suc (length list)
     by_case true after is rest e = cc
     by_case false after is rest e = let once = rest e in omega arith
 
@@ -117,7 +117,7 @@ size-twice [] id e = cc
 size-twice (x ∷ list) id e = by_case (has (ids_of list) x) (size (ids_of (x ∷ list))) (size-with_id (ids_of list) x) (size-twice list id) e
   where
     by_case : (b : Bool) (after : ℕ) → after ≡ cond b (size (ids_of list)) (size (ids_of list) + 1) → (first_repeat list ≡ Some id → size (ids_of list) < length list) →
-        cond b (Some x) (first_repeat list) ≡ Some id → after < length (x ∷ list)
+        cond b (Some x) (first_repeat list) ≡ Some id → after < suc (length list)
     by_case true after is rest e = let few = size-few list in omega arith
     by_case false after is rest e = let fewer = rest e in omega arith
 
