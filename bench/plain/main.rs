@@ -1,9 +1,8 @@
-//! The yardstick of `bench/run`: the modes `lines`, `check`, `rewrite` and `undo` of docs/SPECIFICATION.md as a plain
-//! Rust program.
+//! The yardstick of `bench/run`: the modes of docs/SPECIFICATION.md as a plain Rust program.
 //!
 //! It has what the inputs of the bench use. Left out are the options, the commands `conf-change`, `ack` and
-//! `commit-index`, expected lines between double separators, the limit of an input, and answers that go out before all
-//! of a block is there.
+//! `commit-index`, expected lines between double separators, configurations without a voter in `plan`, the limit of an
+//! input, and answers that go out before all of a block is there.
 
 mod arguments;
 mod change;
@@ -33,6 +32,7 @@ fn main() -> ExitCode {
         "check" => modes::check(input, to),
         "rewrite" => modes::rewrite(input, to),
         "undo" => modes::undo(input, to),
+        "plan" => modes::plan(input, to),
         _ => return fail(2, "plain: unknown mode"),
     };
     match result {

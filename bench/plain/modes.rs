@@ -1,7 +1,9 @@
 //! The modes of the program.
 
 use crate::change::{Change, Edit};
+use crate::conf_state::ConfState;
 use crate::config::{Config, StepKind};
+use crate::plan::{plan as plan_between, write as write_plan};
 use crate::script::{Fault, Item, Lines};
 use crate::session::Session;
 use crate::text::{push_number, words};
@@ -172,4 +174,30 @@ pub fn undo(input: impl Read, to: &mut impl Write) -> Result<bool, Fault> {
     }
     end_script(&mut out, to)?;
     Ok(plan.is_ok())
+}
+
+pub fn plan(input: impl Read, to: &mut impl Write) -> Result<bool, Fault> {
+    let mut lines = Lines::new(input);
+    let (mut text, mut out) = (Vec::new(), Vec::new());
+    let (mut current, mut pairs) = (None, 0);
+    while let Some(line) = lines.append_next(&mut text)? {
+        let found = ConfState::parse(&text[line]).and_then(ConfState::restore);
+        let config = found.ok_or(Fault::Input(lines.count, "not a configuration"))?;
+        text.clear();
+        let Some(now) = current.take() else {
+            current = Some(config);
+            continue;
+        };
+        if pairs > 0 {
+            out.push(b'\n');
+        }
+        pairs += 1;
+        write_plan(&plan_between(&now, &config), &mut out);
+        write_block(&mut out, to)?;
+    }
+    to.write_all(&out).map_err(|_| Fault::Write)?;
+    if current.is_some() || pairs == 0 {
+        return Err(Fault::Input(lines.count, "expected two lines"));
+    }
+    Ok(true)
 }

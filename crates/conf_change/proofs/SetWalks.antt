@@ -3,3 +3,4 @@
 pub mod TestOfEachId
 pub mod SideBySide
 pub mod PlaceByPlace
+pub mod FirstThat

@@ -16,6 +16,7 @@ pub mod Changer
 pub mod Acknowledgement
 pub mod ConfState
 pub mod Described
+pub mod Violation
 pub mod Text
 pub mod ChangeList
 pub mod SameChanges

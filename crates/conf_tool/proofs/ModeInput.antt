@@ -3,4 +3,3 @@
 pub mod PlaceReached
 pub mod Faults
 pub mod LineReplies
-pub mod TwoLines

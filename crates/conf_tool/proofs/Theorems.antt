@@ -2,5 +2,6 @@
 
 pub mod JoinedScript
 pub mod RewrittenScript
+pub mod PairByPair
 pub mod BestPlan
 pub mod UndoneScript

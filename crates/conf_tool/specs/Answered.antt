@@ -1,5 +1,5 @@
 -- What was written so far of an output, where an input is answered part by part, and what is left of it.
-use Rattle.std.specs.Prelude.{◌≡◌, ◌≤◌, ℕ, ◌+◌, ◌||◌, List, [], ◌++◌, flat_map, count_by, nat_lt, length, take, Option, Some, None, Ok, Err}
+use Rattle.std.specs.Prelude.{◌≡◌, ◌≤◌, ℕ, ◌+◌, ◌||◌, true, List, [], ◌++◌, flat_map, count_by, nat_lt, length, Option, Some, None, Result, Ok, Err, IfSome}
 use Rattle.std.specs.List.{list_any}
 use Rattle.std.specs.Io.KnownBytes.{Appends, Keeps}
 use Rattle.dd_file.specs.Reading.{Script}
@@ -10,7 +10,12 @@ use Rattle.dd_file.specs.declared.fault.FileFault.{FileFault}
 use Rattle.dd_file.specs.declared.stage.Stage.TheVariants.{Ready}
 use Rattle.conf_session.specs.SessionState.{SessionState}
 use Rattle.conf_tool.specs.Reports.{answered_entries, obeyed_text, differs, report, counts_line}
-use Rattle.conf_tool.specs.Outputs.{Output, clean_unless, check_status, session_after_all, undone_unless, planned_script}
+use Rattle.conf_tool.specs.Outputs.{Output, clean_unless, check_status, session_after_all, undone_unless, worse_of, pair_then, ends_within, planned_pairs}
+use Rattle.conf_change.specs.Configuration.{Configuration, is_valid}
+use Rattle.conf_tool.specs.Pairs.{NumberedLine, numbered, configuration_lines, configuration_at, both_of}
+use Rattle.conf_tool.specs.declared.plan_options.PlanOptions.{PlanOptions}
+use Rattle.conf_tool.specs.declared.status.Status.{Status}
+use Rattle.conf_tool.specs.declared.configurations_fault.ConfigurationsFault.{ConfigurationsFault}
 use Rattle.conf_tool.specs.declared.tool_fault.ToolFault.TheVariants.{Script as ScriptFault}
 
 -- what is read: these parts, and a fault where one ends them
@@ -74,8 +79,27 @@ pub record HasObeyed (session : SessionState) (rewriter : RewriterState) (count 
   pub nothing : (held : Option (List ℕ)) → HasWritten rewriter.newlines held held []
   pub is : (rest : Script Item) → total (prepended parts rest) ≡ undo_left session count rest
 
--- The same of `plan`, which keeps its first three lines and writes at its end.
-pub record HasRead (texts : List (List ℕ)) (total : Script (List ℕ) → Output) (parts : List (List ℕ)) (before after : Option (List ℕ)) : Type 0 where
-  pub unwritten : Keeps before after
-  pub texts_are : texts ≡ take 3 parts
-  pub is : (read : Script (List ℕ)) → total read ≡ planned_script read
+-- The same of `plan`: what is left after the first line of a pair, by what that line names, ..
+abbrev pub pairs_within : PlanOptions → ℕ → Result Configuration ConfigurationsFault → List NumberedLine → Option FileFault → Output
+pairs_within options number first [] fault = ends_within first fault
+pairs_within options number first (second ∷ lines) fault = pair_then options number (both_of first (configuration_at second)) (planned_pairs options (number + 1) lines fault)
+
+-- .. or before that line
+abbrev pub pairs_left : PlanOptions → ℕ → Option Configuration → List NumberedLine → Option FileFault → Output
+pairs_left options number None lines fault = planned_pairs options number lines fault
+pairs_left options number (Some now) lines fault = pairs_within options number (Ok now) lines fault
+
+-- an output after pairs with this status
+abbrev pub with_status : Status → Output → Output
+with_status status output = record { text = output.text; outcome = worse_of status output.outcome }
+
+-- what is left of `plan` after so many lines, by the number of the pair, its first configuration if that was read, and the status so far
+abbrev pub plan_left : PlanOptions → ℕ → ℕ → Option Configuration → Status → Script (List ℕ) → Output
+plan_left options count number now status rest = with_status status (pairs_left options number now (configuration_lines (numbered (count + 1) rest.items)) rest.fault)
+
+-- of `plan` these lines were answered: so many, with no more pairs
+pub record HasPlanned (options : PlanOptions) (count number : ℕ) (now : Option Configuration) (status : Status) (total : Script (List ℕ) → Output) (parts : List (List ℕ)) (before after : Option (List ℕ)) : Type 0 where
+  pub front : WroteFront total (plan_left options count number now status) parts before after
+  pub counted : count ≡ length parts
+  pub few : number ≤ length parts + 1
+  pub valid : IfSome now (λ c. is_valid c ≡ true)

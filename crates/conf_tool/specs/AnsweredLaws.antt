@@ -12,7 +12,10 @@ use Rattle.dd_file.specs.declared.fault.FileFault.{FileFault}
 use Rattle.dd_file.proofs.Offered.{part-append}
 use Rattle.conf_session.specs.SessionState.{SessionState}
 use Rattle.conf_tool.specs.Outputs.{Output}
-use Rattle.conf_tool.specs.Answered.{script, WroteFront, HasChecked, HasRewritten, HasObeyed, HasRead, rewrite_left}
+use Rattle.conf_tool.specs.Answered.{script, WroteFront, HasChecked, HasRewritten, HasObeyed, HasPlanned, rewrite_left, plan_left}
+use Rattle.conf_change.specs.Configuration.{Configuration}
+use Rattle.conf_tool.specs.declared.plan_options.PlanOptions.{PlanOptions}
+use Rattle.conf_tool.specs.declared.status.Status.{Status}
 
 pub keeps-still : (held : Option (List ℕ)) → Keeps held held
 keeps-still None = tt
@@ -82,9 +85,14 @@ kept-obeyed session rewriter count total parts before mid new obeyed k = record 
   is = obeyed.is;
 }
 
-pub kept-read : (texts : List (List ℕ)) (total : Script (List ℕ) → Output) (parts : List (List ℕ)) (before mid new : Option (List ℕ)) →
-    HasRead texts total parts before mid → Keeps mid new → HasRead texts total parts before new
-kept-read texts total parts before mid new read k = record { unwritten = keeps-keeps before mid new read.unwritten k; texts_are = read.texts_are; is = read.is }
+pub kept-planned : (options : PlanOptions) (count number : ℕ) (now : Option Configuration) (status : Status) (total : Script (List ℕ) → Output) (parts : List (List ℕ)) (before mid new : Option (List ℕ)) →
+    HasPlanned options count number now status total parts before mid → Keeps mid new → HasPlanned options count number now status total parts before new
+kept-planned options count number now status total parts before mid new planned k = record {
+  front = kept-front total (plan_left options count number now status) parts before mid new planned.front k;
+  counted = planned.counted;
+  few = planned.few;
+  valid = planned.valid;
+}
 
 pub part-nothing : (before : Option (List ℕ)) (text : List ℕ) → AppendsPart before before text
 part-nothing None text = tt
@@ -105,7 +113,3 @@ rewritten-front s rewriter total parts more fault before mid rewritten =
 pub obeyed-front : (s : SessionState) (rewriter : RewriterState) (count : ℕ) (total : Script Item → Output) (parts : List Item) (before held : Option (List ℕ)) (text : List ℕ) →
     HasObeyed s rewriter count total parts before held → AppendsPart before held text
 obeyed-front s rewriter count total parts before held text obeyed = kept-part before before held text (part-nothing before text) obeyed.unwritten
-
-pub read-front : (texts : List (List ℕ)) (total : Script (List ℕ) → Output) (parts : List (List ℕ)) (before after : Option (List ℕ)) (text : List ℕ) →
-    HasRead texts total parts before after → AppendsPart before after text
-read-front texts total parts before after text read = kept-part before before after text (part-nothing before text) read.unwritten

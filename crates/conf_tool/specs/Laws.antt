@@ -1,5 +1,5 @@
 -- Laws of what the modes write.
-use Rattle.std.specs.Prelude.{◌≡◌, ◌≤◌, ◌-◌, ℕ, true, false, List, ◌++◌, length, slice_get, Ok, Some, None}
+use Rattle.std.specs.Prelude.{◌≡◌, ◌≤◌, ◌+◌, ◌-◌, ℕ, true, false, List, ◌++◌, [], ◌∷◌, length, slice_get, Result, Ok, Err, Some, None}
 use Rattle.ascii_text.specs.Lines.{newline, lines_of}
 use Rattle.dd_file.specs.Laws.{ends_in_long_blank, directives_of, IsComplete}
 use Rattle.dd_file.specs.Place.{longest_input}
@@ -13,7 +13,13 @@ use Rattle.conf_plan.specs.PlanSteps.{IsPlan}
 use Rattle.conf_plan.specs.PlanText.{plan_text}
 use Rattle.conf_session.specs.SessionState.{SessionState, new_session, present}
 use Rattle.conf_session.specs.Undo.{undo_plan_of}
-use Rattle.conf_tool.specs.TwoConfigurations.{configurations_in}
+use Rattle.conf_tool.specs.Pairs.{NumberedLine, numbered, configuration_lines, configuration_at, both_of}
+use Rattle.conf_tool.specs.declared.configurations_fault.ConfigurationsFault.{ConfigurationsFault}
+use Rattle.conf_tool.specs.PlanAnswer.{plan_text_between}
+use Rattle.conf_tool.specs.declared.plan_options.PlanOptions.{PlanOptions}
+use Rattle.conf_tool.specs.declared.plan_options.PlanOutput.TheVariants.{Steps}
+use Rattle.conf_plan.specs.declared.strategy.Strategy.TheVariants.{Shortest}
+use Rattle.std.specs.List.{AllZip}
 use Rattle.conf_tool.specs.Outputs.{session_after_all, checked, rewritten, undone_output, planned_output}
 use Rattle.conf_tool.specs.UndoScript.{TakesSteps}
 use Rattle.conf_tool.specs.declared.status.Status.TheVariants.{Clean}
@@ -49,8 +55,41 @@ UndoScriptLeadsBack = (script : List ℕ) (history : ℕ) (floor : Floor) (count
     (script_of script).fault ≡ None → 1 ≤ count → undo_plan_of session count ≡ Ok steps → IsPlan steps → length printed ≤ longest_input →
     LeadsBackBy session count steps (script_of printed)
 
--- Between two configurations with voters `plan` prints the text of steps that lead from the one to the other, the best there are, and ends clean.
-abbrev pub PrintedPlanIsBest : Type 0
-PrintedPlanIsBest = (input : List ℕ) (now target : Configuration) →
-    (listing_of input).fault ≡ None → configurations_in (listing_of input).items ≡ Ok (now, target) → has_voter now ≡ true → has_voter target ≡ true →
-    (steps : List Step) × (planned_output input ≡ record { text = plan_text steps; outcome = Ok Clean }) × IsBest now steps target
+-- a pair before others, if both lines name configurations
+abbrev pub pair_before : Result (Configuration × Configuration) ConfigurationsFault → List (Configuration × Configuration) → List (Configuration × Configuration)
+pair_before (Err bad) pairs = []
+pair_before (Ok pair) pairs = pair ∷ pairs
+
+-- the pairs of configurations that the lines name, up to the first line that names none
+abbrev pub named_pairs : List NumberedLine → List (Configuration × Configuration)
+named_pairs [] = []
+named_pairs (line ∷ []) = []
+named_pairs (first ∷ second ∷ lines) = pair_before (both_of (configuration_at first) (configuration_at second)) (named_pairs lines)
+
+-- the pairs of an input
+abbrev pub pairs_in : List ℕ → List (Configuration × Configuration)
+pairs_in input = named_pairs (configuration_lines (numbered 1 (listing_of input).items))
+
+-- what `plan` prints of pairs, the first of which has this number
+abbrev pub texts_from : PlanOptions → ℕ → List (Configuration × Configuration) → List (List ℕ)
+texts_from options number [] = []
+texts_from options number (pair ∷ pairs) = plan_text_between options number pair.0 pair.1 ∷ texts_from options (number + 1) pairs
+
+-- texts, with a text between each two
+abbrev pub parted_by : List ℕ → List (List ℕ) → List ℕ
+parted_by part [] = []
+parted_by part (text ∷ []) = text
+parted_by part (text ∷ next ∷ texts) = text ++ (part ++ parted_by part (next ∷ texts))
+
+-- a text is that of steps that lead from the one configuration of a pair to the other, the best there are, if both have voters
+abbrev pub IsBestPlan : Configuration × Configuration → List ℕ → Type 0
+IsBestPlan pair text = has_voter pair.0 ≡ true → has_voter pair.1 ≡ true → (steps : List Step) × (text ≡ plan_text steps) × IsBest pair.0 steps pair.1
+
+-- What `plan` prints is the texts of the pairs in turn with an empty line between each two, and each is the best plan.
+-- Of an input with one pair nothing else is printed, and the run ends clean.
+pub record PrintedPlanIsBest : Type 0 where
+  pub each : (options : PlanOptions) (input : List ℕ) → options.strategy ≡ Shortest → options.output ≡ Steps →
+      (texts : List (List ℕ)) × ((planned_output options input).text ≡ parted_by newline texts) × AllZip IsBestPlan (pairs_in input) texts
+  pub alone : (options : PlanOptions) (input : List ℕ) (first second : NumberedLine) (now target : Configuration) → options.strategy ≡ Shortest → options.output ≡ Steps →
+      (listing_of input).fault ≡ None → configuration_lines (numbered 1 (listing_of input).items) ≡ first ∷ second ∷ [] → configuration_at first ≡ Ok now → configuration_at second ≡ Ok target →
+      has_voter now ≡ true → has_voter target ≡ true → (steps : List Step) × (planned_output options input ≡ record { text = plan_text steps; outcome = Ok Clean }) × IsBest now steps target

@@ -3,7 +3,7 @@ pub mod Ranges
 pub mod LineReply
 pub mod Reports
 pub mod UndoScript
-pub mod TwoConfigurations
+pub mod Pairs
 pub mod PlanAnswer
 pub mod Outputs
 pub mod Answered

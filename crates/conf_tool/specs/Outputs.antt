@@ -1,5 +1,6 @@
 -- The output of each mode, for a whole input.
-use Rattle.std.specs.Prelude.{ℕ, Bool, true, false, List, [], ◌∷◌, ◌++◌, flat_map, Option, Some, None, Result, Ok, Err}
+use Rattle.std.specs.Prelude.{ℕ, ◌+◌, Bool, true, false, List, [], ◌∷◌, ◌++◌, flat_map, nat_lt, Option, Some, None, Result, Ok, Err, if◌then◌else◌}
+use Rattle.ascii_text.specs.Lines.{newline}
 use Rattle.std.specs.List.{list_any}
 use Rattle.dd_file.specs.Reading.{Script, script_of, listing_of}
 use Rattle.dd_file.specs.Rewritten.{Entry, rewritten_text}
@@ -17,14 +18,15 @@ use Rattle.conf_tool.specs.declared.mode.Mode.{Mode}
 use Rattle.conf_tool.specs.declared.mode.Mode.TheVariants.{Lines, Check, Rewrite, Undo, Plan}
 use Rattle.conf_tool.specs.declared.options.Options.{Options}
 use Rattle.conf_tool.specs.declared.plan_options.PlanOptions.{PlanOptions}
-use Rattle.conf_tool.specs.declared.plan_options.PlanOutput.TheVariants.{Steps}
-use Rattle.conf_plan.specs.declared.strategy.Strategy.TheVariants.{Shortest}
+use Rattle.conf_tool.specs.declared.plan_options.PlanOutput.{PlanOutput}
+use Rattle.conf_tool.specs.declared.plan_options.PlanOutput.TheVariants.{Steps, Script as ScriptOutput}
 use Rattle.conf_tool.specs.declared.status.Status.{Status}
 use Rattle.conf_tool.specs.declared.status.Status.TheVariants.{Clean, Different}
 use Rattle.conf_session.specs.declared.undo_fault.UndoFault.{UndoFault}
-use Rattle.conf_tool.specs.TwoConfigurations.{configurations_in}
+use Rattle.conf_tool.specs.Pairs.{NumberedLine, numbered, configuration_lines, configuration_at, both_of}
 use Rattle.conf_tool.specs.PlanAnswer.{plan_text_between, plan_status}
 use Rattle.conf_tool.specs.declared.configurations_fault.ConfigurationsFault.{ConfigurationsFault}
+use Rattle.conf_tool.specs.declared.configurations_fault.ConfigurationsFault.TheVariants.{NotTwoLines}
 use Rattle.conf_tool.specs.declared.tool_fault.ToolFault.{ToolFault}
 use Rattle.conf_tool.specs.declared.tool_fault.ToolFault.TheVariants.{Script as ScriptFault, Configurations}
 
@@ -102,27 +104,58 @@ undone_script history floor count script = undone_unless (session_after_all (new
 abbrev pub undone_output : List ℕ → ℕ → Floor → ℕ → Output
 undone_output input history floor count = undone_script history floor count (script_of input)
 
--- the options of `plan` where none is given
-abbrev pub default_plan_options : PlanOptions
-default_plan_options = record { strategy = Shortest; output = Steps; down = None }
+-- nothing more is written
+abbrev pub ends : Result Status ToolFault → Output
+ends outcome = record { text = []; outcome = outcome }
 
--- the plan between two configurations, or why there is none
-abbrev pub planned_between : Result (Configuration × Configuration) ConfigurationsFault → Output
-planned_between (Ok ends) = record { text = plan_text_between default_plan_options 1 ends.0 ends.1; outcome = Ok (plan_status default_plan_options ends.0 ends.1) }
-planned_between (Err fault) = record { text = []; outcome = Err (Configurations fault) }
+-- what parts the outputs of two pairs
+abbrev pub separator : PlanOutput → List ℕ
+separator Steps = newline
+separator ScriptOutput = newline
 
--- nothing is planned of an input with a fault
-abbrev pub planned_unless : List (List ℕ) → Option FileFault → Output
-planned_unless lines None = planned_between (configurations_in lines)
-planned_unless lines (Some fault) = record { text = []; outcome = Err (ScriptFault fault) }
+-- the text of the pair with this number, counted from 1
+abbrev pub pair_text : PlanOptions → ℕ → Configuration → Configuration → List ℕ
+pair_text options number now target = (if nat_lt 1 number then separator options.output else []) ++ plan_text_between options number now target
+
+-- the worse of a status and of how the rest ends
+abbrev pub worse_of : Status → Result Status ToolFault → Result Status ToolFault
+worse_of status (Err fault) = Err fault
+worse_of Clean (Ok later) = Ok later
+worse_of Different (Ok later) = Ok Different
+
+-- the output of a pair, and of the pairs after it
+abbrev pub pair_then : PlanOptions → ℕ → Result (Configuration × Configuration) ConfigurationsFault → Output → Output
+pair_then options number (Err bad) rest = ends (Err (Configurations bad))
+pair_then options number (Ok pair) rest = record {
+  text = pair_text options number pair.0 pair.1 ++ rest.text;
+  outcome = worse_of (plan_status options pair.0 pair.1) rest.outcome;
+}
+
+-- the end of the input, where the pair with this number would begin; an input without a pair is a fault
+abbrev pub ends_before : ℕ → Option FileFault → Output
+ends_before number (Some fault) = ends (Err (ScriptFault fault))
+ends_before number None = ends (if nat_lt 1 number then Ok Clean else Err (Configurations NotTwoLines))
+
+-- the end of the input after the first line of a pair
+abbrev pub ends_within : Result Configuration ConfigurationsFault → Option FileFault → Output
+ends_within (Err bad) fault = ends (Err (Configurations bad))
+ends_within (Ok now) (Some fault) = ends (Err (ScriptFault fault))
+ends_within (Ok now) None = ends (Err (Configurations NotTwoLines))
+
+-- of the pairs of these lines, from the one with a number on
+abbrev pub planned_pairs : PlanOptions → ℕ → List NumberedLine → Option FileFault → Output
+planned_pairs options number [] fault = ends_before number fault
+planned_pairs options number (line ∷ []) fault = ends_within (configuration_at line) fault
+planned_pairs options number (first ∷ second ∷ lines) fault =
+    pair_then options number (both_of (configuration_at first) (configuration_at second)) (planned_pairs options (number + 1) lines fault)
 
 -- of `plan`, by the lines of the input
-abbrev pub planned_script : Script (List ℕ) → Output
-planned_script listing = planned_unless listing.items listing.fault
+abbrev pub planned_script : PlanOptions → Script (List ℕ) → Output
+planned_script options listing = planned_pairs options 1 (configuration_lines (numbered 1 listing.items)) listing.fault
 
--- of `plan`: the plan from the configuration of the first line to that of the second
-abbrev pub planned_output : List ℕ → Output
-planned_output input = planned_script (listing_of input)
+-- of `plan`: for each pair of lines the plan from the configuration of the first to that of the second
+abbrev pub planned_output : PlanOptions → List ℕ → Output
+planned_output options input = planned_script options (listing_of input)
 
 -- of a mode with its options
 abbrev pub output_of : Mode → Options → List ℕ → Output
@@ -130,4 +163,4 @@ output_of Lines options input = lined input
 output_of Check options input = checked input options.history options.floor
 output_of Rewrite options input = rewritten input options.history options.floor
 output_of Undo options input = undone_output input options.history options.floor options.steps
-output_of Plan options input = planned_output input
+output_of Plan options input = planned_output options.plan input

@@ -102,6 +102,15 @@ CanAnswer mode (Err Read) = ⊤
 CanAnswer mode (Err Write) = ⊤
 CanAnswer mode (Err NoMemory) = ⊤
 
+-- What stops a run at a part of its input: a fault of what answers it, or one of the input, which is then the whole answer,
+-- whatever comes.
+abbrev pub IsStop : Mode → ToolFault → Type 0 → Type 0
+IsStop mode (Script fault) IsWhole = ⊥
+IsStop mode (Configurations fault) IsWhole = WantsConfigurations mode × IsWhole
+IsStop mode Read IsWhole = ⊥
+IsStop mode Write IsWhole = ⊤
+IsStop mode NoMemory IsWhole = ⊤
+
 -- a read, or a write, failed in a call
 abbrev pub is_read_failure : {X : Type 0} → Result X ToolFault → Bool
 is_read_failure (Ok x) = false

@@ -1,16 +1,14 @@
-//! What is wrong with the two lines that the mode `plan` is given.
+//! What is wrong with the lines that the mode `plan` is given.
+use conf_change::ConfigurationFault;
 use thiserror::Error;
 
-/// Why two lines do not name two configurations.
+/// Why the lines of an input do not name pairs of configurations.
 #[derive(Clone, Copy, Debug, PartialEq, Eq, Error)]
 pub enum ConfigurationsFault {
-    /// The line with this number, counted from 1, is no ConfState line.
-    #[error("line {0}: bad conf state")]
-    BadConfState(usize),
-    /// It names no valid configuration.
-    #[error("line {0}: not a configuration")]
-    NotAConfiguration(usize),
-    /// There are more or fewer lines.
+    /// The line with this number, counted from 1, names no valid configuration.
+    #[error("line {0}: {1}")]
+    BadLine(usize, ConfigurationFault),
+    /// The input has no pair of lines, or ends within one.
     #[error("expected two lines")]
     NotTwoLines,
 }

@@ -5,7 +5,7 @@
 //! check     a script                    -> each directive whose output differs, and the counts
 //! rewrite   a script                    -> the script with its actual output
 //! undo      a script                    -> a second script that undoes its last changes
-//! plan      two ConfState lines         -> the steps from the first to the second
+//! plan      pairs of ConfState lines    -> the steps from the first to the second of each
 //! ```
 //!
 //! What a mode prints is a function of its input, so each is proved to print exactly that, and a prefix of
@@ -21,12 +21,12 @@ mod line_reply;
 pub mod mode;
 pub mod options;
 mod plan_answer;
+mod plan_line;
 pub mod plan_options;
 mod report;
 pub mod run;
 pub mod status;
 pub mod tool_fault;
-mod two_configurations;
 mod undo_script;
 
 pub use configurations_fault::ConfigurationsFault;

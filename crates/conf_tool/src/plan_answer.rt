@@ -36,10 +36,7 @@ pub(crate) fn plan_answer(
             alloc,
             b"# no plan: the current configuration has no voter\n",
         ),
-        Err(PlanFault::NoVoterTarget) => no_plan(
-            alloc,
-            b"# no plan: the target has no voter\n",
-        ),
+        Err(PlanFault::NoVoterTarget) => no_plan(alloc, b"# no plan: the target has no voter\n"),
         Err(PlanFault::NoMemory) => Err(ToolFault::NoMemory),
     }
 }

@@ -73,7 +73,12 @@ pub fn run<R: Source, W: Sink>(
             reader,
             writer,
         ),
-        Mode::Plan => run_by_part(Lines::new(alloc)?, Planning::new(alloc), reader, writer),
+        Mode::Plan => run_by_part(
+            Lines::new(alloc)?,
+            Planning::new(alloc, options.plan),
+            reader,
+            writer,
+        ),
     }
 }
 

@@ -7,7 +7,7 @@ use Rattle.conf_plan.specs.Planned.{planned}
 use Rattle.conf_plan.specs.PlanText.{plan_text}
 use Rattle.confscript_c.specs.Answer.{answer}
 use Rattle.confscript_c.specs.Applied.{apply_told}
-use Rattle.confscript_c.specs.Reading.{configuration_in}
+use Rattle.confscript_c.specs.Reading.{configuration_at}
 use Rattle.confscript_c.specs.Written.{Told}
 use Rattle.confscript_c.specs.declared.answer.Answer.{Answer}
 use Rattle.confscript_c.specs.declared.status.Status.TheVariants.{NoVoter}
@@ -25,8 +25,8 @@ both_told (Ok now) (Err why) = Err why
 both_told (Ok now) (Ok target) = planned_told now target
 
 abbrev pub plan_told : List ℕ → List ℕ → Told
-plan_told now target = both_told (configuration_in 1 now) (configuration_in 2 target)
+plan_told now target = both_told (configuration_at 1 now) (configuration_at 2 target)
 
 -- a plan's text leads from the configuration of one line to that of another: taken from the one, it gives the other's line
 abbrev pub Leads : List ℕ → List ℕ → List ℕ → Type 0
-Leads now target text = (c : Configuration) × (configuration_in 2 target ≡ Ok c) × (apply_told now text ≡ Ok (conf_state_text (lists_of c)))
+Leads now target text = (c : Configuration) × (configuration_at 2 target ≡ Ok c) × (apply_told now text ≡ Ok (conf_state_text (lists_of c)))

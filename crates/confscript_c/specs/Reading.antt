@@ -1,10 +1,12 @@
 -- What the lines are read as that a call is given, each with a number, counted from 1.
-use Rattle.std.specs.Prelude.{ℕ, List, Option, Some, None, Result, Ok, Err, if◌then◌else◌}
-use Rattle.conf_change.specs.Configuration.{Configuration, is_valid}
+use Rattle.std.specs.Prelude.{ℕ, List, Option, Some, None, Result, Ok, Err}
+use Rattle.conf_change.specs.Configuration.{Configuration}
 use Rattle.conf_change.specs.ConfState.{ConfStateLists}
 use Rattle.conf_change.specs.ConfStateLine.{conf_state_in}
-use Rattle.conf_change.specs.Described.{described}
-use Rattle.confscript_c.specs.Answer.{answer}
+use Rattle.conf_change.specs.Violation.{configuration_in}
+use Rattle.conf_change.specs.declared.configuration_line.ConfigurationFault.{ConfigurationFault}
+use Rattle.conf_change.specs.declared.configuration_line.ConfigurationFault.TheVariants.{BadConfState as BadLine, NotAConfiguration as NotValid, NoMemory as OutOfMemory}
+use Rattle.confscript_c.specs.Answer.{answer, no_memory}
 use Rattle.confscript_c.specs.declared.answer.Answer.{Answer}
 use Rattle.confscript_c.specs.declared.status.Status.TheVariants.{BadConfState, NotAConfiguration}
 
@@ -13,15 +15,16 @@ abbrev pub read_as : ℕ → Option ConfStateLists → Result ConfStateLists Ans
 read_as number None = Err (answer BadConfState number)
 read_as number (Some saved) = Ok saved
 
--- a configuration that is valid
-abbrev pub valid_one : ℕ → Option Configuration → Result Configuration Answer
-valid_one number None = Err (answer NotAConfiguration number)
-valid_one number (Some c) = if is_valid c then Ok c else Err (answer NotAConfiguration number)
+-- what is wrong with the line of this number
+abbrev pub fault_answer : ℕ → ConfigurationFault → Answer
+fault_answer number BadLine = answer BadConfState number
+fault_answer number (NotValid violation) = answer NotAConfiguration number
+fault_answer number OutOfMemory = no_memory
 
-abbrev pub valid_of : ℕ → Result ConfStateLists Answer → Result Configuration Answer
-valid_of number (Err why) = Err why
-valid_of number (Ok saved) = valid_one number (described saved)
+abbrev pub answered_at : ℕ → Result Configuration ConfigurationFault → Result Configuration Answer
+answered_at number (Ok c) = Ok c
+answered_at number (Err fault) = Err (fault_answer number fault)
 
--- the valid configuration that a line names
-abbrev pub configuration_in : ℕ → List ℕ → Result Configuration Answer
-configuration_in number line = valid_of number (read_as number (conf_state_in line))
+-- the valid configuration that the line of this number names
+abbrev pub configuration_at : ℕ → List ℕ → Result Configuration Answer
+configuration_at number line = answered_at number (configuration_in line)

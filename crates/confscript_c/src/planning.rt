@@ -11,7 +11,7 @@ ghost use Rattle.confscript_c.specs.Written.{Writes};
 
 use crate::answer::Answer;
 use crate::buffer::write_text;
-use crate::reading::read_configuration;
+use crate::reading::configuration_at;
 use crate::status::Status;
 use conf_change::Config;
 use conf_plan::{PlanFault, plan, print_plan};
@@ -43,8 +43,8 @@ fn text_between_lines(alloc: Global, now: &[u8], target: &[u8]) -> Result<Vec<u8
     ensures leads { IfOk result (λ text. Leads now.now target.now text.items) }
     ensures refused { IfErr result (λ why. (why ≡ no_memory) ⊎ (plan_told now.now target.now ≡ Err why)) }
 {
-    let now = read_configuration(alloc, 1, now)?;
-    let target = read_configuration(alloc, 2, target)?;
+    let now = configuration_at(alloc, 1, now)?;
+    let target = configuration_at(alloc, 2, target)?;
     text_between(alloc, &now, &target)
 }
 

@@ -4,12 +4,12 @@ ghost use Rattle.conf_change.specs.Configuration.{is_valid, has_voter};
 ghost use Rattle.conf_change.specs.ConfStateLine.{conf_state_in};
 ghost use Rattle.confscript_c.specs.Answer.{no_memory};
 ghost use Rattle.confscript_c.specs.Applied.{restored_of};
-ghost use Rattle.confscript_c.specs.Reading.{read_as, valid_of, configuration_in};
+ghost use Rattle.confscript_c.specs.Reading.{read_as, fault_answer, configuration_at};
 
 use crate::answer::Answer;
 use crate::status::Status;
 use conf_change::{
-    ConfState, ConfStateFault, Config, RestoreFault, check, described, read_conf_state,
+    ConfState, ConfStateFault, Config, ConfigurationFault, read_conf_state, read_configuration,
 };
 use quorum_sets::InlineIds;
 use std::alloc::Global;
@@ -27,36 +27,29 @@ pub(crate) fn read_saved(alloc: Global, number: u64, line: &[u8]) -> Result<Conf
 }
 
 /// The valid configuration that the line with this number names.
-pub(crate) fn read_configuration(
+pub(crate) fn configuration_at(
     alloc: Global,
     number: u64,
     line: &[u8],
 ) -> Result<Config<InlineIds>, Answer>
-    ensures configuration { IfOk result (λ c. configuration_in number line.now ≡ Ok c) }
+    ensures configuration { IfOk result (λ c. configuration_at number line.now ≡ Ok c) }
     ensures valid { IfOk result (λ c. is_valid c ≡ true) }
     ensures restored { IfOk result (λ c. has_voter c ≡ true → restored_of (read_as number (conf_state_in line.now)) ≡ Ok c) }
-    ensures refused { IfErr result (λ why. (why ≡ no_memory) ⊎ (configuration_in number line.now ≡ Err why)) }
+    ensures refused { IfErr result (λ why. (why ≡ no_memory) ⊎ (configuration_at number line.now ≡ Err why)) }
 {
-    let saved = read_saved(alloc, number, line)?;
-    valid(alloc, number, &saved)
+    match read_configuration(alloc, line) {
+        Ok(config) => Ok(config),
+        Err(fault) => Err(fault_answer(number, fault)),
+    }
 }
 
-// The valid configuration of the saved form that the line with this number is.
-fn valid(alloc: Global, number: u64, saved: &ConfState) -> Result<Config<InlineIds>, Answer>
-    ensures configuration { IfOk result (λ c. valid_of number (Ok saved.now) ≡ Ok c) }
-    ensures valid { IfOk result (λ c. is_valid c ≡ true) }
-    ensures restored { IfOk result (λ c. has_voter c ≡ true → restored_of (Ok saved.now) ≡ Ok c) }
-    ensures refused { IfErr result (λ why. (why ≡ no_memory) ⊎ (valid_of number (Ok saved.now) ≡ Err why)) }
+// What is wrong with the line with this number.
+fn fault_answer(number: u64, fault: ConfigurationFault) -> Answer
+    ensures { result ≡ fault_answer number fault }
 {
-    let config: Config<InlineIds> = match described(alloc, saved) {
-        Ok(config) => config,
-        Err(RestoreFault::NotAConfiguration) => {
-            return Err(Answer::new(Status::NotAConfiguration, number));
-        }
-        Err(RestoreFault::NoMemory) => return Err(Answer::no_memory()),
-    };
-    if check(&config).is_err() {
-        return Err(Answer::new(Status::NotAConfiguration, number));
+    match fault {
+        ConfigurationFault::BadConfState => Answer::new(Status::BadConfState, number),
+        ConfigurationFault::NotAConfiguration(_) => Answer::new(Status::NotAConfiguration, number),
+        ConfigurationFault::NoMemory => Answer::no_memory(),
     }
-    Ok(config)
 }

@@ -1,6 +1,6 @@
 -- The lemmas of this crate that the proofs of the crates above cite. No other module of its proofs is public.
 
-pub use Rattle.quorum_sets.proofs.IdSets.Difference.{difference_count-with_id, difference_count-without_id, size-without_id}
+pub use Rattle.quorum_sets.proofs.IdSets.Difference.{difference_count-with_id, difference_count-without_id, size-with_id, size-without_id}
 pub use Rattle.quorum_sets.proofs.IdSets.Members.{ascending-ids_of, ascending-is_sorted, ascending-no_ids, has-ascending, has-ids_of, has-ids_where, has-no_ids, has-same_ids, has-with_id, has-without_id, lookup-from_entries}
 pub use Rattle.quorum_sets.proofs.IdSets.WrittenOut.{written_out}
 pub use Rattle.quorum_sets.proofs.KeptSets.MapEntries.{from_entries-inserted}

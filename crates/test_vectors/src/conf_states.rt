@@ -3,8 +3,9 @@ use crate::changers::{Shown, is_same, is_shown};
 use crate::texts::appends;
 use crate::twice::twice;
 use conf_change::{
-    AckFault, Changer, ConfState, ConfStateFault, Config, Floor, Progress, RestoreFault, check,
-    conf_state, described, read_conf_state, write_conf_state,
+    AckFault, Changer, ConfState, ConfStateFault, Config, ConfigurationFault, Floor, Progress,
+    RestoreFault, Violation, check, conf_state, described, read_conf_state, read_configuration,
+    valid_configuration, write_conf_state,
 };
 use quorum_sets::{InlineIds, MemberSet, NoMemory, TreeIds};
 use std::alloc::Global;
@@ -133,6 +134,59 @@ fn saved_configurations(rt: HostRuntime) {
     assert!(rt; is_refused::<InlineIds>(rt.alloc(), no_configuration));
     let no_line = read(rt.alloc(), "Voters:[1 2 3] VotersOutgoing:[1 2 x]");
     assert!(rt; no_line.err() == Some(ConfStateFault::BadConfState));
+}
+
+// A line, and why it names no valid configuration.
+static FAULTY: [(&str, ConfigurationFault); 4] = [
+    (
+        "Voters:[1] VotersOutgoing:[] Learners:[] LearnersNext:[]",
+        ConfigurationFault::BadConfState,
+    ),
+    (
+        "Voters:[1 2] VotersOutgoing:[5 4 4 6 5] Learners:[3 3] LearnersNext:[] AutoLeave:false",
+        ConfigurationFault::NotAConfiguration(Violation::ListedTwice(5)),
+    ),
+    (
+        "Voters:[1] VotersOutgoing:[] Learners:[] LearnersNext:[9 8 9] AutoLeave:true",
+        ConfigurationFault::NotAConfiguration(Violation::ListedTwice(9)),
+    ),
+    (
+        "Voters:[1 2] VotersOutgoing:[4] Learners:[7 4 2] LearnersNext:[] AutoLeave:false",
+        ConfigurationFault::NotAConfiguration(Violation::LearnerAndVoter(2)),
+    ),
+];
+
+// Why a line names no valid configuration, if it names none.
+fn fault_of<S: MemberSet>(alloc: Global, line: &str) -> Option<ConfigurationFault> {
+    twice(ConfigurationFault::NoMemory, || {
+        read_configuration::<S>(alloc, line.as_bytes())
+    })
+    .err()
+}
+
+// Whether a line names the configuration that its saved form describes.
+fn is_named<S: MemberSet>(alloc: Global, line: &str) -> bool {
+    let Ok(state) = read(alloc, line) else {
+        return false;
+    };
+    match twice(ConfigurationFault::NoMemory, || {
+        valid_configuration::<S>(alloc, &state)
+    }) {
+        Ok(config) => is_described(alloc, &state, &config) & fault_of::<S>(alloc, line).is_none(),
+        Err(_) => false,
+    }
+}
+
+#[test]
+fn lines_of_configurations(rt: HostRuntime) {
+    for (line, _) in &RESTORED {
+        assert!(rt; is_named::<TreeIds>(rt.alloc(), *line));
+        assert!(rt; is_named::<InlineIds>(rt.alloc(), *line));
+    }
+    for (line, fault) in &FAULTY {
+        assert!(rt; fault_of::<TreeIds>(rt.alloc(), *line) == Some(*fault));
+        assert!(rt; fault_of::<InlineIds>(rt.alloc(), *line) == Some(*fault));
+    }
 }
 
 // Whether members acknowledge indexes as they do, in a changer that has begun with floor zero. This takes no memory.

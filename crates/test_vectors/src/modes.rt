@@ -79,7 +79,7 @@ const BACK: &[u8] = b"leave-joint\n\
 
 const NO_PLAN: &[u8] = b"# no plan: the earlier configuration has no voter\n";
 
-// The present configuration and the wanted one, and the plan from the one to the other.
+// The current configuration and the target, and the plan from the one to the other.
 const TWO: &[u8] = b"Voters:[1] VotersOutgoing:[2] Learners:[] LearnersNext:[] AutoLeave:true\n\
     Voters:[5] VotersOutgoing:[3 4] Learners:[] LearnersNext:[] AutoLeave:false";
 
@@ -88,17 +88,28 @@ const PLAN: &[u8] = b"leave-joint\n\
     leave-joint\n\
     enter-joint autoleave=false r3 r4 v5\n";
 
-// The wanted configuration has no voter.
+// The target has no voter.
 const TO_NOBODY: &[u8] =
     b"Voters:[1] VotersOutgoing:[] Learners:[] LearnersNext:[] AutoLeave:false\n\
     Voters:[] VotersOutgoing:[] Learners:[] LearnersNext:[] AutoLeave:false\n";
 
-const NONE_WANTED: &[u8] = b"# no plan: the wanted configuration has no voter\n";
+const NO_TARGET: &[u8] = b"# no plan: the target has no voter\n";
+
+// Pairs between a comment and blank lines; of the second one the target has no voter.
+const PAIRS: &[u8] = b"# first\n\
+    Voters:[1] VotersOutgoing:[] Learners:[] LearnersNext:[] AutoLeave:false\n\
+    Voters:[2 1] VotersOutgoing:[] Learners:[] LearnersNext:[] AutoLeave:false\n\n\
+    Voters:[1] VotersOutgoing:[] Learners:[] LearnersNext:[] AutoLeave:false\n  # target\n\
+    Voters:[] VotersOutgoing:[] Learners:[1] LearnersNext:[] AutoLeave:false\n\
+    Voters:[1] VotersOutgoing:[] Learners:[] LearnersNext:[] AutoLeave:false\n\
+    Voters:[1] VotersOutgoing:[] Learners:[2] LearnersNext:[] AutoLeave:false\n \n";
+
+const PLANS: &[u8] = b"simple v2\n\n# no plan: the target has no voter\n\nsimple l2\n";
 
 /// A mode, its input and its output, and how it ends.
 pub(crate) type Case = (Mode, &'static [u8], &'static [u8], Status);
 
-pub(crate) static CASES: [Case; 13] = [
+pub(crate) static CASES: [Case; 14] = [
     (Mode::Lines, CHANGES, ANSWERS, Status::Clean),
     (Mode::Check, CUT, NONE_DIFFERS, Status::Clean),
     (Mode::Check, BARE, BARE_REPORT, Status::Different),
@@ -116,7 +127,8 @@ pub(crate) static CASES: [Case; 13] = [
     (Mode::Undo, CUT, NO_PLAN, Status::Different),
     (Mode::Undo, BARE, NO_PLAN, Status::Different),
     (Mode::Plan, TWO, PLAN, Status::Clean),
-    (Mode::Plan, TO_NOBODY, NONE_WANTED, Status::Different),
+    (Mode::Plan, TO_NOBODY, NO_TARGET, Status::Different),
+    (Mode::Plan, PAIRS, PLANS, Status::Different),
 ];
 
 // How a run ends, and what its writer took.

@@ -11,7 +11,7 @@ use Rattle.dd_file.proofs.Offered.{appends-append, part-part, append-part}
 use Rattle.conf_tool.specs.Answered.{script, prepended, with_front, WroteFront}
 use Rattle.conf_change.specs.Configuration.{Configuration}
 use Rattle.conf_tool.specs.LineReply.{line_reply}
-use Rattle.conf_tool.specs.Outputs.{Output, clean_unless, lined_from}
+use Rattle.conf_tool.specs.Outputs.{Output, ends, clean_unless, lined_from}
 use Rattle.conf_tool.specs.Run.{Wrote, Means}
 use Rattle.conf_tool.specs.declared.tool_fault.ToolFault.{ToolFault}
 use Rattle.conf_tool.specs.declared.status.Status.{Status}
@@ -52,6 +52,14 @@ wrote-broken total left next parts part text bytes before mid new front gives sa
     subst (λ (o : Output). AppendsPart before new o.text)
     (sym (front.is (script (part ∷ more) fault) ∙ ap (with_front front.text) (gives (script more fault)) ∙ with_front-append front.text text (next (script more fault))))
     (part-part before new (front.text ++ text) (next (script more fault)).text (append-part before mid new front.text text front.wrote (subst (λ t. AppendsPart mid new t) same cut)))
+
+-- where a part ends the output, all of it was written
+pub wrote-all : {A : Type 0} (total left : Script A → Output) (parts : List A) (part : A) (outcome : Result Status ToolFault) (before mid : Option (List ℕ)) →
+    WroteFront total left parts before mid → ((rest : Script A) → left (prepended (part ∷ []) rest) ≡ ends outcome) →
+    (more : List A) (fault : Option FileFault) → Wrote (total (script (parts ++ part ∷ more) fault)) outcome before mid
+wrote-all total left parts part outcome before mid front last more fault =
+    let is = front.is (script (part ∷ more) fault) ∙ ap (with_front front.text) (last (script more fault)) in
+    (ap (λ o. o.outcome) is, subst (λ t. Appends before mid t) (sym (ap (λ o. o.text) is ∙ append-nil front.text)) front.wrote)
 
 -- the output of these parts
 whole : {A : Type 0} (total left : Script A → Output) (parts : List A) (fault : Option FileFault) (last : List ℕ) (outcome : Result Status ToolFault) (before mid : Option (List ℕ)) →

@@ -1,42 +1,127 @@
--- Of the mode `plan`: what its first three lines tell.
-use Rattle.std.proofs.Common.{◌≡◌, ℕ, List, [], ◌∷◌, take, refl, sym, ◌∙◌, ap, subst}
-use Rattle.std.specs.Prelude.{Option, None, Ok}
+-- Of the mode `plan`: what each line leaves of its output.
+use Rattle.std.proofs.Common.{◌≡◌, ℕ, ◌+◌, ◌≤◌, true, false, List, [], ◌∷◌, ◌++◌, length, length-append, not, refl, sym, ◌∙◌, ap, subst, arith}
+use Rattle.std.specs.Prelude.{Option, Some, None, Result, Ok, Err, IfSome, nat_lt, if◌then◌else◌}
 use Rattle.std.specs.Io.KnownBytes.{Appends}
-use Rattle.dd_file.specs.Device.{AppendsPart}
 use Rattle.dd_file.specs.Reading.{Script}
-use Rattle.conf_tool.specs.Answered.{script, HasRead}
-use Rattle.conf_tool.specs.Outputs.{Output, planned_between}
-use Rattle.conf_tool.specs.TwoConfigurations.{configurations_in}
-use Rattle.conf_tool.specs.Run.{Means}
+use Rattle.dd_file.specs.declared.fault.FileFault.{FileFault}
+use Rattle.conf_change.specs.Configuration.{Configuration, is_valid}
+use Rattle.conf_tool.specs.Answered.{script, prepended, with_front, WroteFront, HasPlanned, pairs_within, pairs_left, with_status, plan_left}
+use Rattle.conf_tool.specs.Outputs.{Output, ends, pair_text, worse_of, pair_then, ends_within, planned_pairs}
+use Rattle.conf_tool.specs.Pairs.{NumberedLine, numbered, is_passed_over, configuration_lines, configuration_at, both_of}
+use Rattle.conf_tool.specs.PlanAnswer.{plan_status}
+use Rattle.conf_tool.specs.declared.configurations_fault.ConfigurationsFault.{ConfigurationsFault}
+use Rattle.conf_tool.specs.declared.configurations_fault.ConfigurationsFault.TheVariants.{NotTwoLines}
+use Rattle.conf_tool.specs.declared.plan_options.PlanOptions.{PlanOptions}
 use Rattle.conf_tool.specs.declared.status.Status.{Status}
-use Rattle.conf_tool.specs.AnsweredLaws.{keeps-appends, keeps-part}
+use Rattle.conf_tool.specs.declared.status.Status.TheVariants.{Clean, Different}
+use Rattle.conf_tool.specs.declared.tool_fault.ToolFault.{ToolFault}
+use Rattle.conf_tool.specs.declared.tool_fault.ToolFault.TheVariants.{Script as ScriptFault, Configurations}
+use Rattle.conf_tool.proofs.ModeOutput.FirstParts.{wrote-part}
 
--- the first three lines tell all
-configurations_in-take : (lines : List (List ℕ)) → configurations_in (take 3 lines) ≡ configurations_in lines
-configurations_in-take [] = refl
-configurations_in-take (a ∷ []) = refl
-configurations_in-take (a ∷ b ∷ []) = refl
-configurations_in-take (a ∷ b ∷ c ∷ rest) = refl
+-- ---- statuses
+worse_of-twice : (a b c : Status) (outcome : Result Status ToolFault) → ◌≡◌ {A = Result Status ToolFault} (Ok c) (worse_of a (Ok b)) → worse_of a (worse_of b outcome) ≡ worse_of c outcome
+worse_of-twice a b c (Err fault) e = refl
+worse_of-twice Clean Clean Clean (Ok later) e = refl
+worse_of-twice Clean Clean Different (Ok later) e = cc
+worse_of-twice Clean Different Clean (Ok later) e = cc
+worse_of-twice Clean Different Different (Ok later) e = refl
+worse_of-twice Different Clean Clean (Ok later) e = cc
+worse_of-twice Different Clean Different (Ok later) e = refl
+worse_of-twice Different Different Clean (Ok later) e = cc
+worse_of-twice Different Different Different (Ok later) e = refl
 
--- the output of an input without a fault
-planned-output : (texts : List (List ℕ)) (total : Script (List ℕ) → Output) (parts : List (List ℕ)) (before after : Option (List ℕ)) →
-    HasRead texts total parts before after → total (script parts None) ≡ planned_between (configurations_in texts)
-planned-output texts total parts before after read =
-    read.is (script parts None) ∙ ap planned_between (sym (ap configurations_in read.texts_are ∙ configurations_in-take parts))
+worse_of-clean : (status : Status) → worse_of status (Ok Clean) ≡ Ok status
+worse_of-clean Clean = refl
+worse_of-clean Different = refl
 
--- where the text and the status are those of the lines
-pub read-ends : (texts : List (List ℕ)) (total : Script (List ℕ) → Output) (parts : List (List ℕ)) (before mid after : Option (List ℕ)) (text : List ℕ) (status : Status) →
-    HasRead texts total parts before mid → text ≡ (planned_between (configurations_in texts)).text → Ok status ≡ (planned_between (configurations_in texts)).outcome → Appends mid after text →
-    Means (total (script parts None)) (Ok status) before after
-read-ends texts total parts before mid after text status read text_is status_is appends =
-    let is = planned-output texts total parts before mid read in (
-      ap (λ o. o.outcome) is ∙ sym status_is,
-      subst (λ t. Appends before after t) (text_is ∙ sym (ap (λ o. o.text) is)) (keeps-appends before mid after text read.unwritten appends),
-    )
+-- ---- the lines that are not passed over
+configuration_lines-passed : (line : NumberedLine) (lines : List NumberedLine) → is_passed_over line.text ≡ true → configuration_lines (line ∷ lines) ≡ configuration_lines lines
+configuration_lines-passed line lines passed = simp passed refl
 
-pub read-ends_part : (texts : List (List ℕ)) (total : Script (List ℕ) → Output) (parts : List (List ℕ)) (before mid after : Option (List ℕ)) (text : List ℕ) →
-    HasRead texts total parts before mid → text ≡ (planned_between (configurations_in texts)).text → AppendsPart mid after text →
-    AppendsPart before after (total (script parts None)).text
-read-ends_part texts total parts before mid after text read text_is cut =
-    let is = planned-output texts total parts before mid read in
-    subst (λ t. AppendsPart before after t) (text_is ∙ sym (ap (λ o. o.text) is)) (keeps-part before mid after text read.unwritten cut)
+configuration_lines-kept : (line : NumberedLine) (lines : List NumberedLine) → is_passed_over line.text ≡ false → configuration_lines (line ∷ lines) ≡ line ∷ configuration_lines lines
+configuration_lines-kept line lines kept = simp kept refl
+
+-- ---- what a line leaves
+pub plan_left-passed : (options : PlanOptions) (count number : ℕ) (now : Option Configuration) (status : Status) (line : List ℕ) → is_passed_over line ≡ true → (rest : Script (List ℕ)) →
+    plan_left options count number now status (prepended (line ∷ []) rest) ≡ with_front [] (plan_left options (count + 1) number now status rest)
+plan_left-passed options count number now status line passed rest =
+    ap (λ lines. with_status status (pairs_left options number now lines rest.fault)) (configuration_lines-passed (record { number = count + 1; text = line }) (numbered (count + 1 + 1) rest.items) passed)
+
+pairs-first : (options : PlanOptions) (number : ℕ) (line : NumberedLine) (first : Result Configuration ConfigurationsFault) (lines : List NumberedLine) (fault : Option FileFault) → configuration_at line ≡ first →
+    planned_pairs options number (line ∷ lines) fault ≡ pairs_within options number first lines fault
+pairs-first options number line first [] fault is = ap (λ found. ends_within found fault) is
+pairs-first options number line first (second ∷ lines) fault is = ap (λ found. pair_then options number (both_of found (configuration_at second)) (planned_pairs options (number + 1) lines fault)) is
+
+pairs_within-bad : (options : PlanOptions) (number : ℕ) (bad : ConfigurationsFault) (lines : List NumberedLine) (fault : Option FileFault) → pairs_within options number (Err bad) lines fault ≡ ends (Err (Configurations bad))
+pairs_within-bad options number bad [] fault = refl
+pairs_within-bad options number bad (second ∷ lines) fault = refl
+
+-- the first line of a pair
+pub plan_left-first : (options : PlanOptions) (count number : ℕ) (status : Status) (line : List ℕ) (first : Configuration) →
+    is_passed_over line ≡ false → configuration_at (record { number = count + 1; text = line }) ≡ Ok first → (rest : Script (List ℕ)) →
+    plan_left options count number None status (prepended (line ∷ []) rest) ≡ with_front [] (plan_left options (count + 1) number (Some first) status rest)
+plan_left-first options count number status line first kept is rest =
+    let at : NumberedLine = record { number = count + 1; text = line } in
+    let lines = numbered (count + 1 + 1) rest.items in
+    ap (λ ls. with_status status (planned_pairs options number ls rest.fault)) (configuration_lines-kept at lines kept)
+    ∙ ap (with_status status) (pairs-first options number at (Ok first) (configuration_lines lines) rest.fault is)
+
+-- .. and the second
+pub plan_left-second : (options : PlanOptions) (count number : ℕ) (now target : Configuration) (status after : Status) (line : List ℕ) →
+    is_passed_over line ≡ false → configuration_at (record { number = count + 1; text = line }) ≡ Ok target → ◌≡◌ {A = Result Status ToolFault} (Ok after) (worse_of status (Ok (plan_status options now target))) → (rest : Script (List ℕ)) →
+    plan_left options count number (Some now) status (prepended (line ∷ []) rest) ≡ with_front (pair_text options number now target) (plan_left options (count + 1) (number + 1) None after rest)
+plan_left-second options count number now target status after line kept is worse rest =
+    let at : NumberedLine = record { number = count + 1; text = line } in
+    let lines = numbered (count + 1 + 1) rest.items in
+    let left = planned_pairs options (number + 1) (configuration_lines lines) rest.fault in
+    ap (λ ls. with_status status (pairs_within options number (Ok now) ls rest.fault)) (configuration_lines-kept at lines kept)
+    ∙ ap (λ found. with_status status (pair_then options number (both_of (Ok now) found) left)) is
+    ∙ ap (λ outcome. record { text = pair_text options number now target ++ left.text; outcome = outcome }) (worse_of-twice status (plan_status options now target) after left.outcome worse)
+
+-- a line that names no configuration ends the output
+pub plan_left-bad : (options : PlanOptions) (count number : ℕ) (now : Option Configuration) (status : Status) (line : List ℕ) (bad : ConfigurationsFault) →
+    is_passed_over line ≡ false → configuration_at (record { number = count + 1; text = line }) ≡ Err bad → (rest : Script (List ℕ)) →
+    plan_left options count number now status (prepended (line ∷ []) rest) ≡ ends (Err (Configurations bad))
+plan_left-bad options count number None status line bad kept is rest =
+    let at : NumberedLine = record { number = count + 1; text = line } in
+    let lines = numbered (count + 1 + 1) rest.items in
+    ap (λ ls. with_status status (planned_pairs options number ls rest.fault)) (configuration_lines-kept at lines kept)
+    ∙ ap (with_status status) (pairs-first options number at (Err bad) (configuration_lines lines) rest.fault is ∙ pairs_within-bad options number bad (configuration_lines lines) rest.fault)
+plan_left-bad options count number (Some now) status line bad kept is rest =
+    let at : NumberedLine = record { number = count + 1; text = line } in
+    let lines = numbered (count + 1 + 1) rest.items in
+    let left = planned_pairs options (number + 1) (configuration_lines lines) rest.fault in
+    ap (λ ls. with_status status (pairs_within options number (Ok now) ls rest.fault)) (configuration_lines-kept at lines kept)
+    ∙ ap (λ found. with_status status (pair_then options number (both_of (Ok now) found) left)) is
+
+-- the end of the input
+pub plan_left-fault : (options : PlanOptions) (count number : ℕ) (now : Option Configuration) (status : Status) (fault : FileFault) →
+    plan_left options count number now status (script [] (Some fault)) ≡ ends (Err (ScriptFault fault))
+plan_left-fault options count number None status fault = refl
+plan_left-fault options count number (Some now) status fault = refl
+
+pub plan_left-within : (options : PlanOptions) (count number : ℕ) (now : Configuration) (status : Status) →
+    plan_left options count number (Some now) status (script [] None) ≡ ends (Err (Configurations NotTwoLines))
+plan_left-within options count number now status = refl
+
+pub plan_left-no_pair : (options : PlanOptions) (count number : ℕ) (status : Status) → nat_lt 1 number ≡ false →
+    plan_left options count number None status (script [] None) ≡ ends (Err (Configurations NotTwoLines))
+plan_left-no_pair options count number status none = simp none refl
+
+pub plan_left-ended : (options : PlanOptions) (count number : ℕ) (status : Status) → nat_lt 1 number ≡ true →
+    plan_left options count number None status (script [] None) ≡ ends (Ok status)
+plan_left-ended options count number status some = simp some (ap ends (worse_of-clean status))
+
+-- ---- what was answered after a line
+pub planned-part : (options : PlanOptions) (count count_after number number_after : ℕ) (now now_after : Option Configuration) (status status_after : Status) (line text bytes : List ℕ)
+    (total : Script (List ℕ) → Output) (parts : List (List ℕ)) (before mid new : Option (List ℕ)) →
+    HasPlanned options count number now status total parts before mid →
+    ((rest : Script (List ℕ)) → plan_left options count number now status (prepended (line ∷ []) rest) ≡ with_front text (plan_left options count_after number_after now_after status_after rest)) →
+    count_after ≡ count + 1 → number_after ≤ number + 1 → IfSome now_after (λ c. is_valid c ≡ true) → bytes ≡ text → Appends mid new bytes →
+    HasPlanned options count_after number_after now_after status_after total (parts ++ line ∷ []) before new
+planned-part options count count_after number number_after now now_after status status_after line text bytes total parts before mid new planned gives next few valid same appends = record {
+  front = wrote-part total (plan_left options count number now status) (plan_left options count_after number_after now_after status_after) parts line text bytes before mid new planned.front gives same appends;
+  counted = omega (arith, length-append parts (line ∷ []), planned.counted, next);
+  few = omega (arith, length-append parts (line ∷ []), planned.few, few);
+  valid = valid;
+}

@@ -9,7 +9,7 @@ ghost use Rattle.dd_file.specs.Answer.{ReadsOn};
 ghost use Rattle.dd_file.specs.declared.fault.FileFault.{FileFault as ReadFault};
 ghost use Rattle.conf_tool.specs.Answered.{script};
 ghost use Rattle.conf_tool.specs.Outputs.{Output};
-ghost use Rattle.conf_tool.specs.Run.{Answers, Means, CanAnswer, CanBeFaulty, IsAnswerFault, as_tool_fault, is_read_failure, is_write_failure};
+ghost use Rattle.conf_tool.specs.Run.{Answers, Means, CanAnswer, CanBeFaulty, IsStop, Wrote, as_tool_fault, is_read_failure, is_write_failure};
 ghost use Rattle.conf_tool.specs.declared.mode.Mode.{Mode as ModeName};
 
 use super::parts::Parts;
@@ -33,7 +33,8 @@ pub(super) trait PartByPart<P> {
         ensures part { OnErr result ((total : ScriptOf P → Output) (parts more : List P) (fault : Option ReadFault) (before : Option (List ℕ)) →
             HasAnswered self.old total parts before (W.contents writer.old) → AppendsPart before (W.contents writer.new) (total (script (parts ++ part.now ∷ more) fault)).text) }
         ensures write { W.has_failed writer.new ≡ (W.has_failed writer.old || is_write_failure result) }
-        ensures kinds { IfErr result IsAnswerFault };
+        ensures kinds { IfErr result (λ stop. IsStop mode stop ((total : ScriptOf P → Output) (parts more : List P) (fault : Option ReadFault) (before : Option (List ℕ)) →
+            HasAnswered self.old total parts before (W.contents writer.old) → Wrote (total (script (parts ++ part.now ∷ more) fault)) (Err stop) before (W.contents writer.new))) };
 
     /// Writes what the mode answers at the end of the input, or at its fault.
     fn end<W: Sink>(

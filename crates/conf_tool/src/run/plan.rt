@@ -1,78 +1,153 @@
-//! The mode `plan`: the input is two lines, each naming a configuration, and the plan is written from the first to the second.
-ghost use Rattle.std.specs.Prelude.{◌≡◌, ℕ, List, [], ◌∷◌, ◌++◌, Option, Ok, length, map, nat_lt, IfOk, IfErr, OnOk, IsOkUnless, if◌then◌else◌};
-ghost use Rattle.conf_tool.specs.Outputs.{planned_between, planned_script};
-ghost use Rattle.conf_tool.specs.TwoConfigurations.{configurations_in, IsToldOf};
+//! The mode `plan`: the input is pairs of lines, each naming a configuration. At the second line of a pair the plan is
+//! written from the first to the second.
+ghost use Rattle.std.specs.Prelude.{◌≡◌, ℕ, ◌+◌, ◌<◌, ◌||◌, List, [], ◌∷◌, ◌++◌, Option, Some, Ok, true, nat_lt, IfOk, IfErr, IfSome, OnOk, OnErr, IsOkUnless, if◌then◌else◌};
+ghost use Rattle.std.specs.Io.KnownBytes.{Appends};
+ghost use Rattle.dd_file.specs.Device.{AppendsPart};
+ghost use Rattle.conf_change.specs.Configuration.{is_valid};
+ghost use Rattle.conf_tool.specs.Outputs.{planned_script, pair_text, separator, worse_of};
+ghost use Rattle.conf_tool.specs.PlanAnswer.{plan_text_between, plan_status};
+ghost use Rattle.conf_tool.specs.Run.{IsAnswerFault, is_write_failure};
 ghost use Rattle.conf_tool.specs.declared.tool_fault.ToolFault.TheVariants.{NoMemory as OutOfMemory};
 
 use super::part_by_part::PartByPart;
+use crate::configurations_fault::ConfigurationsFault;
 use crate::plan_answer::plan_answer;
-use crate::plan_options::PlanOptions;
+use crate::plan_line::{configuration_at, is_passed_over};
+use crate::plan_options::{PlanOptions, PlanOutput};
 use crate::status::Status;
 use crate::tool_fault::ToolFault;
-use crate::two_configurations::read_configurations;
+use ascii_text::append::append;
+use conf_change::Config;
+use conf_session::SessionIds;
 use dd_file::device::Sink;
 use dd_file::fault::FileFault;
 use dd_file::line::Line;
 use dd_file::writing::write_all;
-use quorum_sets::NoMemory;
 use std::alloc::Global;
 
-/// The first three lines of an input: a third is one too many.
+/// Where the reading of the pairs stands.
 #[derive(Drop)]
 pub(super) struct Planning {
     alloc: Global,
-    first: Vec<Vec<u8>>,
+    options: PlanOptions,
+    /// How many lines were read.
+    lines: usize,
+    /// The number of the pair that is read, counted from 1.
+    pair: u64,
+    /// The first configuration of that pair, once it was read.
+    now: Option<Config<SessionIds>>,
+    /// The worst status of the pairs before.
+    status: Status,
 }
 
 impl Planning {
-    /// Begins with no line.
-    pub(super) fn new(alloc: Global) -> Planning
-        ensures { (held : Option (List ℕ)) → ⟦<Planning as PartByPart<Line>>⟧.HasAnswered result planned_script [] held held }
+    /// Begins before the first line.
+    pub(super) fn new(alloc: Global, options: PlanOptions) -> Planning
+        ensures { (held : Option (List ℕ)) → ⟦<Planning as PartByPart<Line>>⟧.HasAnswered result (planned_script options) [] held held }
     {
         Planning {
             alloc,
-            first: Vec::new(alloc),
+            options,
+            lines: 0,
+            pair: 1,
+            now: None,
+            status: Status::Clean,
         }
     }
-}
 
-// Keeps a copy of a line, if it is one of the first three.
-fn keep_line(alloc: Global, first: &mut Vec<Vec<u8>>, line: &[u8]) -> Result<(), NoMemory>
-    ensures { OnOk result (map (λ text. text.items) first.new.items
-        ≡ (if nat_lt (length first.old.items) 3 then map (λ text. text.items) first.old.items ++ line.now ∷ [] else map (λ text. text.items) first.old.items)) }
-{
-    if first.len() < 3 {
-        first.push(Vec::from_slice(alloc, line)?)?;
+    /// Writes the output of a pair.
+    fn write_pair<W: Sink>(
+        &mut self,
+        now: &Config<SessionIds>,
+        target: &Config<SessionIds>,
+        writer: &mut W,
+    ) -> Result<(), ToolFault>
+        requires few { self.old.pair < 2 ^ 63 }
+        requires valid_now { is_valid now.now ≡ true }
+        requires valid_target { is_valid target.now ≡ true }
+        ensures next { OnOk result ((self.new.options ≡ self.old.options) × (self.new.lines ≡ self.old.lines) × (self.new.pair ≡ self.old.pair + 1) × (self.new.now ≡ self.old.now)) }
+        ensures status { OnOk result (Ok self.new.status ≡ worse_of self.old.status (Ok (plan_status self.old.options now.now target.now))) }
+        ensures written { OnOk result (Appends (W.contents writer.old) (W.contents writer.new) (pair_text self.old.options self.old.pair now.now target.now)) }
+        ensures part { OnErr result (AppendsPart (W.contents writer.old) (W.contents writer.new) (pair_text self.old.options self.old.pair now.now target.now)) }
+        ensures write { W.has_failed writer.new ≡ (W.has_failed writer.old || is_write_failure result) }
+        ensures kinds { IfErr result IsAnswerFault }
+    {
+        let (text, status) = pair_answer(self.alloc, &self.options, self.pair, now, target)?;
+        write_all(writer, text.as_slice())?;
+        self.pair += 1;
+        self.status = worse(self.status, status);
+        Ok(())
     }
-    Ok(())
 }
 
-// The text of the plan between the two configurations that the lines name, or that there is none, and how a run ends that
-// writes it.
-fn answer_lines(alloc: Global, lines: &[Vec<u8>]) -> Result<(Vec<u8>, Status), ToolFault>
-    ensures text { IfOk result (λ answer. answer.0.items ≡ (planned_between (configurations_in (map (λ line. line.items) lines.now))).text) }
-    ensures status { IfOk result (λ answer. Ok answer.1 ≡ (planned_between (configurations_in (map (λ line. line.items) lines.now))).outcome) }
-    ensures fault { IfErr result (IsToldOf (configurations_in (map (λ line. line.items) lines.now))) }
+// The worse of two statuses.
+fn worse(former: Status, latter: Status) -> Status
+    ensures { Ok result ≡ worse_of former (Ok latter) }
 {
-    let (now, target) = read_configurations(alloc, lines)?;
-    plan_answer(alloc, &PlanOptions::default(), 1, &now, &target)
+    match former {
+        Status::Clean => latter,
+        Status::Different => Status::Different,
+    }
+}
+
+// The text of the pair with this number, and its status.
+fn pair_answer(
+    alloc: Global,
+    options: &PlanOptions,
+    number: u64,
+    now: &Config<SessionIds>,
+    target: &Config<SessionIds>,
+) -> Result<(Vec<u8>, Status), ToolFault>
+    requires valid_now { is_valid now.now ≡ true }
+    requires valid_target { is_valid target.now ≡ true }
+    ensures text { IfOk result (λ answer. answer.0.items ≡ pair_text options.now number now.now target.now) }
+    ensures status { IfOk result (λ answer. answer.1 ≡ plan_status options.now now.now target.now) }
+    ensures memory { IsOkUnless result OutOfMemory }
+{
+    let (plan, status) = plan_answer(alloc, options, number, now, target)?;
+    let mut text = separator_before(number, options.output).to_vec(alloc)?;
+    append(&mut text, plan.as_slice())?;
+    Ok((text, status))
+}
+
+// What stands before the output of the pair with this number.
+fn separator_before(number: u64, output: PlanOutput) -> &'static [u8]
+    ensures { result.now ≡ (if nat_lt 1 number then separator output else []) }
+{
+    if number > 1 { separator(output) } else { b"" }
+}
+
+// What parts the outputs of two pairs.
+fn separator(output: PlanOutput) -> &'static [u8]
+    ensures { result.now ≡ separator output }
+{
+    match output {
+        PlanOutput::Steps | PlanOutput::Script => b"\n",
+    }
 }
 
 impl PartByPart<Line> for Planning {
-    ghost use Rattle.std.specs.Prelude.{map};
-    ghost use Rattle.conf_tool.specs.Answered.{HasRead};
+    ghost use Rattle.conf_tool.specs.Answered.{HasPlanned, plan_left};
     ghost use Rattle.conf_tool.specs.declared.mode.Mode.TheVariants.{Plan as OfPlan};
-    ghost use Rattle.conf_tool.specs.AnsweredLaws.{kept-read, read-front};
+    ghost use Rattle.conf_tool.specs.AnsweredLaws.{kept-planned, wrote-front};
 
     ghost mode = { OfPlan };
 
-    ghost HasAnswered = { λ s. HasRead (map (λ text. text.items) s.first.items) };
+    ghost HasAnswered = { λ s. HasPlanned s.options s.lines s.pair s.now s.status };
 
-    // Nothing is written yet.
     fn answer<W: Sink>(&mut self, line: &Line, writer: &mut W) -> Result<(), ToolFault> {
-        let _ = &*writer;
-        keep_line(self.alloc, &mut self.first, line.as_slice())?;
-        Ok(())
+        self.lines += 1;
+        if is_passed_over(line.as_slice()) {
+            return Ok(());
+        }
+        let config = configuration_at(self.alloc, self.lines, line.as_slice())?;
+        match self.now.take() {
+            None => {
+                self.now = Some(config);
+                Ok(())
+            }
+            Some(now) => self.write_pair(&now, &config, writer),
+        }
     }
 
     fn end<W: Sink>(
@@ -80,15 +155,17 @@ impl PartByPart<Line> for Planning {
         fault: Option<FileFault>,
         writer: &mut W,
     ) -> Result<Status, ToolFault> {
+        let _ = &*writer;
         if let Some(fault) = fault {
             return Err(ToolFault::Script(fault));
         }
-        let (text, status) = answer_lines(self.alloc, self.first.as_slice())?;
-        write_all(writer, text.as_slice())?;
-        Ok(status)
+        if self.now.is_some() || self.pair <= 1 {
+            return Err(ToolFault::Configurations(ConfigurationsFault::NotTwoLines));
+        }
+        Ok(self.status)
     }
 
-    ghost stays = { λ s. kept-read (map (λ text. text.items) s.first.items) };
+    ghost stays = { λ s. kept-planned s.options s.lines s.pair s.now s.status };
 
-    ghost prefix = { λ s total parts more fault before after read. read-front (map (λ text. text.items) s.first.items) total parts before after _ read };
+    ghost prefix = { λ s total parts more fault before after planned. wrote-front total (plan_left s.options s.lines s.pair s.now s.status) parts more fault before after planned.front };
 }

@@ -1,7 +1,7 @@
 //! Configurations, valid and broken ones.
 use crate::ample::runtime::Runtime;
 use crate::ample::sets_and_quorums::set_of;
-use conf_change::{Config, Invariant, check};
+use conf_change::{Config, Invariant, Violation, check, first_violation};
 use quorum_sets::TreeIds;
 
 /// The incoming voters, the outgoing voters, the learners and the next learners.
@@ -18,37 +18,60 @@ pub(crate) fn config_of(rt: &impl Runtime, sets: Sets, auto_leave: bool) -> Conf
     }
 }
 
-static CHECKED: [(Sets, bool, Result<(), Invariant>); 7] = [
+// What is wrong with a configuration, and the least id that shows it.
+static CHECKED: [(Sets, bool, Result<(), Invariant>, Option<Violation>); 9] = [
     (
-        [&[1], &[2], &[], &[1]],
+        [&[1], &[2, 3], &[], &[1, 2, 3]],
         false,
         Err(Invariant::NextNotOutgoing),
+        Some(Violation::NextNotOutgoing(1)),
     ),
     (
-        [&[1], &[1], &[], &[1]],
+        [&[1], &[2], &[], &[2, 4, 3]],
+        false,
+        Err(Invariant::NextNotOutgoing),
+        Some(Violation::NextNotOutgoing(3)),
+    ),
+    (
+        [&[3, 2, 5], &[1, 2, 3], &[], &[3, 2, 1]],
         false,
         Err(Invariant::NextAndIncoming),
+        Some(Violation::NextAndIncoming(2)),
     ),
-    ([&[0], &[], &[0], &[]], false, Err(Invariant::ZeroId)),
     (
-        [&[1], &[2], &[2], &[]],
+        [&[0], &[], &[0], &[]],
+        false,
+        Err(Invariant::ZeroId),
+        Some(Violation::ZeroId),
+    ),
+    (
+        [&[1], &[2], &[3, 2], &[]],
         false,
         Err(Invariant::LearnerAndVoter),
+        Some(Violation::LearnerAndVoter(2)),
+    ),
+    (
+        [&[5, 4], &[6], &[6, 5, 3], &[]],
+        false,
+        Err(Invariant::LearnerAndVoter),
+        Some(Violation::LearnerAndVoter(5)),
     ),
     (
         [&[1], &[], &[], &[]],
         true,
         Err(Invariant::NotJointButAutoLeave),
+        Some(Violation::NotJointButAutoLeave),
     ),
-    ([&[1], &[], &[2], &[]], false, Ok(())),
-    ([&[3], &[1], &[2], &[1]], true, Ok(())),
+    ([&[1], &[], &[2], &[]], false, Ok(()), None),
+    ([&[3], &[1], &[2], &[1]], true, Ok(()), None),
 ];
 
 #[test]
 fn tells_what_is_broken(rt: HostRuntime) {
-    for (sets, auto_leave, want) in &CHECKED {
+    for (sets, auto_leave, want, violation) in &CHECKED {
         let config = config_of(&rt, *sets, *auto_leave);
         assert!(rt; check(&config) == *want, "{want:?}");
+        assert!(rt; first_violation(&config) == *violation, "{violation:?}");
     }
 }
 

@@ -1,6 +1,9 @@
 //! The messages of the error types, each value once, and that no two of one type are equal.
 use crate::ample::runtime::Runtime;
-use conf_change::{AckFault, ConfStateFault, Invariant, Refused, RestoreFault, TokenFault};
+use conf_change::{
+    AckFault, ConfStateFault, ConfigurationFault, Invariant, Refused, RestoreFault, TokenFault,
+    Violation,
+};
 use conf_plan::{NoPath, PlanFault, PlanTextFault, StepRefused};
 use conf_session::UndoFault;
 use conf_tool::{ConfigurationsFault, ToolFault};
@@ -103,12 +106,38 @@ static ACKNOWLEDGED: [(AckFault, &str); 2] = [
     (AckFault::IndexTooLarge, "index too large"),
 ];
 
+static VIOLATIONS: [(Violation, &str); 7] = [
+    (Violation::ListedTwice(3), "3 is listed twice"),
+    (Violation::ZeroId, "0 is not an id"),
+    (
+        Violation::NextNotOutgoing(3),
+        "3 is a next learner and not an outgoing voter",
+    ),
+    (
+        Violation::NextAndIncoming(3),
+        "3 is a next learner and an incoming voter",
+    ),
+    (
+        Violation::LearnerAndVoter(18446744073709551615),
+        "18446744073709551615 is a voter and a learner",
+    ),
+    (
+        Violation::NotJointButNext(3),
+        "3 is a next learner without outgoing voters",
+    ),
+    (
+        Violation::NotJointButAutoLeave,
+        "auto-leave without outgoing voters",
+    ),
+];
+
 #[test]
 fn texts_of_changes(rt: HostRuntime) {
     assert!(rt; are_told(&rt, &TOKENS));
     assert!(rt; are_told(&rt, &LINES));
     assert!(rt; are_told(&rt, &RESTORED));
     assert!(rt; are_told(&rt, &ACKNOWLEDGED));
+    assert!(rt; are_told(&rt, &VIOLATIONS));
 }
 
 static NO_PLANS: [(PlanFault, &str); 3] = [
@@ -192,18 +221,25 @@ fn files(rt: HostRuntime) {
     assert!(rt; are_told(&rt, &[(WriteFault, "cannot write")]));
 }
 
+const BAD_LINE: &str =
+    "line 1: bad conf state: expected Voters:[1 2] VotersOutgoing:[] Learners:[3] LearnersNext:[] \
+    AutoLeave:false";
+
 static CONFIGURATIONS: [(ConfigurationsFault, &str); 4] = [
     (
-        ConfigurationsFault::BadConfState(1),
-        "line 1: bad conf state",
+        ConfigurationsFault::BadLine(1, ConfigurationFault::BadConfState),
+        BAD_LINE,
     ),
     (
-        ConfigurationsFault::BadConfState(2),
-        "line 2: bad conf state",
+        ConfigurationsFault::BadLine(
+            2,
+            ConfigurationFault::NotAConfiguration(Violation::LearnerAndVoter(3)),
+        ),
+        "line 2: not a configuration: 3 is a voter and a learner",
     ),
     (
-        ConfigurationsFault::NotAConfiguration(1),
-        "line 1: not a configuration",
+        ConfigurationsFault::BadLine(2, ConfigurationFault::NoMemory),
+        "line 2: out of memory",
     ),
     (ConfigurationsFault::NotTwoLines, "expected two lines"),
 ];
@@ -218,8 +254,11 @@ static RUNS: [(ToolFault, &str); 7] = [
         "line 2: bad directive",
     ),
     (
-        ToolFault::Configurations(ConfigurationsFault::NotAConfiguration(2)),
-        "line 2: not a configuration",
+        ToolFault::Configurations(ConfigurationsFault::BadLine(
+            2,
+            ConfigurationFault::NotAConfiguration(Violation::ZeroId),
+        )),
+        "line 2: not a configuration: 0 is not an id",
     ),
     (
         ToolFault::Configurations(ConfigurationsFault::NotTwoLines),

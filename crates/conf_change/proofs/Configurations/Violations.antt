@@ -1,0 +1,197 @@
+-- What is wrong with a configuration or a saved form is there exactly if it is not valid.
+use Rattle.std.proofs.Common.{◌≡◌, ℕ, ◌+◌, ◌<◌, ◌≤◌, Bool, true, false, cond, not, ◌&&◌, ◌||◌, List, [], ◌∷◌, length, refl, sym, ap, ◌∙◌, eq-eqb, eqb-true, arith, slice_get, suc}
+use Rattle.std.specs.Prelude.{Option, Some, None, Result, Ok, Err, find, option_map, option_and_then, nat_eq}
+use Rattle.std.specs.Option.{option_or}
+use Rattle.std.specs.List.{list_all}
+use Rattle.std.proofs.lemmas.Bool.{and_from, and_parts}
+use Rattle.quorum_sets.specs.Ids.{has, with_id, ascending, size, ids_of, is_empty}
+use Rattle.quorum_sets.proofs.Offered.{ascending-no_ids, size-with_id}
+use Rattle.conf_change.specs.Configuration.{Configuration, keeps, is_joint, is_valid, invariants, first_broken}
+use Rattle.conf_change.specs.ConfState.{ConfStateLists, names_once, named_by}
+use Rattle.conf_change.specs.Described.{names_each_once, described}
+use Rattle.conf_change.specs.Violation.{violation_by, violation_of, violation_in, first_repeat, repeat_in, unless_violated, valid_of, unless_bad, configuration_in}
+use Rattle.conf_change.specs.ConfStateLine.{conf_state_in}
+use Rattle.conf_change.specs.declared.config.Invariant.{Invariant}
+use Rattle.conf_change.specs.declared.config.Invariant.TheVariants.{ZeroId, NextNotOutgoing, NextAndIncoming, LearnerAndVoter, NotJointButNext, NotJointButAutoLeave}
+use Rattle.conf_change.specs.declared.violation.Violation.{Violation}
+use Rattle.conf_change.specs.declared.violation.Violation.TheVariants.{ListedTwice}
+
+-- ---- a list without an id that passes a test
+none_fails : {X : Type 0} (test : X → Bool) (xs : List X) → find (λ x. not (test x)) xs ≡ None → list_all test xs ≡ true
+none_fails test [] e = refl
+none_fails test (x ∷ xs) e = by_test (test x) refl (none_fails test xs) e
+  where
+    by_test : (b : Bool) → test x ≡ b → (find (λ y. not (test y)) xs ≡ None → list_all test xs ≡ true) → cond (not b) (Some x) (find (λ y. not (test y)) xs) ≡ None → (test x && list_all test xs) ≡ true
+    by_test true is rest e = and_from (test x) (list_all test xs) is (rest e)
+    by_test false is rest e = cc
+
+none_passes : (test : ℕ → Bool) (xs : List ℕ) → find test xs ≡ None → list_all (λ x. not (test x)) xs ≡ true
+none_passes test [] e = refl
+none_passes test (x ∷ xs) e = by_test (test x) refl (none_passes test xs) e
+  where
+    by_test : (b : Bool) → test x ≡ b → (find test xs ≡ None → list_all (λ y. not (test y)) xs ≡ true) → cond b (Some x) (find test xs) ≡ None → (not (test x) && list_all (λ y. not (test y)) xs) ≡ true
+    by_test true is rest e = cc
+    by_test false is rest e = and_from (not (test x)) (list_all (λ y. not (test y)) xs) (ap not is) (rest e)
+
+neither_passes : (a b : ℕ → Bool) (xs : List ℕ) → find (λ x. a x || b x) xs ≡ None → (list_all (λ x. not (a x)) xs && list_all (λ x. not (b x)) xs) ≡ true
+neither_passes a b [] e = refl
+neither_passes a b (x ∷ xs) e = by_tests (a x) (b x) refl refl (neither_passes a b xs) e
+  where
+    by_tests : (p q : Bool) → a x ≡ p → b x ≡ q → (find (λ y. a y || b y) xs ≡ None → (list_all (λ y. not (a y)) xs && list_all (λ y. not (b y)) xs) ≡ true) →
+        cond (p || q) (Some x) (find (λ y. a y || b y) xs) ≡ None → ((not (a x) && list_all (λ y. not (a y)) xs) && (not (b x) && list_all (λ y. not (b y)) xs)) ≡ true
+    by_tests true q is_p is_q rest e = cc
+    by_tests false true is_p is_q rest e = cc
+    by_tests false false is_p is_q rest e =
+        let both = and_parts (list_all (λ y. not (a y)) xs) (list_all (λ y. not (b y)) xs) (rest e) in
+        and_from _ _ (and_from (not (a x)) (list_all (λ y. not (a y)) xs) (ap not is_p) both.0) (and_from (not (b x)) (list_all (λ y. not (b y)) xs) (ap not is_q) both.1)
+
+none_first : (joint : Bool) (xs : List ℕ) → slice_get xs 0 ≡ None → (joint || nat_eq (length xs) 0) ≡ true
+none_first true xs e = refl
+none_first false [] e = refl
+none_first false (x ∷ xs) e = cc
+
+mapped_none : {A B : Type 0} (f : A → B) (o : Option A) → option_map f o ≡ None → o ≡ None
+mapped_none f None e = refl
+mapped_none f (Some x) e = cc
+
+-- an invariant of which no violation is found is kept
+kept : (c : Configuration) (invariant : Invariant) → violation_by c invariant ≡ None → keeps c invariant ≡ true
+kept c ZeroId e = cc
+kept c NextNotOutgoing e = none_fails (has c.outgoing) (ascending c.learners_next) (mapped_none _ _ e)
+kept c NextAndIncoming e = none_passes (has c.incoming) (ascending c.learners_next) (mapped_none _ _ e)
+kept c LearnerAndVoter e = neither_passes (has c.incoming) (has c.outgoing) (ascending c.learners) (mapped_none _ _ e)
+kept c NotJointButNext e = none_first (is_joint c) (ascending c.learners_next) (mapped_none _ _ e)
+kept c NotJointButAutoLeave e = cc
+
+-- a broken one is found
+violation_by-broken : (c : Configuration) (invariant : Invariant) → keeps c invariant ≡ false → violation_by c invariant ≡ None → ⊥
+violation_by-broken c invariant broken e = let kept_too = kept c invariant e in cc
+
+-- what is found passes
+found_passes : {X : Type 0} (test : X → Bool) (xs : List X) (x : X) → find test xs ≡ Some x → test x ≡ true
+found_passes test [] x e = cc
+found_passes test (y ∷ xs) x e = by_test (test y) refl (found_passes test xs x) e
+  where
+    by_test : (b : Bool) → test y ≡ b → (find test xs ≡ Some x → test x ≡ true) → cond b (Some y) (find test xs) ≡ Some x → test x ≡ true
+    by_test true is rest e = let same : y ≡ x = cc in ap test (sym same) ∙ is
+    by_test false is rest e = rest e
+
+not-true : (b : Bool) → not b ≡ true → b ≡ false
+not-true true e = cc
+not-true false e = refl
+
+-- the first broken one is
+pub violation_by-first : (c : Configuration) (invariant : Invariant) → first_broken c ≡ Some invariant → violation_by c invariant ≡ None → ⊥
+violation_by-first c invariant first = violation_by-broken c invariant (not-true (keeps c invariant) (found_passes (λ i. not (keeps c i)) invariants invariant first))
+
+-- a configuration without a violation is valid
+pub is_valid-from_none : (c : Configuration) → violation_of c ≡ None → is_valid c ≡ true
+is_valid-from_none c none = by_first (first_broken c) refl none
+  where
+    by_first : (o : Option Invariant) → first_broken c ≡ o → option_and_then (violation_by c) o ≡ None → is_valid c ≡ true
+    by_first None is e = none_fails (keeps c) invariants is
+    by_first (Some invariant) is e = absurd (violation_by-first c invariant is e)
+
+-- ---- lists that name an id twice
+size-few : (list : List ℕ) → size (ids_of list) ≤ length list
+size-few [] = let none : size (ids_of []) ≡ 0 = ap length ascending-no_ids in omega (arith, none)
+size-few (x ∷ list) = by_case (has (ids_of list) x) (size (ids_of list)) (size (ids_of (x ∷ list))) (size-with_id (ids_of list) x) (size-few list)
+  where
+    by_case : (b : Bool) (before after : ℕ) → after ≡ cond b before (before + 1) → before ≤ length list → after ≤ suc (length list)
+    by_case true before after e few = omega arith
+    by_case false before after e few = omega arith
+
+-- no id is named again
+size-once : (list : List ℕ) → first_repeat list ≡ None → size (ids_of list) ≡ length list
+size-once [] e = ap length ascending-no_ids
+size-once (x ∷ list) e = by_case (has (ids_of list) x) (size (ids_of (x ∷ list))) (size-with_id (ids_of list) x) (size-once list) e
+  where
+    by_case : (b : Bool) (after : ℕ) → after ≡ cond b (size (ids_of list)) (size (ids_of list) + 1) → (first_repeat list ≡ None → size (ids_of list) ≡ length list) →
+        cond b (Some x) (first_repeat list) ≡ None → after ≡ suc (length list)
+    by_case true after is rest e = cc
+    by_case false after is rest e = let once = rest e in omega arith
+
+-- one is
+size-twice : (list : List ℕ) (id : ℕ) → first_repeat list ≡ Some id → size (ids_of list) < length list
+size-twice [] id e = cc
+size-twice (x ∷ list) id e = by_case (has (ids_of list) x) (size (ids_of (x ∷ list))) (size-with_id (ids_of list) x) (size-twice list id) e
+  where
+    by_case : (b : Bool) (after : ℕ) → after ≡ cond b (size (ids_of list)) (size (ids_of list) + 1) → (first_repeat list ≡ Some id → size (ids_of list) < length list) →
+        cond b (Some x) (first_repeat list) ≡ Some id → after < suc (length list)
+    by_case true after is rest e = let few = size-few list in omega arith
+    by_case false after is rest e = let fewer = rest e in omega arith
+
+names_once-from_none : (list : List ℕ) → first_repeat list ≡ None → names_once list ≡ true
+names_once-from_none list e = eq-eqb (length list) (size (ids_of list)) (sym (size-once list e))
+
+none-from_names_once : (list : List ℕ) → names_once list ≡ true → first_repeat list ≡ None
+none-from_names_once list once = by_repeat (first_repeat list) refl
+  where
+    by_repeat : (o : Option ℕ) → first_repeat list ≡ o → first_repeat list ≡ None
+    by_repeat None e = e
+    by_repeat (Some id) e =
+        let same = eqb-true (length list) (size (ids_of list)) once in
+        let fewer = size-twice list id e in
+        let bad : ⊥ = omega arith in absurd bad
+
+or_none : (a b : Option ℕ) → a ≡ None → b ≡ None → option_or a b ≡ None
+or_none a b is_a is_b = simp (is_a, is_b) refl
+
+or_parts : (a b : Option ℕ) → option_or a b ≡ None → (a ≡ None) × (b ≡ None)
+or_parts None b e = (refl, e)
+or_parts (Some x) b e = let bad : ⊥ = cc in absurd bad
+
+-- a form that is described names no id twice, and its configuration is the one that it names
+pub record IsNamed (saved : ConfStateLists) (c : Configuration) : Type 0 where
+  pub named : named_by saved ≡ c
+  pub once : repeat_in saved ≡ None
+
+pub IsNamed-from_described : (saved : ConfStateLists) (c : Configuration) → described saved ≡ Some c → IsNamed saved c
+IsNamed-from_described saved c e = by_once (names_each_once saved) refl e
+  where
+    by_once : (b : Bool) → names_each_once saved ≡ b → cond b (Some (named_by saved)) None ≡ Some c → IsNamed saved c
+    by_once false is e = cc
+    by_once true is e =
+        let four = and_parts (names_once saved.voters && names_once saved.voters_outgoing && names_once saved.learners) (names_once saved.learners_next) is in
+        let three = and_parts (names_once saved.voters && names_once saved.voters_outgoing) (names_once saved.learners) four.0 in
+        let two = and_parts (names_once saved.voters) (names_once saved.voters_outgoing) three.0 in
+        record {
+          named = cc;
+          once = or_none _ _ (or_none _ _ (or_none _ _ (none-from_names_once saved.voters two.0) (none-from_names_once saved.voters_outgoing two.1))
+              (none-from_names_once saved.learners three.1)) (none-from_names_once saved.learners_next four.1);
+        }
+
+-- one that is not described names an id twice
+pub repeat_in-there : (saved : ConfStateLists) → described saved ≡ None → repeat_in saved ≡ None → ⊥
+repeat_in-there saved none e =
+    let four = or_parts _ _ e in
+    let three = or_parts _ _ four.0 in
+    let two = or_parts _ _ three.0 in
+    let once : names_each_once saved ≡ true =
+    and_from _ _ (and_from _ _ (and_from _ _ (names_once-from_none saved.voters two.0) (names_once-from_none saved.voters_outgoing two.1))
+    (names_once-from_none saved.learners three.1)) (names_once-from_none saved.learners_next four.1) in
+    let some : described saved ≡ Some (named_by saved) = ap (λ b. cond b (Some (named_by saved)) None) once in
+    cc
+
+-- ---- the valid configuration of a form
+pub valid_of-described : (saved : ConfStateLists) (c : Configuration) → described saved ≡ Some c → valid_of saved ≡ unless_violated c (violation_of c)
+valid_of-described saved c e =
+    let is = IsNamed-from_described saved c e in
+    ap (λ o. unless_violated (named_by saved) (option_or (option_map ListedTwice o) (violation_of (named_by saved)))) is.once
+    ∙ ap (λ d. unless_violated d (violation_of d)) is.named
+
+-- what a line names is valid
+pub is_valid-from_configuration_in : (line : List ℕ) (c : Configuration) → configuration_in line ≡ Ok c → is_valid c ≡ true
+is_valid-from_configuration_in line c e = by_line (conf_state_in line) e
+  where
+    by_violation : (d : Configuration) (o : Option Violation) → violation_of d ≡ o → unless_violated d o ≡ Ok c → is_valid c ≡ true
+    by_violation d None none e = let same : d ≡ c = cc in ap is_valid (sym same) ∙ is_valid-from_none d none
+    by_violation d (Some violation) none e = cc
+
+    by_repeat : (saved : ConfStateLists) (o : Option ℕ) → unless_violated (named_by saved) (option_or (option_map ListedTwice o) (violation_of (named_by saved))) ≡ Ok c → is_valid c ≡ true
+    by_repeat saved None e = by_violation (named_by saved) (violation_of (named_by saved)) refl e
+    by_repeat saved (Some id) e = cc
+
+    by_line : (o : Option ConfStateLists) → unless_bad o ≡ Ok c → is_valid c ≡ true
+    by_line None e = cc
+    by_line (Some saved) e = by_repeat saved (repeat_in saved) e

@@ -1,0 +1,7 @@
+use Rattle.std.proofs.Common.{◌≡◌, not, drop}
+use Rattle.std.specs.Prelude.{find}
+use Rattle.quorum_sets.specs.Ids.{has, ascending}
+use Rattle.conf_change.proofs.violation.first_outside.Given as goal
+
+abbrev pub invariant-loop-place : goal.invariant-loop-place
+invariant-loop-place g l = find (λ id. not (has (g.S.MemberSet.ids l.other) id)) (ascending (g.S.MemberSet.ids l.ids)) ≡ find (λ id. not (has (g.S.MemberSet.ids l.other) id)) (drop l.place (ascending (g.S.MemberSet.ids l.ids)))

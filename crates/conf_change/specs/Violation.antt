@@ -1,0 +1,57 @@
+-- What is wrong with a configuration that is not valid, and with a saved form or a line that names no valid one.
+use Rattle.std.specs.Prelude.{ℕ, not, ◌||◌, List, [], ◌∷◌, Option, Some, None, Result, Ok, Err, find, option_map, option_and_then, slice_get, if◌then◌else◌}
+use Rattle.std.specs.Option.{option_or}
+use Rattle.quorum_sets.specs.Ids.{has, ascending, ids_of}
+use Rattle.conf_change.specs.Configuration.{Configuration, first_broken}
+use Rattle.conf_change.specs.ConfState.{ConfStateLists, named_by}
+use Rattle.conf_change.specs.ConfStateLine.{conf_state_in}
+use Rattle.conf_change.specs.declared.config.Invariant.{Invariant}
+use Rattle.conf_change.specs.declared.config.Invariant.TheVariants.{ZeroId, NextNotOutgoing, NextAndIncoming, LearnerAndVoter, NotJointButNext, NotJointButAutoLeave}
+use Rattle.conf_change.specs.declared.violation.Violation.{Violation}
+use Rattle.conf_change.specs.declared.violation.Violation.TheVariants as violated
+use Rattle.conf_change.specs.declared.configuration_line.ConfigurationFault.{ConfigurationFault}
+use Rattle.conf_change.specs.declared.configuration_line.ConfigurationFault.TheVariants.{BadConfState, NotAConfiguration}
+
+-- an invariant that is broken, with the least id that breaks it
+abbrev pub violation_by : Configuration → Invariant → Option Violation
+violation_by c ZeroId = Some violated.ZeroId
+violation_by c NextNotOutgoing = option_map violated.NextNotOutgoing (find (λ id. not (has c.outgoing id)) (ascending c.learners_next))
+violation_by c NextAndIncoming = option_map violated.NextAndIncoming (find (λ id. has c.incoming id) (ascending c.learners_next))
+violation_by c LearnerAndVoter = option_map violated.LearnerAndVoter (find (λ id. has c.incoming id || has c.outgoing id) (ascending c.learners))
+violation_by c NotJointButNext = option_map violated.NotJointButNext (slice_get (ascending c.learners_next) 0)
+violation_by c NotJointButAutoLeave = Some violated.NotJointButAutoLeave
+
+-- the first invariant that is broken, with the least id that breaks it
+abbrev pub violation_of : Configuration → Option Violation
+violation_of c = option_and_then (violation_by c) (first_broken c)
+
+-- the first id of a list that it names again
+abbrev pub first_repeat : List ℕ → Option ℕ
+first_repeat [] = None
+first_repeat (id ∷ rest) = if has (ids_of rest) id then Some id else first_repeat rest
+
+-- the first id that one of the four lists names twice
+abbrev pub repeat_in : ConfStateLists → Option ℕ
+repeat_in saved = option_or (option_or (option_or (first_repeat saved.voters) (first_repeat saved.voters_outgoing)) (first_repeat saved.learners)) (first_repeat saved.learners_next)
+
+-- what is wrong with a saved form: an id that is listed twice, or else what is wrong with the configuration that it names
+abbrev pub violation_in : ConfStateLists → Option Violation
+violation_in saved = option_or (option_map violated.ListedTwice (repeat_in saved)) (violation_of (named_by saved))
+
+-- a configuration with which nothing is wrong
+abbrev pub unless_violated : Configuration → Option Violation → Result Configuration ConfigurationFault
+unless_violated c None = Ok c
+unless_violated c (Some violation) = Err (NotAConfiguration violation)
+
+-- the valid configuration that a saved form describes
+abbrev pub valid_of : ConfStateLists → Result Configuration ConfigurationFault
+valid_of saved = unless_violated (named_by saved) (violation_in saved)
+
+-- a line that is a ConfState line
+abbrev pub unless_bad : Option ConfStateLists → Result Configuration ConfigurationFault
+unless_bad None = Err BadConfState
+unless_bad (Some saved) = valid_of saved
+
+-- the valid configuration that a line names
+abbrev pub configuration_in : List ℕ → Result Configuration ConfigurationFault
+configuration_in line = unless_bad (conf_state_in line)

@@ -1,0 +1,115 @@
+//! The valid configuration that a saved form describes, or that its line names.
+ghost use Rattle.std.specs.Prelude.{◌≡◌, ◌⊎◌, true, Some, None, Ok, Err, option_and_then, IfOk, IfErr};
+ghost use Rattle.conf_change.specs.Configuration.{is_valid};
+ghost use Rattle.conf_change.specs.ConfStateLine.{conf_state_in};
+ghost use Rattle.conf_change.specs.Described.{described};
+ghost use Rattle.conf_change.specs.Violation.{first_repeat, repeat_in, valid_of, configuration_in};
+
+use crate::conf_state_form::{ConfState, ConfStateFault};
+use crate::conf_state_line::read_conf_state;
+use crate::config::Config;
+use crate::restore::{RestoreFault, described};
+use crate::violation::{Violation, first_violation};
+use quorum_sets::{MemberSet, NoMemory, TreeIds};
+use std::alloc::Global;
+use thiserror::Error;
+
+/// Why a line names no valid configuration.
+#[derive(Clone, Copy, Debug, PartialEq, Eq, Error)]
+pub enum ConfigurationFault {
+    /// It is no ConfState line.
+    #[error("bad conf state: expected Voters:[1 2] VotersOutgoing:[] Learners:[3] LearnersNext:[] AutoLeave:false")]
+    BadConfState,
+    /// It names no valid configuration.
+    #[error("not a configuration: {0}")]
+    NotAConfiguration(Violation),
+    #[error("out of memory")]
+    NoMemory,
+}
+
+impl From<NoMemory> for ConfigurationFault {
+    ghost use Rattle.conf_change.specs.declared.configuration_line.ConfigurationFault.TheVariants.{NoMemory};
+
+    ghost from_gives = { λ _ fault. fault ≡ NoMemory };
+
+    fn from(_error: NoMemory) -> ConfigurationFault {
+        ConfigurationFault::NoMemory
+    }
+}
+
+/// The valid configuration that a line names, in the form that `write_conf_state` appends.
+pub fn read_configuration<S: MemberSet>(
+    alloc: Global,
+    line: &[u8],
+) -> Result<Config<S>, ConfigurationFault>
+    ensures configuration { IfOk result (λ c. configuration_in line.now ≡ Ok c) }
+    ensures valid { IfOk result (λ c. is_valid c ≡ true) }
+    ensures described { IfOk result (λ c. option_and_then described (conf_state_in line.now) ≡ Some c) }
+    ensures fault { IfErr result (λ fault. (fault ≡ ConfigurationFault.NoMemory) ⊎ (configuration_in line.now ≡ Err fault)) }
+{
+    match read_conf_state(alloc, line) {
+        Ok(state) => valid_configuration(alloc, &state),
+        Err(ConfStateFault::BadConfState) => Err(ConfigurationFault::BadConfState),
+        Err(ConfStateFault::NoMemory) => Err(ConfigurationFault::NoMemory),
+    }
+}
+
+/// The valid configuration that a saved form describes.
+pub fn valid_configuration<S: MemberSet>(
+    alloc: Global,
+    state: &ConfState,
+) -> Result<Config<S>, ConfigurationFault>
+    ensures configuration { IfOk result (λ c. valid_of state.now ≡ Ok c) }
+    ensures valid { IfOk result (λ c. is_valid c ≡ true) }
+    ensures described { IfOk result (λ c. described state.now ≡ Some c) }
+    ensures fault { IfErr result (λ fault. (fault ≡ ConfigurationFault.NoMemory) ⊎ (valid_of state.now ≡ Err fault)) }
+{
+    let config = match described(alloc, state) {
+        Ok(config) => config,
+        Err(RestoreFault::NotAConfiguration) => return Err(listed_twice(alloc, state)),
+        Err(RestoreFault::NoMemory) => return Err(ConfigurationFault::NoMemory),
+    };
+    match first_violation(&config) {
+        None => Ok(config),
+        Some(violation) => Err(ConfigurationFault::NotAConfiguration(violation)),
+    }
+}
+
+// The fault of a saved form that names an id twice in a list.
+fn listed_twice(alloc: Global, state: &ConfState) -> ConfigurationFault
+    requires { described state.now ≡ None }
+    ensures { (result ≡ ConfigurationFault.NoMemory) ⊎ (valid_of state.now ≡ Err result) }
+{
+    match repeat_in(alloc, state) {
+        Ok(Some(id)) => ConfigurationFault::NotAConfiguration(Violation::ListedTwice(id)),
+        Ok(None) => unreachable!(),
+        Err(NoMemory) => ConfigurationFault::NoMemory,
+    }
+}
+
+// The first id that one of the four lists names twice.
+fn repeat_in(alloc: Global, state: &ConfState) -> Result<Option<u64>, NoMemory>
+    ensures { IfOk result (λ found. found ≡ repeat_in state.now) }
+{
+    let voters = first_repeat(alloc, &state.voters)?;
+    let voters_outgoing = first_repeat(alloc, &state.voters_outgoing)?;
+    let learners = first_repeat(alloc, &state.learners)?;
+    let learners_next = first_repeat(alloc, &state.learners_next)?;
+    Ok(voters.or(voters_outgoing).or(learners).or(learners_next))
+}
+
+// The first id of a list that it names again.
+fn first_repeat(alloc: Global, list: &[u64]) -> Result<Option<u64>, NoMemory>
+    ensures { IfOk result (λ found. found ≡ first_repeat list.now) }
+{
+    let mut later = TreeIds::empty(alloc);
+    let mut repeat = None;
+    let mut place = list.len();
+    while place > 0 {
+        place -= 1;
+        if !later.insert(list[place])? {
+            repeat = Some(list[place]);
+        }
+    }
+    Ok(repeat)
+}

@@ -1,0 +1,108 @@
+//! What is wrong with a saved form that describes no valid configuration, or with a configuration that is not valid.
+ghost use Rattle.std.specs.Prelude.{◌≡◌, ◌↔◌, ◌||◌, None, true, not, find, IsTrue};
+ghost use Rattle.quorum_sets.specs.Ids.{has, ascending};
+ghost use Rattle.conf_change.specs.Configuration.{is_valid};
+ghost use Rattle.conf_change.specs.Violation.{violation_by, violation_of};
+
+use crate::config::{Config, Invariant, check};
+use quorum_sets::MemberSet;
+use thiserror::Error;
+
+/// An id that a list of a saved form names twice, or an invariant that a configuration breaks, with the least id that
+/// breaks it, if the invariant is about ids (own).
+#[derive(Clone, Copy, Debug, PartialEq, Eq, Error)]
+pub enum Violation {
+    #[error("{0} is listed twice")]
+    ListedTwice(u64),
+    #[error("0 is not an id")]
+    ZeroId,
+    #[error("{0} is a next learner and not an outgoing voter")]
+    NextNotOutgoing(u64),
+    #[error("{0} is a next learner and an incoming voter")]
+    NextAndIncoming(u64),
+    #[error("{0} is a voter and a learner")]
+    LearnerAndVoter(u64),
+    #[error("{0} is a next learner without outgoing voters")]
+    NotJointButNext(u64),
+    #[error("auto-leave without outgoing voters")]
+    NotJointButAutoLeave,
+}
+
+/// The first invariant that a configuration breaks, with the least id that breaks it; none if it is valid. It takes no
+/// memory.
+pub fn first_violation<S: MemberSet>(config: &Config<S>) -> Option<Violation>
+    ensures value { result ≡ violation_of config.now }
+    ensures none { (result ≡ None) ↔ IsTrue (is_valid config.now) }
+{
+    match check(config) {
+        Ok(()) => None,
+        Err(invariant) => violation_by(config, invariant),
+    }
+}
+
+// A broken invariant, with the least id that breaks it.
+fn violation_by<S: MemberSet>(config: &Config<S>, invariant: Invariant) -> Option<Violation>
+    ensures { result ≡ violation_by config.now invariant }
+{
+    let next = &config.learners_next;
+    match invariant {
+        Invariant::ZeroId => Some(Violation::ZeroId),
+        Invariant::NextNotOutgoing => Some(Violation::NextNotOutgoing(first_outside(
+            next,
+            &config.outgoing,
+        )?)),
+        Invariant::NextAndIncoming => Some(Violation::NextAndIncoming(first_inside(
+            next,
+            &config.incoming,
+        )?)),
+        Invariant::LearnerAndVoter => Some(Violation::LearnerAndVoter(first_in_either(
+            &config.learners,
+            &config.incoming,
+            &config.outgoing,
+        )?)),
+        Invariant::NotJointButNext => Some(Violation::NotJointButNext(next.at(0)?)),
+        Invariant::NotJointButAutoLeave => Some(Violation::NotJointButAutoLeave),
+    }
+}
+
+// The least id of a set that is not in another one.
+fn first_outside<S: MemberSet>(ids: &S, other: &S) -> Option<u64>
+    ensures { result ≡ find (λ id. not (has (S.ids other.now) id)) (ascending (S.ids ids.now)) }
+{
+    for place in 0..ids.len() {
+        if let Some(id) = ids.at(place) {
+            if !other.contains(id) {
+                return Some(id);
+            }
+        }
+    }
+    None
+}
+
+// The least id that is in both sets.
+fn first_inside<S: MemberSet>(ids: &S, other: &S) -> Option<u64>
+    ensures { result ≡ find (λ id. has (S.ids other.now) id) (ascending (S.ids ids.now)) }
+{
+    for place in 0..ids.len() {
+        if let Some(id) = ids.at(place) {
+            if other.contains(id) {
+                return Some(id);
+            }
+        }
+    }
+    None
+}
+
+// The least id of a set that is in one of two others.
+fn first_in_either<S: MemberSet>(ids: &S, first: &S, second: &S) -> Option<u64>
+    ensures { result ≡ find (λ id. has (S.ids first.now) id || has (S.ids second.now) id) (ascending (S.ids ids.now)) }
+{
+    for place in 0..ids.len() {
+        if let Some(id) = ids.at(place) {
+            if first.contains(id) || second.contains(id) {
+                return Some(id);
+            }
+        }
+    }
+    None
+}

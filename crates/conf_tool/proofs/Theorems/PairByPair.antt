@@ -1,0 +1,98 @@
+-- That `plan` prints the texts of its pairs in turn, and that each pair is of valid configurations.
+use Rattle.std.proofs.Common.{◌≡◌, ℕ, ◌+◌, ◌≤◌, true, cond, List, [], ◌∷◌, ◌++◌, refl, sym, ◌∙◌, ap, subst, arith, ltb-true}
+use Rattle.std.specs.Prelude.{Option, Some, None, Result, Ok, Err, nat_lt, if◌then◌else◌}
+use Rattle.std.specs.List.{AllZip}
+use Rattle.std.proofs.lemmas.List.{append_assoc, append-nil}
+use Rattle.dd_file.specs.Reading.{listing_of}
+use Rattle.dd_file.specs.declared.fault.FileFault.{FileFault}
+use Rattle.conf_change.specs.Configuration.{Configuration, is_valid}
+use Rattle.conf_change.specs.Violation.{configuration_in}
+use Rattle.conf_change.specs.declared.configuration_line.ConfigurationFault.{ConfigurationFault}
+use Rattle.conf_change.proofs.Offered.{is_valid-from_configuration_in}
+use Rattle.conf_tool.specs.Laws.{pair_before, named_pairs, pairs_in, texts_from, parted_by}
+use Rattle.conf_tool.specs.Outputs.{Output, separator, pair_text, pair_then, ends_within, planned_pairs, planned_output}
+use Rattle.conf_tool.specs.Pairs.{NumberedLine, numbered, configuration_lines, at_line, configuration_at, both_of}
+use Rattle.conf_tool.specs.PlanAnswer.{plan_text_between}
+use Rattle.conf_tool.specs.declared.configurations_fault.ConfigurationsFault.{ConfigurationsFault}
+use Rattle.conf_tool.specs.declared.plan_options.PlanOptions.{PlanOptions}
+
+abbrev Found : Type 0
+Found = Result Configuration ConfigurationsFault
+
+abbrev pub Pair : Type 0
+Pair = Configuration × Configuration
+
+-- ---- what lines name is valid
+named-valid : (number : ℕ) (line : List ℕ) (found : Result Configuration ConfigurationFault) (c : Configuration) → configuration_in line ≡ found → ◌≡◌ {A = Found} (at_line number found) (Ok c) → is_valid c ≡ true
+named-valid number line (Ok d) c is e = let same : d ≡ c = cc in is_valid-from_configuration_in line c (is ∙ ap Ok same)
+named-valid number line (Err fault) c is e = cc
+
+pub configuration_at-valid : (line : NumberedLine) (c : Configuration) → configuration_at line ≡ Ok c → is_valid c ≡ true
+configuration_at-valid line c e = named-valid line.number line.text (configuration_in line.text) c refl e
+
+-- both configurations of a pair are valid
+pub record AreValid (pair : Pair) : Type 0 where
+  pub now : is_valid pair.0 ≡ true
+  pub target : is_valid pair.1 ≡ true
+
+both-valid : (first second : NumberedLine) (a b : Found) (pair : Pair) → configuration_at first ≡ a → configuration_at second ≡ b → ◌≡◌ {A = Result Pair ConfigurationsFault} (both_of a b) (Ok pair) → AreValid pair
+both-valid first second (Err bad) b pair is_a is_b e = let wrong : ⊥ = cc in absurd wrong
+both-valid first second (Ok now) (Err bad) pair is_a is_b e = let wrong : ⊥ = cc in absurd wrong
+both-valid first second (Ok now) (Ok target) pair is_a is_b e =
+    let same : ◌≡◌ {A = Pair} (now, target) pair = cc in
+    subst AreValid same (record { now = configuration_at-valid first now is_a; target = configuration_at-valid second target is_b })
+
+-- what holds of each pair of valid configurations, and of its text, holds of each pair that lines name
+pub each-named : (R : Pair → List ℕ → Type 0) (options : PlanOptions) → ((number : ℕ) (pair : Pair) → AreValid pair → R pair (plan_text_between options number pair.0 pair.1)) →
+    (number : ℕ) (lines : List NumberedLine) → AllZip R (named_pairs lines) (texts_from options number (named_pairs lines))
+each-named R options holds number [] = tt
+each-named R options holds number (line ∷ []) = tt
+each-named R options holds number (first ∷ second ∷ lines) = by_pair (both_of (configuration_at first) (configuration_at second)) refl (each-named R options holds (number + 1) lines)
+  where
+    by_pair : (found : Result Pair ConfigurationsFault) → both_of (configuration_at first) (configuration_at second) ≡ found →
+        AllZip R (named_pairs lines) (texts_from options (number + 1) (named_pairs lines)) →
+        AllZip R (pair_before found (named_pairs lines)) (texts_from options number (pair_before found (named_pairs lines)))
+    by_pair (Err bad) is rest = tt
+    by_pair (Ok pair) is rest = (holds number pair (both-valid first second (configuration_at first) (configuration_at second) pair refl refl is), rest)
+
+-- ---- the text of the whole output
+-- texts behind others, if the first has a number above 1
+abbrev behind : List ℕ → ℕ → List (List ℕ) → List ℕ
+behind part number [] = []
+behind part number (text ∷ texts) = (if nat_lt 1 number then part else []) ++ parted_by part (text ∷ texts)
+
+then-behind : (part front text : List ℕ) (number : ℕ) (texts : List (List ℕ)) → 1 ≤ number → (front ++ text) ++ behind part (number + 1) texts ≡ front ++ parted_by part (text ∷ texts)
+then-behind part front text number [] some = append-nil (front ++ text)
+then-behind part front text number (next ∷ texts) some =
+    let second : nat_lt 1 (number + 1) ≡ true = ltb-true 1 (number + 1) (omega (arith, some)) in
+    ap (λ b. (front ++ text) ++ (cond b part [] ++ parted_by part (next ∷ texts))) second ∙ append_assoc front text (part ++ parted_by part (next ∷ texts))
+
+half-text : (first : Found) (fault : Option FileFault) → (ends_within first fault).text ≡ []
+half-text (Err bad) fault = refl
+half-text (Ok now) None = refl
+half-text (Ok now) (Some fault) = refl
+
+pairs-text : (options : PlanOptions) (number : ℕ) (lines : List NumberedLine) (fault : Option FileFault) → 1 ≤ number →
+    (planned_pairs options number lines fault).text ≡ behind (separator options.output) number (texts_from options number (named_pairs lines))
+pairs-text options number [] None some = refl
+pairs-text options number [] (Some fault) some = refl
+pairs-text options number (line ∷ []) fault some = half-text (configuration_at line) fault
+pairs-text options number (first ∷ second ∷ lines) fault some = by_pair (both_of (configuration_at first) (configuration_at second)) (pairs-text options (number + 1) lines fault (omega (arith, some)))
+  where
+    by_pair : (found : Result Pair ConfigurationsFault) →
+        (planned_pairs options (number + 1) lines fault).text ≡ behind (separator options.output) (number + 1) (texts_from options (number + 1) (named_pairs lines)) →
+        (pair_then options number found (planned_pairs options (number + 1) lines fault)).text ≡ behind (separator options.output) number (texts_from options number (pair_before found (named_pairs lines)))
+    by_pair (Err bad) rest = refl
+    by_pair (Ok pair) rest =
+        ap (λ t. pair_text options number pair.0 pair.1 ++ t) rest
+        ∙ then-behind (separator options.output) (if nat_lt 1 number then separator options.output else []) (plan_text_between options number pair.0 pair.1) number
+        (texts_from options (number + 1) (named_pairs lines)) some
+
+from-first : (part : List ℕ) (texts : List (List ℕ)) → behind part 1 texts ≡ parted_by part texts
+from-first part [] = refl
+from-first part (text ∷ texts) = refl
+
+pub planned-text : (options : PlanOptions) (input : List ℕ) → (planned_output options input).text ≡ parted_by (separator options.output) (texts_from options 1 (pairs_in input))
+planned-text options input =
+    pairs-text options 1 (configuration_lines (numbered 1 (listing_of input).items)) (listing_of input).fault (omega arith)
+    ∙ from-first (separator options.output) (texts_from options 1 (pairs_in input))
