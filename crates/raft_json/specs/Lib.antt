@@ -1,0 +1,2 @@
+pub mod IdsJson
+pub mod ConfStateJson
