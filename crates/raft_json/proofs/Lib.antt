@@ -1,0 +1,4 @@
+mod Ids
+mod Keys
+mod Proposals
+mod SavedConfigurations

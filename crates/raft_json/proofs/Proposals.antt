@@ -1,0 +1,139 @@
+-- Where etcd ends with what is proposed for a step.
+use Rattle.std.proofs.Common.{◌≡◌, ℕ, ◌<◌, ◌≤◌, Bool, true, false, cond, not, ◌||◌, List, [], ◌∷◌, length, Option, Some, None, refl, sym, ap, ◌∙◌, arith}
+use Rattle.std.specs.Prelude.{Ok, Err, slice_get, nat_lt, if◌then◌else◌}
+use Rattle.std.proofs.lemmas.Bool.{true≢false, not-true, eqb-false, false_from_ne_true}
+use Rattle.quorum_sets.specs.Ids.{Ids, has, ascending, no_ids, is_empty, difference_count}
+use Rattle.quorum_sets.proofs.Offered.{has-no_ids}
+use Rattle.conf_change.specs.Configuration.{Configuration, is_valid, is_joint, has_voter}
+use Rattle.conf_change.specs.Change.{result_of, last_word, is_learner_after, is_next_after}
+use Rattle.conf_change.specs.Outcome.{outcome, with_outgoing, after_leave, leave_outcome}
+use Rattle.conf_change.specs.Transition.{step_taken}
+use Rattle.conf_change.specs.declared.change.Change.{Change}
+use Rattle.conf_change.specs.declared.change.Kind.{Kind}
+use Rattle.conf_change.specs.declared.change.Kind.TheVariants.{Voter, Learner, Remove, Update}
+use Rattle.conf_change.specs.declared.refused.Refused.TheVariants.{AlreadyJoint, ZeroVoterJoint, SimpleInJoint, RemovedAllVoters, MoreThanOneVoter}
+use Rattle.conf_change.specs.declared.transition.Transition.TheVariants.{Auto}
+use Rattle.conf_change.specs.declared.step.Step.{Step}
+use Rattle.conf_change.specs.declared.step.Step.TheVariants.{Simple, EnterJoint, LeaveJoint}
+use Rattle.conf_change.proofs.Offered.{ValidByMember-from_is_valid, configuration-by_members, has-learners_after, has-next_after, has-after_leave, result_of-none, result_of-update, SimpleTaken-from_outcome, EnterTaken-from_outcome, outcome-enter_accepted, outcome-leave_accepted, outgoing-none}
+use Rattle.raft_json.specs.Proposal.{update_of, or_update, proposed_changes, proposed_step, settles, settled}
+
+-- ---- a list without a change, and the update that is named for it
+result_of-update_of : (c : Configuration) (o : Option ℕ) → result_of c (update_of o) ≡ result_of c []
+result_of-update_of c None = refl
+result_of-update_of c (Some id) = sym (result_of-update c (record { kind = Update; id = id }) refl) ∙ result_of-none c
+
+-- the changes that are proposed make of each configuration what the changes of the step do
+pub result_of-or_update : (before c : Configuration) (changes : List Change) → result_of c (or_update before changes) ≡ result_of c changes
+result_of-or_update before c [] = result_of-update_of c (slice_get (ascending before.incoming) 0)
+result_of-or_update before c (change ∷ changes) = refl
+
+-- a configuration with a voter has a least one
+first_of_some : (ids : List ℕ) → 0 < length ids → (id : ℕ) × (slice_get ids 0 ≡ Some id)
+first_of_some [] h = absurd (omega arith)
+first_of_some (id ∷ ids) h = (id, refl)
+
+least_voter : (before : Configuration) → has_voter before ≡ true → (id : ℕ) × (slice_get (ascending before.incoming) 0 ≡ Some id)
+least_voter before voter = first_of_some (ascending before.incoming) (omega (arith, eqb-false (length (ascending before.incoming)) 0 (not-true _ voter)))
+
+pub or_update-named : (before : Configuration) (changes : List Change) → has_voter before ≡ true → 0 < length (or_update before changes)
+or_update-named before [] voter = let least = least_voter before voter in rw least.1 (omega arith)
+or_update-named before (change ∷ changes) voter = omega arith
+
+-- ---- the outcome goes by what the changes make
+simple_by_result : (c : Configuration) (xs ys : List Change) → result_of c xs ≡ result_of c ys → outcome c (Simple xs) ≡ outcome c (Simple ys)
+simple_by_result c xs ys e =
+    ap (λ (d : Configuration). if is_joint c then Err SimpleInJoint
+    else (if not (has_voter d) then Err RemovedAllVoters
+    else (if nat_lt 1 (difference_count c.incoming d.incoming) then Err MoreThanOneVoter
+    else Ok d))) e
+
+enter_by_result : (c : Configuration) (auto_leave : Bool) (xs ys : List Change) → result_of (with_outgoing c auto_leave) xs ≡ result_of (with_outgoing c auto_leave) ys
+    → outcome c (EnterJoint auto_leave xs) ≡ outcome c (EnterJoint auto_leave ys)
+enter_by_result c auto_leave xs ys e =
+    ap (λ (d : Configuration). if is_joint c then Err AlreadyJoint
+    else (if not (has_voter c) then Err ZeroVoterJoint
+    else (if not (has_voter d) then Err RemovedAllVoters
+    else Ok d))) e
+
+pub enter-proposed : (before : Configuration) (auto_leave : Bool) (changes : List Change)
+    → outcome before (proposed_step before (EnterJoint auto_leave changes)) ≡ outcome before (EnterJoint auto_leave changes)
+enter-proposed before true changes = enter_by_result before true (or_update before changes) changes (result_of-or_update before (with_outgoing before true) changes)
+enter-proposed before false changes = enter_by_result before false (or_update before changes) changes (result_of-or_update before (with_outgoing before false) changes)
+
+-- ---- a simple step ends without auto-leave
+settles-flag : (c : Configuration) → c.auto_leave ≡ false → settles (Ok c) ≡ Ok c
+settles-flag c e = ap (λ b. if b then leave_outcome c else Ok c) e
+
+settled-simple : (before after : Configuration) (changes : List Change) → is_valid before ≡ true → outcome before (Simple changes) ≡ Ok after → settled before (Simple changes) ≡ Ok after
+settled-simple before after changes valid e =
+    let taken = SimpleTaken-from_outcome before after changes e in
+    let flag = (ValidByMember-from_is_valid before valid).auto_leave taken.single in
+    ap settles e ∙ settles-flag after (sym (ap (λ (c : Configuration). c.auto_leave) taken.made) ∙ flag)
+
+-- ---- through a joint configuration and out of it
+joined_learners : (o : Option Kind) (out was next : Bool) → next ≡ false → (is_learner_after o out was || is_next_after o out next) ≡ is_learner_after o false was
+joined_learners None out true next e = refl
+joined_learners None out false next e = e
+joined_learners (Some Voter) out was next e = refl
+joined_learners (Some Learner) true was next e = refl
+joined_learners (Some Learner) false was next e = refl
+joined_learners (Some Remove) out was next e = refl
+joined_learners (Some Update) out true next e = refl
+joined_learners (Some Update) out false next e = e
+
+no_next : (o : Option Kind) (next : Bool) → next ≡ false → is_next_after o false next ≡ false
+no_next None next e = e
+no_next (Some Voter) next e = refl
+no_next (Some Learner) next e = refl
+no_next (Some Remove) next e = refl
+no_next (Some Update) next e = e
+
+entered_and_left : (before : Configuration) (changes : List Change) → is_valid before ≡ true → is_joint before ≡ false
+    → after_leave (result_of (with_outgoing before true) changes) ≡ result_of before changes
+entered_and_left before changes valid single =
+    let joint = result_of (with_outgoing before true) changes in
+    let valid_by = ValidByMember-from_is_valid before valid in
+    let none_out : (q : ℕ) → has before.outgoing q ≡ false = λ q. ap (λ ids. has ids q) (outgoing-none before single) ∙ has-no_ids q in
+    let none_next : (q : ℕ) → has before.learners_next q ≡ false =
+    λ q. false_from_ne_true (has before.learners_next q) (λ here. true≢false (sym (valid_by.next_outgoing q here) ∙ none_out q)) in
+    configuration-by_members (after_leave joint) (result_of before changes)
+    (λ q. refl)
+    (sym (outgoing-none before single))
+    (λ q. has-after_leave joint q
+    ∙ (λ i. has-learners_after (with_outgoing before true) changes q i || has-next_after (with_outgoing before true) changes q i)
+    ∙ joined_learners (last_word changes q) (has before.incoming q) (has before.learners q) (has before.learners_next q) (none_next q)
+    ∙ sym (has-learners_after before changes q ∙ ap (λ out. is_learner_after (last_word changes q) out (has before.learners q)) (none_out q)))
+    (λ q. has-no_ids q
+    ∙ sym (has-next_after before changes q ∙ ap (λ out. is_next_after (last_word changes q) out (has before.learners_next q)) (none_out q)
+    ∙ no_next (last_word changes q) (has before.learners_next q) (none_next q)))
+    (sym (valid_by.auto_leave single))
+
+through_joint : (before after : Configuration) (changes : List Change) → is_valid before ≡ true → has_voter before ≡ true
+    → outcome before (Simple changes) ≡ Ok after → settled before (EnterJoint true changes) ≡ Ok after
+through_joint before after changes valid voter e =
+    let taken = SimpleTaken-from_outcome before after changes e in
+    let joint = result_of (with_outgoing before true) changes in
+    ap settles (outcome-enter_accepted before joint true changes taken.single voter refl taken.voter)
+    ∙ outcome-leave_accepted joint voter
+    ∙ ap Ok (entered_and_left before changes valid taken.single ∙ taken.made)
+
+pub simple-proposed : (before after : Configuration) (changes : List Change) → is_valid before ≡ true → has_voter before ≡ true
+    → outcome before (Simple changes) ≡ Ok after → settled before (proposed_step before (Simple changes)) ≡ Ok after
+simple-proposed before after [] valid voter e =
+    let least = least_voter before voter in
+    let update : List Change = update_of (Some least.0) in
+    ap (λ o. settled before (step_taken Auto (update_of o))) least.1
+    ∙ ap settles (simple_by_result before update [] (result_of-update_of before (Some least.0)))
+    ∙ settled-simple before after [] valid e
+simple-proposed before after (change ∷ []) valid voter e = settled-simple before after (change ∷ []) valid e
+simple-proposed before after (change ∷ other ∷ changes) valid voter e = through_joint before after (change ∷ other ∷ changes) valid voter e
+
+pub simple-named : (before after : Configuration) (changes : List Change) → outcome before (Simple changes) ≡ Ok after → 0 < length (or_update before changes)
+simple-named before after [] e =
+    or_update-named before [] (ap has_voter (result_of-none before) ∙ (SimpleTaken-from_outcome before after [] e).voter)
+simple-named before after (change ∷ changes) e = omega arith
+
+pub enter-named : (before after : Configuration) (auto_leave : Bool) (changes : List Change) → outcome before (EnterJoint auto_leave changes) ≡ Ok after
+    → 0 < length (or_update before changes)
+enter-named before after auto_leave changes e = or_update-named before changes (EnterTaken-from_outcome before after auto_leave changes e).voter_before

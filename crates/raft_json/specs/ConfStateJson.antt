@@ -1,0 +1,62 @@
+-- The JSON of a saved configuration: an object whose keys are those of raftpb.ConfState.
+use Rattle.std.specs.Prelude.{◌≡◌, ℕ, Bool, true, false, ◌&&◌, ◌||◌, List, codes, Option, Some, None, option_map, option_and_then, if◌then◌else◌, IsUtf8}
+use Rattle.std.specs.Str.{bytes_eq}
+use Rattle.conf_change.specs.ConfState.{ConfStateLists}
+use Rattle.serde_json.specs.Data.{Data, null, boolean, object, Members, no_members, member}
+use Rattle.serde_json.specs.Find.{as_object, get}
+use Rattle.serde_json.specs.Read.{read}
+use Rattle.raft_json.specs.IdsJson.{ids_json, ids_in}
+
+-- the keys that raftpb.ConfState has
+unfoldable pub is_key : List ℕ → Bool
+is_key key =
+    bytes_eq key (codes "voters") || bytes_eq key (codes "voters_outgoing") || bytes_eq key (codes "learners")
+    || bytes_eq key (codes "learners_next") || bytes_eq key (codes "auto_leave")
+
+-- no other key is there
+abbrev pub has_only_keys : Members → Bool
+has_only_keys no_members = true
+has_only_keys (member key d ms) = is_key key && has_only_keys ms
+
+-- the value of a flag: false where the key is left out, or where it is null
+abbrev pub flag_in : Option Data → Option Bool
+flag_in None = Some false
+flag_in (Some null) = Some false
+flag_in (Some (boolean b)) = Some b
+flag_in (Some _) = None
+
+-- the lists and the flag, each at its key
+abbrev pub lists_in : Data → Option ConfStateLists
+lists_in d =
+    option_and_then (λ voters.
+    option_and_then (λ voters_outgoing.
+    option_and_then (λ learners.
+    option_and_then (λ learners_next.
+    option_map (λ auto_leave. record {
+      voters = voters;
+      voters_outgoing = voters_outgoing;
+      learners = learners;
+      learners_next = learners_next;
+      auto_leave = auto_leave;
+    }) (flag_in (get (codes "auto_leave") d)))
+    (ids_in (get (codes "learners_next") d)))
+    (ids_in (get (codes "learners") d)))
+    (ids_in (get (codes "voters_outgoing") d)))
+    (ids_in (get (codes "voters") d))
+
+-- the saved configuration that a value is, if it is one
+abbrev pub conf_state_of_json : Data → Option ConfStateLists
+conf_state_of_json d = option_and_then (λ ms. if has_only_keys ms then lists_in d else None) (as_object d)
+
+-- the text is the JSON of the saved configuration
+abbrev pub IsConfStateJson : List ℕ → ConfStateLists → Type 0
+IsConfStateJson text saved = IsUtf8 text × (option_and_then conf_state_of_json (read text) ≡ Some saved)
+
+-- the value of a saved configuration, with every key
+abbrev pub conf_state_json : ConfStateLists → Data
+conf_state_json saved =
+    object (member (codes "auto_leave") (boolean saved.auto_leave)
+    (member (codes "learners") (ids_json saved.learners)
+    (member (codes "learners_next") (ids_json saved.learners_next)
+    (member (codes "voters") (ids_json saved.voters)
+    (member (codes "voters_outgoing") (ids_json saved.voters_outgoing) no_members)))))

@@ -1,0 +1,4 @@
+pub mod IdsJson
+pub mod ConfStateJson
+pub mod ConfChangeJson
+pub mod Proposal

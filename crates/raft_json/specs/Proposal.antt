@@ -1,0 +1,48 @@
+-- What is proposed to etcd for a step, and what etcd makes of it.
+use Rattle.std.specs.Prelude.{ℕ, true, false, List, [], ◌∷◌, Option, Some, None, Result, Ok, Err, slice_get, if◌then◌else◌}
+use Rattle.quorum_sets.specs.Ids.{ascending}
+use Rattle.conf_change.specs.Configuration.{Configuration}
+use Rattle.conf_change.specs.Outcome.{Outcome, outcome, leave_outcome}
+use Rattle.conf_change.specs.Transition.{step_taken}
+use Rattle.conf_change.specs.declared.change.Change.{Change}
+use Rattle.conf_change.specs.declared.change.Kind.TheVariants.{Update}
+use Rattle.conf_change.specs.declared.step.Step.{Step}
+use Rattle.conf_change.specs.declared.step.Step.TheVariants.{Simple, EnterJoint, LeaveJoint}
+use Rattle.conf_change.specs.declared.transition.Transition.{Transition}
+use Rattle.conf_change.specs.declared.transition.Transition.TheVariants.{Auto, Implicit, Explicit}
+
+-- one update of an id, if there is an id
+abbrev pub update_of : Option ℕ → List Change
+update_of None = []
+update_of (Some id) = record { kind = Update; id = id } ∷ []
+
+-- the changes, or if there are none, an update of the least incoming voter: etcd takes an empty list for leaving
+abbrev pub or_update : Configuration → List Change → List Change
+or_update c [] = update_of (slice_get (ascending c.incoming) 0)
+or_update c (change ∷ changes) = change ∷ changes
+
+-- the changes that are proposed
+abbrev pub proposed_changes : Configuration → Step → List Change
+proposed_changes c (Simple changes) = or_update c changes
+proposed_changes c (EnterJoint _ changes) = or_update c changes
+proposed_changes c LeaveJoint = []
+
+-- the transition that is proposed
+abbrev pub transition_of : Step → Transition
+transition_of (Simple _) = Auto
+transition_of (EnterJoint true _) = Implicit
+transition_of (EnterJoint false _) = Explicit
+transition_of LeaveJoint = Auto
+
+-- the step that etcd takes for it
+abbrev pub proposed_step : Configuration → Step → Step
+proposed_step c step = step_taken (transition_of step) (proposed_changes c step)
+
+-- a configuration with auto-leave is left without being asked
+abbrev pub settles : Outcome → Outcome
+settles (Ok c) = if c.auto_leave then leave_outcome c else Ok c
+settles (Err why) = Err why
+
+-- where a step leads, once nothing is left to be left by itself
+abbrev pub settled : Configuration → Step → Outcome
+settled c step = settles (outcome c step)

@@ -1,0 +1,97 @@
+//! The JSON of the change that is proposed to etcd for a step.
+ghost use Rattle.std.specs.Prelude.{◌≡◌, IfOk, map};
+ghost use Rattle.serde_json.specs.View.{view};
+ghost use Rattle.raft_json.specs.ConfChangeJson as spec;
+ghost use Rattle.raft_json.specs.ConfChangeJson.{conf_change_json, change_json, changes_json};
+ghost use Rattle.raft_json.specs.Proposal as proposal;
+ghost use Rattle.raft_json.specs.Proposal.{proposed_changes};
+
+use conf_change::{Change, Config, Kind, Step, Transition};
+use quorum_sets::{MemberSet, NoMemory};
+use serde_json::{Map, Value, put};
+use std::alloc::Global;
+
+/// The `raftpb.ConfChangeV2` that a program proposes for a step from a configuration, so that etcd's raft ends where the
+/// step does (the module `laws` says of which steps this is so). A simple step has the transition Auto, and entering a joint
+/// configuration the one that leaves by itself, or not, as the step says. A step of either kind without a change names an
+/// update of the least incoming voter, since etcd takes a change without an id for leaving.
+pub fn conf_change_value<S: MemberSet>(
+    alloc: Global,
+    before: &Config<S>,
+    step: &Step,
+) -> Result<Value, NoMemory>
+    ensures { IfOk result (λ v. view v ≡ conf_change_json (proposal.transition_of step.now) (proposed_changes before.now step.now)) }
+{
+    let changes = proposed(alloc, before, step)?;
+    let transition = Value::try_from_str(alloc, transition_name(transition_of(step)))?;
+    let mut members = Map::new(alloc);
+    put(&mut members, alloc, "changes", changes)?;
+    put(&mut members, alloc, "transition", transition)?;
+    Ok(Value::Object(members))
+}
+
+// The changes that are proposed for a step.
+fn proposed<S: MemberSet>(alloc: Global, before: &Config<S>, step: &Step) -> Result<Value, NoMemory>
+    ensures { IfOk result (λ v. view v ≡ changes_json (proposed_changes before.now step.now)) }
+{
+    match (step, before.incoming.at(0)) {
+        (Step::Simple(changes) | Step::EnterJoint(_, changes), Some(id))
+            if changes.as_slice().is_empty() =>
+        {
+            let kind = Kind::Update;
+            changes_value(alloc, &[Change { kind, id }])
+        }
+        _ => changes_value(alloc, step.changes()),
+    }
+}
+
+fn changes_value(alloc: Global, changes: &[Change]) -> Result<Value, NoMemory>
+    ensures { IfOk result (λ v. view v ≡ changes_json changes.now) }
+{
+    let mut items = Vec::with_capacity(alloc, changes.len())?;
+    for change in changes {
+        items.push(change_value(alloc, *change)?)?;
+    }
+    Ok(Value::Array(items))
+}
+
+fn change_value(alloc: Global, change: Change) -> Result<Value, NoMemory>
+    ensures { IfOk result (λ v. view v ≡ change_json change) }
+{
+    let kind = Value::try_from_str(alloc, kind_name(change.kind))?;
+    let mut members = Map::new(alloc);
+    put(&mut members, alloc, "node_id", Value::from(change.id))?;
+    put(&mut members, alloc, "type", kind)?;
+    Ok(Value::Object(members))
+}
+
+fn transition_of(step: &Step) -> Transition
+    ensures { result ≡ proposal.transition_of step.now }
+{
+    match step {
+        Step::Simple(_) | Step::LeaveJoint => Transition::Auto,
+        Step::EnterJoint(true, _) => Transition::Implicit,
+        Step::EnterJoint(false, _) => Transition::Explicit,
+    }
+}
+
+fn transition_name(transition: Transition) -> &'static str
+    ensures { result.now ≡ spec.transition_name transition }
+{
+    match transition {
+        Transition::Auto => "ConfChangeTransitionAuto",
+        Transition::Implicit => "ConfChangeTransitionJointImplicit",
+        Transition::Explicit => "ConfChangeTransitionJointExplicit",
+    }
+}
+
+fn kind_name(kind: Kind) -> &'static str
+    ensures { result.now ≡ spec.kind_name kind }
+{
+    match kind {
+        Kind::Voter => "ConfChangeAddNode",
+        Kind::Learner => "ConfChangeAddLearnerNode",
+        Kind::Remove => "ConfChangeRemoveNode",
+        Kind::Update => "ConfChangeUpdateNode",
+    }
+}

@@ -1,0 +1,44 @@
+//! Lists of ids in JSON.
+ghost use Rattle.std.specs.Prelude.{◌≡◌, Some, None, Err, IfOk, option_map};
+ghost use Rattle.serde_json.specs.View.{view, items_view};
+ghost use Rattle.raft_json.specs.IdsJson as spec;
+
+use crate::conf_state_json::JsonFault;
+use quorum_sets::NoMemory;
+use serde_json::Value;
+use std::alloc::Global;
+
+/// Reads the ids at a key, which may be left out or null.
+pub(crate) fn ids_in(alloc: Global, found: Option<&Value>) -> Result<Vec<u64>, JsonFault>
+    ensures ok { IfOk result (λ ids. spec.ids_in (option_map (λ v. view v.now) found.entry) ≡ Some ids.items) }
+    ensures bad { result ≡ Err JsonFault.BadJson → spec.ids_in (option_map (λ v. view v.now) found.entry) ≡ None }
+{
+    match found {
+        None | Some(Value::Null) => Ok(Vec::new(alloc)),
+        Some(Value::Array(items)) => ids_from(alloc, items),
+        Some(_) => Err(JsonFault::BadJson),
+    }
+}
+
+fn ids_from(alloc: Global, items: &Vec<Value>) -> Result<Vec<u64>, JsonFault>
+    ensures ok { IfOk result (λ ids. spec.ids_from (items_view items.now.items) ≡ Some ids.items) }
+    ensures bad { result ≡ Err JsonFault.BadJson → spec.ids_from (items_view items.now.items) ≡ None }
+{
+    let mut ids = Vec::with_capacity(alloc, items.len())?;
+    for item in items {
+        let id = item.as_u64().ok_or(JsonFault::BadJson)?;
+        ids.push(id)?;
+    }
+    Ok(ids)
+}
+
+/// The JSON of a list of ids.
+pub(crate) fn ids_value(alloc: Global, ids: &[u64]) -> Result<Value, NoMemory>
+    ensures { IfOk result (λ v. view v ≡ spec.ids_json ids.now) }
+{
+    let mut items = Vec::with_capacity(alloc, ids.len())?;
+    for id in ids {
+        items.push(Value::from(*id))?;
+    }
+    Ok(Value::Array(items))
+}

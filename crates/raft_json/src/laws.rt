@@ -1,0 +1,31 @@
+//! Laws of this crate's definitions, each the contract of a function that does nothing.
+ghost use Rattle.std.specs.Prelude.{◌≡◌, ◌<◌, List, [], ◌∷◌, Bool, Ok, Some, length, true};
+ghost use Rattle.conf_change.specs.ConfState.{ConfStateLists};
+ghost use Rattle.conf_change.specs.Configuration.{Configuration, has_voter, is_valid};
+ghost use Rattle.conf_change.specs.Outcome.{outcome};
+ghost use Rattle.conf_change.specs.declared.change.Change.{Change};
+ghost use Rattle.conf_change.specs.declared.step.Step.{Step};
+ghost use Rattle.conf_change.specs.declared.step.Step.TheVariants.{Simple, EnterJoint, LeaveJoint};
+ghost use Rattle.raft_json.specs.ConfStateJson.{conf_state_of_json, conf_state_json};
+ghost use Rattle.raft_json.specs.Proposal.{proposed_changes, proposed_step, settled};
+
+/// The JSON of a saved configuration denotes it.
+pub fn conf_state_json_reads_back()
+    ensures { (saved : ConfStateLists) → conf_state_of_json (conf_state_json saved) ≡ Some saved }
+{}
+
+/// What is proposed for an accepted step leads etcd to the configuration after the step. Leaving, entering, and a simple step
+/// of one change are the steps that etcd takes. For a simple step of more changes, etcd enters a joint configuration with
+/// auto-leave, and leaves it by itself: here the configuration before it has to be valid, and to have a voter, as for every
+/// joint configuration that is entered. A change is named for each step but leaving, so none of them is taken for it.
+pub fn etcd_ends_where_the_step_does()
+    ensures simple { (before after : Configuration) (changes : List Change) → is_valid before ≡ true → has_voter before ≡ true
+        → outcome before (Simple changes) ≡ Ok after → settled before (proposed_step before (Simple changes)) ≡ Ok after }
+    ensures one { (before : Configuration) (change : Change) → proposed_step before (Simple (change ∷ [])) ≡ Simple (change ∷ []) }
+    ensures enter { (before after : Configuration) (auto_leave : Bool) (changes : List Change) → outcome before (EnterJoint auto_leave changes) ≡ Ok after
+        → outcome before (proposed_step before (EnterJoint auto_leave changes)) ≡ Ok after }
+    ensures leave { (before : Configuration) → proposed_step before LeaveJoint ≡ LeaveJoint }
+    ensures simple_named { (before after : Configuration) (changes : List Change) → outcome before (Simple changes) ≡ Ok after → 0 < length (proposed_changes before (Simple changes)) }
+    ensures enter_named { (before after : Configuration) (auto_leave : Bool) (changes : List Change) → outcome before (EnterJoint auto_leave changes) ≡ Ok after
+        → 0 < length (proposed_changes before (EnterJoint auto_leave changes)) }
+{}
