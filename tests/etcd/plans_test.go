@@ -11,130 +11,123 @@ import (
 	pb "go.etcd.io/etcd/raft/raftpb"
 )
 
-// plans is how many pairs of configurations there are.
+// plans is how many pairs of configurations there are for each strategy.
 const plans = 500
 
-// A plan from one configuration to another, with the configurations that confscript expects on the way.
-type plan struct {
-	now, target pb.ConfState
-	steps       []step
-	after       []pb.ConfState // after each step
-	left        pb.ConfState   // after the joint configuration of the last step is left, if the target has auto-leave
-}
-
-// TestPlans lets clusters of etcd's raft carry out the plans between random pairs of configurations. plan has one
-// strategy today; another one is one more argument in makePlans. Which entries a cluster commits while members are
-// down is not tried.
+// TestPlans lets clusters of etcd's raft carry out the plans between random pairs of configurations, by each strategy:
+// the JSON of each line is proposed as it is.
 func TestPlans(t *testing.T) {
-	chance := rand.New(rand.NewSource(1))
-	seen := map[string]int{}
-	for i, p := range makePlans(t, chance) {
-		p.count(seen)
-		t.Run(fmt.Sprint("pair ", i), func(t *testing.T) { p.carryOut(t, rand.New(rand.NewSource(int64(i))), seen) })
-	}
-	t.Run("each kind occurs", func(t *testing.T) {
-		for _, kind := range kindsOfPlans {
-			if seen[kind] < 5 {
-				t.Errorf("%s: %d times", kind, seen[kind])
-			}
+	for _, strategy := range strategies {
+		chance := rand.New(rand.NewSource(1))
+		seen := map[string]int{}
+		made := makePlans(t, chance, strategy)
+		for i, p := range made {
+			p.count(seen)
+			t.Run(fmt.Sprint(strategy, " ", i), func(t *testing.T) { p.carryOut(t, rand.New(rand.NewSource(int64(i))), seen) })
 		}
-	})
+		t.Run(strategy+": each kind occurs", func(t *testing.T) {
+			for _, kind := range kindsOfPlans[strategy] {
+				if seen[kind] < 5 {
+					t.Errorf("%s: %d times", kind, seen[kind])
+				}
+			}
+		})
+	}
 }
 
 // kindsOfPlans are the kinds of steps and events that have to occur, each at least five times.
-var kindsOfPlans = []string{
-	"1 steps", "2 steps", "3 steps", "4 steps", "simple", "enter-joint", "leave-joint", "autoleave=true",
-	"enter-joint without changes", "simple with more than one change", "simple through a joint configuration",
-	"left by itself at the start", "leadership moved", "leadership lost",
+var kindsOfPlans = map[string][]string{
+	"shortest": {
+		"1 steps", "2 steps", "3 steps", "4 steps", "auto", "explicit", "implicit", "leaving", "an update alone",
+		"left by itself after the step", "left by itself at the start", "leadership moved", "leadership lost",
+	},
+	"learners-first": {
+		"1 steps", "2 steps", "3 steps", "4 steps", "5 steps", "auto", "explicit", "implicit", "leaving", "leadership moved",
+	},
+	"one-at-a-time": {"1 steps", "2 steps", "3 steps", "4 steps", "8 steps", "auto", "leaving", "leadership moved"},
 }
 
 // count counts the kinds of steps that the plan has.
 func (p *plan) count(seen map[string]int) {
-	seen[fmt.Sprintf("%d steps", len(p.steps))]++
-	for _, next := range p.steps {
-		seen[next.command]++
-		if next.command == "enter-joint" && len(next.changes) == 0 {
-			seen["enter-joint without changes"]++
+	seen[fmt.Sprintf("%d steps", len(p.lines))]++
+	for _, line := range p.lines {
+		change := line.ConfChange
+		switch {
+		case len(change.Changes) == 0:
+			seen["leaving"]++
+		case change.Transition == pb.ConfChangeTransitionAuto:
+			seen["auto"]++
+		case change.Transition == pb.ConfChangeTransitionJointExplicit:
+			seen["explicit"]++
+		default:
+			seen["implicit"]++
 		}
-		if next.command == "simple" && len(next.changes) > 1 {
-			seen["simple with more than one change"]++
-		}
-		if next.autoLeave {
-			seen["autoleave=true"]++
+		if len(change.Changes) == 1 && change.Changes[0].Type == pb.ConfChangeUpdateNode {
+			seen["an update alone"]++
 		}
 	}
 }
 
-// makePlans asks confscript for plans, and by a script for the configuration after each step.
-func makePlans(t *testing.T, chance *rand.Rand) []*plan {
+// makePlans asks confscript for the plans between random pairs of configurations that differ.
+func makePlans(t *testing.T, chance *rand.Rand, strategy string) []*plan {
 	var made []*plan
-	var script strings.Builder
 	for len(made) < plans {
-		p := pair(chance)
-		if isSame(p.now, p.target) {
-			continue
+		p := pair(chance, strategy)
+		if !isSame(p.now, p.target) {
+			made = append(made, p)
 		}
-		printed := confscript(t, raft.DescribeConfState(p.now)+"\n"+raft.DescribeConfState(p.target)+"\n", "plan")
-		var lines int
-		p.steps, lines = readPlan(printed)
-		if lines == 0 || lines != strings.Count(printed, "\n") {
-			t.Fatalf("%s\nno plan: %s", describe(p.now, p.target), printed)
-		}
-		p.write(&script)
-		made = append(made, p)
 	}
-	readStates(t, rewrite(t, script.String()), made)
+	if status := askPlans(t, strategy, made); status != 0 {
+		t.Fatalf("%s: status %d", strategy, status)
+	}
+	leaveTargets(t, made)
 	return made
 }
 
-// pair returns two configurations that share members. The target is any, or one that a few changes lead to.
-func pair(chance *rand.Rand) *plan {
+// pair returns two configurations that share members. The target is any, or one that a few changes lead to. With one
+// change at a time nobody comes to a joint one.
+func pair(chance *rand.Rand, strategy string) *plan {
 	ids := pool(chance, 2+chance.Intn(6), chance.Intn(3) == 0)
-	p := &plan{now: configuration(chance, ids)}
-	if chance.Intn(3) == 0 {
-		p.target = walked(chance, p.now, ids)
-	} else {
-		p.target = configuration(chance, ids)
+	p := &plan{strategy: strategy, now: configuration(chance, ids)}
+	for p.target.Voters == nil || strategy == "one-at-a-time" && len(p.target.VotersOutgoing) > 0 {
+		if chance.Intn(3) == 0 {
+			p.target = walked(chance, p.now, ids)
+		} else {
+			p.target = configuration(chance, ids)
+		}
 	}
 	return p
 }
 
-// write writes directives that make the steps, each followed by one that prints the configuration.
-func (p *plan) write(script *strings.Builder) {
-	fmt.Fprintf(script, "restore\n%s\n----\n\n", raft.DescribeConfState(p.now))
-	for _, next := range p.steps {
-		fmt.Fprintf(script, "%sconf-state\n----\n\n", next.directive())
+// leaveTargets asks confscript for what is left of each target with auto-leave.
+func leaveTargets(t *testing.T, made []*plan) {
+	var script strings.Builder
+	var leaving []*plan
+	for _, p := range made {
+		if p.target.AutoLeave {
+			leaving = append(leaving, p)
+			fmt.Fprintf(&script, "restore\n%s\n----\n\nleave-joint\n----\n\nconf-state\n----\n\n", raft.DescribeConfState(p.target))
+		}
 	}
-	if p.target.AutoLeave {
-		script.WriteString("leave-joint\n----\n\nconf-state\n----\n\n")
+	if len(leaving) == 0 {
+		return
 	}
-}
-
-// readStates reads the configurations that the directives printed.
-func readStates(t *testing.T, rewritten string, made []*plan) {
-	var found []pb.ConfState
-	datadriven.RunTestFromString(t, rewritten, func(t *testing.T, d *datadriven.TestData) string {
+	datadriven.RunTestFromString(t, rewrite(t, script.String()), func(t *testing.T, d *datadriven.TestData) string {
 		if d.Cmd == "conf-state" {
 			state, err := readConfState(d.Expected)
 			if err != nil {
 				t.Fatal(err)
 			}
-			found = append(found, state)
+			leaving[0].left, leaving = state, leaving[1:]
 		}
 		return d.Expected
 	})
-	for _, p := range made {
-		p.after, found = found[:len(p.steps)], found[len(p.steps):]
-		if p.target.AutoLeave {
-			p.left, found = found[0], found[1:]
-		}
-	}
 }
 
-// carryOut starts a cluster with the present configuration, and proposes the steps.
+// carryOut starts a cluster with the current configuration, and proposes the steps.
 func (p *plan) carryOut(t *testing.T, chance *rand.Rand, seen map[string]int) {
-	if !isSame(p.after[len(p.after)-1], p.target) {
-		t.Fatalf("the plan for\n%s\nleads to\n%s", describe(p.now, p.target), describe(p.after...))
+	if states := p.after(); !isSame(states[len(states)-1], p.target) {
+		t.Fatalf("the plan for\n%s\nleads to\n%s", describe(p.now, p.target), describe(states...))
 	}
 	// With auto-leave the first step comes before leadership can be moved.
 	leaders := p.now.Voters
@@ -143,9 +136,9 @@ func (p *plan) carryOut(t *testing.T, chance *rand.Rand, seen map[string]int) {
 	}
 	c := newCluster(t, p.now, oneOf(chance, leaders))
 	before := p.now
-	for i, next := range p.steps {
-		p.carryOutStep(c, next.chooseWay(chance, before), before, p.after[i], seen)
-		before = p.after[i]
+	for _, line := range p.lines {
+		p.carryOutStep(c, line, before, seen)
+		before = line.ConfState
 	}
 	if p.target.AutoLeave {
 		before = p.left
@@ -158,34 +151,33 @@ func (p *plan) carryOut(t *testing.T, chance *rand.Rand, seen map[string]int) {
 	}
 }
 
-// carryOutStep starts new members, moves leadership if the step takes it away, proposes the step, waits, and compares
-// the leader's configuration with the one expected.
-func (p *plan) carryOutStep(c *cluster, chosen way, before, after pb.ConfState, seen map[string]int) {
+// carryOutStep starts new members, moves leadership if the step takes it away, proposes the line's change, waits, and
+// compares the leader's configuration with the one of the line. A configuration with auto-leave is left without a
+// proposal.
+func (p *plan) carryOutStep(c *cluster, line planLine, before pb.ConfState, seen map[string]int) {
+	after := line.ConfState
 	c.startMissing(after)
-	if len(chosen.proposals) > 0 && c.moveLeader(before, after, chosen.leavesByItself) {
-		seen["leadership moved"]++
-	}
-	for _, proposal := range chosen.proposals {
-		c.propose(proposal)
-	}
-	wanted := len(chosen.proposals)
-	last := after
-	switch {
-	case wanted == 0:
-		wanted = 1
+	expected := 1
+	if before.AutoLeave {
 		seen["left by itself at the start"]++
-	case chosen.leavesByItself:
-		wanted++
+	} else {
+		if c.moveLeader(before, after, line.leavesByItself()) {
+			seen["leadership moved"]++
+		}
+		c.propose(line.ConfChange)
+	}
+	last := after
+	if line.leavesByItself() {
+		expected++
 	}
 	if after.AutoLeave {
 		last = p.left
-	} else if chosen.leavesByItself {
-		seen["simple through a joint configuration"]++
+	} else if line.leavesByItself() {
+		seen["left by itself after the step"]++
 	}
 	states := c.taken()
-	if len(states) != wanted || !isSame(states[len(states)-1], last) || after.AutoLeave && !isSame(states[0], after) {
-		c.t.Fatalf("proposals %v led from\n%s\nto\n%s\ninstead of\n%s", chosen.proposals, describe(before),
-			describe(states...), describe(after))
+	if len(states) != expected || !isSame(states[len(states)-1], last) || after.AutoLeave && !isSame(states[0], after) {
+		c.t.Fatalf("%v led from\n%s\nto\n%s\ninstead of\n%s", line.ConfChange, describe(before), describe(states...), describe(after))
 	}
 	c.stopOthers(last)
 	if c.leader() == 0 && after.AutoLeave {

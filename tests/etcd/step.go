@@ -9,15 +9,14 @@ import (
 	"go.etcd.io/etcd/raft/tracker"
 )
 
-// A step of a plan.
+// A step of a script: a directive that changes the configuration.
 type step struct {
 	command   string // simple, enter-joint or leave-joint
 	autoLeave bool
 	changes   []pb.ConfChangeSingle
 }
 
-// readStep reads a line of a printed plan. Only this function knows how a step is printed: when plan prints JSON
-// lines too, they are read here.
+// readStep reads a line of a printed plan.
 func readStep(line string) (step, error) {
 	words := strings.Fields(line)
 	if len(words) == 0 {

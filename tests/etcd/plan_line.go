@@ -1,0 +1,107 @@
+package etcd
+
+import (
+	"bufio"
+	"encoding/json"
+	"strings"
+	"testing"
+
+	"go.etcd.io/etcd/raft"
+	pb "go.etcd.io/etcd/raft/raftpb"
+)
+
+// strategies are the values of the option --strategy.
+var strategies = []string{"shortest", "learners-first", "one-at-a-time"}
+
+// A planLine is a line of `plan --output json`: a step, an empty plan, or a pair without a plan.
+type planLine struct {
+	CatchUp    []uint64        `json:"catch_up"`
+	Commits    *bool           `json:"commits"` // with --down
+	ConfChange pb.ConfChangeV2 `json:"conf_change"`
+	ConfState  pb.ConfState    `json:"conf_state"`
+	MayBeDown  int             `json:"may_be_down"`
+	NoPlan     string          `json:"no_plan"`
+	Plan       int             `json:"plan"`
+	Step       int             `json:"step"`
+	Steps      int             `json:"steps"`
+	UntilThen  *int            `json:"until_then"` // null if it stalls
+}
+
+// A plan leads from one configuration to another.
+type plan struct {
+	strategy    string
+	now, target pb.ConfState
+	lines       []planLine
+	left        pb.ConfState // after the joint configuration of the target is left, if it has auto-leave
+}
+
+// after returns the configurations after the steps.
+func (p *plan) after() (states []pb.ConfState) {
+	for _, line := range p.lines {
+		states = append(states, line.ConfState)
+	}
+	return states
+}
+
+// inputFor writes the pairs of configurations as the input of `plan`: one as lines, and the next as JSON.
+func inputFor(t *testing.T, pairs []*plan) string {
+	var input strings.Builder
+	for i, p := range pairs {
+		for _, state := range []pb.ConfState{p.now, p.target} {
+			text := raft.DescribeConfState(state)
+			if i%2 == 1 {
+				written, err := json.Marshal(state)
+				if err != nil {
+					t.Fatal(err)
+				}
+				text = string(written)
+			}
+			input.WriteString(text + "\n")
+		}
+	}
+	return input.String()
+}
+
+// readLines gives each plan its lines. The lines of each plan are numbered from 1, and so are the plans.
+func readLines(t *testing.T, output string, pairs []*plan) {
+	scanner := bufio.NewScanner(strings.NewReader(output))
+	scanner.Buffer(nil, 1<<20)
+	for scanner.Scan() {
+		var line planLine
+		decoder := json.NewDecoder(strings.NewReader(scanner.Text()))
+		decoder.DisallowUnknownFields()
+		if err := decoder.Decode(&line); err != nil {
+			t.Fatalf("%v: %s", err, scanner.Text())
+		}
+		if line.Plan < 1 || line.Plan > len(pairs) {
+			t.Fatalf("there is no such plan: %s", scanner.Text())
+		}
+		p := pairs[line.Plan-1]
+		if line.NoPlan == "" && line.Steps == 0 {
+			continue
+		}
+		p.lines = append(p.lines, line)
+		if line.NoPlan == "" && line.Step != len(p.lines) {
+			t.Fatalf("this is step %d: %s", len(p.lines), scanner.Text())
+		}
+	}
+	for _, p := range pairs {
+		if len(p.lines) > 0 && p.lines[0].NoPlan == "" && p.lines[0].Steps != len(p.lines) {
+			t.Fatalf("%d of %d steps for\n%s", len(p.lines), p.lines[0].Steps, describe(p.now, p.target))
+		}
+	}
+}
+
+// askPlans asks confscript for the plans of all pairs at once, and returns its status.
+func askPlans(t *testing.T, strategy string, pairs []*plan, options ...string) int {
+	arguments := append([]string{"plan", "--strategy", strategy, "--output", "json"}, options...)
+	output, status := confscriptStatus(t, inputFor(t, pairs), arguments...)
+	readLines(t, output, pairs)
+	return status
+}
+
+// leavesByItself says whether etcd enters a joint configuration for the line's change and leaves it by itself.
+func (line planLine) leavesByItself() bool {
+	autoLeave, joint := line.ConfChange.EnterJoint()
+	return joint && autoLeave
+}
