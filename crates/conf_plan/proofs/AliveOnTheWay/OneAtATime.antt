@@ -116,8 +116,7 @@ learner_votes : (bound : ℕ) (voters learners : Ids) (id : ℕ) → (id == 0) �
     × IsTurn bound (single_with voters learners) (one_change Voter id) (single_with (with_id voters id) (without_id learners id))
 learner_votes bound voters learners id other new learner enough =
     let before = single_with voters learners in
-    let after = single_with (with_id voters id) (without_id learners id) in
-    (
+    let after = single_with (with_id voters id) (without_id learners id) in (
       one_change-joins voters learners id other,
       record {
         one = refl;
@@ -149,8 +148,7 @@ stranger_learns : (bound : ℕ) (voters learners : Ids) (id : ℕ) → (id == 0)
     × IsTurn bound (single_with voters learners) (one_change Learner id) (single_with voters (with_id learners id))
 stranger_learns bound voters learners id other new one enough =
     let same = without_other voters id new in
-    let P : Ids → Type 0 = λ s. Gives (single_with voters learners) (one_change Learner id) (single_with s (with_id learners id)) in
-    (
+    let P : Ids → Type 0 = λ s. Gives (single_with voters learners) (one_change Learner id) (single_with s (with_id learners id)) in (
       subst P same (one_change-learns voters learners id other (ap is_empty same ∙ not_empty bound voters one enough)),
       record { one = refl; ready = MakesVotersOfReady-same (single_with voters learners) (single_with voters (with_id learners id)) (one_change Learner id) refl; single = refl; enough = enough },
     )
@@ -161,8 +159,7 @@ stranger_goes : (bound : ℕ) (voters learners : Ids) (id : ℕ) → (id == 0) �
     × IsTurn bound (single_with voters learners) (one_change Remove id) (single_with voters (without_id learners id))
 stranger_goes bound voters learners id other new one enough =
     let same = without_other voters id new in
-    let P : Ids → Type 0 = λ s. Gives (single_with voters learners) (one_change Remove id) (single_with s (without_id learners id)) in
-    (
+    let P : Ids → Type 0 = λ s. Gives (single_with voters learners) (one_change Remove id) (single_with s (without_id learners id)) in (
       subst P same (one_change-removes voters learners id other (ap is_empty same ∙ not_empty bound voters one enough)),
       record { one = refl; ready = MakesVotersOfReady-same (single_with voters learners) (single_with voters (without_id learners id)) (one_change Remove id) refl; single = refl; enough = enough },
     )
@@ -329,8 +326,7 @@ first_joins : (c target : Configuration) (id : ℕ) (joins retires : List ℕ) (
     → (has voters id ≡ false) × (has learners id ≡ has c.learners id)
 first_joins c target id joins retires voters learners at =
     let here : among id (id ∷ joins) ≡ true = head_among id joins id (eq-eqb id id refl) in
-    let waiting : waits (id ∷ joins) retires id ≡ true = or_left (among id (id ∷ joins)) (among id retires) here in
-    (
+    let waiting : waits (id ∷ joins) retires id ≡ true = or_left (among id (id ∷ joins)) (among id retires) here in (
       at.voters_at id ∙ ap (λ b. cond b (has c.incoming id) (has target.incoming id)) waiting ∙ (at.joining id here).0,
       at.learners_at id ∙ ap (λ b. cond (b || not (has c.incoming id || has target.incoming id)) (has c.learners id) (has target.learners id)) waiting,
     )
@@ -506,17 +502,17 @@ learner_step-then bound c target id ids learners rest valid_c valid one most onc
       single_with target.incoming (with_id learners id),
       stranger_learns bound target.incoming learners id (not_zero target.learners id valid.zero_learners target_is) (or_parts _ _ voter).1 one most,
       then (with_id learners id) (λ q.
-      has-with_id learners id q
-      ∙ comes (q == id) (among q ids) (cond (not (has c.incoming q || has target.incoming q)) (has c.learners q) (has target.learners q)) (has target.learners q) (has learners q)
-      (not_again id ids q once) (λ same. ap (has target.learners) (eqb-true q id same) ∙ target_is) (at q)),
+          has-with_id learners id q
+          ∙ comes (q == id) (among q ids) (cond (not (has c.incoming q || has target.incoming q)) (has c.learners q) (has target.learners q)) (has target.learners q) (has learners q)
+          (not_again id ids q once) (λ same. ap (has target.learners) (eqb-true q id same) ∙ target_is) (at q)),
     )
     by false false true voter target_is was_is = (
       single_with target.incoming (without_id learners id),
       stranger_goes bound target.incoming learners id (not_zero c.learners id valid_c.zero_learners was_is) (or_parts _ _ voter).1 one most,
       then (without_id learners id) (λ q.
-      has-without_id learners id q
-      ∙ goes (q == id) (among q ids) (cond (not (has c.incoming q || has target.incoming q)) (has c.learners q) (has target.learners q)) (has target.learners q) (has learners q)
-      (not_again id ids q once) (λ same. ap (has target.learners) (eqb-true q id same) ∙ target_is) (at q)),
+          has-without_id learners id q
+          ∙ goes (q == id) (among q ids) (cond (not (has c.incoming q || has target.incoming q)) (has c.learners q) (has target.learners q)) (has target.learners q) (has learners q)
+          (not_again id ids q once) (λ same. ap (has target.learners) (eqb-true q id same) ∙ target_is) (at q)),
     )
 
 learner_steps-are_turns : (bound : ℕ) (c target : Configuration) (ids : List ℕ) (learners : Ids) → IsSingle target → ValidByMember c → 1 ≤ bound → bound ≤ size target.incoming → AreOnce ids → LearnersAt c target ids learners
