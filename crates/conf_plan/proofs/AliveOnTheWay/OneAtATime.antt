@@ -177,6 +177,14 @@ MakesVotersOfReady-fewer voters learners others id step q votes none =
 abbrev pub waits : List ℕ → List ℕ → ℕ → Bool
 waits joins retires q = among q joins || among q retires
 
+-- the id is an incoming voter of neither
+abbrev pub votes_nowhere : Configuration → Configuration → ℕ → Bool
+votes_nowhere c target q = not (has c.incoming q || has target.incoming q)
+
+-- whether an id learns once the voters are those of the target
+abbrev pub learned : Configuration → Configuration → ℕ → Bool
+learned c target q = cond (votes_nowhere c target q) (has c.learners q) (has target.learners q)
+
 -- The ids that still have to join or to retire are as in the current configuration, and the others vote as in the target. Those that vote at neither end learn as in the current configuration.
 pub record IsAtTurn (c target : Configuration) (joins retires : List ℕ) (voters learners : Ids) : Type 0 where
   pub joins_once : AreOnce joins
@@ -184,7 +192,27 @@ pub record IsAtTurn (c target : Configuration) (joins retires : List ℕ) (voter
   pub joining : (q : ℕ) → among q joins ≡ true → (has c.incoming q ≡ false) × (has target.incoming q ≡ true)
   pub retiring : (q : ℕ) → among q retires ≡ true → (has c.incoming q ≡ true) × (has target.incoming q ≡ false)
   pub voters_at : (q : ℕ) → has voters q ≡ cond (waits joins retires q) (has c.incoming q) (has target.incoming q)
-  pub learners_at : (q : ℕ) → has learners q ≡ cond (waits joins retires q || not (has c.incoming q || has target.incoming q)) (has c.learners q) (has target.learners q)
+  pub learners_at : (q : ℕ) → has learners q ≡ cond (waits joins retires q || votes_nowhere c target q) (has c.learners q) (has target.learners q)
+
+-- An id that is done is as it becomes, and one that waits is as it was. One more is done: it is added, it is taken away, or nothing changes.
+one_comes : (same waited left was becomes now : Bool) → (same ≡ true → left ≡ false) → (same ≡ false → waited ≡ left) → (same ≡ true → becomes ≡ true)
+    → now ≡ cond waited was becomes → (same || now) ≡ cond left was becomes
+one_comes true waited left was becomes now done alike wanted e = sym (λ i. cond (done refl i) was (wanted refl i))
+one_comes false waited left was becomes now done alike wanted e = e ∙ ap (λ b. cond b was becomes) (alike refl)
+
+one_goes : (same waited left was becomes now : Bool) → (same ≡ true → left ≡ false) → (same ≡ false → waited ≡ left) → (same ≡ true → becomes ≡ false)
+    → now ≡ cond waited was becomes → (not same && now) ≡ cond left was becomes
+one_goes true waited left was becomes now done alike wanted e = sym (λ i. cond (done refl i) was (wanted refl i))
+one_goes false waited left was becomes now done alike wanted e = e ∙ ap (λ b. cond b was becomes) (alike refl)
+
+one_stays : (same waited left was becomes now : Bool) → (same ≡ true → left ≡ false) → (same ≡ false → waited ≡ left) → (same ≡ true → was ≡ becomes)
+    → now ≡ cond waited was becomes → now ≡ cond left was becomes
+one_stays true waited left was becomes now done alike wanted e = e ∙ same_either waited was becomes (wanted refl) ∙ sym (λ i. cond (done refl i) was becomes)
+  where
+    same_either : (b was becomes : Bool) → was ≡ becomes → cond b was becomes ≡ becomes
+    same_either true was becomes e = e
+    same_either false was becomes e = refl
+one_stays false waited left was becomes now done alike wanted e = e ∙ ap (λ b. cond b was becomes) (alike refl)
 
 -- ---- one joins
 head_among : (id : ℕ) (ids : List ℕ) (q : ℕ) → (q == id) ≡ true → among q (id ∷ ids) ≡ true
@@ -196,16 +224,6 @@ tail_among id ids q later = or_right (q == id) (among q ids) later
 not_again : (id : ℕ) (ids : List ℕ) (q : ℕ) → among id ids ≡ false → (q == id) ≡ true → among q ids ≡ false
 not_again id ids q once same = ap (λ x. among x ids) (eqb-true q id same) ∙ once
 
-joined_votes : (same later retires was becomes now : Bool) → (same ≡ true → later ≡ false) → (same ≡ true → retires ≡ false) → (same ≡ true → becomes ≡ true)
-    → now ≡ cond ((same || later) || retires) was becomes → (same || now) ≡ cond (later || retires) was becomes
-joined_votes true later retires was becomes now once apart wanted e = sym (λ i. cond (once refl i || apart refl i) was (wanted refl i))
-joined_votes false later retires was becomes now once apart wanted e = e
-
-joined_learns : (same later retires neither was becomes now : Bool) → (same ≡ true → later ≡ false) → (same ≡ true → retires ≡ false) → (same ≡ true → neither ≡ false) → (same ≡ true → becomes ≡ false)
-    → now ≡ cond (((same || later) || retires) || neither) was becomes → (not same && now) ≡ cond ((later || retires) || neither) was becomes
-joined_learns true later retires neither was becomes now once apart votes wanted e = sym (λ i. cond ((once refl i || apart refl i) || votes refl i) was (wanted refl i))
-joined_learns false later retires neither was becomes now once apart votes wanted e = e
-
 pub IsAtTurn-joined : (c target : Configuration) (id : ℕ) (joins retires : List ℕ) (voters learners : Ids) → ValidByMember target
     → IsAtTurn c target (id ∷ joins) retires voters learners → IsAtTurn c target joins retires (with_id voters id) (without_id learners id)
 IsAtTurn-joined c target id joins retires voters learners valid at = record {
@@ -215,37 +233,23 @@ IsAtTurn-joined c target id joins retires voters learners valid at = record {
   retiring = at.retiring;
   voters_at = λ q.
       has-with_id voters id q
-      ∙ joined_votes (q == id) (among q joins) (among q retires) (has c.incoming q) (has target.incoming q) (has voters q)
-      (not_again id joins q at.joins_once.0) (no_retiring q) (λ same. (new q same).1) (at.voters_at q);
+      ∙ one_comes (q == id) (waits (id ∷ joins) retires q) (waits joins retires q) (has c.incoming q) (has target.incoming q) (has voters q)
+      (done q) (λ apart i. (apart i || among q joins) || among q retires) (λ same. (new q same).1) (at.voters_at q);
   learners_at = λ q.
       has-without_id learners id q
-      ∙ joined_learns (q == id) (among q joins) (among q retires) (not (has c.incoming q || has target.incoming q)) (has c.learners q) (has target.learners q) (has learners q)
-      (not_again id joins q at.joins_once.0) (no_retiring q) (λ same. ap not (or_right (has c.incoming q) (has target.incoming q) (new q same).1))
+      ∙ one_goes (q == id) (waits (id ∷ joins) retires q || votes_nowhere c target q) (waits joins retires q || votes_nowhere c target q) (has c.learners q) (has target.learners q) (has learners q)
+      (λ same. or_from _ _ (done q same) (ap not (or_right (has c.incoming q) (has target.incoming q) (new q same).1)))
+      (λ apart i. ((apart i || among q joins) || among q retires) || votes_nowhere c target q)
       (λ same. false_from_ne_true _ (λ learns. both_ways _ (valid.learner_incoming q learns) (new q same).1)) (at.learners_at q);
 }
   where
     new : (q : ℕ) → (q == id) ≡ true → (has c.incoming q ≡ false) × (has target.incoming q ≡ true)
     new q same = at.joining q (head_among id joins q same)
 
-    no_retiring : (q : ℕ) → (q == id) ≡ true → among q retires ≡ false
-    no_retiring q same = false_from_ne_true _ (λ retires. both_ways _ (new q same).0 (at.retiring q retires).0)
+    done : (q : ℕ) → (q == id) ≡ true → waits joins retires q ≡ false
+    done q same = or_from _ _ (not_again id joins q at.joins_once.0 same) (false_from_ne_true _ (λ retires. both_ways _ (new q same).0 (at.retiring q retires).0))
 
 -- ---- one retires
-retired_votes : (joins same later was becomes now : Bool) → (same ≡ true → joins ≡ false) → (same ≡ true → later ≡ false) → (same ≡ true → becomes ≡ false)
-    → now ≡ cond (joins || (same || later)) was becomes → (not same && now) ≡ cond (joins || later) was becomes
-retired_votes joins true later was becomes now apart once wanted e = sym (λ i. cond (apart refl i || once refl i) was (wanted refl i))
-retired_votes joins false later was becomes now apart once wanted e = e
-
-retired_learns : (joins same later neither was becomes now : Bool) → (same ≡ true → joins ≡ false) → (same ≡ true → later ≡ false) → (same ≡ true → neither ≡ false) → (same ≡ true → becomes ≡ true)
-    → now ≡ cond ((joins || (same || later)) || neither) was becomes → (same || now) ≡ cond ((joins || later) || neither) was becomes
-retired_learns joins true later neither was becomes now apart once votes wanted e = sym (λ i. cond ((apart refl i || once refl i) || votes refl i) was (wanted refl i))
-retired_learns joins false later neither was becomes now apart once votes wanted e = e
-
-retired_goes : (joins same later neither was becomes now : Bool) → (same ≡ true → joins ≡ false) → (same ≡ true → later ≡ false) → (same ≡ true → neither ≡ false) → (same ≡ true → becomes ≡ false)
-    → now ≡ cond ((joins || (same || later)) || neither) was becomes → (not same && now) ≡ cond ((joins || later) || neither) was becomes
-retired_goes joins true later neither was becomes now apart once votes wanted e = sym (λ i. cond ((apart refl i || once refl i) || votes refl i) was (wanted refl i))
-retired_goes joins false later neither was becomes now apart once votes wanted e = e
-
 -- the learners after an id has retired
 abbrev retired_to : Configuration → Ids → ℕ → Ids
 retired_to target learners id = cond (has target.learners id) (with_id learners id) (without_id learners id)
@@ -259,26 +263,28 @@ IsAtTurn-retired c target id joins retires voters learners at = record {
   retiring = λ q later. at.retiring q (tail_among id retires q later);
   voters_at = λ q.
       has-without_id voters id q
-      ∙ retired_votes (among q joins) (q == id) (among q retires) (has c.incoming q) (has target.incoming q) (has voters q)
-      (no_joining q) (not_again id retires q at.retires_once.0) (λ same. (old q same).1) (at.voters_at q);
+      ∙ one_goes (q == id) (waits joins (id ∷ retires) q) (waits joins retires q) (has c.incoming q) (has target.incoming q) (has voters q)
+      (done q) (λ apart i. among q joins || (apart i || among q retires)) (λ same. (old q same).1) (at.voters_at q);
   learners_at = λ q.
       cond_both (has target.learners id) (with_id learners id) (without_id learners id)
-      (λ s. has s q ≡ cond (waits joins retires q || not (has c.incoming q || has target.incoming q)) (has c.learners q) (has target.learners q))
+      (λ s. has s q ≡ cond (waits joins retires q || votes_nowhere c target q) (has c.learners q) (has target.learners q))
       (λ learns.
       has-with_id learners id q
-      ∙ retired_learns (among q joins) (q == id) (among q retires) (not (has c.incoming q || has target.incoming q)) (has c.learners q) (has target.learners q) (has learners q)
-      (no_joining q) (not_again id retires q at.retires_once.0) (voted q) (λ same. ap (has target.learners) (eqb-true q id same) ∙ learns) (at.learners_at q))
+      ∙ one_comes (q == id) (waits joins (id ∷ retires) q || votes_nowhere c target q) (waits joins retires q || votes_nowhere c target q) (has c.learners q) (has target.learners q) (has learners q)
+      (λ same. or_from _ _ (done q same) (voted q same)) (λ apart i. (among q joins || (apart i || among q retires)) || votes_nowhere c target q)
+      (λ same. ap (has target.learners) (eqb-true q id same) ∙ learns) (at.learners_at q))
       (λ goes.
       has-without_id learners id q
-      ∙ retired_goes (among q joins) (q == id) (among q retires) (not (has c.incoming q || has target.incoming q)) (has c.learners q) (has target.learners q) (has learners q)
-      (no_joining q) (not_again id retires q at.retires_once.0) (voted q) (λ same. ap (has target.learners) (eqb-true q id same) ∙ goes) (at.learners_at q));
+      ∙ one_goes (q == id) (waits joins (id ∷ retires) q || votes_nowhere c target q) (waits joins retires q || votes_nowhere c target q) (has c.learners q) (has target.learners q) (has learners q)
+      (λ same. or_from _ _ (done q same) (voted q same)) (λ apart i. (among q joins || (apart i || among q retires)) || votes_nowhere c target q)
+      (λ same. ap (has target.learners) (eqb-true q id same) ∙ goes) (at.learners_at q));
 }
   where
     old : (q : ℕ) → (q == id) ≡ true → (has c.incoming q ≡ true) × (has target.incoming q ≡ false)
     old q same = at.retiring q (head_among id retires q same)
 
-    no_joining : (q : ℕ) → (q == id) ≡ true → among q joins ≡ false
-    no_joining q same = false_from_ne_true _ (λ joins. both_ways _ (at.joining q joins).0 (old q same).0)
+    done : (q : ℕ) → (q == id) ≡ true → waits joins retires q ≡ false
+    done q same = or_from _ _ (false_from_ne_true _ (λ joins. both_ways _ (at.joining q joins).0 (old q same).0)) (not_again id retires q at.retires_once.0 same)
 
     voted : (q : ℕ) → (q == id) ≡ true → not (has c.incoming q || has target.incoming q) ≡ false
     voted q same = ap not (or_left (has c.incoming q) (has target.incoming q) (old q same).0)
@@ -311,7 +317,7 @@ IsAtTurn-first c target valid_c valid = record {
       first_votes (has c.incoming q) (has target.incoming q) ∙ (λ i. cond (sym (joins q) i || sym (goes q) i) (has c.incoming q) (has target.incoming q));
   learners_at = λ q.
       first_learns (has c.incoming q) (has target.incoming q) (has c.learners q) (has target.learners q) (valid_c.learner_incoming q) (valid.learner_incoming q)
-      ∙ (λ i. cond ((sym (joins q) i || sym (goes q) i) || not (has c.incoming q || has target.incoming q)) (has c.learners q) (has target.learners q));
+      ∙ (λ i. cond ((sym (joins q) i || sym (goes q) i) || votes_nowhere c target q) (has c.learners q) (has target.learners q));
 }
   where
     joins : (q : ℕ) → among q (joining c target) ≡ (not (has c.incoming q) && has target.incoming q)
@@ -328,7 +334,7 @@ first_joins c target id joins retires voters learners at =
     let here : among id (id ∷ joins) ≡ true = head_among id joins id (eq-eqb id id refl) in
     let waiting : waits (id ∷ joins) retires id ≡ true = or_left (among id (id ∷ joins)) (among id retires) here in (
       at.voters_at id ∙ ap (λ b. cond b (has c.incoming id) (has target.incoming id)) waiting ∙ (at.joining id here).0,
-      at.learners_at id ∙ ap (λ b. cond (b || not (has c.incoming id || has target.incoming id)) (has c.learners id) (has target.learners id)) waiting,
+      at.learners_at id ∙ ap (λ b. cond (b || votes_nowhere c target id) (has c.learners id) (has target.learners id)) waiting,
     )
 
 first_retires : (c target : Configuration) (id : ℕ) (joins retires : List ℕ) (voters learners : Ids) → IsAtTurn c target joins (id ∷ retires) voters learners → has voters id ≡ true
@@ -406,7 +412,7 @@ retire_step-is_turn bound c target id joins retires voters learners valid at one
 record ReachesVoters (bound : ℕ) (c target : Configuration) (start : Configuration) (steps : List Step) : Type 0 where
   learners : Ids
   run : IsRunWith (IsTurn bound) start steps (single_with target.incoming learners)
-  learners_at : (q : ℕ) → has learners q ≡ cond (not (has c.incoming q || has target.incoming q)) (has c.learners q) (has target.learners q)
+  learners_at : (q : ℕ) → has learners q ≡ learned c target q
 
 -- from here on, with one more step or more steps before
 ReachesVoters-after : (bound : ℕ) (c target start next : Configuration) (first rest : List Step) → IsRunWith (IsTurn bound) start first next → ReachesVoters bound c target next rest
@@ -462,19 +468,7 @@ in_turn-reaches_voters bound c target (id ∷ joins) (other ∷ retires) voters 
 -- these ids learn as before, and the others as in the target
 abbrev LearnersAt : Configuration → Configuration → List ℕ → Ids → Type 0
 LearnersAt c target ids learners =
-    (q : ℕ) → has learners q ≡ cond (among q ids) (cond (not (has c.incoming q || has target.incoming q)) (has c.learners q) (has target.learners q)) (has target.learners q)
-
-stays : (same later was becomes now : Bool) → (same ≡ true → later ≡ false) → (same ≡ true → was ≡ becomes) → now ≡ cond (same || later) was becomes → now ≡ cond later was becomes
-stays true later was becomes now once alike e = e ∙ alike refl ∙ sym (λ i. cond (once refl i) was becomes)
-stays false later was becomes now once alike e = e
-
-comes : (same later was becomes now : Bool) → (same ≡ true → later ≡ false) → (same ≡ true → becomes ≡ true) → now ≡ cond (same || later) was becomes → (same || now) ≡ cond later was becomes
-comes true later was becomes now once wanted e = sym (λ i. cond (once refl i) was (wanted refl i))
-comes false later was becomes now once wanted e = e
-
-goes : (same later was becomes now : Bool) → (same ≡ true → later ≡ false) → (same ≡ true → becomes ≡ false) → now ≡ cond (same || later) was becomes → (not same && now) ≡ cond later was becomes
-goes true later was becomes now once wanted e = sym (λ i. cond (once refl i) was (wanted refl i))
-goes false later was becomes now once wanted e = e
+    (q : ℕ) → has learners q ≡ cond (among q ids) (learned c target q) (has target.learners q)
 
 -- one id, and then the others
 learner_step-then : (bound : ℕ) (c target : Configuration) (id : ℕ) (ids : List ℕ) (learners : Ids) (rest : List Step) → ValidByMember c → ValidByMember target → 1 ≤ bound → bound ≤ size target.incoming
@@ -486,10 +480,10 @@ learner_step-then bound c target id ids learners rest valid_c valid one most onc
   where
     alike : (v tl cl : Bool) → (has c.incoming id || has target.incoming id) ≡ v → has target.learners id ≡ tl → has c.learners id ≡ cl → cond (not v) cl tl ≡ tl → LearnersAt c target ids learners
     alike v tl cl voter target_is was_is same_as q =
-        stays (q == id) (among q ids) (cond (not (has c.incoming q || has target.incoming q)) (has c.learners q) (has target.learners q)) (has target.learners q) (has learners q)
-        (not_again id ids q once)
+        one_stays (q == id) (among q (id ∷ ids)) (among q ids) (learned c target q) (has target.learners q) (has learners q)
+        (not_again id ids q once) (λ apart i. apart i || among q ids)
         (λ same.
-        ap (λ x. cond (not (has c.incoming x || has target.incoming x)) (has c.learners x) (has target.learners x)) (eqb-true q id same)
+        ap (learned c target) (eqb-true q id same)
         ∙ (λ i. cond (not (voter i)) (was_is i) (target_is i)) ∙ same_as ∙ sym target_is ∙ ap (has target.learners) (sym (eqb-true q id same)))
         (at q)
 
@@ -503,16 +497,16 @@ learner_step-then bound c target id ids learners rest valid_c valid one most onc
       stranger_learns bound target.incoming learners id (not_zero target.learners id valid.zero_learners target_is) (or_parts _ _ voter).1 one most,
       then (with_id learners id) (λ q.
           has-with_id learners id q
-          ∙ comes (q == id) (among q ids) (cond (not (has c.incoming q || has target.incoming q)) (has c.learners q) (has target.learners q)) (has target.learners q) (has learners q)
-          (not_again id ids q once) (λ same. ap (has target.learners) (eqb-true q id same) ∙ target_is) (at q)),
+          ∙ one_comes (q == id) (among q (id ∷ ids)) (among q ids) (learned c target q) (has target.learners q) (has learners q)
+          (not_again id ids q once) (λ apart i. apart i || among q ids) (λ same. ap (has target.learners) (eqb-true q id same) ∙ target_is) (at q)),
     )
     by false false true voter target_is was_is = (
       single_with target.incoming (without_id learners id),
       stranger_goes bound target.incoming learners id (not_zero c.learners id valid_c.zero_learners was_is) (or_parts _ _ voter).1 one most,
       then (without_id learners id) (λ q.
           has-without_id learners id q
-          ∙ goes (q == id) (among q ids) (cond (not (has c.incoming q || has target.incoming q)) (has c.learners q) (has target.learners q)) (has target.learners q) (has learners q)
-          (not_again id ids q once) (λ same. ap (has target.learners) (eqb-true q id same) ∙ target_is) (at q)),
+          ∙ one_goes (q == id) (among q (id ∷ ids)) (among q ids) (learned c target q) (has target.learners q) (has learners q)
+          (not_again id ids q once) (λ apart i. apart i || among q ids) (λ same. ap (has target.learners) (eqb-true q id same) ∙ target_is) (at q)),
     )
 
 learner_steps-are_turns : (bound : ℕ) (c target : Configuration) (ids : List ℕ) (learners : Ids) → IsSingle target → ValidByMember c → 1 ≤ bound → bound ≤ size target.incoming → AreOnce ids → LearnersAt c target ids learners
@@ -526,11 +520,11 @@ learner_steps-are_turns bound c target (id ∷ ids) learners single valid_c one 
 
 -- ---- the whole path
 -- an id that learns at neither end learns nowhere
-at_first : (c target : Configuration) (learners : Ids) → ((q : ℕ) → has learners q ≡ cond (not (has c.incoming q || has target.incoming q)) (has c.learners q) (has target.learners q))
+at_first : (c target : Configuration) (learners : Ids) → ((q : ℕ) → has learners q ≡ learned c target q)
     → LearnersAt c target (ascending (union c.learners target.learners)) learners
 at_first c target learners at q =
     at q ∙ either (has c.incoming q || has target.incoming q) (has c.learners q) (has target.learners q)
-    ∙ ap (λ b. cond b (cond (not (has c.incoming q || has target.incoming q)) (has c.learners q) (has target.learners q)) (has target.learners q))
+    ∙ ap (λ b. cond b (learned c target q) (has target.learners q))
     (sym (sym (has-ascending (union c.learners target.learners) q) ∙ has-union c.learners target.learners q))
   where
     either : (votes learned learns : Bool) → cond (not votes) learned learns ≡ cond (learned || learns) (cond (not votes) learned learns) learns
