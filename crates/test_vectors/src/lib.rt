@@ -20,6 +20,8 @@ mod matching;
 #[cfg(test)]
 mod modes;
 #[cfg(test)]
+mod paths;
+#[cfg(test)]
 mod plans;
 #[cfg(test)]
 mod sessions;

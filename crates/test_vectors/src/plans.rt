@@ -4,12 +4,13 @@ ghost use Rattle.conf_change.specs.Configuration.{is_valid};
 
 use crate::changers::{Shown, is_shown};
 use crate::conf_states::{read, restored};
+use crate::paths::path_of;
 use crate::texts::appends;
 use crate::twice::twice;
 use conf_change::{Changer, ConfState, Config, Floor, Refused, check};
 use conf_plan::{
-    NoPath, Path, Plan, PlanFault, PlanTextFault, StepRefused, Strategy, apply_plan, changes_text,
-    command_text, plan, plan_by, print_plan, read_plan,
+    Path, Plan, PlanFault, PlanTextFault, StepRefused, Strategy, apply_plan, changes_text,
+    command_text, plan, print_plan, read_plan,
 };
 use quorum_sets::{InlineIds, MemberSet, NoMemory, TreeIds};
 use std::alloc::Global;
@@ -188,8 +189,8 @@ pub(crate) fn plan_of(alloc: Global, text: &str) -> Result<Plan, PlanTextFault> 
     )
 }
 
-/// Whether a path has the steps of a plan.
-pub(crate) fn has_steps(path: &Path, wanted: &Plan) -> bool {
+// Whether a path has the steps of a plan.
+fn has_steps(path: &Path, wanted: &Plan) -> bool {
     let mut is_so = path.len() == wanted.len();
     for index in 0..path.len() {
         is_so &= path.step(index) == wanted.step(index);
@@ -211,10 +212,7 @@ fn is_planned<S: MemberSet>(
         Err(PlanFault::NoMemory) => plan(alloc, now, target),
         answer => answer,
     };
-    let path = match plan_by(alloc, Strategy::Shortest, now, target) {
-        Err(NoPath::NoMemory) => plan_by(alloc, Strategy::Shortest, now, target),
-        path => path,
-    };
+    let path = path_of(alloc, Strategy::Shortest, now, target);
     answer.is_ok_and(|plan| plan == *wanted) & path.is_ok_and(|path| has_steps(&path, wanted))
 }
 

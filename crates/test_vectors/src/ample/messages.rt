@@ -1,7 +1,7 @@
 //! The messages of the error types, each value once, and that no two of one type are equal.
 use crate::ample::runtime::Runtime;
 use conf_change::{AckFault, ConfStateFault, Invariant, Refused, RestoreFault, TokenFault};
-use conf_plan::{PlanFault, PlanTextFault, StepRefused};
+use conf_plan::{NoPath, PlanFault, PlanTextFault, StepRefused};
 use conf_session::UndoFault;
 use conf_tool::{ConfigurationsFault, ToolFault};
 use dd_file::fault::{DeviceFault, FileFault, WriteFault};
@@ -116,11 +116,18 @@ static NO_PLANS: [(PlanFault, &str); 3] = [
         PlanFault::NoVoterNow,
         "no plan: the current configuration has no voter",
     ),
-    (
-        PlanFault::NoVoterTarget,
-        "no plan: the target configuration has no voter",
-    ),
+    (PlanFault::NoVoterTarget, "no plan: the target has no voter"),
     (PlanFault::NoMemory, NO_MEMORY),
+];
+
+static NO_PATHS: [(NoPath, &str); 4] = [
+    (
+        NoPath::NoVoterNow,
+        "no plan: the current configuration has no voter",
+    ),
+    (NoPath::NoVoterTarget, "no plan: the target has no voter"),
+    (NoPath::JointTarget, "no plan: the target is joint"),
+    (NoPath::NoMemory, NO_MEMORY),
 ];
 
 static STOPS: [(StepRefused, &str); 3] = [
@@ -157,6 +164,7 @@ static PLAN_TEXTS: [(PlanTextFault, &str); 4] = [
 #[test]
 fn plans(rt: HostRuntime) {
     assert!(rt; are_told(&rt, &NO_PLANS));
+    assert!(rt; are_told(&rt, &NO_PATHS));
     assert!(rt; are_told(&rt, &STOPS));
     assert!(rt; are_told(&rt, &PLAN_TEXTS));
 }

@@ -1,11 +1,10 @@
-//! Plans as they are applied, and their texts; paths by each strategy.
+//! Plans as they are applied, and their texts; where there is no path, and who has to catch up.
 ghost use Rattle.std.specs.Prelude.{◌≡◌, true};
 ghost use Rattle.conf_change.specs.Configuration.{is_valid};
 
 use crate::ample::configurations::{Sets, config_of};
 use crate::ample::runtime::Runtime;
 use crate::ample::sets_and_quorums::set_of;
-use crate::plans::has_steps;
 use conf_change::{Change, Changer, Config, Kind, Refused, check};
 use conf_plan::{
     NoPath, Plan, StepRefused, Strategy, apply_plan, catching_up, plan_by, print_plan, read_plan,
@@ -100,71 +99,34 @@ const FIVE: Sets = [&[1, 2, 3, 4, 5], &[], &[], &[]];
 
 const TWO_OF_FIVE_REPLACED: Sets = [&[3, 4, 5, 6, 7], &[], &[], &[]];
 
-// A strategy, the current configuration, the target, and the text of the path.
-static PATHS: [(Strategy, Sets, Sets, &str); 7] = [
-    (Strategy::Shortest, FIVE, FIVE, "nothing to do\n"),
+const NOBODY: Sets = [&[], &[], &[], &[]];
+
+const JOINT: Sets = [&[1], &[2], &[], &[]];
+
+const TWO_TO_COME: Sets = [&[2, 3], &[1], &[], &[]];
+
+// A strategy that has no path from one configuration to another, and why.
+static NO_PATHS: [(Strategy, Sets, Sets, NoPath); 12] = [
+    (Strategy::Shortest, NOBODY, ONE, NoPath::NoVoterNow),
+    (Strategy::Shortest, NOBODY, NOBODY, NoPath::NoVoterNow),
+    (Strategy::Shortest, ONE, NOBODY, NoPath::NoVoterTarget),
+    (Strategy::LearnersFirst, NOBODY, ONE, NoPath::NoVoterNow),
+    (Strategy::LearnersFirst, NOBODY, NOBODY, NoPath::NoVoterNow),
+    (Strategy::LearnersFirst, ONE, NOBODY, NoPath::NoVoterTarget),
+    (Strategy::OneAtATime, NOBODY, ONE, NoPath::NoVoterNow),
+    (Strategy::OneAtATime, NOBODY, JOINT, NoPath::NoVoterNow),
+    (Strategy::OneAtATime, ONE, NOBODY, NoPath::NoVoterTarget),
+    (Strategy::OneAtATime, JOINT, NOBODY, NoPath::NoVoterTarget),
+    (Strategy::OneAtATime, ONE, TWO_TO_COME, NoPath::JointTarget),
     (
-        Strategy::Shortest,
-        FIVE,
-        TWO_OF_FIVE_REPLACED,
-        "enter-joint autoleave=false r1 r2 v6 v7\nleave-joint\n",
-    ),
-    (Strategy::LearnersFirst, FIVE, FIVE, "nothing to do\n"),
-    (
-        Strategy::LearnersFirst,
-        FIVE,
-        TWO_OF_FIVE_REPLACED,
-        "simple l6 l7\nenter-joint autoleave=false r1 r2 v6 v7\nleave-joint\n",
-    ),
-    (
-        Strategy::LearnersFirst,
-        TWO_OF_FIVE_REPLACED,
-        [&[3, 4, 5, 6], &[], &[7], &[]],
-        "simple l7\n",
-    ),
-    (
-        Strategy::LearnersFirst,
-        [&[1], &[2], &[], &[]],
-        [&[4], &[1], &[], &[]],
-        "leave-joint\nsimple l4\nenter-joint autoleave=false r1 v4\n",
-    ),
-    (
-        Strategy::LearnersFirst,
-        ONE,
-        [&[1, 18446744073709551615], &[], &[], &[]],
-        "simple l18446744073709551615\nsimple v18446744073709551615\n",
+        Strategy::OneAtATime,
+        JOINT,
+        TWO_TO_COME,
+        NoPath::JointTarget,
     ),
 ];
 
-// Whether the path between two configurations is this plan.
-fn leads_by(
-    rt: &impl Runtime,
-    strategy: Strategy,
-    now: &Config<TreeIds>,
-    target: &Config<TreeIds>,
-    wanted: &Plan,
-) -> bool
-    requires now { is_valid now.now ≡ true }
-    requires target { is_valid target.now ≡ true }
-{
-    plan_by(rt.alloc(), strategy, now, target).is_ok_and(|path| has_steps(&path, wanted))
-}
-
-fn is_path(rt: &impl Runtime, strategy: Strategy, now: Sets, target: Sets, text: &str) -> bool {
-    let now = config_of(rt, now, false);
-    let target = config_of(rt, target, false);
-    let wanted = plan_of(rt, text);
-    check(&now).is_ok() && check(&target).is_ok() && leads_by(rt, strategy, &now, &target, &wanted)
-}
-
-#[test]
-fn goes_by_each_strategy(rt: HostRuntime) {
-    for (row, (strategy, now, target, text)) in PATHS.iter().enumerate() {
-        assert!(rt; is_path(&rt, *strategy, *now, *target, *text), "row {row}");
-    }
-}
-
-// Why there is no path between two configurations, of which one has no voter.
+// Why there is no path between two configurations.
 fn no_path(
     rt: &impl Runtime,
     strategy: Strategy,
@@ -177,22 +139,28 @@ fn no_path(
     plan_by(rt.alloc(), strategy, now, target).err()
 }
 
-fn is_without_path(rt: &impl Runtime, now: Sets, target: Sets, wanted: NoPath) -> bool {
+fn is_without_path(
+    rt: &impl Runtime,
+    strategy: Strategy,
+    now: Sets,
+    target: Sets,
+    wanted: NoPath,
+) -> bool {
     let now = config_of(rt, now, false);
     let target = config_of(rt, target, false);
     check(&now).is_ok()
         && check(&target).is_ok()
-        && no_path(rt, Strategy::Shortest, &now, &target) == Some(wanted)
-        && no_path(rt, Strategy::LearnersFirst, &now, &target) == Some(wanted)
+        && no_path(rt, strategy, &now, &target) == Some(wanted)
 }
 
-const NOBODY: Sets = [&[], &[], &[], &[]];
-
 #[test]
-fn goes_nowhere_without_voters(rt: HostRuntime) {
-    assert!(rt; is_without_path(&rt, NOBODY, ONE, NoPath::NoVoterNow));
-    assert!(rt; is_without_path(&rt, NOBODY, NOBODY, NoPath::NoVoterNow));
-    assert!(rt; is_without_path(&rt, ONE, NOBODY, NoPath::NoVoterTarget));
+fn goes_nowhere(rt: HostRuntime) {
+    for (row, (strategy, now, target, wanted)) in NO_PATHS.iter().enumerate() {
+        assert!(rt;
+            is_without_path(&rt, *strategy, *now, *target, *wanted),
+            "row {row}"
+        );
+    }
 }
 
 const ONE_DEMOTED: Sets = [&[1, 2], &[], &[3], &[]];
