@@ -22,7 +22,7 @@ use Rattle.conf_plan.specs.Planned.{kind_by, single_with}
 use Rattle.conf_plan.specs.PathBy.{has_path, path_by}
 use Rattle.conf_plan.specs.Run.{IsValidWithVoter, Gives, IsRunWith}
 use Rattle.conf_plan.specs.declared.strategy.Strategy.TheVariants.{OneAtATime}
-use Rattle.conf_plan.proofs.AliveOnTheWay.OneChange.{one_change-joins, one_change-learns, one_change-removes, has_some}
+use Rattle.conf_plan.proofs.AliveOnTheWay.OneChange.{one_change-joins, one_change-retires, has_some}
 use Rattle.conf_plan.proofs.AliveOnTheWay.ReadyVoters.{MakesVotersOfReady-same}
 use Rattle.conf_plan.proofs.BestPlan.SparedMembers.{keeps, is_member-single_with}
 use Rattle.conf_plan.proofs.FindingMoves.OfEachId.{has-union}
@@ -135,26 +135,17 @@ learner_votes bound voters learners id other new learner enough =
     no_removal true = refl
     no_removal false = refl
 
--- an id that does not vote becomes a learner
-stranger_learns : (bound : ℕ) (voters learners : Ids) (id : ℕ) → (id == 0) ≡ false → has voters id ≡ false → 1 ≤ bound → bound ≤ size voters
-    → Gives (single_with voters learners) (one_change Learner id) (single_with voters (with_id learners id))
-    × IsTurn bound (single_with voters learners) (one_change Learner id) (single_with voters (with_id learners id))
-stranger_learns bound voters learners id other new one enough =
+-- an id that does not vote becomes a learner, or is removed
+stranger_becomes : (bound : ℕ) (learns : Bool) (voters learners : Ids) (id : ℕ) → (id == 0) ≡ false → has voters id ≡ false → 1 ≤ bound → bound ≤ size voters
+    → Gives (single_with voters learners) (one_change (cond learns Learner Remove) id) (single_with voters (cond learns (with_id learners id) (without_id learners id)))
+    × IsTurn bound (single_with voters learners) (one_change (cond learns Learner Remove) id) (single_with voters (cond learns (with_id learners id) (without_id learners id)))
+stranger_becomes bound learns voters learners id other new one enough =
     let same = without_other voters id new in
-    let P : Ids → Type 0 = λ s. Gives (single_with voters learners) (one_change Learner id) (single_with s (with_id learners id)) in (
-      subst P same (one_change-learns voters learners id other (ap is_empty same ∙ not_empty bound voters one enough)),
-      record { one = refl; ready = MakesVotersOfReady-same (single_with voters learners) (single_with voters (with_id learners id)) (one_change Learner id) refl; single = refl; enough = enough },
-    )
-
--- an id that does not vote is removed
-stranger_goes : (bound : ℕ) (voters learners : Ids) (id : ℕ) → (id == 0) ≡ false → has voters id ≡ false → 1 ≤ bound → bound ≤ size voters
-    → Gives (single_with voters learners) (one_change Remove id) (single_with voters (without_id learners id))
-    × IsTurn bound (single_with voters learners) (one_change Remove id) (single_with voters (without_id learners id))
-stranger_goes bound voters learners id other new one enough =
-    let same = without_other voters id new in
-    let P : Ids → Type 0 = λ s. Gives (single_with voters learners) (one_change Remove id) (single_with s (without_id learners id)) in (
-      subst P same (one_change-removes voters learners id other (ap is_empty same ∙ not_empty bound voters one enough)),
-      record { one = refl; ready = MakesVotersOfReady-same (single_with voters learners) (single_with voters (without_id learners id)) (one_change Remove id) refl; single = refl; enough = enough },
+    let step = one_change (cond learns Learner Remove) id in
+    let others = cond learns (with_id learners id) (without_id learners id) in
+    let P : Ids → Type 0 = λ s. Gives (single_with voters learners) step (single_with s others) in (
+      subst P same (one_change-retires learns voters learners id other (ap is_empty same ∙ not_empty bound voters one enough)),
+      record { one = refl; ready = MakesVotersOfReady-same (single_with voters learners) (single_with voters others) step refl; single = refl; enough = enough },
     )
 
 -- the voters that are left were voters
@@ -367,7 +358,7 @@ join_steps-are_turns bound c target id joins retires voters learners valid at on
     (λ learner. (after, learner_votes bound voters learners id other is.0 (is.1 ∙ learner) enough, refl))
     (λ stranger. (
       single_with voters (with_id learners id),
-      stranger_learns bound voters learners id other is.0 one enough,
+      stranger_becomes bound true voters learners id other is.0 one enough,
       (
         single_with (with_id voters id) (without_id (with_id learners id) id),
         learner_votes bound voters (with_id learners id) id other is.0 (has_own learners id) enough,
@@ -385,19 +376,9 @@ retire_step-is_turn bound c target id joins retires voters learners valid at one
     let other : (id == 0) ≡ false = not_zero c.incoming id valid.zero_incoming (at.retiring id (holds_head id retires id (eq-eqb id id refl))).0 in
     let fewer = size-retired voters id here in
     let left : bound ≤ size (without_id voters id) = omega (arith, fewer, enough) in
-    let some = not_empty bound (without_id voters id) one left in
-    by (has target.learners id) other left some
-  where
-    by : (learns : Bool) → (id == 0) ≡ false → bound ≤ size (without_id voters id) → is_empty (without_id voters id) ≡ false
-        → Gives (single_with voters learners) (one_change (cond learns Learner Remove) id) (single_with (without_id voters id) (cond learns (with_id learners id) (without_id learners id)))
-        × IsTurn bound (single_with voters learners) (one_change (cond learns Learner Remove) id) (single_with (without_id voters id) (cond learns (with_id learners id) (without_id learners id)))
-    by true other left some = (
-      one_change-learns voters learners id other some,
-      record { one = refl; ready = MakesVotersOfReady-fewer voters learners (with_id learners id) id (one_change Learner id); single = refl; enough = left },
-    )
-    by false other left some = (
-      one_change-removes voters learners id other some,
-      record { one = refl; ready = MakesVotersOfReady-fewer voters learners (without_id learners id) id (one_change Remove id); single = refl; enough = left },
+    let learns = has target.learners id in (
+      one_change-retires learns voters learners id other (not_empty bound (without_id voters id) one left),
+      record { one = refl; ready = MakesVotersOfReady-fewer voters learners (retired_to target learners id) id (retire_step target id); single = refl; enough = left },
     )
 
 -- ---- all turns
@@ -487,7 +468,7 @@ learner_step-then bound c target id ids learners rest valid_c valid one most onc
     by false false false voter target_is was_is = then learners (alike false false false voter target_is was_is refl)
     by false true false voter target_is was_is = (
       single_with target.incoming (with_id learners id),
-      stranger_learns bound target.incoming learners id (not_zero target.learners id valid.zero_learners target_is) (or_parts _ _ voter).1 one most,
+      stranger_becomes bound true target.incoming learners id (not_zero target.learners id valid.zero_learners target_is) (or_parts _ _ voter).1 one most,
       then (with_id learners id) (λ q.
           has-with_id learners id q
           ∙ one_comes (q == id) (holds q (id ∷ ids)) (holds q ids) (learned c target q) (has target.learners q) (has learners q)
@@ -495,7 +476,7 @@ learner_step-then bound c target id ids learners rest valid_c valid one most onc
     )
     by false false true voter target_is was_is = (
       single_with target.incoming (without_id learners id),
-      stranger_goes bound target.incoming learners id (not_zero c.learners id valid_c.zero_learners was_is) (or_parts _ _ voter).1 one most,
+      stranger_becomes bound false target.incoming learners id (not_zero c.learners id valid_c.zero_learners was_is) (or_parts _ _ voter).1 one most,
       then (without_id learners id) (λ q.
           has-without_id learners id q
           ∙ one_goes (q == id) (holds q (id ∷ ids)) (holds q ids) (learned c target q) (has target.learners q) (has learners q)
