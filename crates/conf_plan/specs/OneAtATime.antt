@@ -2,7 +2,6 @@
 use Rattle.std.specs.Prelude.{ℕ, false, not, ◌||◌, List, [], ◌∷◌, ◌++◌, filter, Option, None, option_map, filter_map, if◌then◌else◌}
 use Rattle.quorum_sets.specs.Ids.{has, ascending, union}
 use Rattle.conf_change.specs.Configuration.{Configuration}
-use Rattle.conf_change.specs.declared.change.Change.{Change}
 use Rattle.conf_change.specs.declared.change.Kind.{Kind}
 use Rattle.conf_change.specs.declared.change.Kind.TheVariants.{Voter, Learner, Remove}
 use Rattle.conf_change.specs.declared.step.Step.{Step}

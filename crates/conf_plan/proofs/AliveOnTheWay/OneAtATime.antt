@@ -1,6 +1,6 @@
 -- What holds at each step of the path on which one member changes at a time.
 use Rattle.std.proofs.Common.{◌≡◌, ℕ, ◌+◌, ◌-◌, ◌≤◌, Bool, true, false, cond, not, ◌&&◌, ◌||◌, ◌==◌, inl, inr, List, [], ◌∷◌, ◌++◌, length, refl, sym, ap, subst, ◌∙◌, arith, eqb-true, eq-eqb}
-use Rattle.std.specs.Prelude.{Option, Some, None, min, filter, filter_map, option_map}
+use Rattle.std.specs.Prelude.{None, min, filter, filter_map, option_map}
 use Rattle.std.specs.List.{cons_option, AllByRecursion}
 use Rattle.std.specs.List.Sorted.{IsStrictlySortedBy}
 use Rattle.std.specs.Ordering.{nat_cmp}
@@ -11,12 +11,11 @@ use Rattle.quorum_sets.specs.Ids.{Ids, no_ids, has, with_id, without_id, ascendi
 use Rattle.quorum_sets.proofs.Offered.{ascending-is_sorted, has-ascending, has-ids_of, has-ids_where, has-same_ids, has-with_id, has-without_id, size-without_id}
 use Rattle.conf_change.specs.Configuration.{Configuration, ValidByMember, is_joint, is_same}
 use Rattle.conf_change.specs.Outcome.{after_leave}
-use Rattle.conf_change.specs.declared.change.Kind.{Kind}
 use Rattle.conf_change.specs.declared.change.Kind.TheVariants.{Voter, Learner, Remove}
 use Rattle.conf_change.specs.declared.step.Step.{Step}
 use Rattle.conf_change.specs.declared.step.Step.TheVariants.{LeaveJoint}
 use Rattle.conf_change.proofs.Offered.{ValidByMember-from_is_valid, is_same-equal, outcome-leave_accepted}
-use Rattle.conf_plan.specs.Alive.{IsOneChange, IsReadyLearner, MakesVotersOfReady}
+use Rattle.conf_plan.specs.Alive.{IsOneChange, MakesVotersOfReady}
 use Rattle.conf_plan.specs.OneAtATime.{one_change, joining, retiring, join_steps, retire_step, in_turn, learner_change, learner_steps, one_at_a_time_from_single}
 use Rattle.conf_plan.specs.Planned.{kind_by, single_with}
 use Rattle.conf_plan.specs.PathBy.{has_path, path_by}

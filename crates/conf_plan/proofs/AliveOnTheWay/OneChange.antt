@@ -1,13 +1,11 @@
 -- What a step of one change makes of a configuration that is not joint.
-use Rattle.std.proofs.Common.{◌≡◌, ◌≢◌, ℕ, ◌≤◌, Bool, true, false, cond, not, ◌&&◌, ◌||◌, ◌==◌, List, [], ◌∷◌, refl, sym, ap, ◌∙◌, eqb-true, eq-eqb}
-use Rattle.std.specs.Prelude.{Option, Some, None}
+use Rattle.std.proofs.Common.{◌≡◌, ℕ, Bool, true, false, cond, not, ◌&&◌, ◌||◌, ◌==◌, [], ◌∷◌, refl, sym, ap, ◌∙◌, eqb-true, eq-eqb}
+use Rattle.std.specs.Prelude.{Some, None}
 use Rattle.std.specs.Cmp.{nat_eq_equiv}
 use Rattle.std.proofs.lemmas.Bool.{or_left, true≢false, false_from_ne_true}
 use Rattle.quorum_sets.specs.Ids.{Ids, no_ids, has, with_id, without_id, is_empty}
 use Rattle.quorum_sets.proofs.Offered.{difference_count-with_id, difference_count-without_id, has-no_ids, has-with_id, has-without_id}
-use Rattle.conf_change.specs.Configuration.{Configuration}
-use Rattle.conf_change.specs.Change.{names, last_word, is_update, is_incoming_after, is_learner_after, is_next_after, result_of}
-use Rattle.conf_change.specs.declared.change.Change.{Change}
+use Rattle.conf_change.specs.Change.{last_word, is_update, is_incoming_after, is_learner_after, is_next_after, result_of}
 use Rattle.conf_change.specs.declared.change.Kind.{Kind}
 use Rattle.conf_change.specs.declared.change.Kind.TheVariants.{Voter, Learner, Remove}
 use Rattle.conf_change.proofs.Offered.{outcome-simple_accepted, configuration-by_members, has-incoming_after, has-learners_after, has-next_after, has-none_in_empty, last_word-one, is_empty-no_ids}
