@@ -50,7 +50,7 @@ abbrev pub MakesVotersOfReady : Configuration → Step → Configuration → Typ
 MakesVotersOfReady before step after =
     (id : ℕ) → has after.incoming id ≡ true → (has before.incoming id || has before.outgoing id) ≡ false → IsReadyLearner before step after id
 
--- nobody becomes a voter who was not a learner with progress before
+-- each id that becomes a voter was a learner with progress before
 abbrev pub VotersLearnFirst : Configuration → List Step → Configuration → Type 0
 VotersLearnFirst = IsRunWith MakesVotersOfReady
 
@@ -61,7 +61,7 @@ IsOneChange (Simple changes) = length changes ≡ 1
 IsOneChange (EnterJoint auto_leave changes) = ⊥
 IsOneChange LeaveJoint = ⊤
 
--- a step of one change that makes no voter of an id that was not a learner
+-- a step of one change that makes voters of learners alone
 pub record ChangesOneLearnerFirst (before : Configuration) (step : Step) (after : Configuration) : Type 0 where
   pub one : IsOneChange step
   pub learners : (id : ℕ) → has after.incoming id ≡ true → (has before.incoming id || has before.outgoing id) ≡ false → has before.learners id ≡ true
@@ -74,7 +74,7 @@ pub record ShortestServes (now : Configuration) (steps : List Step) (target : Co
   pub quorums : KeepsQuorums now steps target
   pub tolerance : KeepsTolerance now steps target
 
--- The steps are at most one more than any other run has, and at most five. Beside what holds of the plan, nobody becomes a voter who was not a learner with progress before.
+-- The steps are at most one more than any other run has, and at most five. Beside what holds of the plan, each id that becomes a voter was a learner with progress before.
 pub record LearnersFirstServes (now : Configuration) (steps : List Step) (target : Configuration) : Type 0 where
   pub run : IsRun now steps target
   pub one_more : (other : List Step) → IsRun now other target → length steps ≤ length other + 1
@@ -84,7 +84,7 @@ pub record LearnersFirstServes (now : Configuration) (steps : List Step) (target
   pub voters : VotersLearnFirst now steps target
   pub overlap : IsRunWith (λ before step after. Overlap (voters_of before) (voters_of after)) now steps target
 
--- The steps change one member each, and no other run of such steps, on which nobody becomes a voter who was not a learner before, has fewer.
+-- The steps change one member each, and each id that becomes a voter was a learner with progress before. No other run has fewer steps whose steps change one member each and make voters of learners alone.
 pub record OneAtATimeServes (now : Configuration) (steps : List Step) (target : Configuration) : Type 0 where
   pub run : IsRunWith ChangesOneLearnerFirst now steps target
   pub least : (other : List Step) → IsRunWith ChangesOneLearnerFirst now other target → length steps ≤ length other

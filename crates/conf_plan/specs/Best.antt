@@ -1,4 +1,4 @@
--- What makes a plan the best there is: its steps, the ids that it spares, its changes, and the overlap of voters. Logs are not measured.
+-- What makes a plan the best one: its steps, the ids whose progress it preserves, its changes, and the overlap of voters. Logs are not measured.
 use Rattle.std.specs.Prelude.{◌≡◌, ◌≢◌, ℕ, ◌≤◌, Bool, true, ◌&&◌, ◌||◌, ◌↔◌, List, [], ◌∷◌, length, sum_by, count_by}
 use Rattle.std.specs.List.{All}
 use Rattle.quorum_sets.specs.Ids.{has}
@@ -15,12 +15,12 @@ use Rattle.conf_change.specs.declared.step.Step.TheVariants.{Simple, EnterJoint,
 use Rattle.conf_plan.specs.Run.{IsRun, IsRunWith}
 
 -- ---- an id, along a run
--- the run spares the id: it is a member before, and keeps its progress at each step
+-- the run preserves the id: it is a member before, and keeps its progress at each step
 abbrev pub Spares : Configuration → List Step → Configuration → ℕ → Type 0
 Spares before steps after id =
     (is_member before id ≡ true) × IsRunWith (λ at step next. keeps_progress at step next id ≡ true) before steps after
 
--- how many changes of the steps have a say on the id
+-- how many effective changes of the steps name the id
 abbrev pub times_named : ℕ → List Step → ℕ
 times_named id steps = sum_by (λ step. count_by (names id) (changes_of step)) steps
 
@@ -46,7 +46,7 @@ pub record IsPlain (change : Change) : Type 0 where
   pub named : change.id ≢ 0
   pub no_update : change.kind ≢ Update
 
--- The steps lead to the target. No run there is shorter, spares an id that they do not spare, or names an id in fewer changes; they spare whoever is a member of both configurations and of what a first leave gives; and the voters before and after each step overlap.
+-- The steps lead to the target. No run there is shorter, preserves an id that they do not preserve, or names an id in fewer changes; they preserve each member of both configurations that is also a member of what a first leave gives; and the voters before and after each step overlap.
 pub record IsBest (now : Configuration) (steps : List Step) (target : Configuration) : Type 0 where
   pub run : IsRun now steps target
   pub shortest : (other : List Step) → IsRun now other target → length steps ≤ length other

@@ -8,7 +8,7 @@ use Rattle.conf_change.specs.declared.step.Step.{Step}
 use Rattle.conf_change.specs.declared.step.Step.TheVariants.{Simple}
 use Rattle.conf_plan.specs.Planned.{planned}
 
--- the voters of the target, incoming or outgoing, that are no members of the configuration
+-- the voters of the target, incoming or outgoing, that are not members of the configuration
 abbrev pub newcomers : Configuration → Configuration → Ids
 newcomers c target = ids_where (λ id. not (is_member c id)) (ascending target.incoming ++ ascending target.outgoing)
 

@@ -2,7 +2,6 @@
 use Rattle.std.specs.Prelude.{ℕ, false, not, ◌||◌, List, [], ◌∷◌, ◌++◌, filter, Option, None, option_map, filter_map, if◌then◌else◌}
 use Rattle.quorum_sets.specs.Ids.{has, ascending, union}
 use Rattle.conf_change.specs.Configuration.{Configuration}
-use Rattle.conf_change.specs.declared.change.Change.{Change}
 use Rattle.conf_change.specs.declared.change.Kind.{Kind}
 use Rattle.conf_change.specs.declared.change.Kind.TheVariants.{Voter, Learner, Remove}
 use Rattle.conf_change.specs.declared.step.Step.{Step}
@@ -21,7 +20,7 @@ joining c target = filter (λ id. not (has c.incoming id)) (ascending target.inc
 abbrev pub retiring : Configuration → Configuration → List ℕ
 retiring c target = filter (λ id. not (has target.incoming id)) (ascending c.incoming)
 
--- an id becomes a voter, and first a learner if it is none
+-- an id becomes a voter, and first a learner if it is not one
 abbrev pub join_steps : Configuration → ℕ → List Step
 join_steps c id = if has c.learners id then one_change Voter id ∷ [] else one_change Learner id ∷ one_change Voter id ∷ []
 
@@ -36,7 +35,7 @@ in_turn c target (id ∷ joins) [] = join_steps c id ++ in_turn c target joins [
 in_turn c target [] (id ∷ retires) = retire_step target id ∷ in_turn c target [] retires
 in_turn c target (id ∷ joins) (other ∷ retires) = join_steps c id ++ retire_step target other ∷ in_turn c target joins retires
 
--- what an id that votes neither before nor after has to become: a learner, or no member
+-- what an id that votes neither before nor after has to become, if anything: a learner, or not a member
 abbrev pub learner_change : Configuration → Configuration → ℕ → Option Kind
 learner_change c target id =
     if has c.incoming id || has target.incoming id then None else kind_by false (has target.learners id) false (has c.learners id)

@@ -17,7 +17,7 @@ kind_by wanted_voter wanted_learner voter learner =
     else (if wanted_learner then (if learner then None else Some Learner)
     else (if voter || learner then Some Remove else None))
 
--- the same for an id of a configuration, where these voters and learners are wanted
+-- what an id of a configuration has to become, if anything, where these voters and learners are wanted
 abbrev pub kind_of_move : Configuration → Ids → Ids → ℕ → Option Kind
 kind_of_move c voters learners id = kind_by (has voters id) (has learners id) (has c.incoming id) (has c.learners id)
 
@@ -41,11 +41,11 @@ single_steps c voters learners =
     then Simple (moves c voters learners) ∷ []
     else EnterJoint false (moves c voters learners) ∷ LeaveJoint ∷ []
 
--- the id is a member of the target and no outgoing voter of it
+-- the id is a member of the target, but not an outgoing voter of it
 abbrev pub is_shared : Configuration → ℕ → Bool
 is_shared target id = is_member target id && not (has target.outgoing id)
 
--- the members of both that are no outgoing voters of the target
+-- the members of both that are not outgoing voters of the target
 abbrev pub shared_members : Configuration → Configuration → Ids
 shared_members c target = ids_where (is_shared target) (members c)
 

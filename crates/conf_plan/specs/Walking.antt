@@ -1,4 +1,4 @@
--- Ids that are met in rising order.
+-- Ids that are read in ascending order, and steps that are added.
 use Rattle.std.specs.Prelude.{◌≡◌, ℕ, ◌+◌, ◌^◌, ◌<◌, ◌≤◌, Bool, ◌⊎◌, ◌↔◌, true, List, ◌++◌, Option, Some, None, slice_get, if◌then◌else◌}
 use Rattle.std.specs.List.{All}
 use Rattle.quorum_sets.specs.Ids.{Ids, ascending, size}
@@ -17,17 +17,17 @@ pub record IsEarlier (a b first : Option ℕ) : Type 0 where
   pub no_later_than_b : IsNoLater first b
   pub either : (first ≡ a) ⊎ (first ≡ b)
 
--- the place after the id, where the id stands at the place, and else the same place
-pub record IsPassed (ids : Ids) (place id : ℕ) (found : Bool) (next : ℕ) : Type 0 where
-  pub here : (found ≡ true) ↔ (slice_get (ascending ids) place ≡ Some id)
-  pub behind : next ≡ place + (if found then 1 else 0)
+-- the index after the id, if the id is at the index, and else the same index
+pub record IsPassed (ids : Ids) (index id : ℕ) (found : Bool) (next : ℕ) : Type 0 where
+  pub here : (found ≡ true) ↔ (slice_get (ascending ids) index ≡ Some id)
+  pub after : next ≡ index + (if found then 1 else 0)
 
--- a walk over the ids stands at the place, where this id comes next, and its places are numbers of 64 bits
-pub record IsStanding (ids : Ids) (place : ℕ) (next : Option ℕ) : Type 0 where
-  pub here : next ≡ slice_get (ascending ids) place
+-- a walk over the ids is at the index, where this id comes next, and its indexes are numbers of 64 bits
+pub record IsStanding (ids : Ids) (index : ℕ) (next : Option ℕ) : Type 0 where
+  pub here : next ≡ slice_get (ascending ids) index
   pub few : size ids < 2 ^ 64
 
--- steps are added behind those before; their ids are numbers of 64 bits
+-- steps are added after those before; their ids are numbers of 64 bits
 pub record IsAdded (before more after : List Step) : Type 0 where
   pub whole : after ≡ before ++ more
   pub word_ids : All HasWordIds more

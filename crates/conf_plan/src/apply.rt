@@ -20,11 +20,10 @@ pub struct StepRefused {
     pub refused: Refused,
 }
 
-/// Takes the steps of a plan in order, up to the first that is refused: the changer then stands after the steps before it.
-/// A plan that leads to a configuration from where the changer stands gets it there, unless memory is wanting. The
-/// members that it spares keep their match and next; a plan that was made for it spares whom any steps there spare. No
-/// steps from where the changer stood to where it then stands do better than such a plan: none are fewer, and none name an
-/// id in fewer changes.
+/// Takes the steps of a plan in order, up to the first that is refused; the changer has then taken the steps before it.
+/// A plan that leads from the changer's configuration to another one is taken whole, unless memory runs out. The members
+/// whose progress it preserves keep their match and next. If it was made for the changer, it is the best plan to where it
+/// leads: no steps to there preserve a member that it does not preserve, are fewer, or name an id in fewer changes.
 pub fn apply_plan<S: MemberSet>(changer: &mut Changer<S>, plan: &Plan) -> Result<(), StepRefused>
     ensures taken { OnOk result (Takes changer.old plan.now changer.new) }
     ensures stopped { IfErr result (λ stop. StopsAt changer.old plan.now stop.step stop.refused changer.new) }
@@ -38,13 +37,13 @@ pub fn apply_plan<S: MemberSet>(changer: &mut Changer<S>, plan: &Plan) -> Result
     ensures memory_alone { IfErr result (λ stop. (target : Configuration) → IsRun changer.old.tracker.config plan.now target → stop.refused ≡ Refused.NoMemory) }
 {
     let _tracker = changer.tracker();
-    for place in 0..plan.len() {
-        if let Some(step) = plan.step(place) {
+    for index in 0..plan.len() {
+        if let Some(step) = plan.step(index) {
             match changer.step(step) {
                 Ok(()) => {}
                 Err(refused) => {
                     return Err(StepRefused {
-                        step: place + 1,
+                        step: index + 1,
                         refused,
                     });
                 }

@@ -49,8 +49,8 @@ fn is_removal(kind: Kind) -> bool
     }
 }
 
-// Whether a member after a step that removes these ids has lost its progress: it was no member before, or a new one takes its
-// place.
+// Whether a member after a step that removes these ids has lost its progress: it was not a member before, or a new member
+// replaces it.
 fn has_lost<S: MemberSet>(before: &Config<S>, after: &Config<S>, removed: &S, id: u64) -> bool
     ensures { result ≡ (not (is_member before.now id) || (has (S.ids removed.now) id && not (has after.now.outgoing id))) }
 {

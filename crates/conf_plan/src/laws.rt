@@ -38,7 +38,8 @@ pub fn planned_is_run()
     ensures at_most_four { (now target : Configuration) → IsValidWithVoter now → IsValidWithVoter target → length (planned now target) ≤ 4 }
 {}
 
-/// The plan is the best there is: the shortest run, which spares most and names each id in the fewest changes.
+/// The plan is the best run: the shortest, which preserves the progress of the most members and names each id in the fewest
+/// changes.
 pub fn planned_is_best()
     ensures { (now target : Configuration) → IsValidWithVoter now → IsValidWithVoter target → IsBest now (planned now target) target }
 {}
@@ -59,7 +60,7 @@ pub fn progress_is_kept()
         → keeps_progress before.tracker.config step after.tracker.config id ≡ true → HasKeptProgress before after id }
 {}
 
-/// Whatever run was made, the plan is a run back, of at most four steps, and of at most three where one step is undone.
+/// After any run, the plan leads back in at most four steps, and in at most three if the run has one step.
 pub fn undo_of_run()
     ensures back { (before after : Configuration) (steps : List Step) → IsValidWithVoter before → IsRun before steps after
         → IsRun after (planned after before) before }
@@ -69,7 +70,8 @@ pub fn undo_of_run()
         → length steps ≡ 1 → length (planned after before) ≤ 3 }
 {}
 
-/// The same for lists of changes, each taken by its transition.
+/// After any lists of changes, each taken by its transition, the plan leads back in at most four steps, and in at most three
+/// after one list.
 pub fn undo_of_changes()
     ensures back { (before after : Configuration) (lists : List (Transition × List Change)) → IsValidWithVoter before → IsRun before (steps_taken lists) after
         → IsRun after (planned after before) before }
@@ -79,8 +81,8 @@ pub fn undo_of_changes()
         → length lists ≡ 1 → length (planned after before) ≤ 3 }
 {}
 
-/// Steps lead a changer to one changer at most, and it is the one that the function gives, which it does wherever they are
-/// a run from the changer's configuration.
+/// Steps lead a changer to at most one changer, which is what `after_steps` gives. If they are a run from the changer's
+/// configuration, they lead it to one.
 pub fn one_changer_after_steps()
     ensures taken { (before after : ChangerState) (steps : List Step) → (Takes before steps after) ↔ (after_steps before steps ≡ Some after) }
     ensures run { (before : ChangerState) (steps : List Step) (target : Configuration) → IsRun before.tracker.config steps target

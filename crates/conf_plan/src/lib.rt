@@ -12,7 +12,8 @@
 //! ```
 //!
 //! That a step is accepted does not say that the cluster goes on serving: a new voter begins with an empty log, and counts
-//! as missing until it has caught up.
+//! as missing until it has caught up. So [`plan_by`] makes paths by a [`Strategy`] too: one on which new voters are
+//! learners first, and one that changes one member at a time.
 //!
 //! [`apply_plan`] takes the steps of a plan. [`print_plan`] and [`print_path`] write one step a line, and [`read_plan`]
 //! reads a plan back.

@@ -8,11 +8,11 @@ use conf_change::{Change, Kind};
 use quorum_sets::{MemberSet, NoMemory};
 use std::alloc::Global;
 
-// The room for changes that is taken at first: there are seldom more.
+// How many changes there is room for at first; there are seldom more.
 const USUAL_CHANGES: usize = 16;
 
-// The changes from the voters and learners that there are to those that are wanted, by rising id. Each place of the four
-// sets is met once, and asked for once.
+// The changes from the current voters and learners to those of the target, by ascending id. Each id of the four sets is
+// read once.
 pub(crate) fn moves_to<S: MemberSet>(
     alloc: Global,
     incoming: &S,
@@ -43,37 +43,37 @@ pub(crate) fn moves_to<S: MemberSet>(
     Ok(changes)
 }
 
-// Where a walk over the ids of a set stands: the place, and the id there, which the set is asked for once.
+// A position in a walk over the ids of a set: the index, and the id there, which is read once.
 #[derive(Drop)]
 struct Walk {
-    place: usize,
+    index: usize,
     next: Option<u64>,
 }
 
 impl Walk {
-    // Begins with the first id.
+    // Begins at the first id.
     fn begin<S: MemberSet>(ids: &S) -> Walk
-        ensures begun { result.place ≡ 0 }
-        ensures standing { IsStanding (S.ids ids.now) result.place result.next }
+        ensures begun { result.index ≡ 0 }
+        ensures standing { IsStanding (S.ids ids.now) result.index result.next }
     {
-        // The length fits a usize, so the places do.
+        // The length fits a usize, so the indexes do.
         let _len = ids.len();
         Walk {
-            place: 0,
+            index: 0,
             next: ids.at(0),
         }
     }
 
-    // Goes past the id if it stands at the place, and tells whether it does.
+    // Moves past the id if it comes next, and returns whether it does.
     fn pass<S: MemberSet>(&mut self, ids: &S, id: u64) -> bool
-        requires { IsStanding (S.ids ids.now) self.old.place self.old.next }
-        ensures passed { IsPassed (S.ids ids.now) self.old.place id result self.new.place }
-        ensures standing { IsStanding (S.ids ids.now) self.new.place self.new.next }
+        requires { IsStanding (S.ids ids.now) self.old.index self.old.next }
+        ensures passed { IsPassed (S.ids ids.now) self.old.index id result self.new.index }
+        ensures standing { IsStanding (S.ids ids.now) self.new.index self.new.next }
     {
         let here = self.next == Some(id);
         if here {
-            self.place += 1;
-            self.next = ids.at(self.place);
+            self.index += 1;
+            self.next = ids.at(self.index);
         }
         here
     }

@@ -6,7 +6,7 @@ ghost use Rattle.quorum_sets.specs.Ids.{has, ascending, ids_where};
 use quorum_sets::{MemberSet, NoMemory};
 use std::alloc::Global;
 
-// Those ids that pass the test, which is asked of each once, in ascending order.
+// The ids that pass the test, which is called once for each, in ascending order.
 pub(crate) fn picked<S: MemberSet, F: Fn(u64) -> bool>(
     alloc: Global,
     ids: &S,
@@ -20,7 +20,7 @@ pub(crate) fn picked<S: MemberSet, F: Fn(u64) -> bool>(
     Ok(picked)
 }
 
-// Adds those ids that pass the test, each after the last one.
+// Adds the ids that pass the test, in ascending order.
 fn add_picked<S: MemberSet, F: Fn(u64) -> bool>(
     picked: &mut S,
     ids: &S,
@@ -29,8 +29,8 @@ fn add_picked<S: MemberSet, F: Fn(u64) -> bool>(
     requires { F.IsAlwaysCallable test }
     ensures { OnOk result ((passes : ℕ → Bool) → Decides (F.post test) passes → (q : ℕ) → has (S.ids picked.new) q ≡ (has (S.ids picked.old) q || (has (S.ids ids.now) q && passes q))) }
 {
-    for place in 0..ids.len() {
-        if let Some(id) = ids.at(place) {
+    for index in 0..ids.len() {
+        if let Some(id) = ids.at(index) {
             if test(id) {
                 picked.insert(id)?;
             }

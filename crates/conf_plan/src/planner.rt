@@ -39,10 +39,10 @@ impl From<NoMemory> for PlanFault {
     }
 }
 
-/// The plan from one configuration to another: its steps lead from the one to the other. No other steps are fewer, spare
-/// an id that these do not spare, or name an id in fewer changes, and the voters before and after each step overlap. Logs
-/// are not looked at: a new voter begins with an empty one. There is a plan between any two configurations with voters,
-/// and without voters there is none, which is found before any memory is taken.
+/// The plan from one configuration to another: the best steps that lead there. No other steps are fewer, preserve the
+/// progress of a member that the plan does not preserve, or name an id in fewer changes, and the voters before and after
+/// each step overlap. Logs are not considered: a new voter begins with an empty one. There is a plan between any two
+/// configurations with voters. Without voters there is none, which is found before any memory is taken.
 pub fn plan<S: MemberSet>(
     alloc: Global,
     now: &Config<S>,

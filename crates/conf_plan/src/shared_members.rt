@@ -8,7 +8,7 @@ use conf_change::{Config, union};
 use quorum_sets::{MemberSet, NoMemory};
 use std::alloc::Global;
 
-// Those of these voters and learners that are members of the target and no outgoing voters of it.
+// The voters and learners that are members of the target, but not outgoing voters of it.
 pub(crate) fn shared_members<S: MemberSet>(
     alloc: Global,
     incoming: &S,
@@ -21,7 +21,7 @@ pub(crate) fn shared_members<S: MemberSet>(
     picked(alloc, &members, |id| is_shared(target, id))
 }
 
-// Whether the id is a member of the target and no outgoing voter of it.
+// Whether the id is a member of the target, but not an outgoing voter of it.
 fn is_shared<S: MemberSet>(target: &Config<S>, id: u64) -> bool
     ensures { result ≡ is_shared target.now id }
 {

@@ -61,10 +61,10 @@ impl Plan {
         self.steps.len()
     }
 
-    /// The step at a place, counted from 0.
-    pub fn step(&self, place: usize) -> Option<&Step>
-        ensures { option_copied result ≡ slice_get self.now place }
+    /// The step at an index, counted from 0.
+    pub fn step(&self, index: usize) -> Option<&Step>
+        ensures { option_copied result ≡ slice_get self.now index }
     {
-        self.steps.get(place)
+        self.steps.get(index)
     }
 }

@@ -1,4 +1,4 @@
-//! Paths from one configuration to another, by the strategy that a cluster which serves can afford.
+//! Paths from one configuration to another, by a strategy for clusters that have to go on serving.
 ghost use Rattle.std.specs.Prelude.{◌≡◌, ◌↔◌, true, false, Err, IfOk, OnOk};
 ghost use Rattle.conf_change.specs.Configuration.{is_valid, has_voter};
 ghost use Rattle.conf_plan.specs.PathBy.{has_path, path_by, Serves};

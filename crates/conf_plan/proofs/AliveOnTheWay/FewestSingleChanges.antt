@@ -1,11 +1,11 @@
 -- No run of single changes, on which only learners become voters, is shorter than the path that takes one member at a time.
 -- Each id costs some changes until it is what it has to be. One change lowers the sum of these costs by one at most, and the path has as many steps as the sum.
-use Rattle.std.proofs.Common.{◌≡◌, ℕ, ◌+◌, ◌≤◌, Bool, true, false, cond, not, ◌&&◌, ◌||◌, ◌==◌, List, [], ◌∷◌, ◌++◌, length, is_some, inl, inr, refl, sym, ap, subst, ◌∙◌, arith, eqb-true}
+use Rattle.std.proofs.Common.{◌≡◌, ℕ, ◌+◌, ◌≤◌, Bool, true, false, cond, not, ◌&&◌, ◌||◌, ◌==◌, List, [], ◌∷◌, length, is_some, inl, inr, refl, sym, ap, subst, ◌∙◌, arith, eqb-true}
 use Rattle.std.specs.Prelude.{Option, Some, None, option_map, filter, filter_map, sum_by, count_by}
 use Rattle.std.specs.List.{cons_option}
 use Rattle.std.specs.List.Sorted.{IsStrictlySortedBy}
 use Rattle.std.specs.Ordering.{nat_cmp}
-use Rattle.std.proofs.lemmas.Bool.{true≢false, cases_Bool, both_ways, cond_both, not-false, or_from, or_left, or_right, false_from_ne_true}
+use Rattle.std.proofs.lemmas.Bool.{true≢false, cases_Bool, cond_both, not-false, or_from, or_left, or_right, false_from_ne_true}
 use Rattle.std.proofs.lemmas.List.{length-append}
 use Rattle.std.proofs.lemmas.List.Sums.{sum_by-cons, length-filter}
 use Rattle.quorum_sets.specs.Ids.{Ids, has, ascending, union, is_empty}

@@ -1,10 +1,9 @@
 -- What holds at each step of the path on which one member changes at a time.
 use Rattle.std.proofs.Common.{◌≡◌, ℕ, ◌+◌, ◌-◌, ◌≤◌, Bool, true, false, cond, not, ◌&&◌, ◌||◌, ◌==◌, inl, inr, List, [], ◌∷◌, ◌++◌, length, refl, sym, ap, subst, ◌∙◌, arith, eqb-true, eq-eqb}
-use Rattle.std.specs.Prelude.{Option, Some, None, min, filter, filter_map, option_map}
-use Rattle.std.specs.List.{list_any, cons_option, AllByRecursion}
+use Rattle.std.specs.Prelude.{None, min, filter, filter_map, option_map}
+use Rattle.std.specs.List.{cons_option, AllByRecursion}
 use Rattle.std.specs.List.Sorted.{IsStrictlySortedBy}
 use Rattle.std.specs.Ordering.{nat_cmp}
-use Rattle.std.specs.Cmp.{unsigned_tied}
 use Rattle.std.specs.declared.cmp.Ordering.TheVariants.{Less}
 use Rattle.std.proofs.lemmas.Bool.{true≢false, both_ways, cond_both, false_from_ne_true, ne_eqb, not-true, or_from, or_left, or_right, or_parts, or_cases}
 use Rattle.std.proofs.lemmas.List.Kept.{IsStrictlySortedBy-filter}
@@ -12,51 +11,44 @@ use Rattle.quorum_sets.specs.Ids.{Ids, no_ids, has, with_id, without_id, ascendi
 use Rattle.quorum_sets.proofs.Offered.{ascending-is_sorted, has-ascending, has-ids_of, has-ids_where, has-same_ids, has-with_id, has-without_id, size-without_id}
 use Rattle.conf_change.specs.Configuration.{Configuration, ValidByMember, is_joint, is_same}
 use Rattle.conf_change.specs.Outcome.{after_leave}
-use Rattle.conf_change.specs.declared.change.Kind.{Kind}
 use Rattle.conf_change.specs.declared.change.Kind.TheVariants.{Voter, Learner, Remove}
 use Rattle.conf_change.specs.declared.step.Step.{Step}
 use Rattle.conf_change.specs.declared.step.Step.TheVariants.{LeaveJoint}
 use Rattle.conf_change.proofs.Offered.{ValidByMember-from_is_valid, is_same-equal, outcome-leave_accepted}
-use Rattle.conf_plan.specs.Alive.{IsOneChange, IsReadyLearner, MakesVotersOfReady}
+use Rattle.conf_plan.specs.Alive.{IsOneChange, MakesVotersOfReady}
 use Rattle.conf_plan.specs.OneAtATime.{one_change, joining, retiring, join_steps, retire_step, in_turn, learner_change, learner_steps, one_at_a_time_from_single}
 use Rattle.conf_plan.specs.Planned.{kind_by, single_with}
 use Rattle.conf_plan.specs.PathBy.{has_path, path_by}
 use Rattle.conf_plan.specs.Run.{IsValidWithVoter, Gives, IsRunWith}
 use Rattle.conf_plan.specs.declared.strategy.Strategy.TheVariants.{OneAtATime}
-use Rattle.conf_plan.proofs.AliveOnTheWay.OneChange.{one_change-joins, one_change-learns, one_change-removes, has_some}
+use Rattle.conf_plan.proofs.AliveOnTheWay.OneChange.{one_change-joins, one_change-retires, has_some}
 use Rattle.conf_plan.proofs.AliveOnTheWay.ReadyVoters.{MakesVotersOfReady-same}
 use Rattle.conf_plan.proofs.BestPlan.SparedMembers.{keeps, is_member-single_with}
 use Rattle.conf_plan.proofs.FindingMoves.OfEachId.{has-union}
 use Rattle.conf_plan.proofs.FindingMoves.ResultingConfiguration.{IsSingle}
+use Rattle.conf_plan.proofs.FindingMoves.RisingIds.{holds, holds-above}
 use Rattle.conf_plan.proofs.PlannedSteps.RunToTarget.{single_with-own, after_leave-is_single}
 use Rattle.conf_plan.proofs.Runs.Chains.{IsChain-append}
 
 -- ---- lists of ids
-abbrev pub among : ℕ → List ℕ → Bool
-among q ids = list_any (λ x. q == x) ids
-
 -- no id is there twice
 abbrev pub AreOnce : List ℕ → Type 0
 AreOnce [] = Unit {0}
-AreOnce (id ∷ ids) = (among id ids ≡ false) × AreOnce ids
+AreOnce (id ∷ ids) = (holds id ids ≡ false) × AreOnce ids
 
-not_less : (x y : ℕ) → nat_cmp x y ≡ Less → (x == y) ≡ false
-not_less x y less = sym (unsigned_tied x y) ∙ rw less refl
-
-apart_from : (x : ℕ) (ids : List ℕ) → AllByRecursion (λ y. nat_cmp x y ≡ Less) ids → among x ids ≡ false
-apart_from x [] above = refl
-apart_from x (y ∷ ids) above = or_from (x == y) (among x ids) (not_less x y above.0) (apart_from x ids above.1)
+below_rest : (x : ℕ) (ids : List ℕ) → AllByRecursion (λ y. nat_cmp x y ≡ Less) ids → holds x ids ≡ false
+below_rest x ids above = false_from_ne_true _ (λ here. let below = holds-above x x ids above here in absurd (omega (arith, below)))
 
 AreOnce-sorted : (ids : List ℕ) → IsStrictlySortedBy nat_cmp ids → AreOnce ids
 unfolding IsStrictlySortedBy
 AreOnce-sorted [] up = tt
-AreOnce-sorted (id ∷ ids) up = (apart_from id ids up.0, AreOnce-sorted ids up.1)
+AreOnce-sorted (id ∷ ids) up = (below_rest id ids up.0, AreOnce-sorted ids up.1)
 
 pub AreOnce-where : (test : ℕ → Bool) (ids : Ids) → AreOnce (filter test (ascending ids))
 AreOnce-where test ids = AreOnce-sorted _ (IsStrictlySortedBy-filter nat_cmp test (ascending ids) (ascending-is_sorted ids))
 
-pub among-where : (test : ℕ → Bool) (ids : Ids) (q : ℕ) → among q (filter test (ascending ids)) ≡ (test q && has ids q)
-among-where test ids q =
+pub holds-where : (test : ℕ → Bool) (ids : Ids) (q : ℕ) → holds q (filter test (ascending ids)) ≡ (test q && has ids q)
+holds-where test ids q =
     sym (has-ids_of (filter test (ascending ids)) q) ∙ has-ids_where test (ascending ids) q ∙ ap (λ b. test q && b) (sym (has-ascending ids q))
 
 -- ---- one id more or less
@@ -116,8 +108,7 @@ learner_votes : (bound : ℕ) (voters learners : Ids) (id : ℕ) → (id == 0) �
     × IsTurn bound (single_with voters learners) (one_change Voter id) (single_with (with_id voters id) (without_id learners id))
 learner_votes bound voters learners id other new learner enough =
     let before = single_with voters learners in
-    let after = single_with (with_id voters id) (without_id learners id) in
-    (
+    let after = single_with (with_id voters id) (without_id learners id) in (
       one_change-joins voters learners id other,
       record {
         one = refl;
@@ -143,28 +134,17 @@ learner_votes bound voters learners id other new learner enough =
     no_removal true = refl
     no_removal false = refl
 
--- an id that does not vote becomes a learner
-stranger_learns : (bound : ℕ) (voters learners : Ids) (id : ℕ) → (id == 0) ≡ false → has voters id ≡ false → 1 ≤ bound → bound ≤ size voters
-    → Gives (single_with voters learners) (one_change Learner id) (single_with voters (with_id learners id))
-    × IsTurn bound (single_with voters learners) (one_change Learner id) (single_with voters (with_id learners id))
-stranger_learns bound voters learners id other new one enough =
+-- an id that does not vote becomes a learner, or is removed
+stranger_becomes : (bound : ℕ) (learns : Bool) (voters learners : Ids) (id : ℕ) → (id == 0) ≡ false → has voters id ≡ false → 1 ≤ bound → bound ≤ size voters
+    → Gives (single_with voters learners) (one_change (cond learns Learner Remove) id) (single_with voters (cond learns (with_id learners id) (without_id learners id)))
+    × IsTurn bound (single_with voters learners) (one_change (cond learns Learner Remove) id) (single_with voters (cond learns (with_id learners id) (without_id learners id)))
+stranger_becomes bound learns voters learners id other new one enough =
     let same = without_other voters id new in
-    let P : Ids → Type 0 = λ s. Gives (single_with voters learners) (one_change Learner id) (single_with s (with_id learners id)) in
-    (
-      subst P same (one_change-learns voters learners id other (ap is_empty same ∙ not_empty bound voters one enough)),
-      record { one = refl; ready = MakesVotersOfReady-same (single_with voters learners) (single_with voters (with_id learners id)) (one_change Learner id) refl; single = refl; enough = enough },
-    )
-
--- an id that does not vote is removed
-stranger_goes : (bound : ℕ) (voters learners : Ids) (id : ℕ) → (id == 0) ≡ false → has voters id ≡ false → 1 ≤ bound → bound ≤ size voters
-    → Gives (single_with voters learners) (one_change Remove id) (single_with voters (without_id learners id))
-    × IsTurn bound (single_with voters learners) (one_change Remove id) (single_with voters (without_id learners id))
-stranger_goes bound voters learners id other new one enough =
-    let same = without_other voters id new in
-    let P : Ids → Type 0 = λ s. Gives (single_with voters learners) (one_change Remove id) (single_with s (without_id learners id)) in
-    (
-      subst P same (one_change-removes voters learners id other (ap is_empty same ∙ not_empty bound voters one enough)),
-      record { one = refl; ready = MakesVotersOfReady-same (single_with voters learners) (single_with voters (without_id learners id)) (one_change Remove id) refl; single = refl; enough = enough },
+    let step = one_change (cond learns Learner Remove) id in
+    let others = cond learns (with_id learners id) (without_id learners id) in
+    let P : Ids → Type 0 = λ s. Gives (single_with voters learners) step (single_with s others) in (
+      subst P same (one_change-retires learns voters learners id other (ap is_empty same ∙ not_empty bound voters one enough)),
+      record { one = refl; ready = MakesVotersOfReady-same (single_with voters learners) (single_with voters others) step refl; single = refl; enough = enough },
     )
 
 -- the voters that are left were voters
@@ -178,77 +158,81 @@ MakesVotersOfReady-fewer voters learners others id step q votes none =
 
 -- ---- who still has to join or to retire
 abbrev pub waits : List ℕ → List ℕ → ℕ → Bool
-waits joins retires q = among q joins || among q retires
+waits joins retires q = holds q joins || holds q retires
+
+-- the id is an incoming voter of neither
+abbrev pub votes_nowhere : Configuration → Configuration → ℕ → Bool
+votes_nowhere c target q = not (has c.incoming q || has target.incoming q)
+
+-- whether an id learns once the voters are those of the target
+abbrev pub learned : Configuration → Configuration → ℕ → Bool
+learned c target q = cond (votes_nowhere c target q) (has c.learners q) (has target.learners q)
 
 -- The ids that still have to join or to retire are as in the current configuration, and the others vote as in the target. Those that vote at neither end learn as in the current configuration.
 pub record IsAtTurn (c target : Configuration) (joins retires : List ℕ) (voters learners : Ids) : Type 0 where
   pub joins_once : AreOnce joins
   pub retires_once : AreOnce retires
-  pub joining : (q : ℕ) → among q joins ≡ true → (has c.incoming q ≡ false) × (has target.incoming q ≡ true)
-  pub retiring : (q : ℕ) → among q retires ≡ true → (has c.incoming q ≡ true) × (has target.incoming q ≡ false)
+  pub joining : (q : ℕ) → holds q joins ≡ true → (has c.incoming q ≡ false) × (has target.incoming q ≡ true)
+  pub retiring : (q : ℕ) → holds q retires ≡ true → (has c.incoming q ≡ true) × (has target.incoming q ≡ false)
   pub voters_at : (q : ℕ) → has voters q ≡ cond (waits joins retires q) (has c.incoming q) (has target.incoming q)
-  pub learners_at : (q : ℕ) → has learners q ≡ cond (waits joins retires q || not (has c.incoming q || has target.incoming q)) (has c.learners q) (has target.learners q)
+  pub learners_at : (q : ℕ) → has learners q ≡ cond (waits joins retires q || votes_nowhere c target q) (has c.learners q) (has target.learners q)
+
+-- An id that is done is as it becomes, and one that waits is as it was. One more is done: it is added, it is taken away, or nothing changes.
+one_comes : (same waited left was becomes now : Bool) → (same ≡ true → left ≡ false) → (same ≡ false → waited ≡ left) → (same ≡ true → becomes ≡ true)
+    → now ≡ cond waited was becomes → (same || now) ≡ cond left was becomes
+one_comes true waited left was becomes now done alike wanted e = sym (λ i. cond (done refl i) was (wanted refl i))
+one_comes false waited left was becomes now done alike wanted e = e ∙ ap (λ b. cond b was becomes) (alike refl)
+
+one_goes : (same waited left was becomes now : Bool) → (same ≡ true → left ≡ false) → (same ≡ false → waited ≡ left) → (same ≡ true → becomes ≡ false)
+    → now ≡ cond waited was becomes → (not same && now) ≡ cond left was becomes
+one_goes true waited left was becomes now done alike wanted e = sym (λ i. cond (done refl i) was (wanted refl i))
+one_goes false waited left was becomes now done alike wanted e = e ∙ ap (λ b. cond b was becomes) (alike refl)
+
+one_stays : (same waited left was becomes now : Bool) → (same ≡ true → left ≡ false) → (same ≡ false → waited ≡ left) → (same ≡ true → was ≡ becomes)
+    → now ≡ cond waited was becomes → now ≡ cond left was becomes
+one_stays true waited left was becomes now done alike wanted e = e ∙ same_either waited was becomes (wanted refl) ∙ sym (λ i. cond (done refl i) was becomes)
+  where
+    same_either : (b was becomes : Bool) → was ≡ becomes → cond b was becomes ≡ becomes
+    same_either true was becomes e = e
+    same_either false was becomes e = refl
+one_stays false waited left was becomes now done alike wanted e = e ∙ ap (λ b. cond b was becomes) (alike refl)
 
 -- ---- one joins
-head_among : (id : ℕ) (ids : List ℕ) (q : ℕ) → (q == id) ≡ true → among q (id ∷ ids) ≡ true
-head_among id ids q same = or_left (q == id) (among q ids) same
+holds_head : (id : ℕ) (ids : List ℕ) (q : ℕ) → (q == id) ≡ true → holds q (id ∷ ids) ≡ true
+holds_head id ids q same = or_left (q == id) (holds q ids) same
 
-tail_among : (id : ℕ) (ids : List ℕ) (q : ℕ) → among q ids ≡ true → among q (id ∷ ids) ≡ true
-tail_among id ids q later = or_right (q == id) (among q ids) later
+holds_tail : (id : ℕ) (ids : List ℕ) (q : ℕ) → holds q ids ≡ true → holds q (id ∷ ids) ≡ true
+holds_tail id ids q later = or_right (q == id) (holds q ids) later
 
-not_again : (id : ℕ) (ids : List ℕ) (q : ℕ) → among id ids ≡ false → (q == id) ≡ true → among q ids ≡ false
-not_again id ids q once same = ap (λ x. among x ids) (eqb-true q id same) ∙ once
-
-joined_votes : (same later retires was becomes now : Bool) → (same ≡ true → later ≡ false) → (same ≡ true → retires ≡ false) → (same ≡ true → becomes ≡ true)
-    → now ≡ cond ((same || later) || retires) was becomes → (same || now) ≡ cond (later || retires) was becomes
-joined_votes true later retires was becomes now once apart wanted e = sym (λ i. cond (once refl i || apart refl i) was (wanted refl i))
-joined_votes false later retires was becomes now once apart wanted e = e
-
-joined_learns : (same later retires neither was becomes now : Bool) → (same ≡ true → later ≡ false) → (same ≡ true → retires ≡ false) → (same ≡ true → neither ≡ false) → (same ≡ true → becomes ≡ false)
-    → now ≡ cond (((same || later) || retires) || neither) was becomes → (not same && now) ≡ cond ((later || retires) || neither) was becomes
-joined_learns true later retires neither was becomes now once apart votes wanted e = sym (λ i. cond ((once refl i || apart refl i) || votes refl i) was (wanted refl i))
-joined_learns false later retires neither was becomes now once apart votes wanted e = e
+not_again : (id : ℕ) (ids : List ℕ) (q : ℕ) → holds id ids ≡ false → (q == id) ≡ true → holds q ids ≡ false
+not_again id ids q once same = ap (λ x. holds x ids) (eqb-true q id same) ∙ once
 
 pub IsAtTurn-joined : (c target : Configuration) (id : ℕ) (joins retires : List ℕ) (voters learners : Ids) → ValidByMember target
     → IsAtTurn c target (id ∷ joins) retires voters learners → IsAtTurn c target joins retires (with_id voters id) (without_id learners id)
 IsAtTurn-joined c target id joins retires voters learners valid at = record {
   joins_once = at.joins_once.1;
   retires_once = at.retires_once;
-  joining = λ q later. at.joining q (tail_among id joins q later);
+  joining = λ q later. at.joining q (holds_tail id joins q later);
   retiring = at.retiring;
   voters_at = λ q.
       has-with_id voters id q
-      ∙ joined_votes (q == id) (among q joins) (among q retires) (has c.incoming q) (has target.incoming q) (has voters q)
-      (not_again id joins q at.joins_once.0) (no_retiring q) (λ same. (new q same).1) (at.voters_at q);
+      ∙ one_comes (q == id) (waits (id ∷ joins) retires q) (waits joins retires q) (has c.incoming q) (has target.incoming q) (has voters q)
+      (done q) (λ apart i. (apart i || holds q joins) || holds q retires) (λ same. (new q same).1) (at.voters_at q);
   learners_at = λ q.
       has-without_id learners id q
-      ∙ joined_learns (q == id) (among q joins) (among q retires) (not (has c.incoming q || has target.incoming q)) (has c.learners q) (has target.learners q) (has learners q)
-      (not_again id joins q at.joins_once.0) (no_retiring q) (λ same. ap not (or_right (has c.incoming q) (has target.incoming q) (new q same).1))
+      ∙ one_goes (q == id) (waits (id ∷ joins) retires q || votes_nowhere c target q) (waits joins retires q || votes_nowhere c target q) (has c.learners q) (has target.learners q) (has learners q)
+      (λ same. or_from _ _ (done q same) (ap not (or_right (has c.incoming q) (has target.incoming q) (new q same).1)))
+      (λ apart i. ((apart i || holds q joins) || holds q retires) || votes_nowhere c target q)
       (λ same. false_from_ne_true _ (λ learns. both_ways _ (valid.learner_incoming q learns) (new q same).1)) (at.learners_at q);
 }
   where
     new : (q : ℕ) → (q == id) ≡ true → (has c.incoming q ≡ false) × (has target.incoming q ≡ true)
-    new q same = at.joining q (head_among id joins q same)
+    new q same = at.joining q (holds_head id joins q same)
 
-    no_retiring : (q : ℕ) → (q == id) ≡ true → among q retires ≡ false
-    no_retiring q same = false_from_ne_true _ (λ retires. both_ways _ (new q same).0 (at.retiring q retires).0)
+    done : (q : ℕ) → (q == id) ≡ true → waits joins retires q ≡ false
+    done q same = or_from _ _ (not_again id joins q at.joins_once.0 same) (false_from_ne_true _ (λ retires. both_ways _ (new q same).0 (at.retiring q retires).0))
 
 -- ---- one retires
-retired_votes : (joins same later was becomes now : Bool) → (same ≡ true → joins ≡ false) → (same ≡ true → later ≡ false) → (same ≡ true → becomes ≡ false)
-    → now ≡ cond (joins || (same || later)) was becomes → (not same && now) ≡ cond (joins || later) was becomes
-retired_votes joins true later was becomes now apart once wanted e = sym (λ i. cond (apart refl i || once refl i) was (wanted refl i))
-retired_votes joins false later was becomes now apart once wanted e = e
-
-retired_learns : (joins same later neither was becomes now : Bool) → (same ≡ true → joins ≡ false) → (same ≡ true → later ≡ false) → (same ≡ true → neither ≡ false) → (same ≡ true → becomes ≡ true)
-    → now ≡ cond ((joins || (same || later)) || neither) was becomes → (same || now) ≡ cond ((joins || later) || neither) was becomes
-retired_learns joins true later neither was becomes now apart once votes wanted e = sym (λ i. cond ((apart refl i || once refl i) || votes refl i) was (wanted refl i))
-retired_learns joins false later neither was becomes now apart once votes wanted e = e
-
-retired_goes : (joins same later neither was becomes now : Bool) → (same ≡ true → joins ≡ false) → (same ≡ true → later ≡ false) → (same ≡ true → neither ≡ false) → (same ≡ true → becomes ≡ false)
-    → now ≡ cond ((joins || (same || later)) || neither) was becomes → (not same && now) ≡ cond ((joins || later) || neither) was becomes
-retired_goes joins true later neither was becomes now apart once votes wanted e = sym (λ i. cond ((apart refl i || once refl i) || votes refl i) was (wanted refl i))
-retired_goes joins false later neither was becomes now apart once votes wanted e = e
-
 -- the learners after an id has retired
 abbrev retired_to : Configuration → Ids → ℕ → Ids
 retired_to target learners id = cond (has target.learners id) (with_id learners id) (without_id learners id)
@@ -259,29 +243,31 @@ IsAtTurn-retired c target id joins retires voters learners at = record {
   joins_once = at.joins_once;
   retires_once = at.retires_once.1;
   joining = at.joining;
-  retiring = λ q later. at.retiring q (tail_among id retires q later);
+  retiring = λ q later. at.retiring q (holds_tail id retires q later);
   voters_at = λ q.
       has-without_id voters id q
-      ∙ retired_votes (among q joins) (q == id) (among q retires) (has c.incoming q) (has target.incoming q) (has voters q)
-      (no_joining q) (not_again id retires q at.retires_once.0) (λ same. (old q same).1) (at.voters_at q);
+      ∙ one_goes (q == id) (waits joins (id ∷ retires) q) (waits joins retires q) (has c.incoming q) (has target.incoming q) (has voters q)
+      (done q) (λ apart i. holds q joins || (apart i || holds q retires)) (λ same. (old q same).1) (at.voters_at q);
   learners_at = λ q.
       cond_both (has target.learners id) (with_id learners id) (without_id learners id)
-      (λ s. has s q ≡ cond (waits joins retires q || not (has c.incoming q || has target.incoming q)) (has c.learners q) (has target.learners q))
+      (λ s. has s q ≡ cond (waits joins retires q || votes_nowhere c target q) (has c.learners q) (has target.learners q))
       (λ learns.
       has-with_id learners id q
-      ∙ retired_learns (among q joins) (q == id) (among q retires) (not (has c.incoming q || has target.incoming q)) (has c.learners q) (has target.learners q) (has learners q)
-      (no_joining q) (not_again id retires q at.retires_once.0) (voted q) (λ same. ap (has target.learners) (eqb-true q id same) ∙ learns) (at.learners_at q))
+      ∙ one_comes (q == id) (waits joins (id ∷ retires) q || votes_nowhere c target q) (waits joins retires q || votes_nowhere c target q) (has c.learners q) (has target.learners q) (has learners q)
+      (λ same. or_from _ _ (done q same) (voted q same)) (λ apart i. (holds q joins || (apart i || holds q retires)) || votes_nowhere c target q)
+      (λ same. ap (has target.learners) (eqb-true q id same) ∙ learns) (at.learners_at q))
       (λ goes.
       has-without_id learners id q
-      ∙ retired_goes (among q joins) (q == id) (among q retires) (not (has c.incoming q || has target.incoming q)) (has c.learners q) (has target.learners q) (has learners q)
-      (no_joining q) (not_again id retires q at.retires_once.0) (voted q) (λ same. ap (has target.learners) (eqb-true q id same) ∙ goes) (at.learners_at q));
+      ∙ one_goes (q == id) (waits joins (id ∷ retires) q || votes_nowhere c target q) (waits joins retires q || votes_nowhere c target q) (has c.learners q) (has target.learners q) (has learners q)
+      (λ same. or_from _ _ (done q same) (voted q same)) (λ apart i. (holds q joins || (apart i || holds q retires)) || votes_nowhere c target q)
+      (λ same. ap (has target.learners) (eqb-true q id same) ∙ goes) (at.learners_at q));
 }
   where
     old : (q : ℕ) → (q == id) ≡ true → (has c.incoming q ≡ true) × (has target.incoming q ≡ false)
-    old q same = at.retiring q (head_among id retires q same)
+    old q same = at.retiring q (holds_head id retires q same)
 
-    no_joining : (q : ℕ) → (q == id) ≡ true → among q joins ≡ false
-    no_joining q same = false_from_ne_true _ (λ joins. both_ways _ (at.joining q joins).0 (old q same).0)
+    done : (q : ℕ) → (q == id) ≡ true → waits joins retires q ≡ false
+    done q same = or_from _ _ (false_from_ne_true _ (λ joins. both_ways _ (at.joining q joins).0 (old q same).0)) (not_again id retires q at.retires_once.0 same)
 
     voted : (q : ℕ) → (q == id) ≡ true → not (has c.incoming q || has target.incoming q) ≡ false
     voted q same = ap not (or_left (has c.incoming q) (has target.incoming q) (old q same).0)
@@ -314,31 +300,30 @@ IsAtTurn-first c target valid_c valid = record {
       first_votes (has c.incoming q) (has target.incoming q) ∙ (λ i. cond (sym (joins q) i || sym (goes q) i) (has c.incoming q) (has target.incoming q));
   learners_at = λ q.
       first_learns (has c.incoming q) (has target.incoming q) (has c.learners q) (has target.learners q) (valid_c.learner_incoming q) (valid.learner_incoming q)
-      ∙ (λ i. cond ((sym (joins q) i || sym (goes q) i) || not (has c.incoming q || has target.incoming q)) (has c.learners q) (has target.learners q));
+      ∙ (λ i. cond ((sym (joins q) i || sym (goes q) i) || votes_nowhere c target q) (has c.learners q) (has target.learners q));
 }
   where
-    joins : (q : ℕ) → among q (joining c target) ≡ (not (has c.incoming q) && has target.incoming q)
-    joins q = among-where (λ id. not (has c.incoming id)) target.incoming q
+    joins : (q : ℕ) → holds q (joining c target) ≡ (not (has c.incoming q) && has target.incoming q)
+    joins q = holds-where (λ id. not (has c.incoming id)) target.incoming q
 
-    goes : (q : ℕ) → among q (retiring c target) ≡ (not (has target.incoming q) && has c.incoming q)
-    goes q = among-where (λ id. not (has target.incoming id)) c.incoming q
+    goes : (q : ℕ) → holds q (retiring c target) ≡ (not (has target.incoming q) && has c.incoming q)
+    goes q = holds-where (λ id. not (has target.incoming id)) c.incoming q
 
 -- ---- how many vote
 -- an id that comes next to join does not vote, and one that comes next to retire does
 first_joins : (c target : Configuration) (id : ℕ) (joins retires : List ℕ) (voters learners : Ids) → IsAtTurn c target (id ∷ joins) retires voters learners
     → (has voters id ≡ false) × (has learners id ≡ has c.learners id)
 first_joins c target id joins retires voters learners at =
-    let here : among id (id ∷ joins) ≡ true = head_among id joins id (eq-eqb id id refl) in
-    let waiting : waits (id ∷ joins) retires id ≡ true = or_left (among id (id ∷ joins)) (among id retires) here in
-    (
+    let here : holds id (id ∷ joins) ≡ true = holds_head id joins id (eq-eqb id id refl) in
+    let waiting : waits (id ∷ joins) retires id ≡ true = or_left (holds id (id ∷ joins)) (holds id retires) here in (
       at.voters_at id ∙ ap (λ b. cond b (has c.incoming id) (has target.incoming id)) waiting ∙ (at.joining id here).0,
-      at.learners_at id ∙ ap (λ b. cond (b || not (has c.incoming id || has target.incoming id)) (has c.learners id) (has target.learners id)) waiting,
+      at.learners_at id ∙ ap (λ b. cond (b || votes_nowhere c target id) (has c.learners id) (has target.learners id)) waiting,
     )
 
 first_retires : (c target : Configuration) (id : ℕ) (joins retires : List ℕ) (voters learners : Ids) → IsAtTurn c target joins (id ∷ retires) voters learners → has voters id ≡ true
 first_retires c target id joins retires voters learners at =
-    let here : among id (id ∷ retires) ≡ true = head_among id retires id (eq-eqb id id refl) in
-    let waiting : waits joins (id ∷ retires) id ≡ true = or_right (among id joins) (among id (id ∷ retires)) here in
+    let here : holds id (id ∷ retires) ≡ true = holds_head id retires id (eq-eqb id id refl) in
+    let waiting : waits joins (id ∷ retires) id ≡ true = or_right (holds id joins) (holds id (id ∷ retires)) here in
     at.voters_at id ∙ ap (λ b. cond b (has c.incoming id) (has target.incoming id)) waiting ∙ (at.retiring id here).0
 
 -- the voters and those that still join are as many as the target's voters and those that still retire
@@ -367,12 +352,12 @@ join_steps-are_turns : (bound : ℕ) (c target : Configuration) (id : ℕ) (join
 join_steps-are_turns bound c target id joins retires voters learners valid at one enough =
     let after = single_with (with_id voters id) (without_id learners id) in
     let is = first_joins c target id joins retires voters learners at in
-    let other : (id == 0) ≡ false = not_zero target.incoming id valid.zero_incoming (at.joining id (head_among id joins id (eq-eqb id id refl))).1 in
+    let other : (id == 0) ≡ false = not_zero target.incoming id valid.zero_incoming (at.joining id (holds_head id joins id (eq-eqb id id refl))).1 in
     cond_both (has c.learners id) _ _ (λ steps. IsRunWith (IsTurn bound) (single_with voters learners) steps after)
     (λ learner. (after, learner_votes bound voters learners id other is.0 (is.1 ∙ learner) enough, refl))
     (λ stranger. (
       single_with voters (with_id learners id),
-      stranger_learns bound voters learners id other is.0 one enough,
+      stranger_becomes bound true voters learners id other is.0 one enough,
       (
         single_with (with_id voters id) (without_id (with_id learners id) id),
         learner_votes bound voters (with_id learners id) id other is.0 (has_own learners id) enough,
@@ -387,22 +372,12 @@ retire_step-is_turn : (bound : ℕ) (c target : Configuration) (id : ℕ) (joins
     × IsTurn bound (single_with voters learners) (retire_step target id) (single_with (without_id voters id) (retired_to target learners id))
 retire_step-is_turn bound c target id joins retires voters learners valid at one enough =
     let here = first_retires c target id joins retires voters learners at in
-    let other : (id == 0) ≡ false = not_zero c.incoming id valid.zero_incoming (at.retiring id (head_among id retires id (eq-eqb id id refl))).0 in
+    let other : (id == 0) ≡ false = not_zero c.incoming id valid.zero_incoming (at.retiring id (holds_head id retires id (eq-eqb id id refl))).0 in
     let fewer = size-retired voters id here in
     let left : bound ≤ size (without_id voters id) = omega (arith, fewer, enough) in
-    let some = not_empty bound (without_id voters id) one left in
-    by (has target.learners id) other left some
-  where
-    by : (learns : Bool) → (id == 0) ≡ false → bound ≤ size (without_id voters id) → is_empty (without_id voters id) ≡ false
-        → Gives (single_with voters learners) (one_change (cond learns Learner Remove) id) (single_with (without_id voters id) (cond learns (with_id learners id) (without_id learners id)))
-        × IsTurn bound (single_with voters learners) (one_change (cond learns Learner Remove) id) (single_with (without_id voters id) (cond learns (with_id learners id) (without_id learners id)))
-    by true other left some = (
-      one_change-learns voters learners id other some,
-      record { one = refl; ready = MakesVotersOfReady-fewer voters learners (with_id learners id) id (one_change Learner id); single = refl; enough = left },
-    )
-    by false other left some = (
-      one_change-removes voters learners id other some,
-      record { one = refl; ready = MakesVotersOfReady-fewer voters learners (without_id learners id) id (one_change Remove id); single = refl; enough = left },
+    let learns = has target.learners id in (
+      one_change-retires learns voters learners id other (not_empty bound (without_id voters id) one left),
+      record { one = refl; ready = MakesVotersOfReady-fewer voters learners (retired_to target learners id) id (retire_step target id); single = refl; enough = left },
     )
 
 -- ---- all turns
@@ -410,7 +385,7 @@ retire_step-is_turn bound c target id joins retires voters learners valid at one
 record ReachesVoters (bound : ℕ) (c target : Configuration) (start : Configuration) (steps : List Step) : Type 0 where
   learners : Ids
   run : IsRunWith (IsTurn bound) start steps (single_with target.incoming learners)
-  learners_at : (q : ℕ) → has learners q ≡ cond (not (has c.incoming q || has target.incoming q)) (has c.learners q) (has target.learners q)
+  learners_at : (q : ℕ) → has learners q ≡ learned c target q
 
 -- from here on, with one more step or more steps before
 ReachesVoters-after : (bound : ℕ) (c target start next : Configuration) (first rest : List Step) → IsRunWith (IsTurn bound) start first next → ReachesVoters bound c target next rest
@@ -466,23 +441,11 @@ in_turn-reaches_voters bound c target (id ∷ joins) (other ∷ retires) voters 
 -- these ids learn as before, and the others as in the target
 abbrev LearnersAt : Configuration → Configuration → List ℕ → Ids → Type 0
 LearnersAt c target ids learners =
-    (q : ℕ) → has learners q ≡ cond (among q ids) (cond (not (has c.incoming q || has target.incoming q)) (has c.learners q) (has target.learners q)) (has target.learners q)
-
-stays : (same later was becomes now : Bool) → (same ≡ true → later ≡ false) → (same ≡ true → was ≡ becomes) → now ≡ cond (same || later) was becomes → now ≡ cond later was becomes
-stays true later was becomes now once alike e = e ∙ alike refl ∙ sym (λ i. cond (once refl i) was becomes)
-stays false later was becomes now once alike e = e
-
-comes : (same later was becomes now : Bool) → (same ≡ true → later ≡ false) → (same ≡ true → becomes ≡ true) → now ≡ cond (same || later) was becomes → (same || now) ≡ cond later was becomes
-comes true later was becomes now once wanted e = sym (λ i. cond (once refl i) was (wanted refl i))
-comes false later was becomes now once wanted e = e
-
-goes : (same later was becomes now : Bool) → (same ≡ true → later ≡ false) → (same ≡ true → becomes ≡ false) → now ≡ cond (same || later) was becomes → (not same && now) ≡ cond later was becomes
-goes true later was becomes now once wanted e = sym (λ i. cond (once refl i) was (wanted refl i))
-goes false later was becomes now once wanted e = e
+    (q : ℕ) → has learners q ≡ cond (holds q ids) (learned c target q) (has target.learners q)
 
 -- one id, and then the others
 learner_step-then : (bound : ℕ) (c target : Configuration) (id : ℕ) (ids : List ℕ) (learners : Ids) (rest : List Step) → ValidByMember c → ValidByMember target → 1 ≤ bound → bound ≤ size target.incoming
-    → among id ids ≡ false → LearnersAt c target (id ∷ ids) learners
+    → holds id ids ≡ false → LearnersAt c target (id ∷ ids) learners
     → ((others : Ids) → LearnersAt c target ids others → IsRunWith (IsTurn bound) (single_with target.incoming others) rest target)
     → IsRunWith (IsTurn bound) (single_with target.incoming learners) (cons_option (option_map (λ kind. one_change kind id) (learner_change c target id)) rest) target
 learner_step-then bound c target id ids learners rest valid_c valid one most once at then =
@@ -490,10 +453,10 @@ learner_step-then bound c target id ids learners rest valid_c valid one most onc
   where
     alike : (v tl cl : Bool) → (has c.incoming id || has target.incoming id) ≡ v → has target.learners id ≡ tl → has c.learners id ≡ cl → cond (not v) cl tl ≡ tl → LearnersAt c target ids learners
     alike v tl cl voter target_is was_is same_as q =
-        stays (q == id) (among q ids) (cond (not (has c.incoming q || has target.incoming q)) (has c.learners q) (has target.learners q)) (has target.learners q) (has learners q)
-        (not_again id ids q once)
+        one_stays (q == id) (holds q (id ∷ ids)) (holds q ids) (learned c target q) (has target.learners q) (has learners q)
+        (not_again id ids q once) (λ apart i. apart i || holds q ids)
         (λ same.
-        ap (λ x. cond (not (has c.incoming x || has target.incoming x)) (has c.learners x) (has target.learners x)) (eqb-true q id same)
+        ap (learned c target) (eqb-true q id same)
         ∙ (λ i. cond (not (voter i)) (was_is i) (target_is i)) ∙ same_as ∙ sym target_is ∙ ap (has target.learners) (sym (eqb-true q id same)))
         (at q)
 
@@ -504,19 +467,19 @@ learner_step-then bound c target id ids learners rest valid_c valid one most onc
     by false false false voter target_is was_is = then learners (alike false false false voter target_is was_is refl)
     by false true false voter target_is was_is = (
       single_with target.incoming (with_id learners id),
-      stranger_learns bound target.incoming learners id (not_zero target.learners id valid.zero_learners target_is) (or_parts _ _ voter).1 one most,
+      stranger_becomes bound true target.incoming learners id (not_zero target.learners id valid.zero_learners target_is) (or_parts _ _ voter).1 one most,
       then (with_id learners id) (λ q.
-      has-with_id learners id q
-      ∙ comes (q == id) (among q ids) (cond (not (has c.incoming q || has target.incoming q)) (has c.learners q) (has target.learners q)) (has target.learners q) (has learners q)
-      (not_again id ids q once) (λ same. ap (has target.learners) (eqb-true q id same) ∙ target_is) (at q)),
+          has-with_id learners id q
+          ∙ one_comes (q == id) (holds q (id ∷ ids)) (holds q ids) (learned c target q) (has target.learners q) (has learners q)
+          (not_again id ids q once) (λ apart i. apart i || holds q ids) (λ same. ap (has target.learners) (eqb-true q id same) ∙ target_is) (at q)),
     )
     by false false true voter target_is was_is = (
       single_with target.incoming (without_id learners id),
-      stranger_goes bound target.incoming learners id (not_zero c.learners id valid_c.zero_learners was_is) (or_parts _ _ voter).1 one most,
+      stranger_becomes bound false target.incoming learners id (not_zero c.learners id valid_c.zero_learners was_is) (or_parts _ _ voter).1 one most,
       then (without_id learners id) (λ q.
-      has-without_id learners id q
-      ∙ goes (q == id) (among q ids) (cond (not (has c.incoming q || has target.incoming q)) (has c.learners q) (has target.learners q)) (has target.learners q) (has learners q)
-      (not_again id ids q once) (λ same. ap (has target.learners) (eqb-true q id same) ∙ target_is) (at q)),
+          has-without_id learners id q
+          ∙ one_goes (q == id) (holds q (id ∷ ids)) (holds q ids) (learned c target q) (has target.learners q) (has learners q)
+          (not_again id ids q once) (λ apart i. apart i || holds q ids) (λ same. ap (has target.learners) (eqb-true q id same) ∙ target_is) (at q)),
     )
 
 learner_steps-are_turns : (bound : ℕ) (c target : Configuration) (ids : List ℕ) (learners : Ids) → IsSingle target → ValidByMember c → 1 ≤ bound → bound ≤ size target.incoming → AreOnce ids → LearnersAt c target ids learners
@@ -530,11 +493,11 @@ learner_steps-are_turns bound c target (id ∷ ids) learners single valid_c one 
 
 -- ---- the whole path
 -- an id that learns at neither end learns nowhere
-at_first : (c target : Configuration) (learners : Ids) → ((q : ℕ) → has learners q ≡ cond (not (has c.incoming q || has target.incoming q)) (has c.learners q) (has target.learners q))
+at_first : (c target : Configuration) (learners : Ids) → ((q : ℕ) → has learners q ≡ learned c target q)
     → LearnersAt c target (ascending (union c.learners target.learners)) learners
 at_first c target learners at q =
     at q ∙ either (has c.incoming q || has target.incoming q) (has c.learners q) (has target.learners q)
-    ∙ ap (λ b. cond b (cond (not (has c.incoming q || has target.incoming q)) (has c.learners q) (has target.learners q)) (has target.learners q))
+    ∙ ap (λ b. cond b (learned c target q) (has target.learners q))
     (sym (sym (has-ascending (union c.learners target.learners) q) ∙ has-union c.learners target.learners q))
   where
     either : (votes learned learns : Bool) → cond (not votes) learned learns ≡ cond (learned || learns) (cond (not votes) learned learns) learns

@@ -1,13 +1,11 @@
 -- What a step of one change makes of a configuration that is not joint.
-use Rattle.std.proofs.Common.{◌≡◌, ◌≢◌, ℕ, ◌≤◌, Bool, true, false, cond, not, ◌&&◌, ◌||◌, ◌==◌, List, [], ◌∷◌, refl, sym, ap, ◌∙◌, eqb-true, eq-eqb}
-use Rattle.std.specs.Prelude.{Option, Some, None}
+use Rattle.std.proofs.Common.{◌≡◌, ℕ, Bool, true, false, cond, not, ◌&&◌, ◌||◌, ◌==◌, [], ◌∷◌, refl, sym, ap, ◌∙◌, eqb-true, eq-eqb}
+use Rattle.std.specs.Prelude.{Some, None}
 use Rattle.std.specs.Cmp.{nat_eq_equiv}
 use Rattle.std.proofs.lemmas.Bool.{or_left, true≢false, false_from_ne_true}
 use Rattle.quorum_sets.specs.Ids.{Ids, no_ids, has, with_id, without_id, is_empty}
 use Rattle.quorum_sets.proofs.Offered.{difference_count-with_id, difference_count-without_id, has-no_ids, has-with_id, has-without_id}
-use Rattle.conf_change.specs.Configuration.{Configuration}
-use Rattle.conf_change.specs.Change.{names, last_word, is_update, is_incoming_after, is_learner_after, is_next_after, result_of}
-use Rattle.conf_change.specs.declared.change.Change.{Change}
+use Rattle.conf_change.specs.Change.{last_word, is_update, is_incoming_after, is_learner_after, is_next_after, result_of}
 use Rattle.conf_change.specs.declared.change.Kind.{Kind}
 use Rattle.conf_change.specs.declared.change.Kind.TheVariants.{Voter, Learner, Remove}
 use Rattle.conf_change.proofs.Offered.{outcome-simple_accepted, configuration-by_members, has-incoming_after, has-learners_after, has-next_after, has-none_in_empty, last_word-one, is_empty-no_ids}
@@ -68,50 +66,48 @@ one_change-joins voters learners id other =
     (ap not (has_some (with_id voters id) id (has-with_id voters id id ∙ or_left (id == id) (has voters id) (eq-eqb id id refl))))
     (difference_count-with_id voters id)
 
-becomes_learner : (b out was : Bool) → out ≡ false → is_learner_after (cond b (Some Learner) None) out was ≡ (b || was)
-becomes_learner true out was apart = ap not apart
-becomes_learner false out was apart = refl
+-- the kind of change by which an id stops voting, where it learns from then on or not, and the learners after it
+plain : (learns : Bool) → is_update (cond learns Learner Remove) ≡ false
+plain true = refl
+plain false = refl
 
--- the id becomes a learner, and somebody else votes
-pub one_change-learns : (voters learners : Ids) (id : ℕ) → (id == 0) ≡ false → is_empty (without_id voters id) ≡ false
-    → Gives (single_with voters learners) (one_change Learner id) (single_with (without_id voters id) (with_id learners id))
-one_change-learns voters learners id other left =
+stops : (learns was : Bool) → is_incoming_after (Some (cond learns Learner Remove)) was ≡ false
+stops true was = refl
+stops false was = refl
+
+waits_never : (learns was : Bool) → is_next_after (Some (cond learns Learner Remove)) false was ≡ false
+waits_never true was = refl
+waits_never false was = refl
+
+learns_after : (learns : Bool) (learners : Ids) (id q : ℕ) (out : Bool) → out ≡ false
+    → is_learner_after (cond (q == id) (Some (cond learns Learner Remove)) None) out (has learners q) ≡ has (cond learns (with_id learners id) (without_id learners id)) q
+learns_after true learners id q out apart = by (q == id) (has learners q) ∙ sym (has-with_id learners id q)
+  where
+    by : (b was : Bool) → is_learner_after (cond b (Some Learner) None) out was ≡ (b || was)
+    by true was = ap not apart
+    by false was = refl
+learns_after false learners id q out apart = by (q == id) (has learners q) ∙ sym (has-without_id learners id q)
+  where
+    by : (b was : Bool) → is_learner_after (cond b (Some Remove) None) out was ≡ (not b && was)
+    by true was = refl
+    by false was = refl
+
+-- the id stops voting and learns, or is removed, and other ids vote
+pub one_change-retires : (learns : Bool) (voters learners : Ids) (id : ℕ) → (id == 0) ≡ false → is_empty (without_id voters id) ≡ false
+    → Gives (single_with voters learners) (one_change (cond learns Learner Remove) id) (single_with (without_id voters id) (cond learns (with_id learners id) (without_id learners id)))
+one_change-retires learns voters learners id other left =
+    let kind = cond learns Learner Remove in
     let c = single_with voters learners in
-    let after = single_with (without_id voters id) (with_id learners id) in
-    let changes = change_of id Learner ∷ [] in
-    let word = λ (q : ℕ). one_word Learner id q refl other in
+    let after = single_with (without_id voters id) (cond learns (with_id learners id) (without_id learners id)) in
+    let changes = change_of id kind ∷ [] in
+    let word = λ (q : ℕ). one_word kind id q (plain learns) other in
     outcome-simple_accepted c after changes (ap not is_empty-no_ids)
     (configuration-by_members (result_of c changes) after
-    (λ q. has-incoming_after c changes q ∙ ap (λ o. is_incoming_after o (has voters q)) (word q) ∙ leaves_by Learner (q == id) (has voters q) refl ∙ sym (has-without_id voters id q))
+    (λ q. has-incoming_after c changes q ∙ ap (λ o. is_incoming_after o (has voters q)) (word q) ∙ leaves_by kind (q == id) (has voters q) (stops learns (has voters q)) ∙ sym (has-without_id voters id q))
     refl
-    (λ q. has-learners_after c changes q ∙ ap (λ o. is_learner_after o (has no_ids q) (has learners q)) (word q)
-    ∙ becomes_learner (q == id) (has no_ids q) (has learners q) (has-no_ids q) ∙ sym (has-with_id learners id q))
+    (λ q. has-learners_after c changes q ∙ ap (λ o. is_learner_after o (has no_ids q) (has learners q)) (word q) ∙ learns_after learns learners id q (has no_ids q) (has-no_ids q))
     (λ q. has-next_after c changes q ∙ ap (λ o. is_next_after o (has no_ids q) (has no_ids q)) (word q)
-    ∙ no_next Learner (λ was. refl) (q == id) (has no_ids q) (has no_ids q) (has-no_ids q) (has-no_ids q))
-    refl)
-    (ap not left)
-    (difference_count-without_id voters id)
-
-is_removed : (b out was : Bool) → is_learner_after (cond b (Some Remove) None) out was ≡ (not b && was)
-is_removed true out was = refl
-is_removed false out was = refl
-
--- the id is removed, and somebody else votes
-pub one_change-removes : (voters learners : Ids) (id : ℕ) → (id == 0) ≡ false → is_empty (without_id voters id) ≡ false
-    → Gives (single_with voters learners) (one_change Remove id) (single_with (without_id voters id) (without_id learners id))
-one_change-removes voters learners id other left =
-    let c = single_with voters learners in
-    let after = single_with (without_id voters id) (without_id learners id) in
-    let changes = change_of id Remove ∷ [] in
-    let word = λ (q : ℕ). one_word Remove id q refl other in
-    outcome-simple_accepted c after changes (ap not is_empty-no_ids)
-    (configuration-by_members (result_of c changes) after
-    (λ q. has-incoming_after c changes q ∙ ap (λ o. is_incoming_after o (has voters q)) (word q) ∙ leaves_by Remove (q == id) (has voters q) refl ∙ sym (has-without_id voters id q))
-    refl
-    (λ q. has-learners_after c changes q ∙ ap (λ o. is_learner_after o (has no_ids q) (has learners q)) (word q)
-    ∙ is_removed (q == id) (has no_ids q) (has learners q) ∙ sym (has-without_id learners id q))
-    (λ q. has-next_after c changes q ∙ ap (λ o. is_next_after o (has no_ids q) (has no_ids q)) (word q)
-    ∙ no_next Remove (λ was. refl) (q == id) (has no_ids q) (has no_ids q) (has-no_ids q) (has-no_ids q))
+    ∙ no_next kind (waits_never learns) (q == id) (has no_ids q) (has no_ids q) (has-no_ids q) (has-no_ids q))
     refl)
     (ap not left)
     (difference_count-without_id voters id)

@@ -80,9 +80,9 @@ step_past s bound place id left here =
 pub IsStep-from_IsPassed : (s : Ids) (bound place id next : ℕ) (found : Bool) → IsLeft place bound s → bound ≤ id → IsNoLater (Some id) (slice_get (ascending s) place)
     → IsPassed s place id found next → IsStep s bound id next found
 IsStep-from_IsPassed s bound place id next true left up no_later passed =
-    subst (λ k. IsStep s bound id k true) (sym passed.behind) (step_past s bound place id left (passed.here.0 refl))
+    subst (λ k. IsStep s bound id k true) (sym passed.after) (step_past s bound place id left (passed.here.0 refl))
 IsStep-from_IsPassed s bound place id next false left up no_later passed =
-    let same : next ≡ place = omega (arith, passed.behind) in
+    let same : next ≡ place = omega (arith, passed.after) in
     subst (λ k. IsStep s bound id k false) (sym same) (by (slice_get (ascending s) place) refl no_later)
   where
     by : (o : Option ℕ) → slice_get (ascending s) place ≡ o → IsNoLater (Some id) o → IsStep s bound id place false
@@ -99,9 +99,9 @@ pub IsPassed-shorter : (s : Ids) (place id next : ℕ) (found : Bool) → IsPass
 IsPassed-shorter s place id next true passed =
     let here : length (drop place (ascending s)) ≡ length (id ∷ drop (place + 1) (ascending s)) = ap length (left-some (ascending s) place id (passed.here.0 refl)) in
     let P : ℕ → Type 0 = λ k. length (drop k (ascending s)) + 1 ≡ length (drop place (ascending s)) in
-    subst P (sym passed.behind) (omega (arith, here))
+    subst P (sym passed.after) (omega (arith, here))
 IsPassed-shorter s place id next false passed =
-    let same : next ≡ place = omega (arith, passed.behind) in
+    let same : next ≡ place = omega (arith, passed.after) in
     let P : ℕ → Type 0 = λ k. length (drop k (ascending s)) + 0 ≡ length (drop place (ascending s)) in
     subst P (sym same) (omega arith)
 

@@ -10,16 +10,16 @@ use Rattle.conf_plan.proofs.Runs.TakenInOrder.{Takes-push, Takes-to_target, Refu
 use Rattle.conf_plan.proofs.apply.apply_plan.Goals as goal
 use Rattle.conf_plan.proofs.apply.apply_plan.Goals.{in-Some+in-Ok, in_default}
 
-pub loop-place-preserved : goal.loop-place-preserved
-loop-place-preserved g c = elim c.match-step.branch [
+pub loop-index-preserved : goal.loop-index-preserved
+loop-index-preserved g c = elim c.match-step.branch [
   | in-Some+in-Ok w ↦
       let plan = c.args.plan.now in
-      let P : ChangerState → Type 0 = λ s. Takes c.args.changer.now (take (c.loop-place.place + 1) plan) s in
+      let P : ChangerState → Type 0 = λ s. Takes c.args.changer.now (take (c.loop-index.index + 1) plan) s in
       let Q : List Step → Type 0 = λ xs. Takes c.args.changer.now xs w.step-in-Some.new.self in
       subst P (sym w.changer-is)
-      (subst Q (sym (take-one_more plan c.loop-place.place w.in-Some.step.now (sym w.in-Some.ensures)))
-      (Takes-push _ _ _ _ _ c.loop-place.invariant w.in-Ok.ensures.accepted))
-  | in_default w ↦ slice_get-not_past c.args.plan.now c.loop-place.place c.len-place-end.result w.in_default.ensures c.len-place-end.ensures.len c.loop-place-test.true
+      (subst Q (sym (take-one_more plan c.loop-index.index w.in-Some.step.now (sym w.in-Some.ensures)))
+      (Takes-push _ _ _ _ _ c.loop-index.invariant w.in-Ok.ensures.accepted))
+  | in_default w ↦ slice_get-not_past c.args.plan.now c.loop-index.index c.len-index-end.result w.in_default.ensures c.len-index-end.ensures.len c.loop-index-test.true
 ]
 
 -- the whole plan was taken
@@ -29,30 +29,30 @@ all_taken old now plan place n is past taken =
     subst P (take_all place plan (subst (λ k. k ≤ place) is past)) taken
 
 pub returns-clause-sound : goal.returns-clause-sound
-returns-clause-sound g c = takes-is_sound _ _ _ c.tracker-tracker.ensures.sound c.loop-place.invariant
+returns-clause-sound g c = takes-is_sound _ _ _ c.tracker-tracker.ensures.sound c.loop-index.invariant
 
 pub returns-clause-spared : goal.returns-clause-spared
 returns-clause-spared g c = λ id spares.
     takes-keep _ _ c.args.plan.now _ id c.tracker-tracker.ensures.sound
-    (all_taken _ _ c.args.plan.now c.loop-place.place _ c.len-place-end.ensures.len c.loop-place-test.false c.loop-place.invariant) spares
+    (all_taken _ _ c.args.plan.now c.loop-index.index _ c.len-index-end.ensures.len c.loop-index-test.false c.loop-index.invariant) spares
 
 pub returns-clause-sparing : goal.returns-clause-sparing
 returns-clause-sparing g c = λ target other id made spares.
     takes-keep_planned _ _ c.args.plan.now other target id c.tracker-tracker.ensures.sound
-    (all_taken _ _ c.args.plan.now c.loop-place.place _ c.len-place-end.ensures.len c.loop-place-test.false c.loop-place.invariant) made spares
+    (all_taken _ _ c.args.plan.now c.loop-index.index _ c.len-index-end.ensures.len c.loop-index-test.false c.loop-index.invariant) made spares
 
 pub returns-clause-best : goal.returns-clause-best
 returns-clause-best g c = λ target made settled_now settled.
     Takes-best _ _ c.args.plan.now target
-    (all_taken _ _ c.args.plan.now c.loop-place.place _ c.len-place-end.ensures.len c.loop-place-test.false c.loop-place.invariant) made settled_now settled
+    (all_taken _ _ c.args.plan.now c.loop-index.index _ c.len-index-end.ensures.len c.loop-index-test.false c.loop-index.invariant) made settled_now settled
 
 pub returns-clause-reached : goal.returns-clause-reached
 returns-clause-reached g c = λ target run.
     Takes-to_target _ _ c.args.plan.now target
-    (all_taken _ _ c.args.plan.now c.loop-place.place _ c.len-place-end.ensures.len c.loop-place-test.false c.loop-place.invariant) run
+    (all_taken _ _ c.args.plan.now c.loop-index.index _ c.len-index-end.ensures.len c.loop-index-test.false c.loop-index.invariant) run
 
 pub returns-in-Err-clause-memory_alone : goal.returns-in-Err-clause-memory_alone
 returns-in-Err-clause-memory_alone g c = λ target run.
     let P : List Step → Type 0 = λ xs. IsRun c.args.changer.now.tracker.config xs target in
-    Refuses-for_memory _ _ _ _ _ _ target c.loop-place.invariant c.in-Err.ensures.refused
-    (subst P (slice_get-split c.args.plan.now c.loop-place.place c.in-Some.step.now (sym c.in-Some.ensures)) run)
+    Refuses-for_memory _ _ _ _ _ _ target c.loop-index.invariant c.in-Err.ensures.refused
+    (subst P (slice_get-split c.args.plan.now c.loop-index.index c.in-Some.step.now (sym c.in-Some.ensures)) run)

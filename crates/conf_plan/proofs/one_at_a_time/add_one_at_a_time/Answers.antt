@@ -1,4 +1,4 @@
-use Rattle.std.proofs.Common.{rules, ◌≡◌, not, List, refl, sym, ap, subst, ◌∙◌}
+use Rattle.std.proofs.Common.{rules, ◌≡◌, not, List, refl, ap, subst, ◌∙◌}
 use Rattle.std.specs.Prelude.{filter}
 use Rattle.quorum_sets.specs.Ids.{no_ids, has, ascending}
 use Rattle.conf_change.specs.Configuration.{Configuration}

@@ -3,6 +3,6 @@ use Rattle.quorum_sets.specs.Counting.{Decides}
 use Rattle.conf_plan.proofs.FindingMoves.PickedIds.{IsPickedSoFar}
 use Rattle.conf_plan.proofs.picked.add_picked.Given as goal
 
-abbrev pub invariant-loop-place : goal.invariant-loop-place
-invariant-loop-place g l =
-    (passes : ℕ → Bool) → Decides (goal.F-post g l.test) passes → IsPickedSoFar (g.S.MemberSet.ids l.fn.picked) (g.S.MemberSet.ids l.ids) passes l.place (g.S.MemberSet.ids l.picked)
+abbrev pub invariant-loop-index : goal.invariant-loop-index
+invariant-loop-index g l =
+    (passes : ℕ → Bool) → Decides (goal.F-post g l.test) passes → IsPickedSoFar (g.S.MemberSet.ids l.fn.picked) (g.S.MemberSet.ids l.ids) passes l.index (g.S.MemberSet.ids l.picked)
