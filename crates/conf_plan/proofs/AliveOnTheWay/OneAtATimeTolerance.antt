@@ -18,5 +18,5 @@ IsAsTolerant-from_size now target c enough single k by_now by_target =
     let all = counted-all c.incoming in
     Endures-from_counts (voters_of c) no_ids k (record {
       incoming = omega arith;
-      outgoing = λ somebody. absurd (both_ways _ somebody (ap is_empty single ∙ is_empty-no_ids));
+      outgoing = λ joint. absurd (both_ways _ joint (ap is_empty single ∙ is_empty-no_ids));
     })
