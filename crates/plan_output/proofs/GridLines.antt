@@ -1,5 +1,5 @@
 -- The widths of the columns of a grid, and the lines of its rows, cell by cell.
-use Rattle.std.proofs.Common.{◌≡◌, ◌≢◌, ℕ, ◌+◌, ◌-◌, ◌^◌, ◌<◌, ◌≤◌, max, List, [], ◌∷◌, ◌++◌, length, take, get_or, set, replicate, map, refl, sym, ap, subst, ◌∙◌, arith, inl, inr}
+use Rattle.std.proofs.Common.{◌≡◌, ◌≢◌, ℕ, ◌+◌, ◌-◌, ◌^◌, ◌<◌, ◌≤◌, max, List, [], ◌∷◌, ◌++◌, length, take, get_or, set, replicate, map, sym, ap, subst, ◌∙◌, arith, inl, inr}
 use Rattle.std.specs.Prelude.{codes}
 use Rattle.std.proofs.lemmas.List.{append_assoc, append-nil, take_more, map-append, length-take-le, length-set, length_push, get_or-set_same, get_or-set_other, get_or_push, get_or_past, get_or_append_left}
 use Rattle.std.proofs.lemmas.Bool.{cases_eq, cases_lt}
@@ -68,14 +68,14 @@ cells_text-push width column (first ∷ cells) last =
     ap (λ rest. cell_text (width column) first ++ rest) (cells_text-push width (column + 1) cells last)
     ∙ sym (append_assoc (cell_text (width column) first) (cells_text width (column + 1) cells) _)
     ∙ (let e : column + 1 + length cells ≡ column + length (first ∷ cells) = omega arith in
-       ap (λ k. cells_text width column (first ∷ cells) ++ cell_text (width k) last) e)
+    ap (λ k. cells_text width column (first ∷ cells) ++ cell_text (width k) last) e)
 
 pub cells_text-one_more : (width : ℕ → ℕ) (cells : List (List ℕ)) (i : ℕ) → i < length cells
     → cells_text width 0 (take (i + 1) cells) ≡ cells_text width 0 (take i cells) ++ cell_text (width i) (cell i cells)
 cells_text-one_more width cells i within =
     ap (cells_text width 0) (take_more cells i [] within) ∙ cells_text-push width 0 (take i cells) (get_or cells i [])
     ∙ (let e : 0 + length (take i cells) ≡ i = omega (arith, length-take-le i cells (omega arith)) in
-       ap (λ k. cells_text width 0 (take i cells) ++ cell_text (width k) (get_or cells i [])) e)
+    ap (λ k. cells_text width 0 (take i cells) ++ cell_text (width k) (get_or cells i [])) e)
 
 pub cell_text-appended : (text cell : List ℕ) (width : ℕ) → text ++ cell ++ replicate (width - length cell) 32 ++ codes "  " ≡ text ++ cell_text width cell
 cell_text-appended text cell width = simp append_assoc

@@ -1,5 +1,5 @@
 -- The stages of a path, one step after another.
-use Rattle.std.proofs.Common.{◌≡◌, ℕ, List, [], ◌∷◌, ◌++◌, refl, ap, subst, ◌∙◌}
+use Rattle.std.proofs.Common.{◌≡◌, ℕ, List, [], ◌∷◌, ◌++◌, refl, ap, subst}
 use Rattle.std.specs.Prelude.{Option}
 use Rattle.quorum_sets.specs.Ids.{Ids}
 use Rattle.quorum_sets.specs.Voters.{Voters}
@@ -7,7 +7,7 @@ use Rattle.quorum_sets.specs.Tolerance.{IsMostDown}
 use Rattle.conf_change.specs.Configuration.{Configuration}
 use Rattle.conf_change.specs.declared.step.Step.{Step}
 use Rattle.conf_plan.specs.Planned.{configuration_after}
-use Rattle.plan_output.specs.Stages.{StageState, after_step, stage_after, stages_after}
+use Rattle.plan_output.specs.Stages.{after_step, stage_after, stages_after}
 
 pub configuration_after-push : (now : Configuration) (steps : List Step) (step : Step) → configuration_after now (steps ++ step ∷ []) ≡ after_step (configuration_after now steps) step
 configuration_after-push now [] step = refl

@@ -1,5 +1,5 @@
 -- The configurations on the way of a path, and what the cluster endures at each of them.
-use Rattle.std.specs.Prelude.{◌≡◌, ℕ, Bool, true, not, List, [], ◌∷◌, Option, refl}
+use Rattle.std.specs.Prelude.{ℕ, Bool, not, List, [], ◌∷◌, Option, refl}
 use Rattle.std.specs.Coded.{Coded, coded×, code_by}
 use Rattle.std.specs.List.{list_any}
 use Rattle.std.specs.Result.{result_unwrap_or}

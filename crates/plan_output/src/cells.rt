@@ -71,7 +71,11 @@ pub(crate) fn marks_text<S: MemberSet>(
 }
 
 // Appends the mark of an id, flush right under the id.
-fn append_mark<S: MemberSet>(text: &mut Vec<u8>, config: &Config<S>, id: u64) -> Result<(), NoMemory>
+fn append_mark<S: MemberSet>(
+    text: &mut Vec<u8>,
+    config: &Config<S>,
+    id: u64,
+) -> Result<(), NoMemory>
     ensures { OnOk result (text.new.items ≡ text.old.items ++ spec.flush_right (length (decimal id)) (spec.mark config.now id)) }
 {
     let mark = mark(config, id);
@@ -92,7 +96,11 @@ fn mark<S: MemberSet>(config: &Config<S>, id: u64) -> &'static [u8]
             b"V"
         }
     } else if config.outgoing.contains(id) {
-        if config.learners_next.contains(id) { b"~" } else { b"-" }
+        if config.learners_next.contains(id) {
+            b"~"
+        } else {
+            b"-"
+        }
     } else if config.learners.contains(id) {
         b"L"
     } else {
@@ -139,10 +147,7 @@ pub(crate) fn down_text(alloc: Global, most: Option<usize>) -> Result<Vec<u8>, N
 }
 
 // What may be down until the members have caught up that have to; where there are none, nothing.
-pub(crate) fn until_text<S: MemberSet>(
-    alloc: Global,
-    stage: &Stage<S>,
-) -> Result<Vec<u8>, NoMemory>
+pub(crate) fn until_text<S: MemberSet>(alloc: Global, stage: &Stage<S>) -> Result<Vec<u8>, NoMemory>
     ensures { IfOk result (λ text. text.items ≡ spec.until_text stage.now) }
 {
     if stage.catching_up().len() == 0 {

@@ -51,7 +51,8 @@ impl Row {
 
     // The cell in a column, counted from 0; from the last one on, an empty one.
     fn cell(&self, column: usize) -> &[u8]
-        ensures { result.now ≡ cell column self.now }
+        ensures cell { result.now ≡ cell column self.now }
+        ensures small { length result.now < 2 ^ 63 }
     {
         match self.cells.get(column) {
             Some(cell) => cell.as_slice(),

@@ -6,7 +6,8 @@ ghost use Rattle.plan_output.specs.Table as spec;
 ghost use Rattle.plan_output.specs.Table.{stage_names, table_text};
 
 use crate::cells::{
-    commits_text, down_heading, down_text, ids_text, majority_text, marks_text, step_name, until_text,
+    commits_text, down_heading, down_text, ids_text, majority_text, marks_text, step_name,
+    until_text,
 };
 use crate::grid::{Row, add_grid};
 use crate::stage::{Stage, stages};

@@ -1,4 +1,4 @@
-use Rattle.std.proofs.Common.{◌≡◌, max, List, length, sym, ap, ◌∙◌}
+use Rattle.std.proofs.Common.{max, length, sym, ap, ◌∙◌}
 use Rattle.plan_output.specs.Grid.{cell}
 use Rattle.plan_output.proofs.GridLines.{width-one_more}
 use Rattle.plan_output.proofs.grid.widths.Goals as goal

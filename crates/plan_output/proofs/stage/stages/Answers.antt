@@ -1,7 +1,6 @@
-use Rattle.std.proofs.Common.{◌≡◌, ◌+◌, List, [], ◌∷◌, ◌++◌, take, sym, ap, ◌∙◌}
+use Rattle.std.proofs.Common.{◌≡◌, ◌+◌, [], ◌∷◌, ◌++◌, take, sym, ap, ◌∙◌}
 use Rattle.quorum_sets.proofs.Offered.{slice_get-not_past, take-one_more}
 use Rattle.conf_change.specs.ChangerState.{ChangerState}
-use Rattle.conf_change.specs.declared.step.Step.{Step}
 use Rattle.conf_plan.specs.Planned.{configuration_after}
 use Rattle.plan_output.specs.Stages as spec
 use Rattle.plan_output.specs.Stages.{StageState, first_stage, after_step, stage_after}

@@ -1,4 +1,4 @@
-use Rattle.std.proofs.Common.{◌≡◌, ◌+◌, List, [], ◌∷◌, ◌++◌, take, length, get_or, sym, ap, ◌∙◌, arith}
+use Rattle.std.proofs.Common.{List, [], ◌∷◌, ◌++◌, sym, ap, ◌∙◌, arith}
 use Rattle.std.specs.Prelude.{Option, option_map, option_copied}
 use Rattle.std.proofs.lemmas.List.{take_all}
 use Rattle.quorum_sets.specs.Ids.{Ids, ascending}
@@ -18,7 +18,7 @@ loop-index-preserved g c =
     c.in_ok-push-2.ensures.items
     ∙ (λ k. c.loop-index.invariant k ++ (c.in_ok-row.ensures ∙ (λ j. row ids down (c.in_ok-name.ensures j) (c.index-stages-index.is j))) k ∷ [])
     ∙ sym (ap (λ more. headings ids down ∷ more)
-          (rows_of-one_more ids down names all i here (omega (arith, length-stage_names c.args.path.now, c.requires)) c.loop-index-test.true))
+    (rows_of-one_more ids down names all i here (omega (arith, length-stage_names c.args.path.now, c.requires)) c.loop-index-test.true))
 
 pub returns : goal.returns
 returns g c =
@@ -28,4 +28,4 @@ returns g c =
     let all : List StageState = c.args.stages.now in
     c.loop-index.invariant
     ∙ (λ k. headings (ascending (c.in_ok-ids.ensures k)) down ∷ rows_of (ascending (c.in_ok-ids.ensures k)) down
-            (take_all i names (omega (arith, length-stage_names c.args.path.now, c.requires)) k) (take_all i all c.loop-index-test.false k))
+    (take_all i names (omega (arith, length-stage_names c.args.path.now, c.requires)) k) (take_all i all c.loop-index-test.false k))

@@ -1,4 +1,4 @@
-use Rattle.std.proofs.Common.{◌≡◌, ap, ◌∙◌}
+use Rattle.std.proofs.Common.{ap, ◌∙◌}
 use Rattle.quorum_sets.specs.Ids.{union}
 use Rattle.quorum_sets.specs.Tolerance.{commits_without}
 use Rattle.conf_change.specs.Configuration.{voters_of}

@@ -1,4 +1,4 @@
-use Rattle.std.proofs.Common.{◌≡◌, ap, ◌∙◌}
+use Rattle.std.proofs.Common.{ap, ◌∙◌}
 use Rattle.quorum_sets.specs.Tolerance as tolerance
 use Rattle.conf_change.specs.Configuration.{voters_of}
 use Rattle.plan_output.specs.Stages.{StageState}
