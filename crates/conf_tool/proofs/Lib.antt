@@ -1,3 +1,4 @@
+mod Arguments
 mod ModeInput
 mod ModeOutput
 mod Modes

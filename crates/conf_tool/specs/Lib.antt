@@ -1,8 +1,10 @@
-pub mod Program
+pub mod IdList
 pub mod Ranges
+pub mod Program
 pub mod LineReply
 pub mod Reports
 pub mod UndoScript
+pub mod PlanScript
 pub mod Pairs
 pub mod PlanAnswer
 pub mod Outputs

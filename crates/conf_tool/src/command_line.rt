@@ -1,99 +1,112 @@
 //! The arguments of the command line.
-ghost use Rattle.std.specs.Prelude.{◌≡◌, ◌≤◌, ◌<◌, ◌^◌, true, false, map, codes, option_map, IfOk, IfErr};
-ghost use Rattle.clap.specs.Words.{FailsBy, app_of, fault_of, first_of, found_of, kind_of, new_rule, rows_of, rule_of, subcommand_of, subcommand_rows_of, takes};
-ghost use Rattle.conf_tool.specs.Program.{program as the_program, OfProgram, with_mode, mode_command, script_command, undo_command, number_rule, words_rule, asked_mode, mode_named, asked_text, asked_floor, floor_named, IsAsked};
+ghost use Rattle.std.specs.Prelude.{◌≡◌, ◌≤◌, ◌<◌, ◌^◌, [], Some, true, false, map, codes, option_map, MatchResult, IfOk, IfErr};
+ghost use Rattle.clap.specs.Words.{app_of, fault_of, first_of, found_of, kind_of, new_app, new_rule, rows_of, rule_of, subcommand_of, subcommand_rows_of};
+ghost use Rattle.conf_tool.specs.Program.{program as the_program, OfProgram, wants_mode, tells_version, with_mode, mode_command, script_command, undo_command, plan_command, number_rule, names_rule, text_rule, asked_mode, mode_named, asked_text, asked_floor, floor_named, asked_strategy, strategy_named, asked_output, output_named, asked_down, IsAsked, IsInvocation, IsIdsFault, IsRefusal};
 ghost use Rattle.conf_tool.specs.Ranges.{IsInRange};
 
+use crate::argument_fault::ArgumentFault;
 use crate::help::{CHECK, LINES, PLAN, PROGRAM, REWRITE, UNDO};
+use crate::id_list::ids_listed;
 use crate::invocation::Invocation;
 use crate::mode::Mode;
 use crate::options::Options;
-use crate::plan_options::PlanOptions;
+use crate::plan_options::{PlanOptions, PlanOutput};
 use clap::builder::ValueParser;
 use clap::error::ErrorKind;
 use clap::{Arg, ArgMatches, Command, Error};
 use conf_change::Floor;
+use conf_plan::Strategy;
+use conf_session::SessionIds;
+use quorum_sets::MemberSet;
 use std::alloc::Global;
 use std::convert::AsStr;
 
 /// The version that `--version` prints after the program's name.
 const VERSION: &str = "0.1.0";
 
-/// What the words ask for, the program's name being the first. A fault is `clap`'s own: of help, of a usage fault or
-/// of want of memory.
-pub fn command_line<'a, S: AsStr>(alloc: Global, words: &'a [S]) -> Result<Invocation<'a>, Error>
-    // The words are refused exactly where `clap` refuses them, and taken elsewhere unless memory is wanting.
-    ensures refused { OfProgram (λ the_program. FailsBy (fault_of the_program (map S.text words.entry.now)) result) }
-    ensures taken { OfProgram (λ the_program. IfErr result (λ error. takes the_program (map S.text words.entry.now) ≡ true → kind_of error ≡ ErrorKind.OutOfMemory)) }
-
-    // The mode and the file are those that `clap` reads in the words.
-    ensures mode { OfProgram (λ the_program. IfOk result (λ invocation. invocation.mode ≡ asked_mode (subcommand_of the_program (map S.text words.entry.now)))) }
-    ensures file { OfProgram (λ the_program. IfOk result (λ invocation. option_map (λ name. name.now) invocation.file ≡ asked_text (codes "FILE") (subcommand_of the_program (map S.text words.entry.now)))) }
-
-    // The options are those in the words, and else 100, 1 and one.
-    ensures history { OfProgram (λ the_program. IfOk result (λ invocation. IsAsked 0 1000 100 (asked_text (codes "history") (subcommand_of the_program (map S.text words.entry.now))) invocation.options.history)) }
-    ensures steps { OfProgram (λ the_program. IfOk result (λ invocation. IsAsked 1 1000 1 (asked_text (codes "steps") (subcommand_of the_program (map S.text words.entry.now))) invocation.options.steps)) }
-    ensures floor { OfProgram (λ the_program. IfOk result (λ invocation. invocation.options.floor ≡ asked_floor (asked_text (codes "next-floor") (subcommand_of the_program (map S.text words.entry.now))))) }
-    ensures range { IfOk result (λ invocation. IsInRange invocation.options) }
-{
-    read_words(alloc, words, &["0", "1"])
+/// The names that options have as values.
+#[derive(Clone, Copy)]
+struct OptionNames<'a> {
+    floors: &'a [&'a str],
+    strategies: &'a [&'a str],
+    outputs: &'a [&'a str],
 }
 
-// The same of the program whose words for the floor are these.
+/// What the arguments ask for, of which the first is the program's name.
+pub fn command_line<'a, S: AsStr>(
+    alloc: Global,
+    words: &'a [S],
+) -> Result<Invocation<'a>, ArgumentFault>
+    // The arguments are refused exactly if `clap` refuses them, or if the ids that are down are no list of ids.
+    ensures refused { OfProgram (λ the_program. MatchResult result (λ _. fault_of the_program (map S.text words.entry.now) ≡ []) (IsRefusal the_program (map S.text words.entry.now))) }
+
+    // What is asked for is what `clap` reads in them.
+    ensures asked { OfProgram (λ the_program. IfOk result (IsInvocation (subcommand_of the_program (map S.text words.entry.now)))) }
+{
+    let names = OptionNames {
+        floors: &["0", "1"],
+        strategies: &["shortest", "learners-first"],
+        outputs: &["steps", "script"],
+    };
+    read_words(alloc, words, names)
+}
+
+// What the arguments ask for, where the options have these names.
 fn read_words<'a, S: AsStr>(
     alloc: Global,
     words: &'a [S],
-    floors: &'a [&'a str],
-) -> Result<Invocation<'a>, Error>
-    ensures refused { FailsBy (fault_of (the_program floors.entry) (map S.text words.entry.now)) result }
-    ensures taken { IfErr result (λ error. takes (the_program floors.entry) (map S.text words.entry.now) ≡ true → kind_of error ≡ ErrorKind.OutOfMemory) }
-    ensures mode { IfOk result (λ invocation. invocation.mode ≡ asked_mode (subcommand_of (the_program floors.entry) (map S.text words.entry.now))) }
-    ensures file { IfOk result (λ invocation. option_map (λ name. name.now) invocation.file ≡ asked_text (codes "FILE") (subcommand_of (the_program floors.entry) (map S.text words.entry.now))) }
-    ensures history { IfOk result (λ invocation. IsAsked 0 1000 100 (asked_text (codes "history") (subcommand_of (the_program floors.entry) (map S.text words.entry.now))) invocation.options.history) }
-    ensures steps { IfOk result (λ invocation. IsAsked 1 1000 1 (asked_text (codes "steps") (subcommand_of (the_program floors.entry) (map S.text words.entry.now))) invocation.options.steps) }
-    ensures floor { IfOk result (λ invocation. invocation.options.floor ≡ asked_floor (asked_text (codes "next-floor") (subcommand_of (the_program floors.entry) (map S.text words.entry.now)))) }
-    ensures range { IfOk result (λ invocation. IsInRange invocation.options) }
+    names: OptionNames<'a>,
+) -> Result<Invocation<'a>, ArgumentFault>
+    ensures refused { MatchResult result (λ _. fault_of (the_program names.entry) (map S.text words.entry.now) ≡ []) (IsRefusal (the_program names.entry) (map S.text words.entry.now)) }
+    ensures asked { IfOk result (IsInvocation (subcommand_of (the_program names.entry) (map S.text words.entry.now))) }
 {
-    let matches = program(alloc, floors)?.try_get_matches_from(words)?;
-    Ok(invocation_of(&matches))
+    let matches = program(alloc, names)?.try_get_matches_from(words)?;
+    invocation_of(alloc, &matches)
 }
 
 // What was read asks for.
-fn invocation_of<'a>(matches: &ArgMatches<'a>) -> Invocation<'a>
-    ensures mode { result.mode ≡ asked_mode (subcommand_rows_of matches.now) }
-    ensures file { option_map (λ name. name.now) result.file ≡ asked_text (codes "FILE") (subcommand_rows_of matches.now) }
-    ensures history { IsAsked 0 1000 100 (asked_text (codes "history") (subcommand_rows_of matches.now)) result.options.history }
-    ensures steps { IsAsked 1 1000 1 (asked_text (codes "steps") (subcommand_rows_of matches.now)) result.options.steps }
-    ensures floor { result.options.floor ≡ asked_floor (asked_text (codes "next-floor") (subcommand_rows_of matches.now)) }
-    ensures range { IsInRange result.options }
+fn invocation_of<'a>(
+    alloc: Global,
+    matches: &ArgMatches<'a>,
+) -> Result<Invocation<'a>, ArgumentFault>
+    ensures asked { IfOk result (IsInvocation (subcommand_rows_of matches.now)) }
+    ensures fault { IfErr result (IsIdsFault (asked_text (codes "down") (subcommand_rows_of matches.now))) }
 {
     match matches.subcommand() {
-        Some((name, found)) => Invocation {
+        Some((name, found)) => Ok(Invocation {
             mode: mode_of(name),
-            options: options_of(found),
+            options: options_of(alloc, found)?,
             file: file_of(found),
-        },
-        None => Invocation {
+        }),
+        None => Ok(Invocation {
             mode: Mode::Lines,
             options: Options::default(),
             file: None,
-        },
+        }),
     }
 }
 
-// The options of a mode, each with its default where it is left out.
-fn options_of(found: &ArgMatches<'_>) -> Options
-    ensures history { IsAsked 0 1000 100 (first_of (codes "history") (rows_of (found_of found.now))) result.history }
-    ensures steps { IsAsked 1 1000 1 (first_of (codes "steps") (rows_of (found_of found.now))) result.steps }
-    ensures floor { result.floor ≡ asked_floor (first_of (codes "next-floor") (rows_of (found_of found.now))) }
-    ensures range { IsInRange result }
+// The options of a mode, each with its default if it is left out.
+fn options_of(alloc: Global, found: &ArgMatches<'_>) -> Result<Options, ArgumentFault>
+    ensures history { IfOk result (λ options. IsAsked 0 1000 100 (first_of (codes "history") (rows_of (found_of found.now))) options.history) }
+    ensures steps { IfOk result (λ options. IsAsked 1 1000 1 (first_of (codes "steps") (rows_of (found_of found.now))) options.steps) }
+    ensures floor { IfOk result (λ options. options.floor ≡ asked_floor (first_of (codes "next-floor") (rows_of (found_of found.now)))) }
+    ensures strategy { IfOk result (λ options. options.plan.strategy ≡ asked_strategy (first_of (codes "strategy") (rows_of (found_of found.now)))) }
+    ensures output { IfOk result (λ options. options.plan.output ≡ asked_output (first_of (codes "output") (rows_of (found_of found.now)))) }
+    ensures down { IfOk result (λ options. asked_down (first_of (codes "down") (rows_of (found_of found.now))) ≡ Some options.plan.down) }
+    ensures range { IfOk result IsInRange }
+    ensures fault { IfErr result (IsIdsFault (first_of (codes "down") (rows_of (found_of found.now)))) }
 {
-    Options {
+    Ok(Options {
         history: number_of(found, "history", 0, 1000, 100),
         steps: number_of(found, "steps", 1, 1000, 1),
         floor: floor_of(found),
-        plan: PlanOptions::default(),
-    }
+        plan: PlanOptions {
+            strategy: strategy_of(found),
+            output: output_of(found),
+            down: down_of(alloc, found)?,
+        },
+    })
 }
 
 // The file to read, if one is named.
@@ -103,8 +116,7 @@ fn file_of<'a>(found: &ArgMatches<'a>) -> Option<&'a str>
     found.get_str("FILE")
 }
 
-// The number behind an option, or the default where it is left out. `clap` takes no number below the least or above the
-// most.
+// The number of an option, or the default if it is left out. `clap` accepts no number below the least or above the most.
 fn number_of(found: &ArgMatches<'_>, id: &str, least: usize, most: usize, default: usize) -> usize
     requires least { least ≤ default }
     requires most { default ≤ most }
@@ -127,7 +139,69 @@ fn number_of(found: &ArgMatches<'_>, id: &str, least: usize, most: usize, defaul
     }
 }
 
-// The floor behind its option, or one where it is left out.
+// The ids that are down, if the option is given.
+fn down_of(alloc: Global, found: &ArgMatches<'_>) -> Result<Option<SessionIds>, ArgumentFault>
+    ensures down { IfOk result (λ down. asked_down (first_of (codes "down") (rows_of (found_of found.now))) ≡ Some down) }
+    ensures fault { IfErr result (IsIdsFault (first_of (codes "down") (rows_of (found_of found.now)))) }
+{
+    match found.get_str("down") {
+        Some(text) => Ok(Some(ids_of(alloc, text)?)),
+        None => Ok(None),
+    }
+}
+
+// The ids of a list.
+fn ids_of(alloc: Global, text: &str) -> Result<SessionIds, ArgumentFault>
+    ensures ids { IfOk result (λ ids. asked_down (Some text.now) ≡ Some (Some ids)) }
+    ensures fault { IfErr result (IsIdsFault (Some text.now)) }
+{
+    match ids_listed(alloc, text.as_bytes())? {
+        Some(ids) => Ok(SessionIds::of_list(alloc, ids.as_slice())?),
+        None => Err(ArgumentFault::BadIds),
+    }
+}
+
+// The strategy of the option, or the shortest plan if it is left out.
+fn strategy_of(found: &ArgMatches<'_>) -> Strategy
+    ensures { result ≡ asked_strategy (first_of (codes "strategy") (rows_of (found_of found.now))) }
+{
+    match found.get_str("strategy") {
+        Some(text) => strategy_named(text),
+        None => Strategy::Shortest,
+    }
+}
+
+// The strategy of a name.
+fn strategy_named(name: &str) -> Strategy
+    ensures { result ≡ strategy_named name.now }
+{
+    match name {
+        "learners-first" => Strategy::LearnersFirst,
+        _ => Strategy::Shortest,
+    }
+}
+
+// The form of the option, or steps if it is left out.
+fn output_of(found: &ArgMatches<'_>) -> PlanOutput
+    ensures { result ≡ asked_output (first_of (codes "output") (rows_of (found_of found.now))) }
+{
+    match found.get_str("output") {
+        Some(text) => output_named(text),
+        None => PlanOutput::Steps,
+    }
+}
+
+// The form of a name.
+fn output_named(name: &str) -> PlanOutput
+    ensures { result ≡ output_named name.now }
+{
+    match name {
+        "script" => PlanOutput::Script,
+        _ => PlanOutput::Steps,
+    }
+}
+
+// The floor of its option, or one if it is left out.
 fn floor_of(found: &ArgMatches<'_>) -> Floor
     ensures { result ≡ asked_floor (first_of (codes "next-floor") (rows_of (found_of found.now))) }
 {
@@ -161,23 +235,24 @@ fn mode_of(name: &str) -> Mode
 }
 
 // The program, each mode being a subcommand.
-fn program<'a>(alloc: Global, floors: &'a [&'a str]) -> Result<Command<'a>, Error>
-    ensures app { IfOk result (λ command. app_of command ≡ the_program floors.entry) }
+fn program<'a>(alloc: Global, names: OptionNames<'a>) -> Result<Command<'a>, Error>
+    ensures app { IfOk result (λ command. app_of command ≡ the_program names.entry) }
     ensures memory { IfErr result (λ error. kind_of error ≡ ErrorKind.OutOfMemory) }
 {
-    let program = Command::new(alloc, "confscript")
-        .about("Simulates membership changes of etcd's raft library")
-        .after_long_help(PROGRAM)
-        .version(VERSION)
-        .subcommand_required(true);
-    let program = add_mode(alloc, program, "lines", "Applies one change a line", LINES)?;
+    let program = add_mode(
+        alloc,
+        without_modes(alloc),
+        "lines",
+        "Applies one change a line",
+        LINES,
+    )?;
     let program = add_script_mode(
         alloc,
         program,
         "check",
         "Runs a script and reports what differs",
         CHECK,
-        floors,
+        names.floors,
     )?;
     let program = add_script_mode(
         alloc,
@@ -185,16 +260,21 @@ fn program<'a>(alloc: Global, floors: &'a [&'a str]) -> Result<Command<'a>, Erro
         "rewrite",
         "Runs a script and prints it with its actual output",
         REWRITE,
-        floors,
+        names.floors,
     )?;
-    let program = add_undo_mode(alloc, program, floors)?;
-    add_mode(
-        alloc,
-        program,
-        "plan",
-        "Plans the changes from one configuration to another",
-        PLAN,
-    )
+    let program = add_undo_mode(alloc, program, names.floors)?;
+    add_plan_mode(alloc, program, names)
+}
+
+// The program, which has no mode yet.
+fn without_modes<'a>(alloc: Global) -> Command<'a>
+    ensures { app_of result ≡ wants_mode (tells_version (new_app (codes "confscript"))) }
+{
+    Command::new(alloc, "confscript")
+        .about("Simulates membership changes of etcd's raft library")
+        .after_long_help(PROGRAM)
+        .version(VERSION)
+        .subcommand_required(true)
 }
 
 // Adds a mode as a subcommand, with the file to read.
@@ -259,6 +339,26 @@ fn add_undo_mode<'a>(
     Ok(program)
 }
 
+// Adds the mode that plans.
+fn add_plan_mode<'a>(
+    alloc: Global,
+    program: Command<'a>,
+    names: OptionNames<'a>,
+) -> Result<Command<'a>, Error>
+    ensures app { IfOk result (λ command. app_of command ≡ with_mode (plan_command (codes "plan") names.entry) (app_of program.entry)) }
+    ensures memory { IfErr result (λ error. kind_of error ≡ ErrorKind.OutOfMemory) }
+{
+    let mode = Command::new(alloc, "plan")
+        .about("Plans the changes from one configuration to another")
+        .after_long_help(PLAN)
+        .arg(file_argument(alloc))?
+        .arg(strategy_option(alloc, names.strategies))?
+        .arg(output_option(alloc, names.outputs))?
+        .arg(down_option(alloc))?;
+    let program = program.subcommand(mode)?;
+    Ok(program)
+}
+
 // How many earlier configurations a script's session keeps.
 fn history_option<'a>(alloc: Global) -> Arg<'a>
     ensures rule { rule_of result ≡ number_rule (codes "history") 0 1000 }
@@ -273,9 +373,9 @@ fn history_option<'a>(alloc: Global) -> Arg<'a>
     )
 }
 
-// The floor of fresh next, by these words.
+// The initial next index, by these names.
 fn floor_option<'a>(alloc: Global, floors: &'a [&'a str]) -> Arg<'a>
-    ensures rule { rule_of result ≡ words_rule (codes "next-floor") floors.entry }
+    ensures rule { rule_of result ≡ names_rule (codes "next-floor") floors.entry }
     ensures local { result.global ≡ false }
 {
     Arg::new(alloc, "next-floor")
@@ -284,6 +384,41 @@ fn floor_option<'a>(alloc: Global, floors: &'a [&'a str]) -> Arg<'a>
         .value_name("N")
         .help("Initial next index of a member")
         .long_help("The next index of a new member in an empty log (1 if left out)")
+}
+
+// The strategy of a plan, by these names.
+fn strategy_option<'a>(alloc: Global, strategies: &'a [&'a str]) -> Arg<'a>
+    ensures rule { rule_of result ≡ names_rule (codes "strategy") strategies.entry }
+    ensures local { result.global ≡ false }
+{
+    Arg::new(alloc, "strategy")
+        .value_parser(ValueParser::Names(strategies))
+        .long("strategy")
+        .value_name("NAME")
+        .help("How the plan is made (shortest if left out)")
+}
+
+// The form of a plan, by these names.
+fn output_option<'a>(alloc: Global, outputs: &'a [&'a str]) -> Arg<'a>
+    ensures rule { rule_of result ≡ names_rule (codes "output") outputs.entry }
+    ensures local { result.global ≡ false }
+{
+    Arg::new(alloc, "output")
+        .value_parser(ValueParser::Names(outputs))
+        .long("output")
+        .value_name("FORM")
+        .help("How the plan is printed (steps if left out)")
+}
+
+// The ids that are down.
+fn down_option<'a>(alloc: Global) -> Arg<'a>
+    ensures rule { rule_of result ≡ text_rule (codes "down") }
+    ensures local { result.global ≡ false }
+{
+    Arg::new(alloc, "down")
+        .long("down")
+        .value_name("IDS")
+        .help("Ids that are down, with commas between them")
 }
 
 // The file to read.

@@ -12,9 +12,11 @@
 //! it if a read, a write or an allocation fails. An answer goes out before the mode waits for more input.
 #![tactic(auto)]
 
+pub mod argument_fault;
 pub mod command_line;
 pub mod configurations_fault;
 mod help;
+mod id_list;
 pub mod invocation;
 pub mod laws;
 mod line_reply;
@@ -29,6 +31,7 @@ pub mod status;
 pub mod tool_fault;
 mod undo_script;
 
+pub use argument_fault::ArgumentFault;
 pub use configurations_fault::ConfigurationsFault;
 pub use invocation::Invocation;
 pub use mode::Mode;

@@ -1,15 +1,17 @@
 //! What the mode `plan` answers: the plan between two configurations, or why there is none.
 ghost use Rattle.std.specs.Prelude.{◌≡◌, true, IfOk, IsOkUnless};
 ghost use Rattle.conf_change.specs.Configuration.{is_valid};
-ghost use Rattle.conf_tool.specs.PlanAnswer.{plan_text_between, plan_status};
+ghost use Rattle.conf_tool.specs.PlanAnswer.{path_text, plan_text_between, plan_status};
 ghost use Rattle.conf_tool.specs.declared.tool_fault.ToolFault.TheVariants.{NoMemory as OutOfMemory};
 
-use crate::plan_options::PlanOptions;
+use crate::plan_options::{PlanOptions, PlanOutput};
+use crate::run::plan_script::script_text;
 use crate::status::Status;
 use crate::tool_fault::ToolFault;
 use conf_change::Config;
-use conf_plan::{PlanFault, plan, print_plan};
+use conf_plan::{NoPath, Path, plan_by, print_path};
 use conf_session::SessionIds;
+use quorum_sets::NoMemory;
 use std::alloc::Global;
 
 /// The text of the plan between two configurations, or that there is none, and how a run ends that writes it.
@@ -26,18 +28,35 @@ pub(crate) fn plan_answer(
     ensures status { IfOk result (λ answer. answer.1 ≡ plan_status options.now now.now target.now) }
     ensures memory { IsOkUnless result OutOfMemory }
 {
-    match plan(alloc, now, target) {
-        Ok(steps) => {
-            let mut text = Vec::new(alloc);
-            print_plan(&mut text, &steps)?;
-            Ok((text, Status::Clean))
-        }
-        Err(PlanFault::NoVoterNow) => no_plan(
+    match plan_by(alloc, options.strategy, now, target) {
+        Ok(path) => Ok((path_text(alloc, options.output, now, &path)?, Status::Clean)),
+        Err(NoPath::NoVoterNow) => no_plan(
             alloc,
             b"# no plan: the current configuration has no voter\n",
         ),
-        Err(PlanFault::NoVoterTarget) => no_plan(alloc, b"# no plan: the target has no voter\n"),
-        Err(PlanFault::NoMemory) => Err(ToolFault::NoMemory),
+        Err(NoPath::NoVoterTarget) => {
+            no_plan(alloc, b"# no plan: the target has no voter\n")
+        }
+        Err(NoPath::NoMemory) => Err(ToolFault::NoMemory),
+    }
+}
+
+// The text of a path from a configuration.
+fn path_text(
+    alloc: Global,
+    output: PlanOutput,
+    now: &Config<SessionIds>,
+    path: &Path,
+) -> Result<Vec<u8>, NoMemory>
+    ensures { IfOk result (λ text. text.items ≡ path_text output now.now path.now) }
+{
+    match output {
+        PlanOutput::Steps => {
+            let mut text = Vec::new(alloc);
+            print_path(&mut text, path)?;
+            Ok(text)
+        }
+        PlanOutput::Script => script_text(alloc, now, path),
     }
 }
 

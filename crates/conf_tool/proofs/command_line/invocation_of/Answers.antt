@@ -24,13 +24,3 @@ name-in-rows m = elim (out-ArgMatches m).subcommand as (λ s. option_map (λ b. 
 -- the mode that the rows name
 asked : (m : ArgMatches) (name : Option Text) → name ≡ subcommand_name_of m → mode-of-name name ≡ asked_mode (subcommand_rows_of m)
 asked m name is = ap mode-of-name (is ∙ name-in-rows m) ∙ asked-mode-of-name (subcommand_rows_of m)
-
-pub returns-in-Some-clause-mode : goal.returns-in-Some-clause-mode
-returns-in-Some-clause-mode c =
-    let named = asked c.args.matches.now (option_map (λ p. p.0.now) c.subcommand.result) c.subcommand.ensures.name in
-    c.mode_of.ensures ∙ (rw c.in-Some.is at named)
-
-pub returns-in-None-clause-mode : goal.returns-in-None-clause-mode
-returns-in-None-clause-mode c =
-    let named = asked c.args.matches.now (option_map (λ p. p.0.now) c.subcommand.result) c.subcommand.ensures.name in
-    rw c.in-None.is at named

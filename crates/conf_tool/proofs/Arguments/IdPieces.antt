@@ -1,0 +1,25 @@
+-- The pieces of a list of ids, one by one.
+use Rattle.std.proofs.Common.{◌≡◌, ℕ, ◌+◌, ◌<◌, ◌≤◌, List, [], ◌∷◌, ◌++◌, take, drop, length, refl, sym, ap, ◌∙◌, arith}
+use Rattle.std.specs.Prelude.{Option, Some, None}
+use Rattle.std.specs.List.{slice_split, position_or_len}
+use Rattle.std.proofs.lemmas.List.{take_all, drop-drop, length-drop}
+use Rattle.std.proofs.lemmas.List.Splits.{slice_split_none, slice_split_first}
+use Rattle.std.proofs.lemmas.List.Sums.{fails_before_first}
+use Rattle.conf_tool.specs.IdList.{is_comma, ids_in_pieces, ids_listed}
+
+-- ids that were read, before those of the pieces that are left
+abbrev pub onto_ids : List ℕ → Option (List ℕ) → Option (List ℕ)
+onto_ids done (Some more) = Some (done ++ more)
+onto_ids done None = None
+
+pub slice_split-last_piece : (text piece behind : List ℕ) (n : ℕ) → n ≡ position_or_len is_comma text → piece ≡ take n text → behind ≡ drop n text → length behind ≡ 0 → slice_split is_comma text ≡ piece ∷ []
+slice_split-last_piece text piece behind n n_is piece_is behind_is none =
+    let past : length text ≤ n = omega (arith, ap length behind_is, length-drop n text) in
+    slice_split_none is_comma text (λ k d h. fails_before_first is_comma text k d (omega arith)) ∙ rw (piece_is, take_all n text past) refl
+
+pub slice_split-more_pieces : (text piece behind : List ℕ) (n : ℕ) → n ≡ position_or_len is_comma text → piece ≡ take n text → behind ≡ drop n text → 0 < length behind →
+    slice_split is_comma text ≡ piece ∷ slice_split is_comma (drop 1 behind)
+slice_split-more_pieces text piece behind n n_is piece_is behind_is some =
+    let within : n < length text = omega (arith, ap length behind_is, length-drop n text) in
+    let next : drop 1 behind ≡ drop (n + 1) text = ap (drop 1) behind_is ∙ drop-drop 1 n text in
+    rw (piece_is, next, n_is) (slice_split_first is_comma text 0 (omega arith))

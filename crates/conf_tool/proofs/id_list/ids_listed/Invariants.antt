@@ -1,0 +1,11 @@
+use Rattle.std.proofs.Common.{◌≡◌, length}
+use Rattle.std.specs.List.{slice_split}
+use Rattle.conf_tool.specs.IdList.{is_comma, ids_in_pieces}
+use Rattle.conf_tool.proofs.Arguments.IdPieces.{onto_ids}
+use Rattle.conf_tool.proofs.id_list.ids_listed.Given as goal
+
+abbrev pub invariant-loop-id : goal.invariant-loop-id
+invariant-loop-id l = ids_in_pieces (slice_split is_comma l.text) ≡ onto_ids l.ids.items (ids_in_pieces (slice_split is_comma l.rest))
+
+abbrev pub decreases-loop-id : goal.decreases-loop-id
+decreases-loop-id l = length l.rest

@@ -1,0 +1,17 @@
+-- A list of ids with commas between them, as the value of an option.
+use Rattle.std.specs.Prelude.{ℕ, Bool, ◌==◌, List, [], ◌∷◌, Option, Some}
+use Rattle.std.specs.List.{slice_split}
+use Rattle.conf_change.specs.ConfStateLine.{and_number}
+use Rattle.conf_session.specs.Parameter.{id_in}
+
+abbrev pub is_comma : ℕ → Bool
+is_comma byte = byte == 44
+
+-- the ids that the pieces are, if each is one
+abbrev pub ids_in_pieces : List (List ℕ) → Option (List ℕ)
+ids_in_pieces [] = Some []
+ids_in_pieces (piece ∷ pieces) = and_number (id_in piece) (ids_in_pieces pieces)
+
+-- the ids of a text with one comma between, if each piece is one; an empty piece is none
+abbrev pub ids_listed : List ℕ → Option (List ℕ)
+ids_listed text = ids_in_pieces (slice_split is_comma text)

@@ -1,0 +1,32 @@
+//! Why arguments ask for no run.
+ghost use Rattle.std.specs.Prelude.{◌≡◌};
+ghost use Rattle.conf_tool.specs.declared.argument_fault.ArgumentFault.TheVariants as fault;
+
+use clap::Error;
+use quorum_sets::NoMemory;
+
+/// Why the arguments of a command line ask for no run.
+#[derive(Debug, Drop)]
+pub enum ArgumentFault {
+    /// The answer of `clap`: help, the version, a usage error, or that it ran out of memory.
+    Clap(Error),
+    /// The value of `--down` is not a list of ids.
+    BadIds,
+    NoMemory,
+}
+
+impl From<Error> for ArgumentFault {
+    ghost from_gives = { λ error told. told ≡ fault.Clap error };
+
+    fn from(error: Error) -> ArgumentFault {
+        ArgumentFault::Clap(error)
+    }
+}
+
+impl From<NoMemory> for ArgumentFault {
+    ghost from_gives = { λ _ told. told ≡ fault.NoMemory };
+
+    fn from(_error: NoMemory) -> ArgumentFault {
+        ArgumentFault::NoMemory
+    }
+}

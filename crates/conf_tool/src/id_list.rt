@@ -1,0 +1,48 @@
+//! A list of ids with commas between them, as the value of an option.
+ghost use Rattle.std.specs.Prelude.{◌≡◌, ◌<◌, ◌≤◌, [], ◌∷◌, length, drop, option_map, IfOk};
+ghost use Rattle.std.specs.List.{slice_split};
+ghost use Rattle.conf_session.specs.Parameter.{id_in};
+ghost use Rattle.conf_tool.specs.IdList.{is_comma, ids_listed};
+
+use ascii_text::cut::place_of;
+use ascii_text::number::read_number;
+use quorum_sets::NoMemory;
+use std::alloc::Global;
+
+/// The ids of a list, if it is one: numbers from 1 to 2^64-1 with one comma between, at least one. They may repeat.
+pub(crate) fn ids_listed(alloc: Global, text: &[u8]) -> Result<Option<Vec<u64>>, NoMemory>
+    ensures { IfOk result (λ found. option_map (λ ids. ids.items) found ≡ ids_listed text.now) }
+{
+    let mut ids = Vec::new(alloc);
+    let mut rest = text;
+    loop {
+        let (piece, behind) = first_piece(rest);
+        let Some(id) = read_id(piece) else {
+            return Ok(None);
+        };
+        ids.push(id)?;
+        let [_, next @ ..] = behind else {
+            return Ok(Some(ids));
+        };
+        rest = next;
+    }
+}
+
+// The text before the first comma, and the text from that comma on.
+fn first_piece(text: &[u8]) -> (&[u8], &[u8])
+    ensures last { length result.1.now ≡ 0 → slice_split is_comma text.now ≡ result.0.now ∷ [] }
+    ensures more { 0 < length result.1.now → slice_split is_comma text.now ≡ result.0.now ∷ slice_split is_comma (drop 1 result.1.now) }
+    ensures within { length result.1.now ≤ length text.now }
+{
+    text.split_at(place_of(text, b','))
+}
+
+// The id that a text is.
+fn read_id(text: &[u8]) -> Option<u64>
+    ensures { result ≡ id_in text.now }
+{
+    match read_number(text) {
+        Some(0) | None => None,
+        id => id,
+    }
+}
