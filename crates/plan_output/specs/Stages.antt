@@ -1,0 +1,63 @@
+-- The configurations on the way of a path, and what the cluster endures at each of them.
+use Rattle.std.specs.Prelude.{◌≡◌, ℕ, Bool, true, not, List, [], ◌∷◌, Option, refl}
+use Rattle.std.specs.Coded.{Coded, coded×, code_by}
+use Rattle.std.specs.List.{list_any}
+use Rattle.std.specs.Result.{result_unwrap_or}
+use Rattle.quorum_sets.specs.Ids.{Ids, no_ids, union}
+use Rattle.quorum_sets.specs.Tolerance as tolerance
+use Rattle.quorum_sets.specs.Tolerance.{commits_without}
+use Rattle.conf_change.specs.Configuration.{Configuration, voters_of}
+use Rattle.conf_change.specs.ConfigurationCode.{configuration_code, ids_code}
+use Rattle.conf_change.specs.Outcome.{outcome}
+use Rattle.conf_change.specs.declared.step.Step.{Step}
+use Rattle.conf_plan.specs.Alive.{catching_up}
+
+-- a configuration on the way, and its members that have to catch up, since they did not keep their progress in the step that led there
+pub record StageState : Type 0 where
+  pub config : Configuration
+  pub catching_up : Ids
+
+-- a stage is stored as its two parts
+abbrev pub stage_code : Coded StageState
+stage_code =
+    code_by (Configuration × Ids) (coded× configuration_code ids_code)
+    (λ s. (s.config, s.catching_up)) (λ p. record { config = p.0; catching_up = p.1 }) (λ _. refl)
+
+-- ---- which stages there are
+-- the configuration with which a path begins, where nobody has to catch up
+abbrev pub first_stage : Configuration → StageState
+first_stage now = record { config = now; catching_up = no_ids }
+
+-- the configuration after a step; a step that is refused leaves it as it is
+abbrev pub after_step : Configuration → Step → Configuration
+after_step before step = result_unwrap_or (outcome before step) before
+
+-- the stage that a step leads to
+abbrev pub stage_after : Configuration → Step → StageState
+stage_after before step = record { config = after_step before step; catching_up = catching_up before step (after_step before step) }
+
+-- the stages that steps lead to, one after another
+abbrev pub stages_after : Configuration → List Step → List StageState
+stages_after before [] = []
+stages_after before (step ∷ steps) = stage_after before step ∷ stages_after (after_step before step) steps
+
+-- the stages of a path: one more than it has steps
+abbrev pub stages : Configuration → List Step → List StageState
+stages now steps = first_stage now ∷ stages_after now steps
+
+-- ---- what the cluster endures there
+-- the most ids that may be down, whichever they are, while the others are still a quorum
+abbrev pub may_be_down : StageState → Option ℕ
+may_be_down stage = tolerance.may_be_down (voters_of stage.config) no_ids
+
+-- the same until the members have caught up: they do not count, be they down or not
+abbrev pub until_then : StageState → Option ℕ
+until_then stage = tolerance.may_be_down (voters_of stage.config) stage.catching_up
+
+-- whether the ids that are neither down nor have to catch up are a quorum
+abbrev pub commits : StageState → Ids → Bool
+commits stage down = commits_without (voters_of stage.config) (union down stage.catching_up)
+
+-- The path stalls with these ids down: some configuration on the way, the first one among them, does not commit. The next step is committed by the configuration before it, so a path is taken to its end only if none stalls.
+abbrev pub stalls : Configuration → List Step → Ids → Bool
+stalls now steps down = list_any (λ stage. not (commits stage down)) (stages now steps)

@@ -1,0 +1,100 @@
+-- The table of a path: a row for the configuration with which it begins, and one for each step.
+use Rattle.std.specs.Prelude.{ℕ, ◌+◌, ◌-◌, not, ◌&&◌, List, [], ◌∷◌, ◌++◌, map, length, replicate, codes, decimal, flat_map, Option, Some, None, if◌then◌else◌}
+use Rattle.std.specs.List.{join_with_byte}
+use Rattle.quorum_sets.specs.Ids.{Ids, has, ascending, size, ids_of, is_empty}
+use Rattle.quorum_sets.specs.Voters.{majority}
+use Rattle.conf_change.specs.Configuration.{Configuration, is_joint, members}
+use Rattle.conf_change.specs.Text.{spaced_numbers, where_there}
+use Rattle.conf_change.specs.declared.step.Step.{Step}
+use Rattle.conf_plan.specs.PlanText.{line_text}
+use Rattle.plan_output.specs.Grid.{grid_text}
+use Rattle.plan_output.specs.Stages.{StageState, stages, may_be_down, until_then, commits}
+
+-- ---- the cells of a row
+-- The marks of ids: a voter, of both sets if there are two; an incoming or an outgoing voter alone; an outgoing voter alone that is a next learner; a learner; an id that is no member.
+abbrev pub mark : Configuration → ℕ → List ℕ
+mark c id =
+    if has c.incoming id then (if is_joint c && not (has c.outgoing id) then codes "+" else codes "V")
+    else (if has c.outgoing id then (if has c.learners_next id then codes "~" else codes "-")
+    else (if has c.learners id then codes "L" else codes "."))
+
+-- a cell at the right of so many places
+abbrev pub flush_right : ℕ → List ℕ → List ℕ
+flush_right width cell = replicate (width - length cell) 32 ++ cell
+
+-- the marks of ids with one space between, each flush right under its id
+abbrev pub marks_text : List ℕ → Configuration → List ℕ
+marks_text ids c = join_with_byte 32 (map (λ id. flush_right (length (decimal id)) (mark c id)) ids)
+
+-- how many of the ids are a majority of them
+abbrev pub majority_of : Ids → List ℕ
+majority_of ids = decimal (majority (size ids)) ++ codes " of " ++ decimal (size ids)
+
+-- the majority of the voters, or in a joint configuration that of the incoming and that of the outgoing ones
+abbrev pub majority_text : Configuration → List ℕ
+majority_text c = majority_of c.incoming ++ where_there (is_joint c) (codes " and " ++ majority_of c.outgoing)
+
+-- the most ids that may be down, if the others are a quorum with none down
+abbrev pub down_text : Option ℕ → List ℕ
+down_text (Some most) = decimal most
+down_text None = codes "stalls"
+
+-- what may be down until the members have caught up that have to; where there are none, nothing
+abbrev pub until_text : StageState → List ℕ
+until_text stage = where_there (not (is_empty stage.catching_up)) (down_text (until_then stage))
+
+-- whether the configuration commits, in a cell, if ids are named that are down
+abbrev pub commits_cells : Option Ids → StageState → List (List ℕ)
+commits_cells None stage = []
+commits_cells (Some down) stage = (if commits stage down then codes "commits" else codes "stalls") ∷ []
+
+-- the row of this name
+abbrev pub row : List ℕ → Option Ids → List ℕ → StageState → List (List ℕ)
+row ids down name stage =
+    name ∷ marks_text ids stage.config ∷ majority_text stage.config ∷ down_text (may_be_down stage) ∷ spaced_numbers (ascending stage.catching_up)
+    ∷ until_text stage ∷ commits_cells down stage
+
+-- ---- the rows
+-- the last heading, if ids are named that are down
+abbrev pub down_headings : Option Ids → List (List ℕ)
+down_headings None = []
+down_headings (Some down) = (codes "with " ++ spaced_numbers (ascending down) ++ codes " down") ∷ []
+
+-- the headings of the columns
+abbrev pub headings : List ℕ → Option Ids → List (List ℕ)
+headings ids down =
+    codes "step" ∷ spaced_numbers ids ∷ codes "majority" ∷ codes "may be down" ∷ codes "catch up" ∷ codes "until then" ∷ down_headings down
+
+-- a step's number, counted from 1, and its line
+abbrev pub step_name : ℕ → Step → List ℕ
+step_name number step = decimal number ++ codes " " ++ line_text step
+
+-- the names of steps, the first of which has this number
+abbrev pub step_names : ℕ → List Step → List (List ℕ)
+step_names number [] = []
+step_names number (step ∷ steps) = step_name number step ∷ step_names (number + 1) steps
+
+-- the names of the stages
+abbrev pub stage_names : List Step → List (List ℕ)
+stage_names steps = codes "now" ∷ step_names 1 steps
+
+-- a row for each stage, by its name
+abbrev pub rows_of : List ℕ → Option Ids → List (List ℕ) → List StageState → List (List (List ℕ))
+rows_of ids down [] stages = []
+rows_of ids down (name ∷ names) [] = []
+rows_of ids down (name ∷ names) (stage ∷ stages) = row ids down name stage ∷ rows_of ids down names stages
+
+-- all that are members at some stage
+abbrev pub ids_on_the_way : List StageState → Ids
+ids_on_the_way all = ids_of (flat_map (λ stage. members stage.config) all)
+
+-- the headings, and the rows
+abbrev pub grid : Configuration → List Step → Option Ids → List (List (List ℕ))
+grid now steps down =
+    let all = stages now steps in
+    let ids = ascending (ids_on_the_way all) in
+    headings ids down ∷ rows_of ids down (stage_names steps) all
+
+-- the table of a path, and with ids that are down of what commits without them
+abbrev pub table_text : Configuration → List Step → Option Ids → List ℕ
+table_text now steps down = grid_text (grid now steps down)
