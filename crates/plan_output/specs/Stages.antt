@@ -1,5 +1,5 @@
 -- The configurations on the way of a path, and what the cluster endures at each of them.
-use Rattle.std.specs.Prelude.{◌≡◌, ℕ, Bool, true, not, List, [], ◌∷◌, Option, refl}
+use Rattle.std.specs.Prelude.{ℕ, Bool, not, List, [], ◌∷◌, Option, refl}
 use Rattle.std.specs.Coded.{Coded, coded×, code_by}
 use Rattle.std.specs.List.{list_any}
 use Rattle.std.specs.Result.{result_unwrap_or}
@@ -58,6 +58,10 @@ until_then stage = tolerance.may_be_down (voters_of stage.config) stage.catching
 abbrev pub commits : StageState → Ids → Bool
 commits stage down = commits_without (voters_of stage.config) (union down stage.catching_up)
 
--- The path stalls with these ids down: some configuration on the way, the first one among them, does not commit. The next step is committed by the configuration before it, so a path is taken to its end only if none stalls.
+-- some stage does not commit with these ids down
+abbrev pub some_stalls : List StageState → Ids → Bool
+some_stalls all down = list_any (λ stage. not (commits stage down)) all
+
+-- The path stalls with these ids down if some configuration on the way does, the first one among them. The next step is committed by the configuration before it, so a path is taken to its end only if none stalls.
 abbrev pub stalls : Configuration → List Step → Ids → Bool
-stalls now steps down = list_any (λ stage. not (commits stage down)) (stages now steps)
+stalls now steps down = some_stalls (stages now steps) down

@@ -1,5 +1,5 @@
 -- The table of a path: a row for the configuration with which it begins, and one for each step.
-use Rattle.std.specs.Prelude.{ℕ, ◌+◌, ◌-◌, not, ◌&&◌, List, [], ◌∷◌, ◌++◌, map, length, replicate, codes, decimal, flat_map, Option, Some, None, if◌then◌else◌}
+use Rattle.std.specs.Prelude.{ℕ, ◌+◌, ◌-◌, Bool, true, false, not, ◌&&◌, List, [], ◌∷◌, ◌++◌, map, length, replicate, codes, decimal, flat_map, nat_lt, Option, Some, None, if◌then◌else◌}
 use Rattle.std.specs.List.{join_with_byte}
 use Rattle.quorum_sets.specs.Ids.{Ids, has, ascending, size, ids_of, is_empty}
 use Rattle.quorum_sets.specs.Voters.{majority}
@@ -22,6 +22,10 @@ mark c id =
 abbrev pub flush_right : ℕ → List ℕ → List ℕ
 flush_right width cell = replicate (width - length cell) 32 ++ cell
 
+-- what is before the text at a place of those that are joined with one space between
+abbrev pub gap : ℕ → List ℕ
+gap place = where_there (nat_lt 0 place) (codes " ")
+
 -- the marks of ids with one space between, each flush right under its id
 abbrev pub marks_text : List ℕ → Configuration → List ℕ
 marks_text ids c = join_with_byte 32 (map (λ id. flush_right (length (decimal id)) (mark c id)) ids)
@@ -43,10 +47,15 @@ down_text None = codes "stalls"
 abbrev pub until_text : StageState → List ℕ
 until_text stage = where_there (not (is_empty stage.catching_up)) (down_text (until_then stage))
 
--- whether the configuration commits, in a cell, if ids are named that are down
+-- whether a configuration commits
+abbrev pub commits_text : Bool → List ℕ
+commits_text true = codes "commits"
+commits_text false = codes "stalls"
+
+-- the last cell, if ids are named that are down
 abbrev pub commits_cells : Option Ids → StageState → List (List ℕ)
 commits_cells None stage = []
-commits_cells (Some down) stage = (if commits stage down then codes "commits" else codes "stalls") ∷ []
+commits_cells (Some down) stage = commits_text (commits stage down) ∷ []
 
 -- the row of this name
 abbrev pub row : List ℕ → Option Ids → List ℕ → StageState → List (List ℕ)
@@ -55,10 +64,14 @@ row ids down name stage =
     ∷ until_text stage ∷ commits_cells down stage
 
 -- ---- the rows
+-- the heading of the column where these ids are down
+abbrev pub down_heading : Ids → List ℕ
+down_heading down = codes "with " ++ spaced_numbers (ascending down) ++ codes " down"
+
 -- the last heading, if ids are named that are down
 abbrev pub down_headings : Option Ids → List (List ℕ)
 down_headings None = []
-down_headings (Some down) = (codes "with " ++ spaced_numbers (ascending down) ++ codes " down") ∷ []
+down_headings (Some down) = down_heading down ∷ []
 
 -- the headings of the columns
 abbrev pub headings : List ℕ → Option Ids → List (List ℕ)
@@ -88,13 +101,12 @@ rows_of ids down (name ∷ names) (stage ∷ stages) = row ids down name stage �
 abbrev pub ids_on_the_way : List StageState → Ids
 ids_on_the_way all = ids_of (flat_map (λ stage. members stage.config) all)
 
--- the headings, and the rows
-abbrev pub grid : Configuration → List Step → Option Ids → List (List (List ℕ))
-grid now steps down =
-    let all = stages now steps in
+-- the headings, and a row for each stage
+abbrev pub stage_rows : List StageState → List Step → Option Ids → List (List (List ℕ))
+stage_rows all steps down =
     let ids = ascending (ids_on_the_way all) in
     headings ids down ∷ rows_of ids down (stage_names steps) all
 
 -- the table of a path, and with ids that are down of what commits without them
 abbrev pub table_text : Configuration → List Step → Option Ids → List ℕ
-table_text now steps down = grid_text (grid now steps down)
+table_text now steps down = grid_text (stage_rows (stages now steps) steps down)

@@ -149,8 +149,14 @@ pub fn stalls<S: MemberSet>(
     requires { is_restorable now.now ≡ true }
     ensures { IfOk result (λ answer. answer ≡ spec.stalls now.now path.now (S.ids down.now)) }
 {
-    let stages = stages(alloc, now, path)?;
-    for stage in &stages {
+    some_stalls(stages(alloc, now, path)?.as_slice(), down)
+}
+
+// Whether some stage does not commit with these ids down.
+fn some_stalls<S: MemberSet>(stages: &[Stage<S>], down: &S) -> Result<bool, NoMemory>
+    ensures { IfOk result (λ answer. answer ≡ spec.some_stalls stages.now (S.ids down.now)) }
+{
+    for stage in stages {
         if !stage.commits(down)? {
             return Ok(true);
         }

@@ -26,6 +26,8 @@ mod sessions;
 #[cfg(test)]
 mod sets;
 #[cfg(test)]
+mod tables;
+#[cfg(test)]
 mod texts;
 #[cfg(test)]
 mod twice;

@@ -1,0 +1,18 @@
+use Rattle.std.proofs.Common.{ap, ◌∙◌}
+use Rattle.quorum_sets.specs.Tolerance as tolerance
+use Rattle.conf_change.specs.Configuration.{voters_of}
+use Rattle.plan_output.specs.Stages.{StageState}
+use Rattle.plan_output.proofs.StagesOnTheWay.{IsMostDown-along}
+use Rattle.plan_output.proofs.stage.Stage.until_then.Goals as goal
+
+pub returns-clause-counted : goal.returns-clause-counted
+returns-clause-counted g c =
+    let voters = ap voters_of c.config.view_is ∙ ap (λ (s : StageState). voters_of s.config) c.self.view_is in
+    let uncounted = ap (λ (s : StageState). s.catching_up) c.self.view_is in
+    c.may_be_down.ensures.counted ∙ (λ i. tolerance.may_be_down (voters i) (uncounted i))
+
+pub returns-clause-most : goal.returns-clause-most
+returns-clause-most g c =
+    let voters = ap voters_of c.config.view_is ∙ ap (λ (s : StageState). voters_of s.config) c.self.view_is in
+    let uncounted = ap (λ (s : StageState). s.catching_up) c.self.view_is in
+    IsMostDown-along _ _ _ _ _ voters uncounted c.may_be_down.ensures.most

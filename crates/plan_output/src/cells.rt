@@ -1,0 +1,176 @@
+//! The cells of a table.
+ghost use Rattle.std.specs.Prelude.{◌≡◌, ◌++◌, decimal, length, IfOk, OnOk};
+ghost use Rattle.quorum_sets.specs.Ids.{ascending};
+ghost use Rattle.conf_change.specs.Text.{spaced_numbers};
+ghost use Rattle.plan_output.specs.Table as spec;
+
+use crate::stage::Stage;
+use ascii_text::append::{append, append_number, append_times};
+use conf_change::{Config, Step};
+use conf_plan::{changes_text, command_text};
+use itoa::Buffer;
+use quorum_sets::{MemberSet, NoMemory, quorum};
+use std::alloc::Global;
+
+// A step's number, counted from 1, and its line.
+pub(crate) fn step_name(alloc: Global, number: usize, step: &Step) -> Result<Vec<u8>, NoMemory>
+    ensures { IfOk result (λ name. name.items ≡ spec.step_name number step.now) }
+{
+    let mut name = Vec::new(alloc);
+    append_number(&mut name, number as u64)?;
+    append(&mut name, b" ")?;
+    append(&mut name, command_text(step))?;
+    let changes = step.changes();
+    if !changes.is_empty() {
+        append(&mut name, b" ")?;
+        append(&mut name, changes_text(alloc, changes)?.as_slice())?;
+    }
+    Ok(name)
+}
+
+// Ids with one space between.
+pub(crate) fn ids_text<S: MemberSet>(alloc: Global, ids: &S) -> Result<Vec<u8>, NoMemory>
+    ensures { IfOk result (λ text. text.items ≡ spaced_numbers (ascending (S.ids ids.now))) }
+{
+    let mut text = Vec::new(alloc);
+    for place in 0..ids.len() {
+        if let Some(id) = ids.at(place) {
+            append_gap(&mut text, place)?;
+            append_number(&mut text, id)?;
+        }
+    }
+    Ok(text)
+}
+
+// Appends a space, but not before the first of what is joined.
+fn append_gap(text: &mut Vec<u8>, place: usize) -> Result<(), NoMemory>
+    ensures { OnOk result (text.new.items ≡ text.old.items ++ spec.gap place) }
+{
+    if place > 0 {
+        append(text, b" ")?;
+    }
+    Ok(())
+}
+
+// The marks of ids with one space between, each flush right under its id.
+pub(crate) fn marks_text<S: MemberSet>(
+    alloc: Global,
+    ids: &S,
+    config: &Config<S>,
+) -> Result<Vec<u8>, NoMemory>
+    ensures { IfOk result (λ text. text.items ≡ spec.marks_text (ascending (S.ids ids.now)) config.now) }
+{
+    let mut text = Vec::new(alloc);
+    for place in 0..ids.len() {
+        if let Some(id) = ids.at(place) {
+            append_gap(&mut text, place)?;
+            append_mark(&mut text, config, id)?;
+        }
+    }
+    Ok(text)
+}
+
+// Appends the mark of an id, flush right under the id.
+fn append_mark<S: MemberSet>(
+    text: &mut Vec<u8>,
+    config: &Config<S>,
+    id: u64,
+) -> Result<(), NoMemory>
+    ensures { OnOk result (text.new.items ≡ text.old.items ++ spec.flush_right (length (decimal id)) (spec.mark config.now id)) }
+{
+    let mark = mark(config, id);
+    let mut buffer = Buffer::new();
+    let digits = buffer.format(id).as_bytes();
+    append_times(text, b' ', digits.len().saturating_sub(mark.len()))?;
+    append(text, mark)
+}
+
+// The mark of an id.
+fn mark<S: MemberSet>(config: &Config<S>, id: u64) -> &'static [u8]
+    ensures { result.now ≡ spec.mark config.now id }
+{
+    if config.incoming.contains(id) {
+        if config.outgoing.len() > 0 && !config.outgoing.contains(id) {
+            b"+"
+        } else {
+            b"V"
+        }
+    } else if config.outgoing.contains(id) {
+        if config.learners_next.contains(id) {
+            b"~"
+        } else {
+            b"-"
+        }
+    } else if config.learners.contains(id) {
+        b"L"
+    } else {
+        b"."
+    }
+}
+
+// The majority of the voters, or in a joint configuration that of the incoming and that of the outgoing ones.
+pub(crate) fn majority_text<S: MemberSet>(
+    alloc: Global,
+    config: &Config<S>,
+) -> Result<Vec<u8>, NoMemory>
+    ensures { IfOk result (λ text. text.items ≡ spec.majority_text config.now) }
+{
+    let mut text = Vec::new(alloc);
+    append_majority(&mut text, &config.incoming)?;
+    if config.outgoing.len() > 0 {
+        append(&mut text, b" and ")?;
+        append_majority(&mut text, &config.outgoing)?;
+    }
+    Ok(text)
+}
+
+// Appends how many of the ids are a majority of them.
+fn append_majority<S: MemberSet>(text: &mut Vec<u8>, ids: &S) -> Result<(), NoMemory>
+    ensures { OnOk result (text.new.items ≡ text.old.items ++ spec.majority_of (S.ids ids.now)) }
+{
+    append_number(text, quorum(ids.len()) as u64)?;
+    append(text, b" of ")?;
+    append_number(text, ids.len() as u64)?;
+    Ok(())
+}
+
+// The most ids that may be down, if the others are a quorum with none down.
+pub(crate) fn down_text(alloc: Global, most: Option<usize>) -> Result<Vec<u8>, NoMemory>
+    ensures { IfOk result (λ text. text.items ≡ spec.down_text most) }
+{
+    let mut text = Vec::new(alloc);
+    match most {
+        Some(most) => append_number(&mut text, most as u64)?,
+        None => append(&mut text, b"stalls")?,
+    }
+    Ok(text)
+}
+
+// What may be down until the members have caught up that have to; where there are none, nothing.
+pub(crate) fn until_text<S: MemberSet>(alloc: Global, stage: &Stage<S>) -> Result<Vec<u8>, NoMemory>
+    ensures { IfOk result (λ text. text.items ≡ spec.until_text stage.now) }
+{
+    if stage.catching_up().len() == 0 {
+        return Ok(Vec::new(alloc));
+    }
+    down_text(alloc, stage.until_then())
+}
+
+// Whether the configuration commits with these ids down.
+pub(crate) fn commits_text(alloc: Global, commits: bool) -> Result<Vec<u8>, NoMemory>
+    ensures { IfOk result (λ text. text.items ≡ spec.commits_text commits) }
+{
+    let text: &[u8] = if commits { b"commits" } else { b"stalls" };
+    Ok(Vec::from_slice(alloc, text)?)
+}
+
+// The heading of the column that says which ids are down.
+pub(crate) fn down_heading<S: MemberSet>(alloc: Global, down: &S) -> Result<Vec<u8>, NoMemory>
+    ensures { IfOk result (λ text. text.items ≡ spec.down_heading (S.ids down.now)) }
+{
+    let ids = ids_text(alloc, down)?;
+    let mut text = Vec::from_slice(alloc, b"with ")?;
+    append(&mut text, ids.as_slice())?;
+    append(&mut text, b" down")?;
+    Ok(text)
+}

@@ -1,0 +1,138 @@
+//! Grids of cells as lines of text.
+ghost use Rattle.std.specs.Prelude.{◌≡◌, ℕ, ◌<◌, ◌^◌, max, [], ◌∷◌, ◌++◌, length, flat_map, slice_index, IfOk, OnOk, OnErr};
+ghost use Rattle.ascii_text.specs.Append.{Extends};
+ghost use Rattle.plan_output.specs.Grid as grid;
+ghost use Rattle.plan_output.specs.Grid.{cell, width, line_of_row, grid_text};
+
+use ascii_text::append::{append, append_times, keep_whole};
+use ascii_text::white_space::without_trailing_space;
+use quorum_sets::NoMemory;
+use std::alloc::Global;
+use std::marker::Model;
+
+/// A row: its cells, from left to right.
+#[derive(Drop)]
+pub(crate) struct Row {
+    cells: Vec<Vec<u8>>,
+}
+
+impl Model for Row {
+    ghost use Rattle.std.specs.Prelude.{ℕ, List, map};
+
+    ghost Value = { List (List ℕ) };
+
+    ghost view = { λ row. map (λ cell. cell.items) row.cells.items };
+}
+
+impl Row {
+    /// A row without cells.
+    pub(crate) fn new(alloc: Global) -> Row
+        ensures { result ≡ [] }
+    {
+        Row {
+            cells: Vec::new(alloc),
+        }
+    }
+
+    /// Adds a cell at the right.
+    pub(crate) fn add(&mut self, cell: Vec<u8>) -> Result<(), NoMemory>
+        ensures { OnOk result (self.new ≡ self.old ++ cell.items ∷ []) }
+    {
+        self.cells.push(cell)?;
+        Ok(())
+    }
+
+    // How many cells it has.
+    fn len(&self) -> usize
+        ensures { result ≡ length self.now }
+    {
+        self.cells.len()
+    }
+
+    // The cell in a column, counted from 0; from the last one on, an empty one.
+    fn cell(&self, column: usize) -> &[u8]
+        ensures cell { result.now ≡ cell column self.now }
+        ensures small { length result.now < 2 ^ 63 }
+    {
+        match self.cells.get(column) {
+            Some(cell) => cell.as_slice(),
+            None => &[],
+        }
+    }
+}
+
+/// Appends rows as lines: each column is as wide as its widest cell, and two spaces are between columns. No line has white
+/// space at its end. On `NoMemory` the text is unchanged.
+pub(crate) fn add_grid(alloc: Global, text: &mut Vec<u8>, rows: &[Row]) -> Result<(), NoMemory>
+    ensures ok { OnOk result (text.new.items ≡ text.old.items ++ grid_text rows.now) }
+    ensures err { OnErr result (text.new.items ≡ text.old.items) }
+{
+    let widths = widths(alloc, rows)?;
+    let len = text.len();
+    let appended = append_lines(alloc, text, rows, widths.as_slice());
+    keep_whole(text, len, appended)
+}
+
+// How wide each column is.
+fn widths(alloc: Global, rows: &[Row]) -> Result<Vec<usize>, NoMemory>
+    ensures widths { IfOk result (λ widths. (column : ℕ) → slice_index widths.items column ≡ width rows.now column) }
+    ensures small { IfOk result (λ widths. (column : ℕ) → slice_index widths.items column < 2 ^ 63) }
+{
+    let mut widths = Vec::new(alloc);
+    for row in rows {
+        widen(&mut widths, row)?;
+    }
+    Ok(widths)
+}
+
+// Makes each column as wide as the cell of this row, if that is wider.
+fn widen(widths: &mut Vec<usize>, row: &Row) -> Result<(), NoMemory>
+    requires { (column : ℕ) → slice_index widths.old.items column < 2 ^ 63 }
+    ensures wider { OnOk result ((column : ℕ) → slice_index widths.new.items column ≡ max (slice_index widths.old.items column) (length (cell column row.now))) }
+    ensures small { OnOk result ((column : ℕ) → slice_index widths.new.items column < 2 ^ 63) }
+{
+    for column in 0..row.len() {
+        let len = row.cell(column).len();
+        if column < widths.len() {
+            widths[column] = widths[column].max(len);
+        } else {
+            widths.push(len)?;
+        }
+    }
+    Ok(())
+}
+
+// Appends the lines of rows, with columns of these widths.
+fn append_lines(
+    alloc: Global,
+    text: &mut Vec<u8>,
+    rows: &[Row],
+    widths: &[usize],
+) -> Result<(), NoMemory>
+    requires { (column : ℕ) → slice_index widths.now column < 2 ^ 63 }
+    ensures ok { OnOk result (text.new.items ≡ text.old.items ++ flat_map (line_of_row (slice_index widths.now)) rows.now) }
+    ensures extends { Extends text.old.items text.new.items }
+{
+    for row in rows {
+        let cells = cells_text(alloc, row, widths)?;
+        append(text, without_trailing_space(cells.as_slice()))?;
+        append(text, b"\n")?;
+    }
+    Ok(())
+}
+
+// The cells of a row, each in a column of its width, and two spaces after it.
+fn cells_text(alloc: Global, row: &Row, widths: &[usize]) -> Result<Vec<u8>, NoMemory>
+    requires { (column : ℕ) → slice_index widths.now column < 2 ^ 63 }
+    ensures { IfOk result (λ text. text.items ≡ grid.cells_text (slice_index widths.now) 0 row.now) }
+{
+    let mut text = Vec::new(alloc);
+    for column in 0..row.len() {
+        let cell = row.cell(column);
+        let width = widths.get(column).copied().unwrap_or(0);
+        append(&mut text, cell)?;
+        append_times(&mut text, b' ', width.saturating_sub(cell.len()))?;
+        append(&mut text, b"  ")?;
+    }
+    Ok(text)
+}

@@ -1,0 +1,129 @@
+//! The table of a path.
+ghost use Rattle.std.specs.Prelude.{◌≡◌, ℕ, ◌+◌, ◌≤◌, true, [], ◌++◌, length, option_copied, option_map, slice_index_or, IfOk, OnOk, OnErr};
+ghost use Rattle.quorum_sets.specs.Ids.{ascending, has};
+ghost use Rattle.conf_change.specs.Configuration.{is_member, is_restorable};
+ghost use Rattle.plan_output.specs.Table as spec;
+ghost use Rattle.plan_output.specs.Table.{stage_names, table_text};
+
+use crate::cells::{
+    commits_text, down_heading, down_text, ids_text, majority_text, marks_text, step_name,
+    until_text,
+};
+use crate::grid::{Row, add_grid};
+use crate::stage::{Stage, stages};
+use conf_change::Config;
+use conf_plan::Path;
+use quorum_sets::{MemberSet, NoMemory, union};
+use std::alloc::Global;
+
+/// Appends the table of a path: a row for the configuration with which it begins, and one for each step with the
+/// configuration after it. It shows who votes and learns there, the majority, how many may be down, who has to catch up, and
+/// how many may be down until then. If ids are named that are down, the last column has whether the configuration commits
+/// without them. Each line ends with a newline (own).
+pub fn add_table<S: MemberSet>(
+    alloc: Global,
+    text: &mut Vec<u8>,
+    now: &Config<S>,
+    path: &Path,
+    down: Option<&S>,
+) -> Result<(), NoMemory>
+    requires { is_restorable now.now ≡ true }
+    ensures ok { OnOk result (text.new.items ≡ text.old.items ++ table_text now.now path.now (option_map S.ids (option_copied down.entry))) }
+    ensures err { OnErr result (text.new.items ≡ text.old.items) }
+{
+    let stages = stages(alloc, now, path)?;
+    let rows = rows(alloc, stages.as_slice(), path, down)?;
+    add_grid(alloc, text, rows.as_slice())
+}
+
+// The headings, and a row for each stage of a path.
+fn rows<S: MemberSet>(
+    alloc: Global,
+    stages: &[Stage<S>],
+    path: &Path,
+    down: Option<&S>,
+) -> Result<Vec<Row>, NoMemory>
+    requires { length stages.now ≡ length path.now + 1 }
+    ensures { IfOk result (λ rows. rows.items ≡ spec.stage_rows stages.now path.now (option_map S.ids (option_copied down.entry))) }
+{
+    let ids = ids_on_the_way(alloc, stages)?;
+    let mut rows = Vec::new(alloc);
+    rows.push(headings(alloc, &ids, down)?)?;
+    for (index, stage) in stages.iter().enumerate() {
+        let name = stage_name(alloc, path, index)?;
+        rows.push(row(alloc, &ids, down, name, stage)?)?;
+    }
+    Ok(rows)
+}
+
+// All that are members at some stage.
+fn ids_on_the_way<S: MemberSet>(alloc: Global, stages: &[Stage<S>]) -> Result<S, NoMemory>
+    ensures { IfOk result (λ ids. S.ids ids ≡ spec.ids_on_the_way stages.now) }
+{
+    let mut ids = S::empty(alloc);
+    for stage in stages {
+        ids = union(&ids, &members(stage.config())?)?;
+    }
+    Ok(ids)
+}
+
+// The members of a configuration.
+fn members<S: MemberSet>(config: &Config<S>) -> Result<S, NoMemory>
+    ensures { IfOk result (λ ids. (q : ℕ) → has (S.ids ids) q ≡ is_member config.now q) }
+{
+    let voters = union(&config.incoming, &config.outgoing)?;
+    union(&voters, &config.learners)
+}
+
+// The headings of the columns.
+fn headings<S: MemberSet>(alloc: Global, ids: &S, down: Option<&S>) -> Result<Row, NoMemory>
+    ensures { IfOk result (λ row. row ≡ spec.headings (ascending (S.ids ids.now)) (option_map S.ids (option_copied down.entry))) }
+{
+    let mut row = Row::new(alloc);
+    row.add(Vec::from_slice(alloc, b"step")?)?;
+    row.add(ids_text(alloc, ids)?)?;
+    row.add(Vec::from_slice(alloc, b"majority")?)?;
+    row.add(Vec::from_slice(alloc, b"may be down")?)?;
+    row.add(Vec::from_slice(alloc, b"catch up")?)?;
+    row.add(Vec::from_slice(alloc, b"until then")?)?;
+    if let Some(down) = down {
+        row.add(down_heading(alloc, down)?)?;
+    }
+    Ok(row)
+}
+
+// The name of the stage at an index of a path: `now`, or the step that leads to it.
+fn stage_name(alloc: Global, path: &Path, index: usize) -> Result<Vec<u8>, NoMemory>
+    requires { index ≤ length path.now }
+    ensures { IfOk result (λ name. name.items ≡ slice_index_or (stage_names path.now) index []) }
+{
+    if index > 0 {
+        if let Some(step) = path.step(index - 1) {
+            return step_name(alloc, index, step);
+        }
+    }
+    Ok(Vec::from_slice(alloc, b"now")?)
+}
+
+// The row of a stage.
+fn row<S: MemberSet>(
+    alloc: Global,
+    ids: &S,
+    down: Option<&S>,
+    name: Vec<u8>,
+    stage: &Stage<S>,
+) -> Result<Row, NoMemory>
+    ensures { IfOk result (λ row. row ≡ spec.row (ascending (S.ids ids.now)) (option_map S.ids (option_copied down.entry)) name.items stage.now) }
+{
+    let mut row = Row::new(alloc);
+    row.add(name)?;
+    row.add(marks_text(alloc, ids, stage.config())?)?;
+    row.add(majority_text(alloc, stage.config())?)?;
+    row.add(down_text(alloc, stage.may_be_down())?)?;
+    row.add(ids_text(alloc, stage.catching_up())?)?;
+    row.add(until_text(alloc, stage)?)?;
+    if let Some(down) = down {
+        row.add(commits_text(alloc, stage.commits(down)?)?)?;
+    }
+    Ok(row)
+}
