@@ -1,3 +1,4 @@
 pub mod Stages
 pub mod Grid
 pub mod Table
+pub mod Json

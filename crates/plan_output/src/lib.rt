@@ -1,4 +1,5 @@
-//! What is printed of a path: what the cluster endures at each configuration on the way, and the table of it.
+//! What is printed of a path: what the cluster endures at each configuration on the way, the table of it,
+//! and its JSON lines.
 //!
 //! A path is safe if its steps are accepted one after another, but a cluster that takes it has to go on serving. A new member
 //! begins with an empty log and has to catch up. Until then it is no help to a quorum, as if it were down. So what an operator
@@ -16,13 +17,15 @@
 //! the step that leaves it neither, since 3 alone is no majority of 3, 4 and 5.
 //!
 //! [`stages`] gives the configurations on the way, [`stalls`] tells whether one of them does not commit, and [`add_table`]
-//! appends the table.
+//! appends the table. [`add_json_lines`] appends an object for each step, with what a program that embeds etcd's raft proposes.
 #![tactic(auto)]
 
 mod cells;
 mod grid;
+mod json;
 mod stage;
 mod table;
 
+pub use json::{add_json_lines, add_no_plan_line};
 pub use stage::{Stage, stages, stalls};
 pub use table::add_table;

@@ -1,5 +1,5 @@
 -- Lists of ids, item by item.
-use Rattle.std.proofs.Common.{◌≡◌, ℕ, List, [], ◌∷◌, ◌++◌, Option, Some, None, option_map, option_and_then, refl, sym, ap, ◌∙◌, append_assoc}
+use Rattle.std.proofs.Common.{◌≡◌, ℕ, List, [], ◌∷◌, ◌++◌, Option, Some, None, option_map, refl, sym, ap, append_assoc}
 use Rattle.serde_json.specs.Data.{Data, Items, item}
 use Rattle.raft_json.specs.IdsJson.{id_from, ids_from}
 

@@ -1,4 +1,6 @@
+pub mod Offered
 mod Ids
 mod Keys
+mod NoFloats
 mod Proposals
 mod SavedConfigurations

@@ -1,8 +1,8 @@
 -- Where etcd ends with what is proposed for a step.
-use Rattle.std.proofs.Common.{◌≡◌, ℕ, ◌<◌, ◌≤◌, Bool, true, false, cond, not, ◌||◌, List, [], ◌∷◌, length, Option, Some, None, refl, sym, ap, ◌∙◌, arith}
+use Rattle.std.proofs.Common.{◌≡◌, ℕ, ◌<◌, Bool, true, false, not, ◌||◌, List, [], ◌∷◌, length, Option, Some, None, refl, sym, ap, ◌∙◌, arith}
 use Rattle.std.specs.Prelude.{Ok, Err, slice_get, nat_lt, if◌then◌else◌}
 use Rattle.std.proofs.lemmas.Bool.{true≢false, not-true, eqb-false, false_from_ne_true}
-use Rattle.quorum_sets.specs.Ids.{Ids, has, ascending, no_ids, is_empty, difference_count}
+use Rattle.quorum_sets.specs.Ids.{has, ascending, difference_count}
 use Rattle.quorum_sets.proofs.Offered.{has-no_ids}
 use Rattle.conf_change.specs.Configuration.{Configuration, is_valid, is_joint, has_voter}
 use Rattle.conf_change.specs.Change.{result_of, last_word, is_learner_after, is_next_after}
@@ -13,10 +13,9 @@ use Rattle.conf_change.specs.declared.change.Kind.{Kind}
 use Rattle.conf_change.specs.declared.change.Kind.TheVariants.{Voter, Learner, Remove, Update}
 use Rattle.conf_change.specs.declared.refused.Refused.TheVariants.{AlreadyJoint, ZeroVoterJoint, SimpleInJoint, RemovedAllVoters, MoreThanOneVoter}
 use Rattle.conf_change.specs.declared.transition.Transition.TheVariants.{Auto}
-use Rattle.conf_change.specs.declared.step.Step.{Step}
-use Rattle.conf_change.specs.declared.step.Step.TheVariants.{Simple, EnterJoint, LeaveJoint}
+use Rattle.conf_change.specs.declared.step.Step.TheVariants.{Simple, EnterJoint}
 use Rattle.conf_change.proofs.Offered.{ValidByMember-from_is_valid, configuration-by_members, has-learners_after, has-next_after, has-after_leave, result_of-none, result_of-update, SimpleTaken-from_outcome, EnterTaken-from_outcome, outcome-enter_accepted, outcome-leave_accepted, outgoing-none}
-use Rattle.raft_json.specs.Proposal.{update_of, or_update, proposed_changes, proposed_step, settles, settled}
+use Rattle.raft_json.specs.Proposal.{update_of, or_update, proposed_step, settles, settled}
 
 -- ---- a list without a change, and the update that is named for it
 result_of-update_of : (c : Configuration) (o : Option ℕ) → result_of c (update_of o) ≡ result_of c []

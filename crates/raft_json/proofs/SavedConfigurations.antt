@@ -1,9 +1,9 @@
 -- The JSON of a saved configuration, read.
-use Rattle.std.proofs.Common.{◌≡◌, ℕ, List, [], ◌∷◌, map, Some, None, option_map, option_and_then, codes, refl, ap}
+use Rattle.std.proofs.Common.{◌≡◌, ℕ, List, [], ◌∷◌, map, Some, option_map, refl, ap}
 use Rattle.conf_change.specs.ConfState.{ConfStateLists}
 use Rattle.serde_json.specs.Data.{number, unsigned}
 use Rattle.serde_json.specs.View.{items_of}
-use Rattle.raft_json.specs.IdsJson.{ids_json, ids_in, ids_from}
+use Rattle.raft_json.specs.IdsJson.{ids_from}
 use Rattle.raft_json.specs.ConfStateJson.{conf_state_json, conf_state_of_json, is_key}
 
 ids_from-ids_json : (ids : List ℕ) → ids_from (items_of (map (λ id. number (unsigned id)) ids)) ≡ Some ids

@@ -1,5 +1,5 @@
 -- What is proposed to etcd for a step, and what etcd makes of it.
-use Rattle.std.specs.Prelude.{ℕ, true, false, List, [], ◌∷◌, Option, Some, None, Result, Ok, Err, slice_get, if◌then◌else◌}
+use Rattle.std.specs.Prelude.{ℕ, true, false, List, [], ◌∷◌, Option, Some, None, Ok, Err, slice_get, if◌then◌else◌}
 use Rattle.quorum_sets.specs.Ids.{ascending}
 use Rattle.conf_change.specs.Configuration.{Configuration}
 use Rattle.conf_change.specs.Outcome.{Outcome, outcome, leave_outcome}

@@ -36,8 +36,7 @@ fn proposed<S: MemberSet>(alloc: Global, before: &Config<S>, step: &Step) -> Res
 {
     match (step, before.incoming.at(0)) {
         (Step::Simple(changes) | Step::EnterJoint(_, changes), Some(id))
-            if changes.as_slice().is_empty() =>
-        {
+            if changes.as_slice().is_empty() => {
             let kind = Kind::Update;
             changes_value(alloc, &[Change { kind, id }])
         }

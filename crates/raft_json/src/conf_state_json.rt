@@ -119,7 +119,12 @@ pub fn conf_state_value(alloc: Global, state: &ConfState) -> Result<Value, NoMem
     let learners = ids_value(alloc, &state.learners)?;
     let learners_next = ids_value(alloc, &state.learners_next)?;
     let mut members = Map::new(alloc);
-    put(&mut members, alloc, "auto_leave", Value::Bool(state.auto_leave))?;
+    put(
+        &mut members,
+        alloc,
+        "auto_leave",
+        Value::Bool(state.auto_leave),
+    )?;
     put(&mut members, alloc, "learners", learners)?;
     put(&mut members, alloc, "learners_next", learners_next)?;
     put(&mut members, alloc, "voters", voters)?;

@@ -1,0 +1,69 @@
+-- The JSON lines of a path: one object for each step.
+use Rattle.std.specs.Prelude.{ℕ, suc, List, [], ◌∷◌, ◌++◌, length, codes, flat_map, Option, Some, None}
+use Rattle.quorum_sets.specs.Ids.{Ids, ascending}
+use Rattle.conf_change.specs.Configuration.{Configuration}
+use Rattle.conf_change.specs.ConfState.{lists_of}
+use Rattle.conf_change.specs.declared.step.Step.{Step}
+use Rattle.serde_json.specs.Data.{Data, null, boolean, number, unsigned, string, object, Members, no_members, member}
+use Rattle.serde_json.specs.Written.{compact_text}
+use Rattle.raft_json.specs.IdsJson.{ids_json}
+use Rattle.raft_json.specs.ConfStateJson.{conf_state_json}
+use Rattle.raft_json.specs.ConfChangeJson.{conf_change_json}
+use Rattle.raft_json.specs.Proposal.{proposed_changes, transition_of}
+use Rattle.plan_output.specs.Stages.{StageState, stages, may_be_down, until_then, commits}
+
+-- a number, or null where there is none
+abbrev pub count_json : Option ℕ → Data
+count_json None = null
+count_json (Some count) = number (unsigned count)
+
+-- whether the stage commits, before the other members, if ids are named that are down
+abbrev pub with_commits : Option Ids → StageState → Members → Members
+with_commits None stage others = others
+with_commits (Some down) stage others = member (codes "commits") (boolean (commits stage down)) others
+
+-- the members of an object after the first: what is proposed for the step, where it leads, and which step of how many it is
+abbrev pub step_members : ℕ → ℕ → ℕ → StageState → Step → StageState → Members
+step_members plan count number_of before step after =
+    member (codes "conf_change") (conf_change_json (transition_of step) (proposed_changes before.config step))
+    (member (codes "conf_state") (conf_state_json (lists_of after.config))
+    (member (codes "may_be_down") (count_json (may_be_down after))
+    (member (codes "plan") (number (unsigned plan))
+    (member (codes "step") (number (unsigned number_of))
+    (member (codes "steps") (number (unsigned count))
+    (member (codes "until_then") (count_json (until_then after)) no_members))))))
+
+-- the object of a step, from one stage to the next
+abbrev pub step_json : Option Ids → ℕ → ℕ → ℕ → StageState → Step → StageState → Data
+step_json down plan count number_of before step after =
+    object (member (codes "catch_up") (ids_json (ascending after.catching_up))
+    (with_commits down after (step_members plan count number_of before step after)))
+
+-- the objects of the steps, of which the first has this number, each from its stage to the next
+abbrev pub steps_json : Option Ids → ℕ → ℕ → ℕ → List StageState → List Step → List Data
+steps_json down plan count number_of (before ∷ after ∷ all) (step ∷ steps) =
+    step_json down plan count number_of before step after ∷ steps_json down plan count (suc number_of) (after ∷ all) steps
+steps_json down plan count number_of (before ∷ after ∷ all) [] = []
+steps_json down plan count number_of (before ∷ []) steps = []
+steps_json down plan count number_of [] steps = []
+
+-- the object of a path without a step
+abbrev pub no_steps_json : ℕ → Data
+no_steps_json plan = object (member (codes "plan") (number (unsigned plan)) (member (codes "steps") (number (unsigned 0)) no_members))
+
+-- the objects of a path: one for each step
+abbrev pub path_json : ℕ → Configuration → List Step → Option Ids → List Data
+path_json plan now [] down = no_steps_json plan ∷ []
+path_json plan now (step ∷ steps) down = steps_json down plan (length (step ∷ steps)) 1 (stages now (step ∷ steps)) (step ∷ steps)
+
+-- the object of a pair without a plan
+abbrev pub no_plan_json : ℕ → List ℕ → Data
+no_plan_json plan why = object (member (codes "no_plan") (string why) (member (codes "plan") (number (unsigned plan)) no_members))
+
+-- a value on a line
+abbrev pub line_text : Data → List ℕ
+line_text d = compact_text d ++ 10 ∷ []
+
+-- the lines of a path
+abbrev pub json_text : ℕ → Configuration → List Step → Option Ids → List ℕ
+json_text plan now steps down = flat_map line_text (path_json plan now steps down)

@@ -1,0 +1,193 @@
+//! The JSON lines of a path, for programs that embed etcd's raft.
+ghost use Rattle.std.specs.Prelude.{◌≡◌, ◌++◌, true, false, Some, IfOk, OnOk, OnErr, flat_map, option_copied, option_map, codes, length};
+ghost use Rattle.quorum_sets.specs.Ids.{ascending};
+ghost use Rattle.ascii_text.specs.Append.{Extends};
+ghost use Rattle.conf_change.specs.Configuration.{is_restorable};
+ghost use Rattle.serde_json.specs.Data.{object};
+ghost use Rattle.serde_json.specs.View.{view, members_view};
+ghost use Rattle.serde_json.specs.Written.{has_float};
+ghost use Rattle.raft_json.specs.IdsJson.{ids_json};
+ghost use Rattle.plan_output.specs.Json as spec;
+ghost use Rattle.plan_output.specs.Json.{json_text, line_text, no_plan_json, no_steps_json, step_json};
+
+use crate::stage::{Stage, stages};
+use ascii_text::append::{append, keep_whole};
+use conf_change::{Config, Step, conf_state};
+use conf_plan::Path;
+use quorum_sets::{MemberSet, NoMemory};
+use raft_json::{conf_change_value, conf_state_value};
+use serde_json::{Map, Value, put};
+use std::alloc::Global;
+
+/// Which step of a path an object is of.
+#[derive(Clone, Copy)]
+struct Number {
+    // The number of the path, as the caller counts.
+    plan: u64,
+    // How many steps the path has.
+    steps: usize,
+    // The number of the step, counted from 1.
+    step: usize,
+}
+
+/// Appends an object for each step of a path, one a line: what is proposed to etcd for it, the configuration after it, and
+/// what the cluster endures there; with `down` also whether it commits without these ids. A path without a step is one
+/// object too. On `NoMemory` the text is unchanged (own).
+pub fn add_json_lines<S: MemberSet>(
+    alloc: Global,
+    text: &mut Vec<u8>,
+    plan: u64,
+    now: &Config<S>,
+    path: &Path,
+    down: Option<&S>,
+) -> Result<(), NoMemory>
+    requires { is_restorable now.now ≡ true }
+    ensures ok { OnOk result (text.new.items ≡ text.old.items ++ json_text plan now.now path.now (option_map S.ids (option_copied down.entry))) }
+    ensures err { OnErr result (text.new.items ≡ text.old.items) }
+{
+    let len = text.len();
+    let added = add_lines(alloc, text, plan, now, path, down);
+    keep_whole(text, len, added)
+}
+
+/// Appends the object of a pair that has no plan, on a line: why there is none. On `NoMemory` the text is unchanged (own).
+pub fn add_no_plan_line(
+    alloc: Global,
+    text: &mut Vec<u8>,
+    plan: u64,
+    why: &str,
+) -> Result<(), NoMemory>
+    ensures ok { OnOk result (text.new.items ≡ text.old.items ++ line_text (no_plan_json plan why.now)) }
+    ensures err { OnErr result (text.new.items ≡ text.old.items) }
+{
+    let why = Value::try_from_str(alloc, why)?;
+    let mut members = Map::new(alloc);
+    put(&mut members, alloc, "no_plan", why)?;
+    put(&mut members, alloc, "plan", Value::from(plan))?;
+    add_line(alloc, text, &Value::Object(members))
+}
+
+// Appends a value on a line. On `NoMemory` the text is unchanged.
+fn add_line(alloc: Global, text: &mut Vec<u8>, value: &Value) -> Result<(), NoMemory>
+    requires { has_float (view value.now) ≡ false }
+    ensures ok { OnOk result (text.new.items ≡ text.old.items ++ line_text (view value.now)) }
+    ensures err { OnErr result (text.new.items ≡ text.old.items) }
+    ensures extends { Extends text.old.items text.new.items }
+{
+    let mut line = value.to_vec(alloc)?;
+    line.push(b'\n')?;
+    append(text, line.as_slice())
+}
+
+fn add_lines<S: MemberSet>(
+    alloc: Global,
+    text: &mut Vec<u8>,
+    plan: u64,
+    now: &Config<S>,
+    path: &Path,
+    down: Option<&S>,
+) -> Result<(), NoMemory>
+    requires { is_restorable now.now ≡ true }
+    ensures ok { OnOk result (text.new.items ≡ text.old.items ++ json_text plan now.now path.now (option_map S.ids (option_copied down.entry))) }
+    ensures extends { Extends text.old.items text.new.items }
+{
+    let steps = path.len();
+    if steps == 0 {
+        return add_line(alloc, text, &no_steps_value(alloc, plan)?);
+    }
+    let stages = stages(alloc, now, path)?;
+    for index in 0..steps {
+        let (Some(before), Some(step), Some(after)) =
+            (stages.get(index), path.step(index), stages.get(index + 1))
+        else {
+            break;
+        };
+        let number = Number {
+            plan,
+            steps,
+            step: index + 1,
+        };
+        let value = step_value(alloc, number, before, step, after, down)?;
+        add_line(alloc, text, &value)?;
+    }
+    Ok(())
+}
+
+// The object of a path without a step.
+fn no_steps_value(alloc: Global, plan: u64) -> Result<Value, NoMemory>
+    ensures { IfOk result (λ v. view v ≡ no_steps_json plan) }
+{
+    let mut members = Map::new(alloc);
+    put(&mut members, alloc, "plan", Value::from(plan))?;
+    put(&mut members, alloc, "steps", Value::from(0u64))?;
+    Ok(Value::Object(members))
+}
+
+// The object of a step, from one stage to the next.
+fn step_value<S: MemberSet>(
+    alloc: Global,
+    number: Number,
+    before: &Stage<S>,
+    step: &Step,
+    after: &Stage<S>,
+    down: Option<&S>,
+) -> Result<Value, NoMemory>
+    ensures { IfOk result (λ v. view v
+        ≡ step_json (option_map S.ids (option_copied down.entry)) number.plan number.steps number.step before.now step.now after.now) }
+{
+    let mut members = step_members(alloc, number, before, step, after)?;
+    if let Some(down) = down {
+        put(&mut members, alloc, "commits", Value::Bool(after.commits(down)?))?;
+    }
+    let catch_up = ids_value(alloc, after.catching_up())?;
+    put(&mut members, alloc, "catch_up", catch_up)?;
+    Ok(Value::Object(members))
+}
+
+// The members of the object that come after the first, but for whether it commits.
+fn step_members<S: MemberSet>(
+    alloc: Global,
+    number: Number,
+    before: &Stage<S>,
+    step: &Step,
+    after: &Stage<S>,
+) -> Result<Map<String, Value>, NoMemory>
+    ensures { IfOk result (λ members. members_view members.entries
+        ≡ spec.step_members number.plan number.steps number.step before.now step.now after.now) }
+{
+    let conf_change = conf_change_value(alloc, before.config(), step)?;
+    let state = conf_state(alloc, after.config())?;
+    let conf_state = conf_state_value(alloc, &state)?;
+    let mut members = Map::new(alloc);
+    put(&mut members, alloc, "conf_change", conf_change)?;
+    put(&mut members, alloc, "conf_state", conf_state)?;
+    put(&mut members, alloc, "may_be_down", count_value(after.may_be_down()))?;
+    put(&mut members, alloc, "plan", Value::from(number.plan))?;
+    put(&mut members, alloc, "step", Value::from(number.step))?;
+    put(&mut members, alloc, "steps", Value::from(number.steps))?;
+    put(&mut members, alloc, "until_then", count_value(after.until_then()))?;
+    Ok(members)
+}
+
+// A number, or null where there is none.
+fn count_value(count: Option<usize>) -> Value
+    ensures { view result ≡ spec.count_json count }
+{
+    match count {
+        Some(count) => Value::from(count),
+        None => Value::Null,
+    }
+}
+
+// The ids of a set, ascending.
+fn ids_value<S: MemberSet>(alloc: Global, ids: &S) -> Result<Value, NoMemory>
+    ensures { IfOk result (λ v. view v ≡ ids_json (ascending (S.ids ids.now))) }
+{
+    let mut items = Vec::with_capacity(alloc, ids.len())?;
+    for index in 0..ids.len() {
+        if let Some(id) = ids.at(index) {
+            items.push(Value::from(id))?;
+        }
+    }
+    Ok(Value::Array(items))
+}
