@@ -13,7 +13,7 @@ use Rattle.conf_change.specs.declared.transition.Transition.TheVariants.{Auto}
 use Rattle.conf_session.proofs.QuorumValues.{drop-here}
 use Rattle.conf_session.specs.Arguments.{parameter_of, has_key, is_good, first_bad, bad_argument, missing_argument, argument_of}
 use Rattle.conf_session.specs.Parameter.{key_of, at_least, flag_in, transition_in, number_from, id_in, index_in, vote_in}
-use Rattle.conf_session.specs.Values.{Values, given, listed, values_in, with_more, HasMore, values_read, read_arguments}
+use Rattle.conf_session.specs.Values.{Values, value_or, listed, values_in, with_more, HasMore, values_read, read_arguments}
 use Rattle.conf_session.specs.declared.parameter.Parameter.{Parameter}
 use Rattle.conf_session.specs.declared.parameter.Parameter.TheVariants.{AutoLeave, Transition as TransitionAsked, Steps, Id, Index, Incoming, Outgoing, Indexes, Votes}
 
@@ -57,13 +57,13 @@ own q before a key new =
       none = none;
     }
 
-given-other : {V : Type 0} (read : List (List ℕ) → Option V) (default : V) (q : Parameter) (before : List ArgumentText) (a : ArgumentText) → bytes_eq a.key (key_of q) ≡ false →
-    given read default q (before ++ a ∷ []) ≡ given read default q before
-given-other read default q before a is = ap (λ o. unwrap_or (option_and_then (λ argument. read argument.values) o) default) (other q before a is)
+value_or-other : {V : Type 0} (read : List (List ℕ) → Option V) (default : V) (q : Parameter) (before : List ArgumentText) (a : ArgumentText) → bytes_eq a.key (key_of q) ≡ false →
+    value_or read default q (before ++ a ∷ []) ≡ value_or read default q before
+value_or-other read default q before a is = ap (λ o. unwrap_or (option_and_then (λ argument. read argument.values) o) default) (other q before a is)
 
-given-own : {V : Type 0} (read : List (List ℕ) → Option V) (default : V) (q : Parameter) (before : List ArgumentText) (a : ArgumentText) → a.key ≡ key_of q → has_key before a.key ≡ false →
-    given read default q (before ++ a ∷ []) ≡ unwrap_or (read a.values) (given read default q before)
-given-own {V = V} read default q before a key new =
+value_or-own : {V : Type 0} (read : List (List ℕ) → Option V) (default : V) (q : Parameter) (before : List ArgumentText) (a : ArgumentText) → a.key ≡ key_of q → has_key before a.key ≡ false →
+    value_or read default q (before ++ a ∷ []) ≡ unwrap_or (read a.values) (value_or read default q before)
+value_or-own {V = V} read default q before a key new =
     let value : Option ArgumentText → V = λ o. unwrap_or (option_and_then (λ argument. read argument.values) o) default in
     let is = own q before a key new in
     ap value is.after ∙ ap (λ d. unwrap_or (read a.values) d) (sym (ap value is.none))
@@ -83,11 +83,11 @@ values-more : (p : Parameter) (before : List ArgumentText) (a : ArgumentText) �
 values-more AutoLeave before a key new =
     let apart : (q : Parameter) → bytes_eq a.key (key_of q) ≡ bytes_eq (key_of AutoLeave) (key_of q) = λ q. ap (λ k. bytes_eq k (key_of q)) key in
     λ i. record {
-      auto_leave = given-own flag_in false AutoLeave before a key new i;
-      transition = given-other transition_in Auto TransitionAsked before a (apart TransitionAsked) i;
-      steps = given-other (number_from 1) 1 Steps before a (apart Steps) i;
-      id = given-other (number_from 1) 0 Id before a (apart Id) i;
-      index = given-other (number_from 0) 0 Index before a (apart Index) i;
+      auto_leave = value_or-own flag_in false AutoLeave before a key new i;
+      transition = value_or-other transition_in Auto TransitionAsked before a (apart TransitionAsked) i;
+      steps = value_or-other (number_from 1) 1 Steps before a (apart Steps) i;
+      id = value_or-other (number_from 1) 0 Id before a (apart Id) i;
+      index = value_or-other (number_from 0) 0 Index before a (apart Index) i;
       incoming = listed-other id_in Incoming before a (apart Incoming) i;
       outgoing = listed-other id_in Outgoing before a (apart Outgoing) i;
       indexes = listed-other index_in Indexes before a (apart Indexes) i;
@@ -96,11 +96,11 @@ values-more AutoLeave before a key new =
 values-more TransitionAsked before a key new =
     let apart : (q : Parameter) → bytes_eq a.key (key_of q) ≡ bytes_eq (key_of TransitionAsked) (key_of q) = λ q. ap (λ k. bytes_eq k (key_of q)) key in
     λ i. record {
-      auto_leave = given-other flag_in false AutoLeave before a (apart AutoLeave) i;
-      transition = given-own transition_in Auto TransitionAsked before a key new i;
-      steps = given-other (number_from 1) 1 Steps before a (apart Steps) i;
-      id = given-other (number_from 1) 0 Id before a (apart Id) i;
-      index = given-other (number_from 0) 0 Index before a (apart Index) i;
+      auto_leave = value_or-other flag_in false AutoLeave before a (apart AutoLeave) i;
+      transition = value_or-own transition_in Auto TransitionAsked before a key new i;
+      steps = value_or-other (number_from 1) 1 Steps before a (apart Steps) i;
+      id = value_or-other (number_from 1) 0 Id before a (apart Id) i;
+      index = value_or-other (number_from 0) 0 Index before a (apart Index) i;
       incoming = listed-other id_in Incoming before a (apart Incoming) i;
       outgoing = listed-other id_in Outgoing before a (apart Outgoing) i;
       indexes = listed-other index_in Indexes before a (apart Indexes) i;
@@ -109,11 +109,11 @@ values-more TransitionAsked before a key new =
 values-more Steps before a key new =
     let apart : (q : Parameter) → bytes_eq a.key (key_of q) ≡ bytes_eq (key_of Steps) (key_of q) = λ q. ap (λ k. bytes_eq k (key_of q)) key in
     λ i. record {
-      auto_leave = given-other flag_in false AutoLeave before a (apart AutoLeave) i;
-      transition = given-other transition_in Auto TransitionAsked before a (apart TransitionAsked) i;
-      steps = given-own (number_from 1) 1 Steps before a key new i;
-      id = given-other (number_from 1) 0 Id before a (apart Id) i;
-      index = given-other (number_from 0) 0 Index before a (apart Index) i;
+      auto_leave = value_or-other flag_in false AutoLeave before a (apart AutoLeave) i;
+      transition = value_or-other transition_in Auto TransitionAsked before a (apart TransitionAsked) i;
+      steps = value_or-own (number_from 1) 1 Steps before a key new i;
+      id = value_or-other (number_from 1) 0 Id before a (apart Id) i;
+      index = value_or-other (number_from 0) 0 Index before a (apart Index) i;
       incoming = listed-other id_in Incoming before a (apart Incoming) i;
       outgoing = listed-other id_in Outgoing before a (apart Outgoing) i;
       indexes = listed-other index_in Indexes before a (apart Indexes) i;
@@ -122,11 +122,11 @@ values-more Steps before a key new =
 values-more Id before a key new =
     let apart : (q : Parameter) → bytes_eq a.key (key_of q) ≡ bytes_eq (key_of Id) (key_of q) = λ q. ap (λ k. bytes_eq k (key_of q)) key in
     λ i. record {
-      auto_leave = given-other flag_in false AutoLeave before a (apart AutoLeave) i;
-      transition = given-other transition_in Auto TransitionAsked before a (apart TransitionAsked) i;
-      steps = given-other (number_from 1) 1 Steps before a (apart Steps) i;
-      id = given-own (number_from 1) 0 Id before a key new i;
-      index = given-other (number_from 0) 0 Index before a (apart Index) i;
+      auto_leave = value_or-other flag_in false AutoLeave before a (apart AutoLeave) i;
+      transition = value_or-other transition_in Auto TransitionAsked before a (apart TransitionAsked) i;
+      steps = value_or-other (number_from 1) 1 Steps before a (apart Steps) i;
+      id = value_or-own (number_from 1) 0 Id before a key new i;
+      index = value_or-other (number_from 0) 0 Index before a (apart Index) i;
       incoming = listed-other id_in Incoming before a (apart Incoming) i;
       outgoing = listed-other id_in Outgoing before a (apart Outgoing) i;
       indexes = listed-other index_in Indexes before a (apart Indexes) i;
@@ -135,11 +135,11 @@ values-more Id before a key new =
 values-more Index before a key new =
     let apart : (q : Parameter) → bytes_eq a.key (key_of q) ≡ bytes_eq (key_of Index) (key_of q) = λ q. ap (λ k. bytes_eq k (key_of q)) key in
     λ i. record {
-      auto_leave = given-other flag_in false AutoLeave before a (apart AutoLeave) i;
-      transition = given-other transition_in Auto TransitionAsked before a (apart TransitionAsked) i;
-      steps = given-other (number_from 1) 1 Steps before a (apart Steps) i;
-      id = given-other (number_from 1) 0 Id before a (apart Id) i;
-      index = given-own (number_from 0) 0 Index before a key new i;
+      auto_leave = value_or-other flag_in false AutoLeave before a (apart AutoLeave) i;
+      transition = value_or-other transition_in Auto TransitionAsked before a (apart TransitionAsked) i;
+      steps = value_or-other (number_from 1) 1 Steps before a (apart Steps) i;
+      id = value_or-other (number_from 1) 0 Id before a (apart Id) i;
+      index = value_or-own (number_from 0) 0 Index before a key new i;
       incoming = listed-other id_in Incoming before a (apart Incoming) i;
       outgoing = listed-other id_in Outgoing before a (apart Outgoing) i;
       indexes = listed-other index_in Indexes before a (apart Indexes) i;
@@ -148,11 +148,11 @@ values-more Index before a key new =
 values-more Incoming before a key new =
     let apart : (q : Parameter) → bytes_eq a.key (key_of q) ≡ bytes_eq (key_of Incoming) (key_of q) = λ q. ap (λ k. bytes_eq k (key_of q)) key in
     λ i. record {
-      auto_leave = given-other flag_in false AutoLeave before a (apart AutoLeave) i;
-      transition = given-other transition_in Auto TransitionAsked before a (apart TransitionAsked) i;
-      steps = given-other (number_from 1) 1 Steps before a (apart Steps) i;
-      id = given-other (number_from 1) 0 Id before a (apart Id) i;
-      index = given-other (number_from 0) 0 Index before a (apart Index) i;
+      auto_leave = value_or-other flag_in false AutoLeave before a (apart AutoLeave) i;
+      transition = value_or-other transition_in Auto TransitionAsked before a (apart TransitionAsked) i;
+      steps = value_or-other (number_from 1) 1 Steps before a (apart Steps) i;
+      id = value_or-other (number_from 1) 0 Id before a (apart Id) i;
+      index = value_or-other (number_from 0) 0 Index before a (apart Index) i;
       incoming = listed-own id_in Incoming before a key new i;
       outgoing = listed-other id_in Outgoing before a (apart Outgoing) i;
       indexes = listed-other index_in Indexes before a (apart Indexes) i;
@@ -161,11 +161,11 @@ values-more Incoming before a key new =
 values-more Outgoing before a key new =
     let apart : (q : Parameter) → bytes_eq a.key (key_of q) ≡ bytes_eq (key_of Outgoing) (key_of q) = λ q. ap (λ k. bytes_eq k (key_of q)) key in
     λ i. record {
-      auto_leave = given-other flag_in false AutoLeave before a (apart AutoLeave) i;
-      transition = given-other transition_in Auto TransitionAsked before a (apart TransitionAsked) i;
-      steps = given-other (number_from 1) 1 Steps before a (apart Steps) i;
-      id = given-other (number_from 1) 0 Id before a (apart Id) i;
-      index = given-other (number_from 0) 0 Index before a (apart Index) i;
+      auto_leave = value_or-other flag_in false AutoLeave before a (apart AutoLeave) i;
+      transition = value_or-other transition_in Auto TransitionAsked before a (apart TransitionAsked) i;
+      steps = value_or-other (number_from 1) 1 Steps before a (apart Steps) i;
+      id = value_or-other (number_from 1) 0 Id before a (apart Id) i;
+      index = value_or-other (number_from 0) 0 Index before a (apart Index) i;
       incoming = listed-other id_in Incoming before a (apart Incoming) i;
       outgoing = listed-own id_in Outgoing before a key new i;
       indexes = listed-other index_in Indexes before a (apart Indexes) i;
@@ -174,11 +174,11 @@ values-more Outgoing before a key new =
 values-more Indexes before a key new =
     let apart : (q : Parameter) → bytes_eq a.key (key_of q) ≡ bytes_eq (key_of Indexes) (key_of q) = λ q. ap (λ k. bytes_eq k (key_of q)) key in
     λ i. record {
-      auto_leave = given-other flag_in false AutoLeave before a (apart AutoLeave) i;
-      transition = given-other transition_in Auto TransitionAsked before a (apart TransitionAsked) i;
-      steps = given-other (number_from 1) 1 Steps before a (apart Steps) i;
-      id = given-other (number_from 1) 0 Id before a (apart Id) i;
-      index = given-other (number_from 0) 0 Index before a (apart Index) i;
+      auto_leave = value_or-other flag_in false AutoLeave before a (apart AutoLeave) i;
+      transition = value_or-other transition_in Auto TransitionAsked before a (apart TransitionAsked) i;
+      steps = value_or-other (number_from 1) 1 Steps before a (apart Steps) i;
+      id = value_or-other (number_from 1) 0 Id before a (apart Id) i;
+      index = value_or-other (number_from 0) 0 Index before a (apart Index) i;
       incoming = listed-other id_in Incoming before a (apart Incoming) i;
       outgoing = listed-other id_in Outgoing before a (apart Outgoing) i;
       indexes = listed-own index_in Indexes before a key new i;
@@ -187,11 +187,11 @@ values-more Indexes before a key new =
 values-more Votes before a key new =
     let apart : (q : Parameter) → bytes_eq a.key (key_of q) ≡ bytes_eq (key_of Votes) (key_of q) = λ q. ap (λ k. bytes_eq k (key_of q)) key in
     λ i. record {
-      auto_leave = given-other flag_in false AutoLeave before a (apart AutoLeave) i;
-      transition = given-other transition_in Auto TransitionAsked before a (apart TransitionAsked) i;
-      steps = given-other (number_from 1) 1 Steps before a (apart Steps) i;
-      id = given-other (number_from 1) 0 Id before a (apart Id) i;
-      index = given-other (number_from 0) 0 Index before a (apart Index) i;
+      auto_leave = value_or-other flag_in false AutoLeave before a (apart AutoLeave) i;
+      transition = value_or-other transition_in Auto TransitionAsked before a (apart TransitionAsked) i;
+      steps = value_or-other (number_from 1) 1 Steps before a (apart Steps) i;
+      id = value_or-other (number_from 1) 0 Id before a (apart Id) i;
+      index = value_or-other (number_from 0) 0 Index before a (apart Index) i;
       incoming = listed-other id_in Incoming before a (apart Incoming) i;
       outgoing = listed-other id_in Outgoing before a (apart Outgoing) i;
       indexes = listed-other index_in Indexes before a (apart Indexes) i;

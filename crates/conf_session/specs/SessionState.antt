@@ -25,21 +25,21 @@ abbrev pub new_session : ℕ → Floor → SessionState
 new_session history floor = record { changer = new_changer floor 0; history = history; kept = [] }
 
 -- the configuration of now
-abbrev pub present : SessionState → Configuration
-present session = session.changer.tracker.config
+abbrev pub current : SessionState → Configuration
+current session = session.changer.tracker.config
 
 -- ---- what a command makes of it
 -- it stays as it is; or it has this changer, after an acknowledgement, after an accepted change, restored, or with so many
 -- changes undone
-pub data Becomes : Type 0 where
-  Nothing : Becomes
-  Acknowledged : ChangerState → Becomes
-  Stepped : ChangerState → Becomes
-  Restored : ChangerState → Becomes
-  Undone : ChangerState → ℕ → Becomes
+pub data SessionChange : Type 0 where
+  Nothing : SessionChange
+  Acknowledged : ChangerState → SessionChange
+  Stepped : ChangerState → SessionChange
+  Restored : ChangerState → SessionChange
+  Undone : ChangerState → ℕ → SessionChange
 
 -- the changer afterwards
-abbrev pub changer_left : SessionState → Becomes → ChangerState
+abbrev pub changer_left : SessionState → SessionChange → ChangerState
 changer_left session Nothing = session.changer
 changer_left session (Acknowledged after) = after
 changer_left session (Stepped after) = after
@@ -48,10 +48,10 @@ changer_left session (Undone after count) = after
 
 -- The configurations that are kept afterwards: that of before an accepted change is the newest, and the oldest goes where
 -- there would be too many.
-abbrev pub kept_after : SessionState → Becomes → List Configuration
+abbrev pub kept_after : SessionState → SessionChange → List Configuration
 kept_after session Nothing = session.kept
 kept_after session (Acknowledged after) = session.kept
-kept_after session (Stepped after) = take session.history (present session ∷ session.kept)
+kept_after session (Stepped after) = take session.history (current session ∷ session.kept)
 kept_after session (Restored after) = []
 kept_after session (Undone after count) = drop count session.kept
 
@@ -60,7 +60,7 @@ abbrev pub index_after : ℕ → ℕ
 index_after index = min (index + 1) (2 ^ 64 - 1)
 
 -- the session after a directive that makes this of it: the last index rises
-abbrev pub after_directive : SessionState → Becomes → SessionState
+abbrev pub after_directive : SessionState → SessionChange → SessionState
 after_directive session effect =
     let left = changer_left session effect in
     record { changer = with_last_index left (index_after left.last_index); history = session.history; kept = kept_after session effect }
@@ -80,4 +80,4 @@ LedTo now (older ∷ kept) = (is_restorable older ≡ true) × Leads older now �
 pub record IsSession (session : SessionState) : Type 0 where
   pub sound : IsSound session.changer.tracker
   pub few : length session.kept ≤ session.history
-  pub led : LedTo (present session) session.kept
+  pub led : LedTo (current session) session.kept

@@ -6,7 +6,7 @@ use Rattle.conf_change.specs.declared.step.Step.{Step}
 use Rattle.conf_plan.specs.Planned.{planned}
 use Rattle.conf_plan.specs.PlanText.{plan_text}
 use Rattle.conf_plan.specs.Run.{IsRun, after_steps}
-use Rattle.conf_session.specs.SessionState.{SessionState, present, Undone}
+use Rattle.conf_session.specs.SessionState.{SessionState, current, Undone}
 use Rattle.conf_session.specs.ReplyTexts.{tracker_text}
 use Rattle.conf_session.specs.Reply.{Reply}
 use Rattle.conf_session.specs.declared.undo_fault.UndoFault.{UndoFault}
@@ -15,7 +15,7 @@ use Rattle.conf_session.specs.declared.undo_fault.UndoFault.TheVariants.{NotKept
 -- the plan to an earlier configuration, if it is kept
 abbrev pub plan_back : SessionState → Option Configuration → Result (List Step) UndoFault
 plan_back session None = Err (NotKept (length session.kept))
-plan_back session (Some older) = if has_voter older then Ok (planned (present session) older) else Err NoVoterTarget
+plan_back session (Some older) = if has_voter older then Ok (planned (current session) older) else Err NoVoterTarget
 
 -- the plan that undoes so many changes, one at least: to the configuration of before the last of them
 abbrev pub undo_plan_of : SessionState → ℕ → Result (List Step) UndoFault
@@ -42,14 +42,14 @@ undone session count steps = undone_by (undone_changer session steps) count step
 pub record IsEarlier (session : SessionState) (count : ℕ) (older : Configuration) : Type 0 where
   pub restorable : is_restorable older ≡ true
   pub steps : List Step
-  pub run : IsRun older steps (present session)
+  pub run : IsRun older steps (current session)
   pub counted : length steps ≡ count
-  pub voter : has_voter (present session) ≡ true
+  pub voter : has_voter (current session) ≡ true
 
 -- the steps lead from the configuration of now to the one of so many changes ago
 pub record LeadsBack (session : SessionState) (count : ℕ) (steps : List Step) : Type 0 where
   pub older : Configuration
   pub is_kept : slice_get session.kept (count - 1) ≡ Some older
-  pub run : IsRun (present session) steps older
+  pub run : IsRun (current session) steps older
   pub at_most_four : length steps ≤ 4
   pub at_most_three : count ≡ 1 → length steps ≤ 3

@@ -22,8 +22,8 @@ pub record Values : Type 0 where
   pub votes : List (Option Bool)
 
 -- what an argument is read as, or this, where it is left out
-abbrev pub given : {V : Type 0} → (List (List ℕ) → Option V) → V → Parameter → List ArgumentText → V
-given read default parameter arguments = unwrap_or (option_and_then (λ argument. read argument.values) (argument_of parameter arguments)) default
+abbrev pub value_or : {V : Type 0} → (List (List ℕ) → Option V) → V → Parameter → List ArgumentText → V
+value_or read default parameter arguments = unwrap_or (option_and_then (λ argument. read argument.values) (argument_of parameter arguments)) default
 
 -- what the values of an argument are read as; none where it is left out
 abbrev pub listed : {V : Type 0} → (List ℕ → Option V) → Parameter → List ArgumentText → List V
@@ -32,11 +32,11 @@ listed read parameter arguments = unwrap_or (option_map (λ argument. filter_map
 -- the values of these arguments, none of which is bad
 abbrev pub values_in : List ArgumentText → Values
 values_in arguments = record {
-  auto_leave = given flag_in false AutoLeave arguments;
-  transition = given transition_in Auto TransitionAsked arguments;
-  steps = given (number_from 1) 1 Steps arguments;
-  id = given (number_from 1) 0 Id arguments;
-  index = given (number_from 0) 0 Index arguments;
+  auto_leave = value_or flag_in false AutoLeave arguments;
+  transition = value_or transition_in Auto TransitionAsked arguments;
+  steps = value_or (number_from 1) 1 Steps arguments;
+  id = value_or (number_from 1) 0 Id arguments;
+  index = value_or (number_from 0) 0 Index arguments;
   incoming = listed id_in Incoming arguments;
   outgoing = listed id_in Outgoing arguments;
   indexes = listed index_in Indexes arguments;

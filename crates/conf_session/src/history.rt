@@ -50,10 +50,10 @@ impl History {
     }
 
     /// The one at a place, counted from 0, which is the newest.
-    pub(crate) fn get(&self, place: usize) -> Option<&Config<SessionIds>>
-        ensures { option_copied result ≡ slice_get self.now.kept place }
+    pub(crate) fn get(&self, index: usize) -> Option<&Config<SessionIds>>
+        ensures { option_copied result ≡ slice_get self.now.kept index }
     {
-        self.kept.get(place)
+        self.kept.get(index)
     }
 
     /// Keeps a newer one. The oldest goes where there would be too many.

@@ -1,6 +1,6 @@
 //! What the input of a directive is read as.
 ghost use Rattle.std.specs.Prelude.{◌≡◌, Ok, Err, IfOk, MatchResult};
-ghost use Rattle.conf_session.specs.Input as says;
+ghost use Rattle.conf_session.specs.Input as spec;
 
 use crate::reply_texts::{bad_token_line, line_of};
 use conf_change::{Change, ConfState, ConfStateFault, TokenFault, read_changes, read_conf_state};
@@ -29,9 +29,9 @@ pub(crate) struct Input {
 }
 
 impl Model for Input {
-    ghost use Rattle.conf_session.specs.Input as says;
+    ghost use Rattle.conf_session.specs.Input as spec;
 
-    ghost Value = { says.Input };
+    ghost Value = { spec.Input };
 
     ghost view = { λ i. record { changes = i.changes.items; saved = i.saved } };
 }
@@ -42,7 +42,7 @@ pub(crate) fn read_input(
     kind: InputKind,
     text: &[u8],
 ) -> Result<Result<Input, Vec<u8>>, NoMemory>
-    ensures { IfOk result (λ read. MatchResult read (λ input. says.read_input kind text.now ≡ Ok input) (λ found. says.read_input kind text.now ≡ Err found.items)) }
+    ensures { IfOk result (λ read. MatchResult read (λ input. spec.read_input kind text.now ≡ Ok input) (λ found. spec.read_input kind text.now ≡ Err found.items)) }
 {
     match kind {
         InputKind::Changes => read_change_list(alloc, text),
@@ -54,7 +54,7 @@ pub(crate) fn read_input(
 
 // These changes, and nothing saved.
 fn of_changes(alloc: Global, changes: Vec<Change>) -> Input
-    ensures { result ≡ says.of_changes changes.items }
+    ensures { result ≡ spec.of_changes changes.items }
 {
     let saved = ConfState {
         voters: Vec::new(alloc),
@@ -67,7 +67,7 @@ fn of_changes(alloc: Global, changes: Vec<Change>) -> Input
 }
 
 fn read_change_list(alloc: Global, text: &[u8]) -> Result<Result<Input, Vec<u8>>, NoMemory>
-    ensures { IfOk result (λ read. MatchResult read (λ input. says.read_input InputKind.Changes text.now ≡ Ok input) (λ found. says.read_input InputKind.Changes text.now ≡ Err found.items)) }
+    ensures { IfOk result (λ read. MatchResult read (λ input. spec.read_input InputKind.Changes text.now ≡ Ok input) (λ found. spec.read_input InputKind.Changes text.now ≡ Err found.items)) }
 {
     match read_changes(alloc, text) {
         Ok(changes) => Ok(Ok(of_changes(alloc, changes))),
@@ -77,7 +77,7 @@ fn read_change_list(alloc: Global, text: &[u8]) -> Result<Result<Input, Vec<u8>>
 }
 
 fn read_no_change(alloc: Global, text: &[u8]) -> Result<Result<Input, Vec<u8>>, NoMemory>
-    ensures { IfOk result (λ read. MatchResult read (λ input. says.read_input InputKind.NoChange text.now ≡ Ok input) (λ found. says.read_input InputKind.NoChange text.now ≡ Err found.items)) }
+    ensures { IfOk result (λ read. MatchResult read (λ input. spec.read_input InputKind.NoChange text.now ≡ Ok input) (λ found. spec.read_input InputKind.NoChange text.now ≡ Err found.items)) }
 {
     match read_changes(alloc, text) {
         Ok(changes) if changes.is_empty() => Ok(Ok(of_changes(alloc, changes))),
@@ -88,7 +88,7 @@ fn read_no_change(alloc: Global, text: &[u8]) -> Result<Result<Input, Vec<u8>>, 
 }
 
 fn read_saved(alloc: Global, text: &[u8]) -> Result<Result<Input, Vec<u8>>, NoMemory>
-    ensures { IfOk result (λ read. MatchResult read (λ input. says.read_input InputKind.ConfStateLine text.now ≡ Ok input) (λ found. says.read_input InputKind.ConfStateLine text.now ≡ Err found.items)) }
+    ensures { IfOk result (λ read. MatchResult read (λ input. spec.read_input InputKind.ConfStateLine text.now ≡ Ok input) (λ found. spec.read_input InputKind.ConfStateLine text.now ≡ Err found.items)) }
 {
     match read_conf_state(alloc, text) {
         Ok(saved) => Ok(Ok(Input {
@@ -101,7 +101,7 @@ fn read_saved(alloc: Global, text: &[u8]) -> Result<Result<Input, Vec<u8>>, NoMe
 }
 
 fn read_nothing(alloc: Global, text: &[u8]) -> Result<Result<Input, Vec<u8>>, NoMemory>
-    ensures { IfOk result (λ read. MatchResult read (λ input. says.read_input InputKind.Nothing text.now ≡ Ok input) (λ found. says.read_input InputKind.Nothing text.now ≡ Err found.items)) }
+    ensures { IfOk result (λ read. MatchResult read (λ input. spec.read_input InputKind.Nothing text.now ≡ Ok input) (λ found. spec.read_input InputKind.Nothing text.now ≡ Err found.items)) }
 {
     if text.is_empty() {
         Ok(Ok(of_changes(alloc, Vec::new(alloc))))
@@ -112,7 +112,7 @@ fn read_nothing(alloc: Global, text: &[u8]) -> Result<Result<Input, Vec<u8>>, No
 
 // The line that reports that the command takes no input.
 fn no_input_line(alloc: Global) -> Result<Vec<u8>, NoMemory>
-    ensures { IfOk result (λ found. found.items ≡ says.no_input_line) }
+    ensures { IfOk result (λ found. found.items ≡ spec.no_input_line) }
 {
     line_of(alloc, b"this command takes no input", b"")
 }

@@ -8,7 +8,7 @@ ghost use Rattle.conf_change.specs.ConfStateLine.{conf_state_text};
 ghost use Rattle.conf_session.specs.Quorum.{given_in, index_text, committed_text, vote_text};
 ghost use Rattle.quorum_sets.specs.Votes.{joint_vote_result};
 ghost use Rattle.conf_session.specs.ReplyTexts.{line, member_lines, tracker_text};
-ghost use Rattle.conf_session.specs.Undo as says;
+ghost use Rattle.conf_session.specs.Undo as spec;
 
 use crate::given::Given;
 use crate::session_ids::SessionIds;
@@ -81,7 +81,7 @@ pub(crate) fn conf_state_line(
 
 /// Why there is no plan, as a line.
 pub(crate) fn undo_fault_line(alloc: Global, fault: UndoFault) -> Result<Vec<u8>, NoMemory>
-    ensures { IfOk result (λ text. text.items ≡ line (says.undo_fault_text fault)) }
+    ensures { IfOk result (λ text. text.items ≡ line (spec.undo_fault_text fault)) }
 {
     end_line(undo_fault_text(alloc, fault)?)
 }
@@ -186,8 +186,8 @@ pub(crate) fn usual_room(tracker: &Tracker<SessionIds>) -> usize {
 fn append_members(tracker: &Tracker<SessionIds>, text: &mut Vec<u8>) -> Result<(), NoMemory>
     ensures { OnOk result (text.new.items ≡ text.old.items ++ member_lines tracker.now) }
 {
-    for place in 0..tracker.member_count() {
-        if let Some((id, progress)) = tracker.member_at(place) {
+    for index in 0..tracker.member_count() {
+        if let Some((id, progress)) = tracker.member_at(index) {
             append_member(text, id, progress)?;
         }
     }

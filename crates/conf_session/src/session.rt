@@ -4,11 +4,11 @@ ghost use Rattle.conf_change.specs.Changer.{IsSound};
 ghost use Rattle.conf_change.specs.declared.floor.Floor.TheVariants.{One};
 ghost use Rattle.conf_change.specs.Configuration.{Configuration};
 ghost use Rattle.conf_plan.specs.Best.{IsBest};
-ghost use Rattle.conf_session.specs.SessionState.{IsSession, new_session, present, after_directive};
+ghost use Rattle.conf_session.specs.SessionState.{IsSession, new_session, current, after_directive};
 ghost use Rattle.conf_session.specs.Commands.{answer};
-ghost use Rattle.conf_session.specs.Reply.{becomes};
+ghost use Rattle.conf_session.specs.Reply.{session_change};
 ghost use Rattle.conf_session.specs.Undo.{LeadsBack, undo_plan_of};
-ghost use Rattle.conf_session.specs.Told.{CanStand};
+ghost use Rattle.conf_session.specs.ReplyLines.{IsValidOutput};
 ghost use Rattle.conf_session.specs.declared.undo_fault.UndoFault.{UndoFault as WhyNot};
 
 use crate::commands::run_directive;
@@ -87,10 +87,10 @@ impl Session {
     }
 
     /// The configuration of before an accepted change, counted from 0, which is the last one. It takes no memory.
-    pub fn kept_at(&self, place: usize) -> Option<&Config<SessionIds>>
-        ensures { option_copied result ≡ slice_get self.now.kept place }
+    pub fn kept_at(&self, index: usize) -> Option<&Config<SessionIds>>
+        ensures { option_copied result ≡ slice_get self.now.kept index }
     {
-        self.history.get(place)
+        self.history.get(index)
     }
 
     /// The plan that undoes so many accepted changes, one at least: to the configuration of before the last of them (own).
@@ -102,7 +102,7 @@ impl Session {
         ensures planned { IfOk result (λ plan. undo_plan_of self.now count ≡ Ok plan) }
         ensures refused { (fault : WhyNot) → fault ≢ UndoFault.NoMemory → ((result ≡ Err fault) ↔ (undo_plan_of self.now count ≡ Err fault)) }
         ensures back { IfOk result (LeadsBack self.now count) }
-        ensures best { IfOk result (λ plan. (older : Configuration) → slice_get self.now.kept (count - 1) ≡ Some older → IsBest (present self.now) plan older) }
+        ensures best { IfOk result (λ plan. (older : Configuration) → slice_get self.now.kept (count - 1) ≡ Some older → IsBest (current self.now) plan older) }
     {
         kept_lead_to_now();
         undo_of_run();
@@ -123,7 +123,7 @@ impl Session {
     /// as it was.
     pub fn step(&mut self, directive: &Directive) -> Result<Vec<u8>, NoMemory>
         ensures found { IfOk result (λ found. found.items ≡ (answer self.old directive.now).found) }
-        ensures told { IfOk result (λ found. CanStand found.items) }
+        ensures valid_output { IfOk result (λ found. IsValidOutput found.items) }
         ensures session { OnOk result (self.new ≡ (answer self.old directive.now).session) }
         ensures unchanged { OnErr result (self.new ≡ self.old) }
     {
@@ -137,8 +137,8 @@ impl Session {
 
     // Applies the effect of a directive that wrote the next changer. It takes no memory.
     fn apply(&mut self, effect: Effect, next: Changer<SessionIds>)
-        requires { IsSession (after_directive self.old (becomes self.old.changer next effect)) }
-        ensures { self.new ≡ after_directive self.old (becomes self.old.changer next effect) }
+        requires { IsSession (after_directive self.old (session_change self.old.changer next effect)) }
+        ensures { self.new ≡ after_directive self.old (session_change self.old.changer next effect) }
     {
         self.next = next;
         match effect {

@@ -11,19 +11,19 @@ abbrev pub is_line_byte : ℕ → Bool
 is_line_byte b = not (b == 10) && not (b == 13)
 
 -- a line that is neither blank nor four dashes
-abbrev pub is_told_line : List ℕ → Bool
-is_told_line bytes = not (is_blank bytes || is_dashes bytes) && list_all is_line_byte bytes
+abbrev pub is_reply_line : List ℕ → Bool
+is_reply_line bytes = not (is_blank bytes || is_dashes bytes) && list_all is_line_byte bytes
 
 -- one such line or more, each with a newline
-pub record IsTold (text : List ℕ) : Type 0 where
+pub record IsReplyText (text : List ℕ) : Type 0 where
   pub lines : List (List ℕ)
   pub some : 0 < length lines
   pub whole : text ≡ text_of lines
-  pub told : list_all is_told_line lines ≡ true
+  pub valid : list_all is_reply_line lines ≡ true
 
 -- A text that can be written as the output of a directive, and is read again as it is: whole lines, one at least, none
 -- of them blank, of four dashes or with a carriage return at its end.
-pub record CanStand (text : List ℕ) : Type 0 where
+pub record IsValidOutput (text : List ℕ) : Type 0 where
   pub output : is_output text ≡ true
   pub ended : ends_with nat_eq text newline ≡ true
   pub full : has_blank_line text ≡ false
