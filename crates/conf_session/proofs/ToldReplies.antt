@@ -33,7 +33,7 @@ use Rattle.conf_session.specs.SessionState.{SessionState}
 use Rattle.conf_session.specs.Reply.{Reply, told}
 use Rattle.conf_session.specs.Undo.{undo_plan_of, undo_fault_text, undone_changer}
 use Rattle.conf_session.specs.declared.undo_fault.UndoFault.{UndoFault}
-use Rattle.conf_session.specs.Quorum.{voters_named, ids_named, map_given, is_one_each, committed_text, vote_text, with_one_each}
+use Rattle.conf_session.specs.Quorum.{voters_named, ids_named, values_by_id, is_one_each, committed_text, vote_text, with_one_each}
 use Rattle.conf_session.specs.Input.{Input, no_input_line, changes_read, no_change_read, conf_state_read, read_input}
 use Rattle.conf_session.specs.Values.{Values, values_in, values_read, read_arguments}
 use Rattle.conf_session.specs.ReplyTexts.{line}
@@ -215,11 +215,11 @@ command-tells Ack session input values = ack-tells session.changer values.id (ac
 command-tells CommitIndex session input values = tells _ (index-told (committed_by session.changer.tracker))
 command-tells Committed session input values =
     let voters = voters_named values in
-    let acks = map_given (ids_named values) values.indexes in
+    let acks = values_by_id (ids_named values) values.indexes in
     let chart : Tells (told (committed_text voters acks)) = chart-told (ascending (union voters.incoming voters.outgoing)) acks (joint_committed_index voters acks) in
     one_each-tells (ids_named values) values.indexes (committed_text voters acks) chart
 command-tells Vote session input values =
-    let result = joint_vote_result (voters_named values) (map_given (ids_named values) values.votes) in
+    let result = joint_vote_result (voters_named values) (values_by_id (ids_named values) values.votes) in
     one_each-tells (ids_named values) values.votes (vote_text result) (tells (vote_text result) (vote-told result))
 command-tells Unknown session input values = tells (codes "unknown command") refl
 

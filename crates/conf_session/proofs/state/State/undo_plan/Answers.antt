@@ -6,7 +6,7 @@ use Rattle.conf_plan.specs.Best.{IsBest}
 use Rattle.conf_plan.specs.Planned.{planned}
 use Rattle.conf_session.specs.SessionState.{present}
 use Rattle.conf_session.proofs.Kept.{UndoLaw, valid-older, plan-is, leads-back, must-be, same-some}
-use Rattle.conf_session.proofs.session.Session.undo_plan.Goals as goal
+use Rattle.conf_session.proofs.state.State.undo_plan.Goals as goal
 
 pub plan-requires-clause-valid_target : goal.plan-requires-clause-valid_target
 plan-requires-clause-valid_target c =
