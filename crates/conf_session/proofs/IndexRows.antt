@@ -1,5 +1,5 @@
 -- The rows of an index, and the first index of an id that they have.
-use Rattle.std.proofs.Common.{◌≡◌, ◌≢◌, ℕ, ◌<◌, ◌≤◌, ◌+◌, Bool, true, false, cond, List, [], ◌∷◌, ◌++◌, length, get_or, refl, sym, ap, subst, ◌∙◌, arith, inl, inr, ◌==◌, take}
+use Rattle.std.proofs.Common.{◌≡◌, ◌≢◌, ℕ, ◌<◌, ◌≤◌, ◌+◌, Bool, true, false, cond, not, List, [], ◌∷◌, ◌++◌, length, get_or, refl, sym, ap, subst, ◌∙◌, arith, inl, inr, ◌==◌, take}
 use Rattle.std.specs.Prelude.{nat_lt, Some, slice_get}
 use Rattle.std.specs.declared.cmp.Ordering.TheVariants.{Less, Equal, Greater}
 use Rattle.std.specs.Ordering.{nat_cmp, ordering_then, is_lt}
@@ -36,7 +36,7 @@ index-partitioned ids rows id index =
 pub rows-sorted : (ids : List ℕ) (rows sorted : List (ℕ × ℕ)) → HasRows ids rows → IsPermutation rows sorted → IsSorted (λ x y. ordering_then (nat_cmp x.0 y.0) (nat_cmp x.1 y.1)) sorted → IsIndex ids sorted
 rows-sorted ids rows sorted has same ascends = record {
   rows_are = record {
-    true_rows = All-permutation _ rows sorted same has.true_rows;
+    true_rows = All-permutation (λ row. slice_get ids row.1 ≡ Some row.0) rows sorted same has.true_rows;
     all_rows = λ index id there. Contains-permutation rows sorted (id, index) same (has.all_rows index id there);
   };
   ascends = ascends;
@@ -56,7 +56,7 @@ rows-none ids rows none = record {
 
 pub rows-one_more : (ids : List ℕ) (k id : ℕ) (rows more : List (ℕ × ℕ)) → HasRowsBefore ids k rows → slice_get ids k ≡ Some id → more ≡ rows ++ (id, k) ∷ [] → HasRowsBefore ids (k + 1) more
 rows-one_more ids k id rows more has there is = record {
-  true_rows = subst (All (λ row. slice_get ids row.1 ≡ Some row.0)) (sym is) (All-push _ rows (id, k) has.true_rows there);
+  true_rows = subst (All (λ row. slice_get ids row.1 ≡ Some row.0)) (sym is) (All-push (λ row. slice_get ids row.1 ≡ Some row.0) rows (id, k) has.true_rows there);
   all_rows = λ index other before here. subst (λ (rs : List (ℕ × ℕ)). Contains rs (other, index)) (sym is) (elim (cases_lt index k) [
     | inl less ↦ Contains-append_left rows ((id, k) ∷ []) (other, index) (has.all_rows index other less here)
     | inr more ↦
@@ -74,7 +74,7 @@ rows-all ids n rows has all = record {
 }
 
 -- ---- the first row of an id
--- the place parts the rows of smaller ids from the others
+-- the rows of smaller ids are those before the index `place`
 abbrev pub Parts : ℕ → List (ℕ × ℕ) → ℕ → Type 0
 Parts id rows place = IsPartitionPoint (λ r. nat_lt r.0 id ≡ true) (λ r. nat_lt r.0 id ≡ false) rows place
 
@@ -84,7 +84,7 @@ from_place id rows place j d parted within enough = elim (cases_lt j place) [
   | inr after ↦ after
 ]
 
--- a row of the id is at the place or after it, and the one at the place has the id and no greater index
+-- the row at `place` has the id, and no greater index than this one of its indexes
 pub record HasFirst (id index place : ℕ) (rows : List (ℕ × ℕ)) (d : ℕ × ℕ) : Type 0 where
   pub within : place < length rows
   pub id_is : (get_or rows place d).0 ≡ id
@@ -106,31 +106,36 @@ has_first ids rows id index place is parted there =
       index_below = (let low = order.1 (id_there ∙ sym same) in omega arith);
     }
 
-pub index-first : (ids : List ℕ) (rows : List (ℕ × ℕ)) (id index place : ℕ) → IsIndex ids rows → Parts id rows place → place < length rows → ((d : ℕ × ℕ) → get_or rows place d ≡ (id, index)) → IsFirstIndex ids id index
-index-first ids rows id index place is parted within row = record {
-  there = (let e = is.rows_are.true_rows place (id, index) within in (λ i. slice_get ids (sym (row (id, index)) i).1) ∙ e ∙ ap (λ r. Some r.0) (row (id, index)));
-  none_before = λ k less there.
-      let first = has_first ids rows id k place is parted there in
-      let same : (get_or rows place (id, k)).1 ≡ index = ap (λ r. r.1) (row (id, k)) in
-      absurd (omega (arith, first.index_below));
-}
+pub index-first : (ids : List ℕ) (rows : List (ℕ × ℕ)) (id place : ℕ) (row : ℕ × ℕ) → IsIndex ids rows → Parts id rows place → slice_get rows place ≡ Some row → row.0 ≡ id → IsFirstIndex ids id row.1
+index-first ids rows id place row is parted at same =
+    let within = slice_get_within rows place row at in
+    let here : (d : ℕ × ℕ) → get_or rows place d ≡ row = λ d. get_or_from_slice_get rows place row d at in
+    record {
+      there = (λ i. slice_get ids (sym (here row) i).1) ∙ is.rows_are.true_rows place row within ∙ ap (λ (r : ℕ × ℕ). Some r.0) (here row) ∙ ap Some same;
+      none_before = λ k less there.
+          let first = has_first ids rows id k place is parted there in
+          let index : (get_or rows place (id, k)).1 ≡ row.1 = ap (λ (r : ℕ × ℕ). r.1) (here (id, k)) in
+          absurd (omega (arith, first.index_below));
+    }
 
-pub index-absent : (ids : List ℕ) (rows : List (ℕ × ℕ)) (id place : ℕ) → IsIndex ids rows → Parts id rows place → (place < length rows → (d : ℕ × ℕ) → (get_or rows place d).0 ≢ id) → IsAbsent ids id
+pub index-absent : (ids : List ℕ) (rows : List (ℕ × ℕ)) (id place : ℕ) → IsIndex ids rows → Parts id rows place → ((row : ℕ × ℕ) → slice_get rows place ≡ Some row → row.0 ≢ id) → IsAbsent ids id
 index-absent ids rows id place is parted other index there =
-    let first = has_first ids rows id index place is parted there in other first.within (id, index) first.id_is
+    let first = has_first ids rows id index place is parted there in
+    other (get_or rows place (id, index)) (slice_get-get_or rows place (id, index) first.within) first.id_is
 
 -- ---- whether an id of a list is there before
-pub first-not_before : (ids : List ℕ) (id index : ℕ) → IsFirstIndex ids id index → list_any (λ other. id == other) (take index ids) ≡ false
+first-not_before : (ids : List ℕ) (id index : ℕ) → IsFirstIndex ids id index → list_any (λ other. id == other) (take index ids) ≡ false
 first-not_before ids id index first = false_from_ne_true _ (λ some.
     let within = slice_get_within ids index id first.there in
     let all : length (take index ids) ≡ index = length-take-le index ids (omega arith) in
     let found = Any-from_list_any (λ other. id == other) (take index ids) some in
     let k = found.0 in
-    let before : k < index = omega (arith, all, found.2.0) in
-    let here : get_or ids k 0 ≡ id = sym (eqb-true id _ (ap (λ x. id == x) (found.2.1) ∙ found.2.2)) in
-    first.none_before k before (slice_get-get_or ids k 0 (omega arith) ∙ ap Some here))
+    let x = found.1 in
+    let before : k < index = omega (arith, all, found.2) in
+    let here : get_or ids k x ≡ id = sym (get_or-take index ids k x before) ∙ found.3 ∙ sym (eqb-true id x found.4) in
+    first.none_before k before (slice_get-get_or ids k x (omega arith) ∙ ap Some here))
 
-pub first-before : (ids : List ℕ) (id first index : ℕ) → IsFirstIndex ids id first → slice_get ids index ≡ Some id → first ≢ index → list_any (λ other. id == other) (take index ids) ≡ true
+first-before : (ids : List ℕ) (id first index : ℕ) → IsFirstIndex ids id first → slice_get ids index ≡ Some id → first ≢ index → list_any (λ other. id == other) (take index ids) ≡ true
 first-before ids id first index is there apart =
     let within = slice_get_within ids index id there in
     let before : first < index = elim (cases_lt index first) [
@@ -143,3 +148,9 @@ first-before ids id first index is there apart =
     let all : length (take index ids) ≡ index = length-take-le index ids (omega arith) in
     let here : get_or (take index ids) first id ≡ id = get_or-take index ids first id before ∙ get_or_from_slice_get ids first id id is.there in
     list_any_at (λ other. id == other) (take index ids) first id (omega (arith, all)) (ap (λ x. id == x) here ∙ eq-eqb id id refl)
+
+pub first-index : (ids : List ℕ) (id first index : ℕ) → IsFirstIndex ids id first → slice_get ids index ≡ Some id → (first == index) ≡ not (list_any (λ other. id == other) (take index ids))
+first-index ids id first index is there = at (first == index) refl where
+  at : (b : Bool) → (first == index) ≡ b → b ≡ not (list_any (λ other. id == other) (take index ids))
+  at true same = sym (ap not (first-not_before ids id index (subst (IsFirstIndex ids id) (eqb-true first index same) is)))
+  at false apart = sym (ap not (first-before ids id first index is there (λ same. let e : true ≡ false = sym (eq-eqb first index same) ∙ apart in cc)))

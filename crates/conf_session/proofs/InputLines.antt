@@ -10,7 +10,7 @@ use Rattle.ascii_text.specs.Lines.{newline, pieces, before_first_piece, line_of,
 use Rattle.ascii_text.specs.WhiteSpace.{is_space, is_blank, without_leading_space, without_trailing_space, trimmed}
 use Rattle.ascii_text.proofs.Offered.{without_trailing_space-without_last, blank-behind, ends-before_blank, ends-before_other, is_blank-without_trailing_space, leads-blank, leads-behind_blank, leads-behind_other, leads-ends, words-at_space, words-ends}
 use Rattle.ascii_text.specs.Words.{words}
-use Rattle.conf_session.specs.Told.{is_line_byte}
+use Rattle.conf_session.specs.ReplyLines.{is_line_byte}
 
 -- ---- the pieces of a text: lines with their newlines, and a last one that may have none
 data IsCut : List ℕ → List (List ℕ) → Type 0 where
@@ -28,7 +28,7 @@ pieces-cut : (text : List ℕ) → IsCut text (pieces text)
 pieces-cut [] = NoLine
 pieces-cut (b ∷ text) = cut-byte (b == 10) b text (pieces text) refl (pieces-cut text)
 
--- ---- what is told line by line
+-- ---- words and lines, line by line
 -- the words of a text are those of its lines
 words-cut : (text : List ℕ) (ps : List (List ℕ)) → IsCut text ps → words text ≡ flat_map words (map without_trailing_space ps)
 words-cut text ps NoLine = refl
@@ -87,7 +87,7 @@ trimmed-cut text ps (Line line rest more is) =
       at false true e f ih = ap without_leading_space (ends-before_blank (line ++ newline) rest f)
       at false false e f ih = two-lines line rest (sym (blank-behind line newline refl) ∙ e) f
 
--- ---- the same told by the lines of a text: a line is its piece but for white space at the end
+-- ---- the same by the lines of a text: a line is its piece but for white space at the end
 ends-line_of : (ps : List (List ℕ)) → map without_trailing_space (map line_of ps) ≡ map without_trailing_space ps
 ends-line_of [] = refl
 ends-line_of (p ∷ ps) =
@@ -97,10 +97,10 @@ ends-line_of (p ∷ ps) =
 abbrev pub ends_of : List ℕ → List (List ℕ)
 ends_of text = map without_trailing_space (lines_of text)
 
-pub words-told : (text : List ℕ) → words text ≡ flat_map words (ends_of text)
-words-told text = words-cut text (pieces text) (pieces-cut text) ∙ ap (flat_map words) (sym (ends-line_of (pieces text)))
+pub words-in_lines : (text : List ℕ) → words text ≡ flat_map words (ends_of text)
+words-in_lines text = words-cut text (pieces text) (pieces-cut text) ∙ ap (flat_map words) (sym (ends-line_of (pieces text)))
 
-pub trimmed-told : (text : List ℕ) → IsOneLine (has_one (ends_of text)) (first_line (ends_of text)) (trimmed text)
-trimmed-told text =
+pub trimmed-in_lines : (text : List ℕ) → IsOneLine (has_one (ends_of text)) (first_line (ends_of text)) (trimmed text)
+trimmed-in_lines text =
     subst (λ ls. IsOneLine (has_one ls) (first_line ls) (trimmed text)) (sym (ends-line_of (pieces text)))
     (trimmed-cut text (pieces text) (pieces-cut text))

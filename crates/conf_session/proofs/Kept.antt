@@ -20,7 +20,7 @@ use Rattle.conf_change.specs.declared.step.Step.{Step}
 use Rattle.conf_change.specs.declared.step.Step.TheVariants.{Simple as SimpleStep, EnterJoint as EnterStep, LeaveJoint as LeaveStep}
 use Rattle.conf_plan.specs.Planned.{planned}
 use Rattle.conf_plan.specs.Run.{IsRun, IsValidWithVoter, Takes, after_steps}
-use Rattle.conf_session.specs.SessionState.{SessionState, Becomes, Nothing, Acknowledged, Stepped, Restored, Undone, LedTo, IsSession, new_session, present, after_directive}
+use Rattle.conf_session.specs.SessionState.{SessionState, SessionChange, Nothing, Acknowledged, Stepped, Restored, Undone, LedTo, IsSession, new_session, current, after_directive}
 use Rattle.conf_session.specs.Input.{Input, read_input}
 use Rattle.conf_session.specs.Values.{Values, read_arguments}
 use Rattle.conf_session.specs.Reply.{Reply}
@@ -31,7 +31,7 @@ use Rattle.conf_session.specs.declared.undo_fault.UndoFault.TheVariants.{NoVoter
 use Rattle.conf_session.specs.declared.commands.Command.{Command}
 use Rattle.conf_session.specs.declared.commands.Command.TheVariants.{Simple, EnterJoint, LeaveJoint, ConfChange, ConfState, Restore, Undo, Ack, CommitIndex, Committed, Vote, Unknown}
 use Rattle.conf_session.proofs.ReadValues.{steps-some}
-use Rattle.conf_session.proofs.ToldLines.{and-first}
+use Rattle.conf_session.proofs.ReplyLines.{and-first}
 
 -- ---- what the crates below say
 -- laws of conf_change
@@ -50,12 +50,12 @@ pub record PlanLaws : Type 0 where
   pub run : (before : ChangerState) (steps : List Step) (target : Configuration) → IsRun before.tracker.config steps target
       → (after : ChangerState) × (after_steps before steps ≡ Some after) × (after.tracker.config ≡ target)
 
--- ---- the kept configurations lead to the one of now
+-- ---- the kept configurations lead to the current one
 run-snoc : (a b c : Configuration) (steps : List Step) (step : Step) → IsRun a steps b → outcome b step ≡ Ok c → IsRun a (steps ++ step ∷ []) c
 run-snoc a b c [] step run e = (c, ap (λ d. outcome d step) run ∙ e, refl)
 run-snoc a b c (s ∷ steps) step run e = (run.0, run.1, run-snoc run.0 b c steps step run.2 e)
 
--- a run of so many steps from the one to the other, which can be restored
+-- a run of `count` steps from the one to the other, which can be restored
 record Led (now older : Configuration) (count : ℕ) : Type 0 where
   restorable : is_restorable older ≡ true
   steps : List Step
@@ -83,14 +83,14 @@ kept-voter laws now (c ∷ kept) place older led e = laws.voter c now led.1.step
 
 pub is-earlier : ChangeLaws → (session : SessionState) (count : ℕ) (older : Configuration) → IsSession session → 1 ≤ count → slice_get session.kept (count - 1) ≡ Some older → IsEarlier session count older
 is-earlier laws session count older is some e =
-    let led = led-run (present session) session.kept (count - 1) older is.led e in
+    let led = led-run (current session) session.kept (count - 1) older is.led e in
     let n = led.counted in
     record {
       restorable = led.restorable;
       steps = led.steps;
       run = led.run;
       counted = omega arith;
-      voter = kept-voter laws (present session) session.kept (count - 1) older is.led e;
+      voter = kept-voter laws (current session) session.kept (count - 1) older is.led e;
     }
 
 valid : (c : Configuration) → is_restorable c ≡ true → has_voter c ≡ true → IsValidWithVoter c
@@ -111,14 +111,14 @@ led-drop now (c ∷ kept) zero older led e =
 led-drop now (c ∷ kept) (suc place) older led e = led-drop c kept place older led.2 e
 
 -- an effect that a command may have on a session
-abbrev IsDue : SessionState → Becomes → Type 0
+abbrev IsDue : SessionState → SessionChange → Type 0
 IsDue session Nothing = ⊤
-IsDue session (Acknowledged after) = IsSound after.tracker × (after.tracker.config ≡ present session)
+IsDue session (Acknowledged after) = IsSound after.tracker × (after.tracker.config ≡ current session)
 IsDue session (Stepped after) = (step : Step) × Accepts session.changer step after
 IsDue session (Restored after) = IsSound after.tracker
 IsDue session (Undone after count) = (1 ≤ count) × IsSound after.tracker × (slice_get session.kept (count - 1) ≡ Some after.tracker.config)
 
-due-stays : ChangeLaws → (session : SessionState) (effect : Becomes) → IsSession session → IsDue session effect → IsSession (after_directive session effect)
+due-stays : ChangeLaws → (session : SessionState) (effect : SessionChange) → IsSession session → IsDue session effect → IsSession (after_directive session effect)
 due-stays laws session Nothing is due = record { sound = is.sound; few = is.few; led = is.led }
 due-stays laws session (Acknowledged after) is due =
     let Leading : Configuration → Type 0 = λ c. LedTo c session.kept in
@@ -128,8 +128,8 @@ due-stays laws session (Stepped after) is due =
     let Sound : ChangerState → Type 0 = λ c. IsSound c.tracker in
     record {
       sound = subst Sound (sym accepts.whole) (laws.step session.changer due.0 after.tracker.config is.sound accepts.configuration);
-      few = let n = length-take session.history (present session ∷ session.kept) in omega arith;
-      led = led-take after.tracker.config (present session ∷ session.kept) session.history (is.sound.restorable, record { step = due.0; gives = accepts.configuration }, is.led);
+      few = let n = length-take session.history (current session ∷ session.kept) in omega arith;
+      led = led-take after.tracker.config (current session ∷ session.kept) session.history (is.sound.restorable, record { step = due.0; gives = accepts.configuration }, is.led);
     }
 due-stays laws session (Restored after) is due = record { sound = due; few = omega arith; led = tt }
 due-stays laws session (Undone after count) is due =
@@ -139,7 +139,7 @@ due-stays laws session (Undone after count) is due =
     record {
       sound = due.1;
       few = let n = length-drop count session.kept in let few = is.few in omega arith;
-      led = subst Leading same (led-drop (present session) session.kept (count - 1) after.tracker.config is.led due.2);
+      led = subst Leading same (led-drop (current session) session.kept (count - 1) after.tracker.config is.led due.2);
     }
 
 -- ---- each command has such an effect
@@ -166,15 +166,15 @@ taken-sound laws before (step ∷ steps) after taken sound =
 
 -- where the plan leads
 pub record Arrives (session : SessionState) (older : Configuration) : Type 0 where
-  pub sound : IsSound (undone_changer session (planned (present session) older)).tracker
-  pub there : (undone_changer session (planned (present session) older)).tracker.config ≡ older
+  pub sound : IsSound (undone_changer session (planned (current session) older)).tracker
+  pub there : (undone_changer session (planned (current session) older)).tracker.config ≡ older
 
 pub Arrives-planned : ChangeLaws → PlanLaws → (session : SessionState) (count : ℕ) (older : Configuration) → IsSession session → 1 ≤ count → slice_get session.kept (count - 1) ≡ Some older → has_voter older ≡ true →
     Arrives session older
 Arrives-planned laws plans session count older is some e voter =
     let earlier = is-earlier laws session count older is some e in
-    let steps = planned (present session) older in
-    let back = plans.back older (present session) earlier.steps (valid older earlier.restorable voter) earlier.run in
+    let steps = planned (current session) older in
+    let back = plans.back older (current session) earlier.steps (valid older earlier.restorable voter) earlier.run in
     let reached = plans.run session.changer steps older back in
     let same : undone_changer session steps ≡ reached.0 = ap (λ o. unwrap_or o session.changer) reached.1 in
     let Sound : ChangerState → Type 0 = λ c. IsSound c.tracker in
@@ -187,10 +187,10 @@ voter-due : ChangeLaws → PlanLaws → (session : SessionState) (count : ℕ) (
     IsDue session (after_planned session count (plan_back session (Some older))).effect
 voter-due laws plans session count older true is some e voter =
     let there = Arrives-planned laws plans session count older is some e voter in
-    let Due : Bool → Type 0 = λ b. IsDue session (after_planned session count (cond b (Ok (planned (present session) older)) (Err NoVoterTarget))).effect in
+    let Due : Bool → Type 0 = λ b. IsDue session (after_planned session count (cond b (Ok (planned (current session) older)) (Err NoVoterTarget))).effect in
     subst Due (sym voter) (some, there.sound, e ∙ ap Some (sym there.there))
 voter-due laws plans session count older false is some e voter =
-    let Due : Bool → Type 0 = λ b. IsDue session (after_planned session count (cond b (Ok (planned (present session) older)) (Err NoVoterTarget))).effect in
+    let Due : Bool → Type 0 = λ b. IsDue session (after_planned session count (cond b (Ok (planned (current session) older)) (Err NoVoterTarget))).effect in
     subst Due (sym voter) tt
 
 planned-due : ChangeLaws → PlanLaws → (session : SessionState) (count : ℕ) (found : Option Configuration) → IsSession session → 1 ≤ count → slice_get session.kept (count - 1) ≡ found →
@@ -239,22 +239,22 @@ new-is_session sound history floor = record { sound = sound floor 0; few = omega
 pub valid-older : (session : SessionState) (count : ℕ) (older : Configuration) → IsEarlier session count older → is_valid older ≡ true
 valid-older session count older earlier = and-first (is_valid older) (has_voter_or_nobody older) earlier.restorable
 
-pub plan-is : (session : SessionState) (count : ℕ) (older : Configuration) (plan : List Step) → slice_get session.kept (count - 1) ≡ Some older → has_voter older ≡ true → plan ≡ planned (present session) older →
+pub plan-is : (session : SessionState) (count : ℕ) (older : Configuration) (plan : List Step) → slice_get session.kept (count - 1) ≡ Some older → has_voter older ≡ true → plan ≡ planned (current session) older →
     undo_plan_of session count ≡ Ok plan
 plan-is session count older plan kept voter same =
-    ap (plan_back session) kept ∙ ap (λ b. cond b (Ok (planned (present session) older)) (Err NoVoterTarget)) voter ∙ ap Ok (sym same)
+    ap (plan_back session) kept ∙ ap (λ b. cond b (Ok (planned (current session) older)) (Err NoVoterTarget)) voter ∙ ap Ok (sym same)
 
--- what a law of conf_plan says of undoing a run
+-- the law of conf_plan about undoing a run
 pub record UndoLaw : Type 0 where
   pub back : (before after : Configuration) (steps : List Step) → IsValidWithVoter before → IsRun before steps after → IsRun after (planned after before) before
   pub at_most_four : (before after : Configuration) (steps : List Step) → IsValidWithVoter before → IsRun before steps after → length (planned after before) ≤ 4
   pub at_most_three : (before after : Configuration) (steps : List Step) → IsValidWithVoter before → IsRun before steps after → length steps ≡ 1 → length (planned after before) ≤ 3
 
 pub leads-back : UndoLaw → (session : SessionState) (count : ℕ) (older : Configuration) (plan : List Step) → slice_get session.kept (count - 1) ≡ Some older → has_voter older ≡ true → IsEarlier session count older →
-    plan ≡ planned (present session) older → LeadsBack session count plan
+    plan ≡ planned (current session) older → LeadsBack session count plan
 leads-back law session count older plan kept voter earlier same =
     let settled = valid older earlier.restorable voter in
-    let now = present session in
+    let now = current session in
     let Back : List Step → Type 0 = λ steps. LeadsBack session count steps in
     subst Back (sym same) (record {
       older = older;
@@ -271,7 +271,7 @@ same-steps : (a b : List Step) → ◌≡◌ {A = Planned} (Ok a) (Ok b) → a �
 same-steps a b e = cc
 
 planned-by_voter : UndoLaw → (session : SessionState) (count : ℕ) (older : Configuration) (steps : List Step) (voter : Bool) → slice_get session.kept (count - 1) ≡ Some older → IsEarlier session count older →
-    has_voter older ≡ voter → ◌≡◌ {A = Planned} (cond voter (Ok (planned (present session) older)) (Err NoVoterTarget)) (Ok steps) → LeadsBack session count steps
+    has_voter older ≡ voter → ◌≡◌ {A = Planned} (cond voter (Ok (planned (current session) older)) (Err NoVoterTarget)) (Ok steps) → LeadsBack session count steps
 planned-by_voter law session count older steps true kept earlier voter made = leads-back law session count older steps kept voter earlier (sym (same-steps _ _ made))
 planned-by_voter law session count older steps false kept earlier voter made = let bad : ⊥ = cc in absurd bad
 

@@ -1,9 +1,9 @@
 pub mod Offered
 mod CommandReplies
-mod ToldLines
-mod ToldCharts
-mod ToldTexts
-mod ToldReplies
+mod ReplyLines
+mod ChartLines
+mod OutputLines
+mod RepliesInLines
 mod InputLines
 mod SameAnswer
 mod Kept

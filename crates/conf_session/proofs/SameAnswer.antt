@@ -20,9 +20,9 @@ use Rattle.conf_session.specs.Values.{read_arguments}
 use Rattle.conf_session.specs.Commands.{row_of, if_read, reply_of, reply_by, reply_to, answered, answer}
 use Rattle.conf_session.specs.declared.input.InputKind.{InputKind}
 use Rattle.conf_session.specs.declared.input.InputKind.TheVariants.{Changes, NoChange, ConfStateLine, Nothing}
-use Rattle.conf_session.specs.Told.{is_line_byte}
-use Rattle.conf_session.proofs.ToldLines.{saved-bytes}
-use Rattle.conf_session.proofs.InputLines.{IsOneLine, has_one, first_line, ends_of, words-told, trimmed-told}
+use Rattle.conf_session.specs.ReplyLines.{is_line_byte}
+use Rattle.conf_session.proofs.ReplyLines.{saved-bytes}
+use Rattle.conf_session.proofs.InputLines.{IsOneLine, has_one, first_line, ends_of, words-in_lines, trimmed-in_lines}
 
 -- a text with a newline between its two ends is no saved configuration
 no-conf_state : (text : List ℕ) → list_all is_line_byte (trimmed text) ≡ false → conf_state_in text ≡ None
@@ -31,15 +31,15 @@ no-conf_state text h = at (conf_state_in text) refl where
   at None e = e
   at (Some saved) e = let whole = saved-bytes text saved (StandsForConfState-from_some text saved e) in absurd cc
 
--- three things are asked of an input: the saved configuration that it stands for, its changes, and whether it is empty
+-- an answer depends on three things of an input: the saved configuration that it denotes, its changes, and whether it is empty
 conf_state-same : (input other : List ℕ) → ends_of input ≡ ends_of other → conf_state_in input ≡ conf_state_in other
-conf_state-same input other same = at (has_one (ends_of other)) (subst (λ ls. IsOneLine (has_one ls) (first_line ls) (trimmed input)) same (trimmed-told input)) (trimmed-told other) where
+conf_state-same input other same = at (has_one (ends_of other)) (subst (λ ls. IsOneLine (has_one ls) (first_line ls) (trimmed input)) same (trimmed-in_lines input)) (trimmed-in_lines other) where
   at : (one : Bool) → IsOneLine one (first_line (ends_of other)) (trimmed input) → IsOneLine one (first_line (ends_of other)) (trimmed other) → conf_state_in input ≡ conf_state_in other
   at true e f = ap line_in (e ∙ sym f)
   at false e f = no-conf_state input e ∙ sym (no-conf_state other f)
 
 changes-same : (input other : List ℕ) → ends_of input ≡ ends_of other → changes_in input ≡ changes_in other
-changes-same input other same = ap changes_in_words (words-told input ∙ ap (flat_map words) same ∙ sym (words-told other))
+changes-same input other same = ap changes_in_words (words-in_lines input ∙ ap (flat_map words) same ∙ sym (words-in_lines other))
 
 -- bytes have a line
 some-line : (b : ℕ) (bs : List ℕ) → [] ≡ ends_of (b ∷ bs) → ⊥

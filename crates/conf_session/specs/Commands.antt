@@ -1,4 +1,4 @@
--- What a session answers to a directive.
+-- The answer of a session to a directive.
 use Rattle.std.specs.Prelude.{ℕ, List, [], ◌∷◌, Option, Some, None, Result, Ok, Err, if◌then◌else◌, codes, bytes_eq}
 use Rattle.quorum_sets.specs.Committed.{joint_committed_index}
 use Rattle.dd_file.specs.DirectiveText.{DirectiveText}
@@ -22,7 +22,7 @@ use Rattle.conf_session.specs.SessionState.{SessionState, after_directive}
 use Rattle.conf_session.specs.Input.{Input, read_input}
 use Rattle.conf_session.specs.Values.{Values, read_arguments}
 use Rattle.conf_session.specs.Quorum.{index_text, committed_reply, vote_reply}
-use Rattle.conf_session.specs.Reply.{Reply, replied, told, stepped, begun_again, acknowledged_by}
+use Rattle.conf_session.specs.Reply.{Reply, replied, replied_line, stepped, begun_again, acknowledged_by}
 use Rattle.conf_session.specs.Undo.{undo_plan_of, undo_fault_text, undone}
 use Rattle.conf_session.specs.declared.input.InputKind.{InputKind}
 use Rattle.conf_session.specs.declared.input.InputKind.TheVariants.{Changes, NoChange, ConfStateLine, Nothing}
@@ -32,8 +32,8 @@ use Rattle.conf_session.specs.declared.undo_fault.UndoFault.{UndoFault}
 use Rattle.conf_session.specs.declared.commands.Command.{Command}
 use Rattle.conf_session.specs.declared.commands.Command.TheVariants.{Simple, EnterJoint, LeaveJoint, ConfChange, ConfState, Restore, Undo, Ack, CommitIndex, Committed, Vote, Unknown}
 
--- a command, the input that it takes, and the arguments that it has, required ones in the order in which missing ones are
--- reported; None where its arguments are not looked at
+-- a command, the kind of its input, and its parameters, in the order in which missing arguments are reported; None if its
+-- arguments are ignored
 pub record Row : Type 0 where
   pub command : Command
   pub input : InputKind
@@ -61,20 +61,20 @@ row_of name =
 -- a step that is accepted, or refused
 abbrev pub after_step : Result ChangerState Refused → Reply
 after_step (Ok after) = stepped after
-after_step (Err refused) = told (refused_text refused)
+after_step (Err refused) = replied_line (refused_text refused)
 
 abbrev pub on_step : ChangerState → Step → Reply
 on_step changer step = after_step (changer_after changer step)
 
--- a saved configuration that is restored, or describes none
+-- a saved form that is restored, or describes no configuration
 abbrev pub after_restored : ChangerState → Option Configuration → Reply
-after_restored changer None = told (codes "not a configuration")
+after_restored changer None = replied_line (codes "not a configuration")
 after_restored changer (Some c) = begun_again (begun_with changer.tracker.floor changer.last_index c)
 
--- the plan is carried out, or it is reported why there is none
+-- the reply to `undo` with this plan, or with the reason why there is none
 abbrev pub after_planned : SessionState → ℕ → Result (List Step) UndoFault → Reply
 after_planned session count (Ok steps) = undone session count steps
-after_planned session count (Err fault) = told (undo_fault_text fault)
+after_planned session count (Err fault) = replied_line (undo_fault_text fault)
 
 abbrev pub undo_last : SessionState → ℕ → Reply
 undo_last session count = after_planned session count (undo_plan_of session count)
@@ -82,37 +82,37 @@ undo_last session count = after_planned session count (undo_plan_of session coun
 -- a member's progress after an acknowledgement, or why it is refused
 abbrev pub after_ack : ChangerState → ℕ → Result Progress AckFault → Reply
 after_ack changer id (Ok p) = acknowledged_by (changer_with_progress changer id p) id p
-after_ack changer id (Err NotMember) = told (codes "not a member")
-after_ack changer id (Err IndexTooLarge) = told (codes "index too large")
+after_ack changer id (Err NotMember) = replied_line (codes "not a member")
+after_ack changer id (Err IndexTooLarge) = replied_line (codes "index too large")
 
 abbrev pub on_ack : ChangerState → ℕ → ℕ → Reply
 on_ack changer id index = after_ack changer id (ack_answer changer.tracker id index)
 
--- the index that the configuration commits, where each member has acknowledged its match
+-- the index that the configuration commits if each member has acknowledged its match index
 abbrev pub committed_by : TrackerState → ℕ
 committed_by tracker = joint_committed_index (voters_of tracker.config) (matches tracker)
 
--- the reply of a command to what its input and its arguments are read as
+-- the reply of a command to its input and the values of its arguments
 abbrev pub reply_of : Command → SessionState → Input → Values → Reply
 reply_of Simple session input values = on_step session.changer (SimpleStep input.changes)
 reply_of EnterJoint session input values = on_step session.changer (EnterStep values.auto_leave input.changes)
 reply_of LeaveJoint session input values = on_step session.changer LeaveStep
 reply_of ConfChange session input values = on_step session.changer (step_taken values.transition input.changes)
-reply_of ConfState session input values = told (conf_state_text (lists_of session.changer.tracker.config))
+reply_of ConfState session input values = replied_line (conf_state_text (lists_of session.changer.tracker.config))
 reply_of Restore session input values = after_restored session.changer (restored input.saved)
 reply_of Undo session input values = undo_last session values.steps
 reply_of Ack session input values = on_ack session.changer values.id values.index
-reply_of CommitIndex session input values = told (index_text (committed_by session.changer.tracker))
-reply_of Committed session input values = told (committed_reply values)
-reply_of Vote session input values = told (vote_reply values)
-reply_of Unknown session input values = told (codes "unknown command")
+reply_of CommitIndex session input values = replied_line (index_text (committed_by session.changer.tracker))
+reply_of Committed session input values = replied_line (committed_reply values)
+reply_of Vote session input values = replied_line (vote_reply values)
+reply_of Unknown session input values = replied_line (codes "unknown command")
 
--- a fault that was found while reading is reported
+-- the reply to what was read, or the line that reports why it could not be
 abbrev pub if_read : {V : Type 0} → (V → Reply) → Result V (List ℕ) → Reply
 if_read reply (Ok read) = reply read
 if_read reply (Err found) = replied found
 
--- the reply of a row: the input is looked at first, then the arguments, then the session
+-- the reply of a row: the input is read first, then the arguments, and then the command is run
 abbrev pub reply_by : Row → SessionState → List ℕ → List ArgumentText → Reply
 reply_by row session text arguments =
     if_read (λ input. if_read (λ values. reply_of row.command session input values) (read_arguments row.parameters arguments)) (read_input row.input text)
@@ -121,16 +121,16 @@ reply_by row session text arguments =
 abbrev pub reply_to : SessionState → DirectiveText → Reply
 reply_to session directive = reply_by (row_of directive.command) session directive.input directive.arguments
 
--- the text that is found, and the session afterwards
+-- the output, and the session afterwards
 pub record Answer : Type 0 where
   pub found : List ℕ
   pub session : SessionState
 
--- the session takes on what the reply makes of it
+-- the answer with a reply: the session after its effect
 abbrev pub answered : SessionState → Reply → Answer
 answered session reply = record { found = reply.found; session = after_directive session reply.effect }
 
--- The answer to a directive. After a refused one nothing alters but the last index.
+-- The answer to a directive. A refused one changes only the last index.
 abbrev pub answer : SessionState → DirectiveText → Answer
 answer session directive = answered session (reply_to session directive)
 

@@ -10,4 +10,4 @@ pub mod Quorum
 pub mod Reply
 pub mod Undo
 pub mod Commands
-pub mod Told
+pub mod ReplyLines

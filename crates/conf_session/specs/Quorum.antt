@@ -12,11 +12,11 @@ use Rattle.quorum_sets.specs.declared.voting.VoteResult.TheVariants.{VotePending
 use Rattle.conf_session.specs.Values.{Values}
 use Rattle.conf_session.specs.declared.values_by_id.ValuesById.{ValuesById}
 
--- both sets
+-- the incoming and the outgoing set
 abbrev pub voters_named : Values → Voters
 voters_named values = record { incoming = ids_of values.incoming; outgoing = ids_of values.outgoing }
 
--- the ids, each once, in the order in which they are named first
+-- the ids, each once, in the order in which they come first
 abbrev pub each_once : List ℕ → List ℕ
 each_once [] = []
 each_once (id ∷ ids) = id ∷ filter (λ other. not (other == id)) (each_once ids)
@@ -44,7 +44,7 @@ map_of by_id = values_by_id by_id.ids by_id.values.now
 abbrev pub is_one_each : {V : Type 0} → List ℕ → List (Option V) → Bool
 is_one_each ids values = nat_eq (length values) (length ids)
 
--- a committed index: the greatest is written as infinity
+-- a committed index; the greatest is written as infinity
 abbrev pub index_text : ℕ → List ℕ
 index_text index = if nat_eq index greatest_index then 226 ∷ 136 ∷ 158 ∷ [] else decimal index
 
@@ -53,22 +53,23 @@ abbrev pub committed_text : Voters → Acks → List ℕ
 committed_text voters acks =
     chart_text (ascending (union voters.incoming voters.outgoing)) acks ++ index_text (joint_committed_index voters acks)
 
--- how a vote stands
+-- the result of a vote
 abbrev pub vote_text : VoteResult → List ℕ
 vote_text VotePending = codes "VotePending"
 vote_text VoteLost = codes "VoteLost"
 vote_text VoteWon = codes "VoteWon"
 
--- ---- what the commands reply that name a quorum
+-- ---- the replies of the commands that name a quorum
+-- the text if there is one value for each id, else an error
 abbrev pub with_one_each : {V : Type 0} → List ℕ → List (Option V) → List ℕ → List ℕ
 with_one_each ids values text = if is_one_each ids values then text else codes "wrong number of values"
 
--- its chart and its committed index, where its ids have acknowledged these indexes
+-- `committed`: the chart and the committed index of the named quorum
 abbrev pub committed_reply : Values → List ℕ
 committed_reply values =
     with_one_each (ids_named values) values.indexes (committed_text (voters_named values) (values_by_id (ids_named values) values.indexes))
 
--- how its vote stands, where its ids have voted so
+-- `vote`: the result of the vote of the named quorum
 abbrev pub vote_reply : Values → List ℕ
 vote_reply values =
     with_one_each (ids_named values) values.votes (vote_text (joint_vote_result (voters_named values) (values_by_id (ids_named values) values.votes)))

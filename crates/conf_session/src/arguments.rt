@@ -1,6 +1,6 @@
 //! The arguments of a directive, compared with the parameters of its command.
 ghost use Rattle.std.specs.Prelude.{◌≡◌, option_copied};
-ghost use Rattle.conf_session.specs.Arguments as says;
+ghost use Rattle.conf_session.specs.Arguments as spec;
 
 use crate::parameter::Parameter;
 use dd_file::item::Argument;
@@ -10,7 +10,7 @@ pub(crate) fn parameter_of<'a>(
     parameters: &'a [Parameter],
     argument: &Argument,
 ) -> Option<&'a Parameter>
-    ensures { option_copied result ≡ says.parameter_of parameters.now argument.now }
+    ensures { option_copied result ≡ spec.parameter_of parameters.now argument.now }
 {
     parameters
         .iter()
@@ -22,7 +22,7 @@ pub(crate) fn missing_argument<'a>(
     parameters: &'a [Parameter],
     arguments: &[Argument],
 ) -> Option<&'a Parameter>
-    ensures { option_copied result ≡ says.missing_argument parameters.now arguments.now }
+    ensures { option_copied result ≡ spec.missing_argument parameters.now arguments.now }
 {
     parameters.iter().find(|parameter| parameter.is_required()
         && !has_key(arguments, parameter.key()))
@@ -30,7 +30,7 @@ pub(crate) fn missing_argument<'a>(
 
 /// Whether one of the arguments has the key.
 pub(crate) fn has_key(arguments: &[Argument], key: &[u8]) -> bool
-    ensures { result ≡ says.has_key arguments.now key.now }
+    ensures { result ≡ spec.has_key arguments.now key.now }
 {
     arguments.iter().any(|argument| argument.key() == key)
 }

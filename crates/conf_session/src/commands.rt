@@ -3,8 +3,8 @@
 //! part of the reply.
 ghost use Rattle.std.specs.Prelude.{◌≡◌, ◌≤◌, option_map, IfOk};
 ghost use Rattle.conf_session.specs.Reply.{reply_in};
-ghost use Rattle.conf_session.specs.Told.{CanStand};
-ghost use Rattle.conf_session.specs.Commands as says;
+ghost use Rattle.conf_session.specs.ReplyLines.{IsValidOutput};
+ghost use Rattle.conf_session.specs.Commands as spec;
 
 mod ack;
 mod committed;
@@ -71,9 +71,9 @@ impl Row {
 
 // The row of a name.
 fn row_of(name: &[u8]) -> Row
-    ensures command { result.command ≡ (says.row_of name.now).command }
-    ensures input { result.input ≡ (says.row_of name.now).input }
-    ensures parameters { option_map (λ p. p.now) result.parameters ≡ (says.row_of name.now).parameters }
+    ensures command { result.command ≡ (spec.row_of name.now).command }
+    ensures input { result.input ≡ (spec.row_of name.now).input }
+    ensures parameters { option_map (λ p. p.now) result.parameters ≡ (spec.row_of name.now).parameters }
 {
     if name == b"simple".as_slice() {
         Row::new(Command::Simple, InputKind::Changes, None)
@@ -129,8 +129,8 @@ pub(crate) fn run_directive(
     buffers: &mut Buffers,
     directive: &Directive,
 ) -> Result<Reply, NoMemory>
-    ensures reply { IfOk result (λ reply. reply_in session.now.changer buffers.new.next reply ≡ says.reply_to session.now directive.now) }
-    ensures stands { IfOk result (λ reply. CanStand reply.found) }
+    ensures reply { IfOk result (λ reply. reply_in session.now.changer buffers.new.next reply ≡ spec.reply_to session.now directive.now) }
+    ensures valid_output { IfOk result (λ reply. IsValidOutput reply.found) }
 {
     found_text_stands();
     let row = row_of(directive.command());
@@ -154,7 +154,7 @@ fn run_row(
     arguments: &[Argument],
 ) -> Result<Reply, NoMemory>
     ensures { IfOk result (λ reply. reply_in session.now.changer buffers.new.next reply
-        ≡ says.reply_by (says.row_with row.now.command row.now.input (option_map (λ p. p.now) row.now.parameters)) session.now text.now arguments.now) }
+        ≡ spec.reply_by (spec.row_with row.now.command row.now.input (option_map (λ p. p.now) row.now.parameters)) session.now text.now arguments.now) }
 {
     if let Err(found) = buffers.input.read(row.input, text)? {
         return Ok(Reply::of_text(found));
@@ -180,7 +180,7 @@ fn run_command(
     values: &Values,
 ) -> Result<Reply, NoMemory>
     requires { 1 ≤ values.now.steps }
-    ensures { IfOk result (λ reply. reply_in session.now.changer next.new reply ≡ says.reply_of command session.now input.now values.now) }
+    ensures { IfOk result (λ reply. reply_in session.now.changer next.new reply ≡ spec.reply_of command session.now input.now values.now) }
 {
     let changer = session.changer();
     let tracker = changer.tracker();

@@ -1,5 +1,5 @@
 //! At which index a list of ids has an id.
-ghost use Rattle.std.specs.Prelude.{◌≡◌, OnOk};
+ghost use Rattle.std.specs.Prelude.{◌≡◌, [], OnOk};
 ghost use Rattle.conf_session.specs.IdIndex.{HasRows};
 
 use quorum_sets::NoMemory;
@@ -51,8 +51,9 @@ impl IdIndex {
     pub(crate) fn first(&self, id: u64) -> Option<usize>
         ensures { MatchOption result (IsAbsent self.now id) (IsFirstIndex self.now id) }
     {
-        let place = self.rows.partition_point(|row| row.0 < id);
-        match self.rows.get(place) {
+        let rows = self.rows.as_slice();
+        let place = rows.partition_point(|row| row.0 < id);
+        match rows.get(place) {
             Some((found, index)) if *found == id => Some(*index),
             _ => None,
         }

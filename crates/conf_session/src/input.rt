@@ -1,9 +1,11 @@
 //! The input of a directive.
 ghost use Rattle.std.specs.Prelude.{◌≡◌, [], Ok, Err, IfOk, MatchResult};
-ghost use Rattle.conf_session.specs.Input as says;
+ghost use Rattle.conf_session.specs.Input as spec;
 
 use crate::reply_texts::{bad_token_line, line_of};
-use conf_change::{Change, ConfState, ConfStateFault, TokenFault, read_changes_into, read_conf_state};
+use conf_change::{
+    Change, ConfState, ConfStateFault, TokenFault, read_changes_into, read_conf_state,
+};
 use quorum_sets::NoMemory;
 use std::alloc::Global;
 use std::marker::Model;
@@ -29,16 +31,16 @@ pub(crate) struct Input {
 }
 
 impl Model for Input {
-    ghost use Rattle.conf_session.specs.Input as says;
+    ghost use Rattle.conf_session.specs.Input as spec;
 
-    ghost Value = { says.Input };
+    ghost Value = { spec.Input };
 
     ghost view = { λ i. record { changes = i.changes.items; saved = i.saved } };
 }
 
 impl Input {
     ghost use Rattle.std.specs.Prelude.{◌≡◌, Ok, Err, IfOk, MatchResult};
-    ghost use Rattle.conf_session.specs.Input as says;
+    ghost use Rattle.conf_session.specs.Input as spec;
 
     /// An empty input. It takes no memory.
     pub(crate) fn new(alloc: Global) -> Input {
@@ -54,7 +56,7 @@ impl Input {
         kind: InputKind,
         text: &[u8],
     ) -> Result<Result<(), Vec<u8>>, NoMemory>
-        ensures { IfOk result (λ read. MatchResult read (λ _. says.read_input kind text.now ≡ Ok self.new) (λ found. says.read_input kind text.now ≡ Err found.items)) }
+        ensures { IfOk result (λ read. MatchResult read (λ _. spec.read_input kind text.now ≡ Ok self.new) (λ found. spec.read_input kind text.now ≡ Err found.items)) }
     {
         let alloc = *self.changes.allocator();
         self.changes.clear();
@@ -70,7 +72,7 @@ impl Input {
 
 // A saved configuration in which every list is empty.
 fn empty_conf_state(alloc: Global) -> ConfState
-    ensures { result ≡ says.nothing_saved }
+    ensures { result ≡ spec.nothing_saved }
 {
     ConfState {
         voters: Vec::new(alloc),
@@ -86,7 +88,7 @@ fn read_change_list(
     changes: &mut Vec<Change>,
     text: &[u8],
 ) -> Result<Result<(), Vec<u8>>, NoMemory>
-    ensures { IfOk result (λ read. MatchResult read (λ _. says.read_input InputKind.Changes text.now ≡ Ok (says.of_changes changes.new.items)) (λ found. says.read_input InputKind.Changes text.now ≡ Err found.items)) }
+    ensures { IfOk result (λ read. MatchResult read (λ _. spec.read_input InputKind.Changes text.now ≡ Ok (spec.of_changes changes.new.items)) (λ found. spec.read_input InputKind.Changes text.now ≡ Err found.items)) }
 {
     match read_changes_into(changes, text) {
         Ok(()) => Ok(Ok(())),
@@ -100,7 +102,7 @@ fn read_no_change(
     changes: &mut Vec<Change>,
     text: &[u8],
 ) -> Result<Result<(), Vec<u8>>, NoMemory>
-    ensures { IfOk result (λ read. MatchResult read (λ _. says.read_input InputKind.NoChange text.now ≡ Ok (says.of_changes changes.new.items)) (λ found. says.read_input InputKind.NoChange text.now ≡ Err found.items)) }
+    ensures { IfOk result (λ read. MatchResult read (λ _. spec.read_input InputKind.NoChange text.now ≡ Ok (spec.of_changes changes.new.items)) (λ found. spec.read_input InputKind.NoChange text.now ≡ Err found.items)) }
 {
     match read_changes_into(changes, text) {
         Ok(()) if changes.is_empty() => Ok(Ok(())),
@@ -115,7 +117,7 @@ fn read_saved(
     saved: &mut ConfState,
     text: &[u8],
 ) -> Result<Result<(), Vec<u8>>, NoMemory>
-    ensures { IfOk result (λ read. MatchResult read (λ _. says.read_input InputKind.ConfStateLine text.now ≡ Ok (record { changes = []; saved = saved.new })) (λ found. says.read_input InputKind.ConfStateLine text.now ≡ Err found.items)) }
+    ensures { IfOk result (λ read. MatchResult read (λ _. spec.read_input InputKind.ConfStateLine text.now ≡ Ok (record { changes = []; saved = saved.new })) (λ found. spec.read_input InputKind.ConfStateLine text.now ≡ Err found.items)) }
 {
     match read_conf_state(alloc, text) {
         Ok(read) => {
@@ -128,7 +130,7 @@ fn read_saved(
 }
 
 fn read_nothing(alloc: Global, text: &[u8]) -> Result<Result<(), Vec<u8>>, NoMemory>
-    ensures { IfOk result (λ read. MatchResult read (λ _. says.read_input InputKind.Nothing text.now ≡ Ok (says.of_changes [])) (λ found. says.read_input InputKind.Nothing text.now ≡ Err found.items)) }
+    ensures { IfOk result (λ read. MatchResult read (λ _. spec.read_input InputKind.Nothing text.now ≡ Ok (spec.of_changes [])) (λ found. spec.read_input InputKind.Nothing text.now ≡ Err found.items)) }
 {
     if text.is_empty() {
         Ok(Ok(()))
@@ -139,7 +141,7 @@ fn read_nothing(alloc: Global, text: &[u8]) -> Result<Result<(), Vec<u8>>, NoMem
 
 // The line that reports that the command takes no input.
 fn no_input_line(alloc: Global) -> Result<Vec<u8>, NoMemory>
-    ensures { IfOk result (λ found. found.items ≡ says.no_input_line) }
+    ensures { IfOk result (λ found. found.items ≡ spec.no_input_line) }
 {
     line_of(alloc, b"this command takes no input", b"")
 }

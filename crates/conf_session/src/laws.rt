@@ -6,10 +6,10 @@ ghost use Rattle.conf_change.specs.Configuration.{Configuration, has_voter};
 ghost use Rattle.conf_change.specs.declared.floor.Floor.{Floor};
 ghost use Rattle.conf_change.specs.declared.step.Step.{Step};
 ghost use Rattle.conf_plan.specs.Planned.{planned};
-ghost use Rattle.conf_session.specs.SessionState.{SessionState, IsSession, new_session, present};
+ghost use Rattle.conf_session.specs.SessionState.{SessionState, IsSession, new_session, current};
 ghost use Rattle.conf_session.specs.Undo.{IsEarlier, LeadsBack, undo_plan_of, undone_changer};
 ghost use Rattle.conf_session.specs.Commands.{answer, after_answers};
-ghost use Rattle.conf_session.specs.Told.{CanStand};
+ghost use Rattle.conf_session.specs.ReplyLines.{IsValidOutput};
 
 use conf_change::laws::{
     one_changer_after_a_step, one_list_per_text, restored_is_described, trackers_stay_sound,
@@ -19,7 +19,7 @@ use conf_plan::laws::{one_changer_after_steps, undo_of_run};
 /// The reply to a directive is a valid output: whole lines, one at least, none of which is blank, is four dashes or ends
 /// in a carriage return.
 pub fn found_text_stands()
-    ensures { (session : SessionState) (directive : DirectiveText) → has_keys directive.arguments ≡ true → CanStand (answer session directive).found }
+    ensures { (session : SessionState) (directive : DirectiveText) → has_keys directive.arguments ≡ true → IsValidOutput (answer session directive).found }
 {
     one_list_per_text();
 }
@@ -54,7 +54,7 @@ pub fn answers_keep_session()
     trackers_stay_sound();
 }
 
-/// The plan that undoes the last changes of a session leads back to the configuration of before them.
+/// The plan that undoes the last changes of a session leads back to the configuration before them.
 pub fn undo_plan_leads_back()
     ensures { (session : SessionState) (count : ℕ) (steps : List Step) → IsSession session → 1 ≤ count → undo_plan_of session count ≡ Ok steps → LeadsBack session count steps }
 {
@@ -62,11 +62,11 @@ pub fn undo_plan_leads_back()
     undo_of_run();
 }
 
-/// Whatever changes were accepted, the plan that undoes the last ones leaves the voters, learners, next learners and the
-/// flag of before them.
+/// Whatever changes were accepted, the plan that undoes the last ones restores the voters, learners, next learners and the
+/// flag as they were before them.
 pub fn undo_brings_back()
     ensures { (session : SessionState) (count : ℕ) (older : Configuration) → IsSession session → 1 ≤ count → slice_get session.kept (count - 1) ≡ Some older → has_voter older ≡ true
-        → (undone_changer session (planned (present session) older)).tracker.config ≡ older }
+        → (undone_changer session (planned (current session) older)).tracker.config ≡ older }
 {
     trackers_stay_sound();
     one_changer_after_a_step();

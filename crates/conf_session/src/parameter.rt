@@ -1,6 +1,6 @@
 //! The parameters of commands: their keys, and what values their arguments may have.
 ghost use Rattle.std.specs.Prelude.{◌≡◌};
-ghost use Rattle.conf_session.specs.Parameter as says;
+ghost use Rattle.conf_session.specs.Parameter as spec;
 
 use ascii_text::number::read_number;
 use conf_change::Transition as HowTaken;
@@ -31,11 +31,11 @@ pub(crate) enum Parameter {
 
 impl Parameter {
     ghost use Rattle.std.specs.Prelude.{◌≡◌};
-    ghost use Rattle.conf_session.specs.Parameter as says;
+    ghost use Rattle.conf_session.specs.Parameter as spec;
 
     /// The key of its argument.
     pub(crate) fn key(self) -> &'static [u8]
-        ensures { result.now ≡ says.key_of self }
+        ensures { result.now ≡ spec.key_of self }
     {
         match self {
             Parameter::AutoLeave => b"autoleave",
@@ -52,7 +52,7 @@ impl Parameter {
 
     /// Whether a command needs its argument.
     pub(crate) fn is_required(self) -> bool
-        ensures { result ≡ says.is_required self }
+        ensures { result ≡ spec.is_required self }
     {
         matches!(self, Parameter::Id | Parameter::Index)
     }
@@ -60,7 +60,7 @@ impl Parameter {
 
 /// Whether the argument has this value and no other.
 pub(crate) fn has_only(argument: &Argument, value: &[u8]) -> bool
-    ensures { result ≡ says.has_only value.now argument.now.values }
+    ensures { result ≡ spec.has_only value.now argument.now.values }
 {
     let mut values = argument.values();
     match values.next() {
@@ -71,7 +71,7 @@ pub(crate) fn has_only(argument: &Argument, value: &[u8]) -> bool
 
 /// The flag that is its only value.
 pub(crate) fn flag_in(argument: &Argument) -> Option<bool>
-    ensures { result ≡ says.flag_in argument.now.values }
+    ensures { result ≡ spec.flag_in argument.now.values }
 {
     if has_only(argument, b"true") {
         Some(true)
@@ -84,7 +84,7 @@ pub(crate) fn flag_in(argument: &Argument) -> Option<bool>
 
 /// The transition that is its only value.
 pub(crate) fn transition_in(argument: &Argument) -> Option<HowTaken>
-    ensures { result ≡ says.transition_in argument.now.values }
+    ensures { result ≡ spec.transition_in argument.now.values }
 {
     if has_only(argument, b"auto") {
         Some(HowTaken::Auto)
@@ -99,7 +99,7 @@ pub(crate) fn transition_in(argument: &Argument) -> Option<HowTaken>
 
 /// The number that is its only value, if it is at least `least`.
 pub(crate) fn number_from(least: u64, argument: &Argument) -> Option<u64>
-    ensures { result ≡ says.number_from least argument.now.values }
+    ensures { result ≡ spec.number_from least argument.now.values }
 {
     let mut values = argument.values();
     let digits = values.next()?;
@@ -177,7 +177,7 @@ impl Listed for Option<bool> {
 
 // Whether the value is `_`, for what is not known.
 fn is_unknown(value: &[u8]) -> bool
-    ensures { result ≡ says.is_unknown value.now }
+    ensures { result ≡ spec.is_unknown value.now }
 {
     value == b"_".as_slice()
 }

@@ -55,7 +55,8 @@ fn push_each_once(each: &mut Vec<u64>, index: &IdIndex) -> Result<(), NoMemory>
     requires { each.old.items ≡ [] }
     ensures { OnOk result (each.new.items ≡ each_once index.now) }
 {
-    for (place, id) in index.ids().iter().enumerate() {
+    let ids = index.ids();
+    for (place, id) in ids.iter().enumerate() {
         if index.is_first(place, *id) {
             each.push(*id)?;
         }

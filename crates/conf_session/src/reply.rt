@@ -1,6 +1,6 @@
 //! The reply of a command.
 ghost use Rattle.std.specs.Prelude.{◌≡◌};
-ghost use Rattle.conf_session.specs.Reply as says;
+ghost use Rattle.conf_session.specs.Reply as spec;
 
 use crate::effect::Effect;
 use std::marker::Model;
@@ -13,9 +13,9 @@ pub(crate) struct Reply {
 }
 
 impl Model for Reply {
-    ghost use Rattle.conf_session.specs.Reply as says;
+    ghost use Rattle.conf_session.specs.Reply as spec;
 
-    ghost Value = { says.ReplyParts };
+    ghost Value = { spec.ReplyParts };
 
     ghost view = { λ r. record { found = r.found.items; effect = r.effect } };
 }

@@ -8,11 +8,11 @@ ghost use Rattle.conf_change.specs.ConfStateLine.{conf_state_text};
 ghost use Rattle.conf_session.specs.Quorum.{map_of, index_text, committed_text, vote_text};
 ghost use Rattle.quorum_sets.specs.Votes.{joint_vote_result};
 ghost use Rattle.conf_session.specs.ReplyTexts.{line, member_lines, tracker_text};
-ghost use Rattle.conf_session.specs.Undo as says;
+ghost use Rattle.conf_session.specs.Undo as spec;
 
-use crate::values_by_id::ValuesById;
 use crate::session_ids::SessionIds;
 use crate::undo_fault::{UndoFault, undo_fault_text};
+use crate::values_by_id::ValuesById;
 use ascii_text::append::append_number;
 use conf_change::{
     Config, Progress, Refused, TokenFault, Tracker, conf_state, write_conf_state, write_config,
@@ -81,7 +81,7 @@ pub(crate) fn conf_state_line(
 
 /// Why there is no plan, as a line.
 pub(crate) fn undo_fault_line(alloc: Global, fault: UndoFault) -> Result<Vec<u8>, NoMemory>
-    ensures { IfOk result (λ text. text.items ≡ line (says.undo_fault_text fault)) }
+    ensures { IfOk result (λ text. text.items ≡ line (spec.undo_fault_text fault)) }
 {
     end_line(undo_fault_text(alloc, fault)?)
 }

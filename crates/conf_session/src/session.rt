@@ -4,10 +4,10 @@ ghost use Rattle.conf_change.specs.Changer.{IsSound};
 ghost use Rattle.conf_change.specs.declared.floor.Floor.TheVariants.{One};
 ghost use Rattle.conf_change.specs.Configuration.{Configuration};
 ghost use Rattle.conf_plan.specs.Best.{IsBest};
-ghost use Rattle.conf_session.specs.SessionState.{IsSession, new_session, present};
+ghost use Rattle.conf_session.specs.SessionState.{IsSession, new_session, current};
 ghost use Rattle.conf_session.specs.Commands.{answer};
 ghost use Rattle.conf_session.specs.Undo.{LeadsBack, undo_plan_of};
-ghost use Rattle.conf_session.specs.Told.{CanStand};
+ghost use Rattle.conf_session.specs.ReplyLines.{IsValidOutput};
 ghost use Rattle.conf_session.specs.declared.undo_fault.UndoFault.{UndoFault as WhyNot};
 
 use crate::buffers::Buffers;
@@ -94,7 +94,7 @@ impl Session {
         ensures planned { IfOk result (λ plan. undo_plan_of self.now count ≡ Ok plan) }
         ensures refused { (fault : WhyNot) → fault ≢ UndoFault.NoMemory → ((result ≡ Err fault) ↔ (undo_plan_of self.now count ≡ Err fault)) }
         ensures back { IfOk result (LeadsBack self.now count) }
-        ensures best { IfOk result (λ plan. (older : Configuration) → slice_get self.now.kept (count - 1) ≡ Some older → IsBest (present self.now) plan older) }
+        ensures best { IfOk result (λ plan. (older : Configuration) → slice_get self.now.kept (count - 1) ≡ Some older → IsBest (current self.now) plan older) }
     {
         self.state.undo_plan(self.alloc, count)
     }
@@ -103,10 +103,11 @@ impl Session {
     /// each directive, refused ones too, and stays at the greatest. On `NoMemory` the session is unchanged.
     pub fn step(&mut self, directive: &Directive) -> Result<Vec<u8>, NoMemory>
         ensures found { IfOk result (λ found. found.items ≡ (answer self.old directive.now).found) }
-        ensures told { IfOk result (λ found. CanStand found.items) }
+        ensures valid_output { IfOk result (λ found. IsValidOutput found.items) }
         ensures session { OnOk result (self.new ≡ (answer self.old directive.now).session) }
         ensures unchanged { OnErr result (self.new ≡ self.old) }
     {
+        self.state.is_session();
         answer_keeps_session();
         let reply = run_directive(self.alloc, &self.state, &mut self.buffers, directive)?;
         let (found, effect) = reply.into_parts();

@@ -3,8 +3,8 @@ ghost use Rattle.std.specs.Prelude.{◌≡◌, ◌≢◌, ◌↔◌, ◌≤◌, 
 ghost use Rattle.conf_change.specs.Changer.{IsSound};
 ghost use Rattle.conf_change.specs.Configuration.{Configuration};
 ghost use Rattle.conf_plan.specs.Best.{IsBest};
-ghost use Rattle.conf_session.specs.SessionState.{IsSession, new_session, present, after_directive};
-ghost use Rattle.conf_session.specs.Reply.{becomes};
+ghost use Rattle.conf_session.specs.SessionState.{IsSession, new_session, current, after_directive};
+ghost use Rattle.conf_session.specs.Reply.{session_change};
 ghost use Rattle.conf_session.specs.Undo.{LeadsBack, undo_plan_of};
 ghost use Rattle.conf_session.specs.declared.undo_fault.UndoFault.{UndoFault as WhyNot};
 
@@ -51,6 +51,13 @@ impl State {
         })
     }
 
+    /// Every state is sound.
+    pub(crate) fn is_session(&self)
+        ensures { IsSession self.now }
+    {
+        let _ = &self.changer;
+    }
+
     /// The changer.
     pub(crate) fn changer(&self) -> &Changer<SessionIds>
         ensures changer { result.now ≡ self.now.changer }
@@ -81,7 +88,7 @@ impl State {
         ensures planned { IfOk result (λ plan. undo_plan_of self.now count ≡ Ok plan) }
         ensures refused { (fault : WhyNot) → fault ≢ UndoFault.NoMemory → ((result ≡ Err fault) ↔ (undo_plan_of self.now count ≡ Err fault)) }
         ensures back { IfOk result (LeadsBack self.now count) }
-        ensures best { IfOk result (λ plan. (older : Configuration) → slice_get self.now.kept (count - 1) ≡ Some older → IsBest (present self.now) plan older) }
+        ensures best { IfOk result (λ plan. (older : Configuration) → slice_get self.now.kept (count - 1) ≡ Some older → IsBest (current self.now) plan older) }
     {
         kept_lead_to_now();
         undo_of_run();
@@ -97,11 +104,10 @@ impl State {
         }
     }
 
-    /// Applies the effect of a directive that wrote the next changer, which is swapped with the current one where it takes
-    /// its place. It takes no memory.
+    /// Applies the effect of a directive, which may swap the current changer with the next one. It takes no memory.
     pub(crate) fn apply(&mut self, effect: Effect, next: &mut Changer<SessionIds>)
-        requires { IsSession (after_directive self.old (becomes self.old.changer next.old effect)) }
-        ensures { self.new ≡ after_directive self.old (becomes self.old.changer next.old effect) }
+        requires { IsSession (after_directive self.old (session_change self.old.changer next.old effect)) }
+        ensures { self.new ≡ after_directive self.old (session_change self.old.changer next.old effect) }
     {
         match effect {
             Effect::Nothing => {}

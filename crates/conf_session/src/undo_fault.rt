@@ -1,6 +1,6 @@
 //! Why changes of a session cannot be undone.
 ghost use Rattle.std.specs.Prelude.{◌≡◌, IfOk};
-ghost use Rattle.conf_session.specs.Undo as says;
+ghost use Rattle.conf_session.specs.Undo as spec;
 
 use ascii_text::append::append_number;
 use quorum_sets::NoMemory;
@@ -32,7 +32,7 @@ const FAULT_ROOM: usize = 64;
 
 /// The message of an error.
 pub fn undo_fault_text(alloc: Global, fault: UndoFault) -> Result<Vec<u8>, NoMemory>
-    ensures { IfOk result (λ text. text.items ≡ says.undo_fault_text fault) }
+    ensures { IfOk result (λ text. text.items ≡ spec.undo_fault_text fault) }
 {
     let mut text = Vec::with_capacity(alloc, FAULT_ROOM)?;
     match fault {

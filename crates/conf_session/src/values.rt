@@ -1,7 +1,7 @@
 //! The values of a directive's arguments.
 ghost use Rattle.std.specs.Prelude.{◌≡◌, true, ◌++◌, filter_map, is_some, unwrap_or, IfOk};
 ghost use Rattle.conf_session.specs.Parameter.{allows, all_read, id_in};
-ghost use Rattle.conf_session.specs.Values as says;
+ghost use Rattle.conf_session.specs.Values as spec;
 
 use crate::arguments::{has_key, missing_argument, parameter_of};
 use crate::parameter::{Listed, Parameter, flag_in, has_only, number_from, transition_in};
@@ -32,9 +32,9 @@ pub(crate) struct Values {
 }
 
 impl Model for Values {
-    ghost use Rattle.conf_session.specs.Values as says;
+    ghost use Rattle.conf_session.specs.Values as spec;
 
-    ghost Value = { says.Values };
+    ghost Value = { spec.Values };
 
     ghost view = { λ v. record {
       auto_leave = v.auto_leave;
@@ -53,11 +53,11 @@ impl Values {
     ghost use Rattle.std.specs.Prelude.{◌≡◌, true, [], None, Ok, Err, option_map, IfOk, MatchResult};
     ghost use Rattle.conf_session.specs.Arguments.{bad_argument, is_allowed};
     ghost use Rattle.conf_session.specs.Parameter.{allows};
-    ghost use Rattle.conf_session.specs.Values as says;
+    ghost use Rattle.conf_session.specs.Values as spec;
 
     /// The values if no argument is there. They take no memory.
     pub(crate) fn new(alloc: Global) -> Values
-        ensures { result ≡ says.values_in [] }
+        ensures { result ≡ spec.values_in [] }
     {
         Values {
             auto_leave: false,
@@ -79,8 +79,8 @@ impl Values {
         parameters: Option<&[Parameter]>,
         arguments: &[Argument],
     ) -> Result<Result<(), Vec<u8>>, NoMemory>
-        ensures { IfOk result (λ read. MatchResult read (λ _. says.read_arguments (option_map (λ p. p.now) parameters.entry) arguments.now ≡ Ok self.new)
-            (λ found. says.read_arguments (option_map (λ p. p.now) parameters.entry) arguments.now ≡ Err found.items)) }
+        ensures { IfOk result (λ read. MatchResult read (λ _. spec.read_arguments (option_map (λ p. p.now) parameters.entry) arguments.now ≡ Ok self.new)
+            (λ found. spec.read_arguments (option_map (λ p. p.now) parameters.entry) arguments.now ≡ Err found.items)) }
     {
         self.clear();
         let Some(parameters) = parameters else {
@@ -98,7 +98,7 @@ impl Values {
 
     // The values if no argument is there, in the same memory.
     fn clear(&mut self)
-        ensures { self.new ≡ says.values_in [] }
+        ensures { self.new ≡ spec.values_in [] }
     {
         self.auto_leave = false;
         self.transition = Transition::Auto;
@@ -118,9 +118,9 @@ impl Values {
         parameters: &[Parameter],
         arguments: &'a [Argument],
     ) -> Result<Option<&'a [u8]>, NoMemory>
-        requires { self.old ≡ says.values_in [] }
+        requires { self.old ≡ spec.values_in [] }
         ensures bad { IfOk result (λ bad. option_map (λ key. key.now) bad ≡ bad_argument parameters.now arguments.now) }
-        ensures values { IfOk result (λ bad. bad ≡ None → self.new ≡ says.values_in arguments.now) }
+        ensures values { IfOk result (λ bad. bad ≡ None → self.new ≡ spec.values_in arguments.now) }
     {
         for (place, argument) in arguments.iter().enumerate() {
             if has_key(&arguments[..place], argument.key()) || !self.take(parameters, argument)? {
@@ -133,7 +133,7 @@ impl Values {
     // Reads an argument, and returns whether it has a parameter and valid values.
     fn take(&mut self, parameters: &[Parameter], argument: &Argument) -> Result<bool, NoMemory>
         ensures allowed { IfOk result (λ good. good ≡ is_allowed parameters.now argument.now) }
-        ensures values { IfOk result (λ good. good ≡ true → says.HasMore self.old parameters.now argument.now self.new) }
+        ensures values { IfOk result (λ good. good ≡ true → spec.HasMore self.old parameters.now argument.now self.new) }
     {
         match parameter_of(parameters, argument) {
             Some(parameter) => self.put(*parameter, argument),
@@ -144,7 +144,7 @@ impl Values {
     // Reads the values of an argument, and returns whether they are valid.
     fn put(&mut self, parameter: Parameter, argument: &Argument) -> Result<bool, NoMemory>
         ensures allowed { IfOk result (λ good. good ≡ allows parameter argument.now.values) }
-        ensures values { IfOk result (λ good. good ≡ true → self.new ≡ says.with_more self.old parameter argument.now.values) }
+        ensures values { IfOk result (λ good. good ≡ true → self.new ≡ spec.with_more self.old parameter argument.now.values) }
     {
         match parameter {
             Parameter::AutoLeave => Ok(set(&mut self.auto_leave, flag_in(argument))),

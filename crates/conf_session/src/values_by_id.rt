@@ -2,7 +2,7 @@
 use crate::id_index::IdIndex;
 use quorum_sets::{AckSource, VoteSource};
 
-/// Ids, each once, and the value of each where it is known.
+/// Ids, and the value of each, if it is known.
 #[derive(Drop)]
 pub(crate) struct ValuesById<'a, V: Drop> {
     ids: IdIndex,

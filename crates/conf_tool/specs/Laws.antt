@@ -11,7 +11,7 @@ use Rattle.conf_change.specs.declared.step.Step.{Step}
 use Rattle.conf_plan.specs.Best.{IsBest}
 use Rattle.conf_plan.specs.PlanSteps.{IsPlan}
 use Rattle.conf_plan.specs.PlanText.{plan_text}
-use Rattle.conf_session.specs.SessionState.{SessionState, new_session, present}
+use Rattle.conf_session.specs.SessionState.{SessionState, new_session, current}
 use Rattle.conf_session.specs.Undo.{undo_plan_of}
 use Rattle.conf_tool.specs.TwoConfigurations.{configurations_in}
 use Rattle.conf_tool.specs.Outputs.{session_after_all, checked, rewritten, undone_output, planned_output}
@@ -38,7 +38,7 @@ JoinedClean = (script : List ℕ) (history : ℕ) (floor : Floor) (count : ℕ) 
 pub record LeadsBackBy (session : SessionState) (count : ℕ) (steps : List Step) (script : Script Item) : Type 0 where
   pub whole : script.fault ≡ None
   pub taken : TakesSteps session (directives_of script.items) steps
-  pub back : slice_get session.kept (count - 1) ≡ Some (present (session_after_all session script.items))
+  pub back : slice_get session.kept (count - 1) ≡ Some (current (session_after_all session script.items))
 
 -- A session that ran a script without a fault, and then runs what `undo` prints of that script, takes the steps of the
 -- plan and comes back. (The ids of a plan that is made are numbers of 64 bits, and it has at most four steps.)

@@ -2,7 +2,7 @@
 ghost use Rattle.std.specs.Prelude.{◌≡◌, IfOk};
 ghost use Rattle.conf_change.specs.ChangerState.{ChangerState};
 ghost use Rattle.conf_session.specs.Reply.{reply_in};
-ghost use Rattle.conf_session.specs.Commands as says;
+ghost use Rattle.conf_session.specs.Commands as spec;
 
 use crate::effect::Effect;
 use crate::reply::Reply;
@@ -19,7 +19,7 @@ pub(super) fn run(
     id: u64,
     index: u64,
 ) -> Result<Reply, NoMemory>
-    ensures { IfOk result (λ reply. (next : ChangerState) → reply_in changer.now next reply ≡ says.on_ack changer.now id index) }
+    ensures { IfOk result (λ reply. (next : ChangerState) → reply_in changer.now next reply ≡ spec.on_ack changer.now id index) }
 {
     match changer.ack_answer(id, index) {
         Ok(progress) => {

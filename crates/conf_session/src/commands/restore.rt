@@ -2,7 +2,7 @@
 ghost use Rattle.std.specs.Prelude.{◌≡◌, IfOk};
 ghost use Rattle.conf_change.specs.ConfState.{restored};
 ghost use Rattle.conf_session.specs.Reply.{reply_in};
-ghost use Rattle.conf_session.specs.Commands as says;
+ghost use Rattle.conf_session.specs.Commands as spec;
 
 use crate::effect::Effect;
 use crate::reply::Reply;
@@ -19,7 +19,7 @@ pub(super) fn run(
     next: &mut Changer<SessionIds>,
     saved: &ConfState,
 ) -> Result<Reply, NoMemory>
-    ensures { IfOk result (λ reply. reply_in changer.now next.new reply ≡ says.after_restored changer.now (restored saved.now)) }
+    ensures { IfOk result (λ reply. reply_in changer.now next.new reply ≡ spec.after_restored changer.now (restored saved.now)) }
 {
     laws::restored_is_described();
     match Changer::restore_with_floor(alloc, saved, changer.last_index(), changer.floor()) {

@@ -2,7 +2,7 @@
 ghost use Rattle.std.specs.Prelude.{◌≡◌, IfOk};
 ghost use Rattle.conf_change.specs.Transition.{step_of};
 ghost use Rattle.conf_session.specs.Reply.{reply_in};
-ghost use Rattle.conf_session.specs.Commands as says;
+ghost use Rattle.conf_session.specs.Commands as spec;
 
 use crate::effect::Effect;
 use crate::reply::Reply;
@@ -20,7 +20,7 @@ pub(super) fn run(
     kind: StepKind,
     changes: &[Change],
 ) -> Result<Reply, NoMemory>
-    ensures { IfOk result (λ reply. reply_in changer.now next.new reply ≡ says.on_step changer.now (step_of kind changes.now)) }
+    ensures { IfOk result (λ reply. reply_in changer.now next.new reply ≡ spec.on_step changer.now (step_of kind changes.now)) }
 {
     match next.become_next(changer, kind, changes) {
         Ok(()) => Ok(Reply::new(tracker_lines(alloc, next.tracker())?, Effect::Stepped)),

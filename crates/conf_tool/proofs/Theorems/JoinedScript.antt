@@ -27,13 +27,13 @@ use Rattle.conf_tool.specs.Reports.{answered_entries, differs}
 use Rattle.conf_session.specs.Undo.{undo_plan_of, undo_fault_text}
 use Rattle.conf_tool.specs.UndoScript.{step_command, change_lines, step_directive, comment, undo_items}
 use Rattle.conf_tool.specs.Outputs.{checked, checked_entries, check_status, session_after_all, undone_unless}
-use Rattle.conf_session.specs.Told.{is_line_byte}
+use Rattle.conf_session.specs.ReplyLines.{is_line_byte}
 use Rattle.conf_tool.specs.Laws.{JoinedClean}
 use Rattle.conf_tool.specs.declared.status.Status.{Status}
 use Rattle.conf_tool.specs.declared.tool_fault.ToolFault.{ToolFault}
 use Rattle.conf_tool.specs.declared.status.Status.TheVariants.{Clean}
 use Rattle.conf_session.specs.declared.undo_fault.UndoFault.{UndoFault}
-use Rattle.conf_session.proofs.Offered.{and-first, and-second, and-both, told-bytes, undo_fault-told, spaced-words, changes-words}
+use Rattle.conf_session.proofs.Offered.{and-first, and-second, and-both, reply_line-bytes, undo_fault-in_lines, spaced-words, changes-words}
 use Rattle.conf_tool.proofs.Theorems.RewrittenScript.{FoundStands, found-outputs, items-of, clean-items}
 
 -- ---- whether a script is clean is told by its directives
@@ -133,7 +133,7 @@ steps-given given (step ∷ steps) = (step-given given step, steps-given given s
 undo-given : DirectiveIsGiven → (plan : Result (List Step) UndoFault) → AreGiven (undo_items plan)
 undo-given given (Ok []) = (comment-given (codes "nothing to do") refl, tt)
 undo-given given (Ok (step ∷ steps)) = steps-given given (step ∷ steps)
-undo-given given (Err fault) = (comment-given (undo_fault_text fault) (told-bytes (undo_fault_text fault) (undo_fault-told fault)), tt)
+undo-given given (Err fault) = (comment-given (undo_fault_text fault) (reply_line-bytes (undo_fault_text fault) (undo_fault-in_lines fault)), tt)
 
 -- their arguments have keys, and the last is no long blank
 step-keys : (step : Step) → item_has_keys (step_directive step) ≡ true

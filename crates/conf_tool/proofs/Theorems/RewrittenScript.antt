@@ -14,13 +14,13 @@ use Rattle.conf_session.specs.SessionState.{SessionState, new_session}
 use Rattle.conf_session.specs.Commands.{Answer, answer}
 use Rattle.conf_tool.specs.Reports.{found_for, session_after, answered_entries, differs}
 use Rattle.conf_tool.specs.Outputs.{checked_entries, check_status}
-use Rattle.conf_session.specs.Told.{CanStand}
+use Rattle.conf_session.specs.ReplyLines.{IsValidOutput}
 use Rattle.conf_tool.specs.Laws.{RewrittenClean}
 use Rattle.conf_session.proofs.Offered.{and-first, and-second, and-both, same-answer}
 
 -- the texts that are found can stand as outputs
 abbrev pub FoundStands : Type 0
-FoundStands = (session : SessionState) (directive : DirectiveText) → has_keys directive.arguments ≡ true → CanStand (answer session directive).found
+FoundStands = (session : SessionState) (directive : DirectiveText) → has_keys directive.arguments ≡ true → IsValidOutput (answer session directive).found
 
 found-output : FoundStands → (session : SessionState) (item : Item) → item_has_keys item ≡ true → is_output (found_for session item) ≡ true
 found-output stands session (Comment lines) keys = refl

@@ -34,7 +34,7 @@ use Rattle.conf_plan.specs.Run.{IsRun}
 use Rattle.conf_session.specs.Commands.{Answer, Row, answer, answered, after_answers, after_step, if_read, reply_of, row_of}
 use Rattle.conf_session.specs.Input.{changes_read}
 use Rattle.conf_session.specs.Reply.{Reply, stepped}
-use Rattle.conf_session.specs.SessionState.{SessionState, IsSession, new_session, present, after_directive}
+use Rattle.conf_session.specs.SessionState.{SessionState, IsSession, new_session, current, after_directive}
 use Rattle.conf_session.specs.Undo.{LeadsBack, undo_plan_of}
 use Rattle.conf_session.specs.Values.{read_arguments}
 use Rattle.conf_session.specs.declared.undo_fault.UndoFault.{UndoFault}
@@ -126,9 +126,9 @@ step-answer session LeaveJoint next read made = ap (λ (r : Made). answered sess
 -- ---- so it takes the steps of a run in turn
 record Comes (session : SessionState) (directives : List DirectiveText) (steps : List Step) (target : Configuration) : Type 0 where
   taken : TakesSteps session directives steps
-  there : present (after_answers session directives) ≡ target
+  there : current (after_answers session directives) ≡ target
 
-run-comes : ChangesAreRead → (session : SessionState) (steps : List Step) (target : Configuration) → All HasWordIds steps → IsRun (present session) steps target
+run-comes : ChangesAreRead → (session : SessionState) (steps : List Step) (target : Configuration) → All HasWordIds steps → IsRun (current session) steps target
     → Comes session (map directive_for steps) steps target
 run-comes read session [] target small run = record { taken = tt; there = run }
 run-comes read session (step ∷ steps) target small run =
@@ -206,7 +206,7 @@ undo_of-session written given stands changes session count steps back plan fits 
     let read = undo-read written given stands session (Ok steps) fits in
     let comes = run-comes changes session steps back.older plan.word_ids back.run in
     let again = undo-again session steps _ read.1 comes.taken in
-    record { whole = read.0; taken = again.taken; back = back.is_kept ∙ ap Some (sym (ap present again.after ∙ comes.there)) }
+    record { whole = read.0; taken = again.taken; back = back.is_kept ∙ ap Some (sym (ap current again.after ∙ comes.there)) }
 
 pub undo_script-leads_back : WrittenScript → DirectiveIsGiven → FoundStands
     → ((history : ℕ) (floor : Floor) (directives : List DirectiveText) → IsSession (after_answers (new_session history floor) directives))

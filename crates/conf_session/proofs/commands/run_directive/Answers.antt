@@ -1,11 +1,11 @@
 use Rattle.std.proofs.Common.{◌≡◌, ap, ◌∙◌}
 use Rattle.std.specs.Prelude.{option_map}
 use Rattle.conf_session.specs.Commands.{row_of, row_with, reply_by, reply_to}
-use Rattle.conf_session.proofs.CommandReplies.{reply-stands}
+use Rattle.conf_session.proofs.CommandReplies.{reply-valid_output}
 use Rattle.conf_session.proofs.commands.run_directive.Goals as goal
 
-pub returns-clause-stands : goal.returns-clause-stands
-returns-clause-stands c =
+pub returns-clause-valid_output : goal.returns-clause-valid_output
+returns-clause-valid_output c =
     let row = c.row_of-row.result in
     let made = c.row_of-row.ensures in
     let session = c.args.session.now in
@@ -13,4 +13,4 @@ returns-clause-stands c =
     let same : reply_by (row_with row.command row.input (option_map (λ p. p.now) row.parameters)) session c.input.result.now c.arguments.result.now ≡ reply_to session directive =
     (λ i. reply_by (row_with (made.command i) (made.input i) (made.parameters i)) session (c.input.ensures i) (c.arguments.ensures.arguments i))
     ∙ ap (λ name. reply_by (row_of name) session directive.input directive.arguments) c.command.ensures in
-    reply-stands c.run_row.result session.changer c.run_row.new.next same (c.found_text_stands.ensures session directive c.arguments.ensures.keys) c.run_row.ensures
+    reply-valid_output c.run_row.result session.changer c.run_row.new.buffers.next same (c.found_text_stands.ensures session directive c.arguments.ensures.keys) c.run_row.ensures

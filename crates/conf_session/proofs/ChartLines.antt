@@ -1,4 +1,4 @@
--- A chart, a committed index and the result of a vote are told lines.
+-- A chart, a committed index and the result of a vote are reply lines.
 use Rattle.std.proofs.Common.{◌≡◌, ℕ, zero, suc, ◌-◌, Bool, true, false, cond, ◌||◌, List, [], ◌∷◌, ◌++◌, length, map, refl, sym, ap, ◌∙◌, subst, arith}
 use Rattle.std.specs.Prelude.{nat_eq, Option, Some, None, unwrap_or, codes, decimal, flat_map, replicate}
 use Rattle.std.specs.FinMap as finite
@@ -11,8 +11,8 @@ use Rattle.quorum_sets.specs.declared.voting.VoteResult.TheVariants.{VotePending
 use Rattle.ascii_text.specs.Lines.{newline, text_of}
 use Rattle.conf_session.specs.Quorum.{index_text, vote_text}
 use Rattle.conf_session.specs.ReplyTexts.{line}
-use Rattle.conf_session.specs.Told.{is_line_byte, is_told_line, IsTold}
-use Rattle.conf_session.proofs.ToldLines.{and-both, all-append, is_mark, IsBytes, IsLine, IsTail, ◌▸◌, ◌▹◌, IsLine-from_mark, IsLine-told, IsTail-from_bytes, IsTail-number, decimal-high, decimal-bytes, high-mark, line-told, told-after}
+use Rattle.conf_session.specs.ReplyLines.{is_line_byte, is_reply_line, IsReplyText}
+use Rattle.conf_session.proofs.ReplyLines.{and-both, all-append, is_mark, IsBytes, IsLine, IsTail, ◌▸◌, ◌▹◌, IsLine-from_mark, IsLine-in_lines, IsTail-from_bytes, IsTail-number, decimal-high, decimal-bytes, high-mark, line-in_lines, reply_text-append}
 
 -- ---- a line with its mark at the end
 any-back : (xs ys : List ℕ) → list_any is_mark ys ≡ true → list_any is_mark (xs ++ ys) ≡ true
@@ -42,18 +42,18 @@ abbrev row_line : ℕ → ℕ → Option ℕ → ℕ → List ℕ
 row_line n id acked width =
     bar_text n acked width ++ codes " " ++ in_five_places (unwrap_or acked 0) ++ codes "    (id=" ++ decimal id ++ codes ")"
 
-row-told : (n id : ℕ) (acked : Option ℕ) (width : ℕ) → is_told_line (row_line n id acked width) ≡ true
-row-told n id acked width =
+row-in_lines : (n id : ℕ) (acked : Option ℕ) (width : ℕ) → is_reply_line (row_line n id acked width) ≡ true
+row-in_lines n id acked width =
     let index = unwrap_or acked 0 in
     let five : IsTail (in_five_places index) = spaces _ ▹ IsTail-number index in
-    IsLine-told (leads (bar-tail n acked width ▹ IsTail-from_bytes (codes " ") refl ▹ five) (IsLine-from_mark (codes "    (id=") refl refl) ▸ IsTail-number id ▸ IsTail-from_bytes (codes ")") refl)
+    IsLine-in_lines (leads (bar-tail n acked width ▹ IsTail-from_bytes (codes " ") refl ▹ five) (IsLine-from_mark (codes "    (id=") refl refl) ▸ IsTail-number id ▸ IsTail-from_bytes (codes ")") refl)
 
 abbrev row_of : List ℕ → Acks → ℕ → List ℕ
 row_of ids acks id = row_line (length ids) id (finite.get acks id) (bar_width ids acks id)
 
-rows-told : (ids : List ℕ) (acks : Acks) (some : List ℕ) → list_all is_told_line (map (row_of ids acks) some) ≡ true
-rows-told ids acks [] = refl
-rows-told ids acks (id ∷ some) = and-both _ _ (row-told (length ids) id (finite.get acks id) (bar_width ids acks id)) (rows-told ids acks some)
+rows-in_lines : (ids : List ℕ) (acks : Acks) (some : List ℕ) → list_all is_reply_line (map (row_of ids acks) some) ≡ true
+rows-in_lines ids acks [] = refl
+rows-in_lines ids acks (id ∷ some) = and-both _ _ (row-in_lines (length ids) id (finite.get acks id) (bar_width ids acks id)) (rows-in_lines ids acks some)
 
 row-whole : (n id : ℕ) (acked : Option ℕ) (width : ℕ) → row_text n id acked width ≡ line (row_line n id acked width)
 row-whole n id acked width =
@@ -65,37 +65,37 @@ rows-whole ids acks (id ∷ some) =
     (λ i. row-whole (length ids) id (finite.get acks id) (bar_width ids acks id) i ++ rows-whole ids acks some i)
 
 -- the first line and the others
-all-told : (ids : List ℕ) (acks : Acks) → IsTold (replicate (length ids) 32 ++ codes "    idx\n" ++ flat_map (chart_row ids acks) ids)
-all-told ids acks =
+all-in_lines : (ids : List ℕ) (acks : Acks) → IsReplyText (replicate (length ids) 32 ++ codes "    idx\n" ++ flat_map (chart_row ids acks) ids)
+all-in_lines ids acks =
     let head : List ℕ = replicate (length ids) 32 ++ codes "    idx" in
     record {
       lines = head ∷ map (row_of ids acks) ids;
       some = omega arith;
       whole = ap (λ text. text ++ flat_map (chart_row ids acks) ids) (sym (append_assoc (replicate (length ids) 32) (codes "    idx") newline)) ∙ ap (λ rows. line head ++ rows) (rows-whole ids acks ids);
-      told = and-both _ _ (IsLine-told (leads (spaces (length ids)) (IsLine-from_mark (codes "    idx") refl refl))) (rows-told ids acks ids);
+      valid = and-both _ _ (IsLine-in_lines (leads (spaces (length ids)) (IsLine-from_mark (codes "    idx") refl refl))) (rows-in_lines ids acks ids);
     }
 
--- ---- an index, behind a chart or alone
+-- ---- an index, after a chart or alone
 index-line : (index : ℕ) → IsLine (index_text index)
 index-line index = by (nat_eq index greatest_index) where
   by : (greatest : Bool) → IsLine (cond greatest (226 ∷ 136 ∷ 158 ∷ []) (decimal index))
   by true = IsLine-from_mark (226 ∷ 136 ∷ 158 ∷ []) refl refl
   by false = IsLine-from_mark (decimal index) (high-mark (decimal index) (decimal-high index)) (decimal-bytes index)
 
-pub index-told : (index : ℕ) → is_told_line (index_text index) ≡ true
-index-told index = IsLine-told (index-line index)
+pub index-in_lines : (index : ℕ) → is_reply_line (index_text index) ≡ true
+index-in_lines index = IsLine-in_lines (index-line index)
 
-pub chart-told : (ids : List ℕ) (acks : Acks) (index : ℕ) → IsTold (line (chart_text ids acks ++ index_text index))
-chart-told ids acks index = by (nat_eq (length ids) 0) where
+pub chart-in_lines : (ids : List ℕ) (acks : Acks) (index : ℕ) → IsReplyText (line (chart_text ids acks ++ index_text index))
+chart-in_lines ids acks index = by (nat_eq (length ids) 0) where
   rows : List ℕ
   rows = replicate (length ids) 32 ++ codes "    idx\n" ++ flat_map (chart_row ids acks) ids
 
-  by : (none : Bool) → IsTold (line (cond none (codes "<empty majority quorum>") rows ++ index_text index))
-  by true = line-told (codes "<empty majority quorum>" ++ index_text index) (IsLine-told (IsLine-from_mark (codes "<empty majority quorum>") refl refl ▸ IsTail-from_bytes (index_text index) (index-line index).bytes))
-  by false = subst IsTold (sym (append_assoc rows (index_text index) newline)) (told-after rows (line (index_text index)) (all-told ids acks) (line-told (index_text index) (index-told index)))
+  by : (none : Bool) → IsReplyText (line (cond none (codes "<empty majority quorum>") rows ++ index_text index))
+  by true = line-in_lines (codes "<empty majority quorum>" ++ index_text index) (IsLine-in_lines (IsLine-from_mark (codes "<empty majority quorum>") refl refl ▸ IsTail-from_bytes (index_text index) (index-line index).bytes))
+  by false = subst IsReplyText (sym (append_assoc rows (index_text index) newline)) (reply_text-append rows (line (index_text index)) (all-in_lines ids acks) (line-in_lines (index_text index) (index-in_lines index)))
 
 -- ---- the result of a vote
-pub vote-told : (vote : VoteResult) → is_told_line (vote_text vote) ≡ true
-vote-told VotePending = refl
-vote-told VoteLost = refl
-vote-told VoteWon = refl
+pub vote-in_lines : (vote : VoteResult) → is_reply_line (vote_text vote) ≡ true
+vote-in_lines VotePending = refl
+vote-in_lines VoteLost = refl
+vote-in_lines VoteWon = refl

@@ -1,4 +1,4 @@
--- A text of told lines can stand as an output.
+-- A text of reply lines is a valid output.
 use Rattle.std.proofs.Common.{◌≡◌, ℕ, suc, ◌-◌, ◌<◌, Bool, true, false, cond, not, ◌&&◌, ◌||◌, List, [], ◌∷◌, ◌++◌, length, drop, map, refl, ap, ◌∙◌, arith}
 use Rattle.std.specs.Prelude.{◌==◌, nat_eq}
 use Rattle.std.specs.List.{list_all, list_any, ends_with}
@@ -10,8 +10,8 @@ use Rattle.ascii_text.specs.WhiteSpace.{is_blank}
 use Rattle.dd_file.specs.Script.{is_dashes}
 use Rattle.dd_file.specs.Rewritten.{is_output_line}
 use Rattle.conf_session.specs.ReplyTexts.{line}
-use Rattle.conf_session.specs.Told.{is_line_byte, is_told_line, IsTold, CanStand}
-use Rattle.conf_session.proofs.ToldLines.{and-first, and-second, and-both, told-bytes}
+use Rattle.conf_session.specs.ReplyLines.{is_line_byte, is_reply_line, IsReplyText, IsValidOutput}
+use Rattle.conf_session.proofs.ReplyLines.{and-first, and-second, and-both, reply_line-bytes}
 
 no : (b : Bool) → not b ≡ true → b ≡ false
 no true e = cc
@@ -24,9 +24,9 @@ pieces-line (b ∷ bytes) rest h =
     ap (λ t. cond t (newline ∷ pieces (line bytes ++ rest)) (before_first_piece b (pieces (line bytes ++ rest)))) (no _ (and-first _ _ (and-first _ _ h)))
     ∙ ap (before_first_piece b) (pieces-line bytes rest (and-second _ _ h))
 
-pieces-lines : (lines : List (List ℕ)) → list_all is_told_line lines ≡ true → pieces (text_of lines) ≡ map line lines
+pieces-lines : (lines : List (List ℕ)) → list_all is_reply_line lines ≡ true → pieces (text_of lines) ≡ map line lines
 pieces-lines [] h = refl
-pieces-lines (bytes ∷ lines) h = pieces-line bytes (text_of lines) (told-bytes bytes (and-first _ _ h)) ∙ ap (λ ps. line bytes ∷ ps) (pieces-lines lines (and-second _ _ h))
+pieces-lines (bytes ∷ lines) h = pieces-line bytes (text_of lines) (reply_line-bytes bytes (and-first _ _ h)) ∙ ap (λ ps. line bytes ∷ ps) (pieces-lines lines (and-second _ _ h))
 
 without_newline : (bytes : List ℕ) → without_last 10 (line bytes) ≡ bytes
 without_newline [] = refl
@@ -52,7 +52,7 @@ no_return_at_end [] h = refl
 no_return_at_end (x ∷ []) h = other_byte x (and-second _ _ (and-first _ _ h))
 no_return_at_end (x ∷ y ∷ bytes) h = ends-more 13 x y bytes ∙ no_return_at_end (y ∷ bytes) (and-second _ _ h)
 
--- what has a byte and a newline behind it ends in a newline
+-- a line with its newline ends in a newline
 ends-line : (bytes : List ℕ) → ends_with nat_eq (line bytes) newline ≡ true
 ends-line [] = refl
 ends-line (x ∷ []) = refl
@@ -63,9 +63,9 @@ ends-behind [] y back h = h
 ends-behind (x ∷ []) y back h = ends-more 10 x y back ∙ h
 ends-behind (x ∷ z ∷ front) y back h = ends-more 10 x z (front ++ y ∷ back) ∙ ends-behind (z ∷ front) y back h
 
-ends-text : (bytes : List ℕ) (lines : List (List ℕ)) → list_all is_told_line (bytes ∷ lines) ≡ true → ends_with nat_eq (text_of (bytes ∷ lines)) newline ≡ true
+ends-text : (bytes : List ℕ) (lines : List (List ℕ)) → list_all is_reply_line (bytes ∷ lines) ≡ true → ends_with nat_eq (text_of (bytes ∷ lines)) newline ≡ true
 ends-text bytes [] h = ap (λ t. ends_with nat_eq t newline) (append-nil (line bytes)) ∙ ends-line bytes
-ends-text bytes ([] ∷ lines) h = let e : false ≡ true = and-second (is_told_line bytes) false h in cc
+ends-text bytes ([] ∷ lines) h = let e : false ≡ true = and-second (is_reply_line bytes) false h in cc
 ends-text bytes ((b ∷ bs) ∷ lines) h = ends-behind (line bytes) b (bs ++ newline ++ text_of lines) (ends-text (b ∷ bs) lines (and-second _ _ h))
 
 -- ---- each line
@@ -73,30 +73,30 @@ neither : (a b : Bool) → (a || b) ≡ false → (a ≡ false) × (b ≡ false)
 neither true b h = cc
 neither false b h = (refl, h)
 
-is_none : (bytes : List ℕ) → is_told_line bytes ≡ true → (is_blank bytes ≡ false) × (is_dashes bytes ≡ false)
+is_none : (bytes : List ℕ) → is_reply_line bytes ≡ true → (is_blank bytes ≡ false) × (is_dashes bytes ≡ false)
 is_none bytes h = neither _ _ (no (is_blank bytes || is_dashes bytes) (and-first _ _ h))
 
-no_dashes : (bytes : List ℕ) → is_told_line bytes ≡ true → is_dashes bytes ≡ false
+no_dashes : (bytes : List ℕ) → is_reply_line bytes ≡ true → is_dashes bytes ≡ false
 no_dashes bytes h = (is_none bytes h).1
 
-no_blank : (bytes : List ℕ) → is_told_line bytes ≡ true → is_blank bytes ≡ false
+no_blank : (bytes : List ℕ) → is_reply_line bytes ≡ true → is_blank bytes ≡ false
 no_blank bytes h = (is_none bytes h).0
 
-output-line : (bytes : List ℕ) → is_told_line bytes ≡ true → is_output_line bytes ≡ true
-output-line bytes h = ap not (ap (λ t. t || ends_with nat_eq bytes (13 ∷ [])) (no_dashes bytes h) ∙ no_return_at_end bytes (told-bytes bytes h))
+output-line : (bytes : List ℕ) → is_reply_line bytes ≡ true → is_output_line bytes ≡ true
+output-line bytes h = ap not (ap (λ t. t || ends_with nat_eq bytes (13 ∷ [])) (no_dashes bytes h) ∙ no_return_at_end bytes (reply_line-bytes bytes h))
 
-output-lines : (lines : List (List ℕ)) → list_all is_told_line lines ≡ true → list_all (λ piece. is_output_line (without_last 10 piece)) (map line lines) ≡ true
+output-lines : (lines : List (List ℕ)) → list_all is_reply_line lines ≡ true → list_all (λ piece. is_output_line (without_last 10 piece)) (map line lines) ≡ true
 output-lines [] h = refl
 output-lines (bytes ∷ lines) h = and-both _ _ (ap is_output_line (without_newline bytes) ∙ output-line bytes (and-first _ _ h)) (output-lines lines (and-second _ _ h))
 
-no_blank-lines : (lines : List (List ℕ)) → list_all is_told_line lines ≡ true → list_any is_blank (map line_of (map line lines)) ≡ false
+no_blank-lines : (lines : List (List ℕ)) → list_all is_reply_line lines ≡ true → list_any is_blank (map line_of (map line lines)) ≡ false
 no_blank-lines [] h = refl
 no_blank-lines (bytes ∷ lines) h =
     ap (λ t. t || list_any is_blank (map line_of (map line lines)))
-    (ap is_blank (ap (without_last 13) (without_newline bytes) ∙ without_return bytes (told-bytes bytes (and-first _ _ h))) ∙ no_blank bytes (and-first _ _ h))
+    (ap is_blank (ap (without_last 13) (without_newline bytes) ∙ without_return bytes (reply_line-bytes bytes (and-first _ _ h))) ∙ no_blank bytes (and-first _ _ h))
     ∙ no_blank-lines lines (and-second _ _ h)
 
-text-ends : (lines : List (List ℕ)) → 0 < length lines → list_all is_told_line lines ≡ true → ends_with nat_eq (text_of lines) newline ≡ true
+text-ends : (lines : List (List ℕ)) → 0 < length lines → list_all is_reply_line lines ≡ true → ends_with nat_eq (text_of lines) newline ≡ true
 text-ends [] some h = absurd (omega arith)
 text-ends (bytes ∷ lines) some h = ends-text bytes lines h
 
@@ -104,12 +104,12 @@ or-right : (a b : Bool) → b ≡ true → (a || b) ≡ true
 or-right true b e = refl
 or-right false b e = e
 
-pub told-stands : (text : List ℕ) → IsTold text → CanStand text
-told-stands text t =
-    let ends : ends_with nat_eq text newline ≡ true = ap (λ x. ends_with nat_eq x newline) t.whole ∙ text-ends t.lines t.some t.told in
-    let cut : pieces text ≡ map line t.lines = ap pieces t.whole ∙ pieces-lines t.lines t.told in
+pub reply_text-valid_output : (text : List ℕ) → IsReplyText text → IsValidOutput text
+reply_text-valid_output text t =
+    let ends : ends_with nat_eq text newline ≡ true = ap (λ x. ends_with nat_eq x newline) t.whole ∙ text-ends t.lines t.some t.valid in
+    let cut : pieces text ≡ map line t.lines = ap pieces t.whole ∙ pieces-lines t.lines t.valid in
     record {
-      output = and-both _ _ (or-right _ _ ends) (ap (list_all (λ piece. is_output_line (without_last 10 piece))) cut ∙ output-lines t.lines t.told);
+      output = and-both _ _ (or-right _ _ ends) (ap (list_all (λ piece. is_output_line (without_last 10 piece))) cut ∙ output-lines t.lines t.valid);
       ended = ends;
-      full = ap (λ ps. list_any is_blank (map line_of ps)) cut ∙ no_blank-lines t.lines t.told;
+      full = ap (λ ps. list_any is_blank (map line_of ps)) cut ∙ no_blank-lines t.lines t.valid;
     }

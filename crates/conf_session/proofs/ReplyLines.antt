@@ -1,4 +1,4 @@
--- Which texts are told lines.
+-- Which texts are reply lines.
 use Rattle.std.proofs.Common.{◌≡◌, ℕ, zero, suc, ◌/◌, ◌%◌, ◌≤◌, Bool, true, false, cond, not, ◌&&◌, List, [], ◌∷◌, ◌++◌, map, refl, sym, ap, ◌∙◌, arith}
 use Rattle.std.specs.Prelude.{◌==◌, ◌||◌, nat_le, codes, decimal, flat_map}
 use Rattle.std.specs.List.{AllZip, list_all, list_any, join_with_byte}
@@ -33,7 +33,7 @@ use Rattle.conf_session.specs.Undo.{undo_fault_text}
 use Rattle.conf_session.specs.declared.undo_fault.UndoFault.{UndoFault}
 use Rattle.conf_session.specs.declared.undo_fault.UndoFault.TheVariants.{NotKept, NoVoterTarget, NoMemory as NoMemoryToUndo}
 use Rattle.conf_session.specs.ReplyTexts.{line, member_line, tracker_text}
-use Rattle.conf_session.specs.Told.{is_line_byte, is_told_line, IsTold}
+use Rattle.conf_session.specs.ReplyLines.{is_line_byte, is_reply_line, IsReplyText}
 
 pub and-first : (a b : Bool) → (a && b) ≡ true → a ≡ true
 and-first true b e = refl
@@ -54,8 +54,8 @@ all-append p (x ∷ xs) ys h k = and-both _ _ (and-first _ _ h) (all-append p xs
 abbrev pub IsBytes : List ℕ → Type 0
 IsBytes text = list_all is_line_byte text ≡ true
 
-pub told-bytes : (text : List ℕ) → is_told_line text ≡ true → list_all is_line_byte text ≡ true
-told-bytes text h = and-second (not (is_blank text || is_dashes text)) _ h
+pub reply_line-bytes : (text : List ℕ) → is_reply_line text ≡ true → list_all is_line_byte text ≡ true
+reply_line-bytes text h = and-second (not (is_blank text || is_dashes text)) _ h
 
 -- a byte that makes a line neither blank nor dashes
 abbrev pub is_mark : ℕ → Bool
@@ -83,12 +83,12 @@ no_dashes-if bytes true e h =
     let none : list_any is_mark bytes ≡ false = ap (list_any is_mark) same in cc
 no_dashes-if bytes false e h = refl
 
-pub marked-told : (text : List ℕ) → list_any is_mark text ≡ true → IsBytes text → is_told_line text ≡ true
-marked-told text h k =
+pub marked-in_lines : (text : List ℕ) → list_any is_mark text ≡ true → IsBytes text → is_reply_line text ≡ true
+marked-in_lines text h k =
     and-both _ _ (ap not (ap (λ t. t || is_dashes text) (no_blank text h) ∙ no_dashes-if text (is_dashes text) refl h)) k
 
-pub told-append : (front back : List ℕ) → list_any is_mark front ≡ true → IsBytes front → IsBytes back → is_told_line (front ++ back) ≡ true
-told-append front back h k l = marked-told (front ++ back) (any-front is_mark front back h) (all-append is_line_byte front back k l)
+pub reply_line-append : (front back : List ℕ) → list_any is_mark front ≡ true → IsBytes front → IsBytes back → is_reply_line (front ++ back) ≡ true
+reply_line-append front back h k l = marked-in_lines (front ++ back) (any-front is_mark front back h) (all-append is_line_byte front back k l)
 
 where-bytes : (there : Bool) (text : List ℕ) → IsBytes text → IsBytes (where_there there text)
 where-bytes true text h = h
@@ -159,8 +159,8 @@ pub record IsTail (text : List ℕ) : Type 0 where
 pub IsLine-from_mark : (text : List ℕ) → list_any is_mark text ≡ true → IsBytes text → IsLine text
 IsLine-from_mark text h k = record { mark = h; bytes = k }
 
-pub IsLine-told : {text : List ℕ} → IsLine text → is_told_line text ≡ true
-IsLine-told {text} h = marked-told text h.mark h.bytes
+pub IsLine-in_lines : {text : List ℕ} → IsLine text → is_reply_line text ≡ true
+IsLine-in_lines {text} h = marked-in_lines text h.mark h.bytes
 
 pub IsTail-from_bytes : (text : List ℕ) → IsBytes text → IsTail text
 IsTail-from_bytes text h = record { tail = h }
@@ -193,30 +193,30 @@ config-line c =
     ▸ named (not (is_empty c.learners_next)) (codes " learners_next=") c.learners_next refl
     ▸ IsTail-from_bytes (where_there c.auto_leave (codes " autoleave")) (where-bytes c.auto_leave (codes " autoleave") refl)
 
-pub config-told : (c : Configuration) → is_told_line (config_text c) ≡ true
-config-told c = IsLine-told (config-line c)
+pub config-in_lines : (c : Configuration) → is_reply_line (config_text c) ≡ true
+config-in_lines c = IsLine-in_lines (config-line c)
 
 progress-line : (id : ℕ) (p : Progress) → IsLine (progress_text id p)
 progress-line id p =
     IsLine-from_mark (decimal id) (high-mark (decimal id) (decimal-high id)) (decimal-bytes id) ▸ IsTail-from_bytes (codes ": StateProbe match=") refl ▸ IsTail-number p.matched ▸ IsTail-from_bytes (codes " next=") refl ▸ IsTail-number p.next
     ▸ IsTail-from_bytes (where_there p.learner (codes " learner")) (where-bytes p.learner (codes " learner") refl)
 
-pub progress-told : (id : ℕ) (p : Progress) → is_told_line (progress_text id p) ≡ true
-progress-told id p = IsLine-told (progress-line id p)
+pub progress-in_lines : (id : ℕ) (p : Progress) → is_reply_line (progress_text id p) ≡ true
+progress-in_lines id p = IsLine-in_lines (progress-line id p)
 
-pub refused-told : (refused : Refused) → is_told_line (refused_text refused) ≡ true
-refused-told AlreadyJoint = refl
-refused-told ZeroVoterJoint = refl
-refused-told NotJoint = refl
-refused-told SimpleInJoint = refl
-refused-told RemovedAllVoters = refl
-refused-told MoreThanOneVoter = refl
-refused-told NoMemory = refl
+pub refused-in_lines : (refused : Refused) → is_reply_line (refused_text refused) ≡ true
+refused-in_lines AlreadyJoint = refl
+refused-in_lines ZeroVoterJoint = refl
+refused-in_lines NotJoint = refl
+refused-in_lines SimpleInJoint = refl
+refused-in_lines RemovedAllVoters = refl
+refused-in_lines MoreThanOneVoter = refl
+refused-in_lines NoMemory = refl
 
-pub undo_fault-told : (fault : UndoFault) → is_told_line (undo_fault_text fault) ≡ true
-undo_fault-told (NotKept kept) = IsLine-told (IsLine-from_mark (codes "no plan: ") refl refl ▸ IsTail-number kept ▸ IsTail-from_bytes (codes " earlier configurations are kept") refl)
-undo_fault-told NoVoterTarget = refl
-undo_fault-told NoMemoryToUndo = refl
+pub undo_fault-in_lines : (fault : UndoFault) → is_reply_line (undo_fault_text fault) ≡ true
+undo_fault-in_lines (NotKept kept) = IsLine-in_lines (IsLine-from_mark (codes "no plan: ") refl refl ▸ IsTail-number kept ▸ IsTail-from_bytes (codes " earlier configurations are kept") refl)
+undo_fault-in_lines NoVoterTarget = refl
+undo_fault-in_lines NoMemoryToUndo = refl
 
 truth-bytes : (truth : Bool) → IsBytes (truth_text truth)
 truth-bytes true = refl
@@ -228,9 +228,9 @@ saved-line a b c d auto_leave voters voters_outgoing learners learners_next =
     ▸ IsTail-from_bytes (codes "] Learners:[") refl ▸ learners ▸ IsTail-from_bytes (codes "] LearnersNext:[") refl ▸ learners_next
     ▸ IsTail-from_bytes (codes "] AutoLeave:") refl ▸ IsTail-from_bytes (truth_text auto_leave) (truth-bytes auto_leave)
 
-pub conf_state-told : (saved : ConfStateLists) → is_told_line (conf_state_text saved) ≡ true
-conf_state-told saved =
-    IsLine-told (saved-line _ _ _ _ saved.auto_leave (numbers saved.voters) (numbers saved.voters_outgoing) (numbers saved.learners) (numbers saved.learners_next))
+pub conf_state-in_lines : (saved : ConfStateLists) → is_reply_line (conf_state_text saved) ≡ true
+conf_state-in_lines saved =
+    IsLine-in_lines (saved-line _ _ _ _ saved.auto_leave (numbers saved.voters) (numbers saved.voters_outgoing) (numbers saved.learners) (numbers saved.learners_next))
 
 -- numbers that were read, with any zeros before them
 byte-from_zero : (b : ℕ) → 48 ≤ b → is_line_byte b ≡ true
@@ -258,38 +258,38 @@ saved-bytes text saved h =
     ap (list_all is_line_byte) h.line ∙ whole.bytes
 
 -- ---- texts of such lines
-pub line-told : (text : List ℕ) → is_told_line text ≡ true → IsTold (line text)
-line-told text h = record { lines = text ∷ []; some = omega arith; whole = sym (append-nil (line text)); told = and-both _ _ h refl }
+pub line-in_lines : (text : List ℕ) → is_reply_line text ≡ true → IsReplyText (line text)
+line-in_lines text h = record { lines = text ∷ []; some = omega arith; whole = sym (append-nil (line text)); valid = and-both _ _ h refl }
 
 members-whole : (members : List (ℕ × Progress)) → flat_map member_line members ≡ text_of (map (λ member. progress_text member.0 member.1) members)
 members-whole [] = refl
 members-whole (member ∷ members) = ap (λ rest. member_line member ++ rest) (members-whole members)
 
-members-told : (members : List (ℕ × Progress)) → list_all is_told_line (map (λ member. progress_text member.0 member.1) members) ≡ true
-members-told [] = refl
-members-told (member ∷ members) = and-both _ _ (progress-told member.0 member.1) (members-told members)
+members-in_lines : (members : List (ℕ × Progress)) → list_all is_reply_line (map (λ member. progress_text member.0 member.1) members) ≡ true
+members-in_lines [] = refl
+members-in_lines (member ∷ members) = and-both _ _ (progress-in_lines member.0 member.1) (members-in_lines members)
 
-pub tracker-told : (tracker : TrackerState) → IsTold (tracker_text tracker)
-tracker-told tracker =
+pub tracker-in_lines : (tracker : TrackerState) → IsReplyText (tracker_text tracker)
+tracker-in_lines tracker =
     let members = finite.entries tracker.progress in
     record {
       lines = config_text tracker.config ∷ map (λ member. progress_text member.0 member.1) members;
       some = omega arith;
       whole = ap (λ rest. line (config_text tracker.config) ++ rest) (members-whole members);
-      told = and-both _ _ (config-told tracker.config) (members-told members);
+      valid = and-both _ _ (config-in_lines tracker.config) (members-in_lines members);
     }
 
--- one text behind another
+-- one text after another
 texts-append : (xs ys : List (List ℕ)) → text_of xs ++ text_of ys ≡ text_of (xs ++ ys)
 texts-append [] ys = refl
 texts-append (x ∷ xs) ys = append_assoc (line x) (text_of xs) (text_of ys) ∙ ap (λ rest. line x ++ rest) (texts-append xs ys)
 
-pub told-after : (a b : List ℕ) → IsTold a → IsTold b → IsTold (a ++ b)
-told-after a b h k = record {
+pub reply_text-append : (a b : List ℕ) → IsReplyText a → IsReplyText b → IsReplyText (a ++ b)
+reply_text-append a b h k = record {
   lines = h.lines ++ k.lines;
   some = let n = length-append h.lines k.lines in let some = h.some in omega arith;
   whole = ap (λ text. text ++ b) h.whole ∙ ap (λ text. text_of h.lines ++ text) k.whole ∙ texts-append h.lines k.lines;
-  told = all-append is_told_line h.lines k.lines h.told k.told;
+  valid = all-append is_reply_line h.lines k.lines h.valid k.valid;
 }
 
 -- ---- the lines of a plan
@@ -312,7 +312,7 @@ pub changes-words : (changes : List Change) → list_all (λ word. list_all is_l
 changes-words [] = refl
 changes-words (change ∷ changes) = and-both _ _ (change-bytes change) (changes-words changes)
 
--- a word, and others behind it
+-- a word, and others after it
 words-line : (word : List ℕ) (words : List (List ℕ)) → IsLine word → list_all (λ w. list_all is_line_byte w) words ≡ true → IsLine (join_with_byte 32 (word ∷ words))
 words-line word [] h k = h
 words-line word (next ∷ words) h k = h ▸ IsTail-from_bytes (32 ∷ join_with_byte 32 (next ∷ words)) (spaced-words (next ∷ words) k)
@@ -328,19 +328,19 @@ step-line (EnterJoint auto_leave changes) =
     (and-both _ _ (flag-bytes auto_leave) (changes-words changes))
 step-line LeaveJoint = words-line (codes "leave-joint") [] (IsLine-from_mark (codes "leave-joint") refl refl) refl
 
-step-lines : (steps : List Step) → list_all is_told_line (map step_text steps) ≡ true
+step-lines : (steps : List Step) → list_all is_reply_line (map step_text steps) ≡ true
 step-lines [] = refl
-step-lines (step ∷ steps) = and-both _ _ (IsLine-told (step-line step)) (step-lines steps)
+step-lines (step ∷ steps) = and-both _ _ (IsLine-in_lines (step-line step)) (step-lines steps)
 
 steps-whole : (steps : List Step) → flat_map line_and_newline steps ≡ text_of (map step_text steps)
 steps-whole [] = refl
 steps-whole (step ∷ steps) = ap (λ rest. line_and_newline step ++ rest) (steps-whole steps)
 
-pub plan-told : (steps : List Step) → IsTold (plan_text steps)
-plan-told [] = line-told (codes "nothing to do") refl
-plan-told (step ∷ steps) = record {
+pub plan-in_lines : (steps : List Step) → IsReplyText (plan_text steps)
+plan-in_lines [] = line-in_lines (codes "nothing to do") refl
+plan-in_lines (step ∷ steps) = record {
   lines = step_text step ∷ map step_text steps;
   some = omega arith;
   whole = steps-whole (step ∷ steps);
-  told = step-lines (step ∷ steps);
+  valid = step-lines (step ∷ steps);
 }
