@@ -1,4 +1,4 @@
--- A chart, a committed index and the result of a vote are told lines.
+-- A chart, a committed index and the result of a vote are reply lines.
 use Rattle.std.proofs.Common.{◌≡◌, ℕ, zero, suc, ◌-◌, Bool, true, false, cond, ◌||◌, List, [], ◌∷◌, ◌++◌, length, map, refl, sym, ap, ◌∙◌, subst, arith}
 use Rattle.std.specs.Prelude.{nat_eq, Option, Some, None, unwrap_or, codes, decimal, flat_map, replicate}
 use Rattle.std.specs.FinMap as finite
@@ -75,7 +75,7 @@ all-in_lines ids acks =
       valid = and-both _ _ (IsLine-in_lines (leads (spaces (length ids)) (IsLine-from_mark (codes "    idx") refl refl))) (rows-in_lines ids acks ids);
     }
 
--- ---- an index, behind a chart or alone
+-- ---- an index, after a chart or alone
 index-line : (index : ℕ) → IsLine (index_text index)
 index-line index = by (nat_eq index greatest_index) where
   by : (greatest : Bool) → IsLine (cond greatest (226 ∷ 136 ∷ 158 ∷ []) (decimal index))

@@ -24,7 +24,7 @@ flat_map-suc f (y ∷ xs) (suc i) x e = ap (λ rest. f y ++ rest) (flat_map-suc 
 pub flat_map-front : {X : Type 0} (f : X → List ℕ) (xs : List X) (i : ℕ) (x : X) → slice_get xs i ≡ Some x → flat_map f (take (i + 1) xs) ≡ flat_map f (take i xs) ++ f x
 flat_map-front f xs i x e = ap (λ n. flat_map f (take n xs)) (add-one i) ∙ flat_map-suc f xs i x e
 
--- one member more is told
+-- one member more is appended
 pub members-one_more : (old now new : List ℕ) (members : List (ℕ × Progress)) (i id : ℕ) (p : Progress) → slice_get members i ≡ Some (id, p) → now ≡ old ++ flat_map member_line (take i members) →
     new ≡ now ++ line (progress_text id p) → new ≡ old ++ flat_map member_line (take (i + 1) members)
 members-one_more old now new members i id p at so_far more =
@@ -36,7 +36,7 @@ pub reply-valid_output : {E : Type 0} (r : Result ReplyParts E) (changer next : 
 reply-valid_output (Ok reply) changer next e stands h = let P : Reply → Type 0 = λ x. IsValidOutput x.found in subst P (sym (h ∙ e)) stands
 reply-valid_output (Err fault) changer next e stands h = tt
 
--- a configuration, a newline and the members behind a text
+-- a configuration, a newline and the members after a text
 pub tracker-appended : {E : Type 0} (r : Result (Unit {0}) E) (old one two new : List ℕ) (tracker : TrackerState) (config : Configuration) → config ≡ tracker.config →
     one ≡ old ++ config_text config → two ≡ one ++ newline → OnOk r (new ≡ two ++ member_lines tracker) → OnOk r (new ≡ old ++ tracker_text tracker)
 tracker-appended (Ok u) old one two new tracker config same first second third =

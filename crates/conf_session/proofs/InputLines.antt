@@ -28,7 +28,7 @@ pieces-cut : (text : List ℕ) → IsCut text (pieces text)
 pieces-cut [] = NoLine
 pieces-cut (b ∷ text) = cut-byte (b == 10) b text (pieces text) refl (pieces-cut text)
 
--- ---- what is told line by line
+-- ---- words and lines, line by line
 -- the words of a text are those of its lines
 words-cut : (text : List ℕ) (ps : List (List ℕ)) → IsCut text ps → words text ≡ flat_map words (map without_trailing_space ps)
 words-cut text ps NoLine = refl
@@ -87,7 +87,7 @@ trimmed-cut text ps (Line line rest more is) =
       at false true e f ih = ap without_leading_space (ends-before_blank (line ++ newline) rest f)
       at false false e f ih = two-lines line rest (sym (blank-behind line newline refl) ∙ e) f
 
--- ---- the same told by the lines of a text: a line is its piece but for white space at the end
+-- ---- the same by the lines of a text: a line is its piece but for white space at the end
 ends-line_of : (ps : List (List ℕ)) → map without_trailing_space (map line_of ps) ≡ map without_trailing_space ps
 ends-line_of [] = refl
 ends-line_of (p ∷ ps) =

@@ -50,12 +50,12 @@ pub record PlanLaws : Type 0 where
   pub run : (before : ChangerState) (steps : List Step) (target : Configuration) → IsRun before.tracker.config steps target
       → (after : ChangerState) × (after_steps before steps ≡ Some after) × (after.tracker.config ≡ target)
 
--- ---- the kept configurations lead to the one of now
+-- ---- the kept configurations lead to the current one
 run-snoc : (a b c : Configuration) (steps : List Step) (step : Step) → IsRun a steps b → outcome b step ≡ Ok c → IsRun a (steps ++ step ∷ []) c
 run-snoc a b c [] step run e = (c, ap (λ d. outcome d step) run ∙ e, refl)
 run-snoc a b c (s ∷ steps) step run e = (run.0, run.1, run-snoc run.0 b c steps step run.2 e)
 
--- a run of so many steps from the one to the other, which can be restored
+-- a run of `count` steps from the one to the other, which can be restored
 record Led (now older : Configuration) (count : ℕ) : Type 0 where
   restorable : is_restorable older ≡ true
   steps : List Step
@@ -244,7 +244,7 @@ pub plan-is : (session : SessionState) (count : ℕ) (older : Configuration) (pl
 plan-is session count older plan kept voter same =
     ap (plan_back session) kept ∙ ap (λ b. cond b (Ok (planned (current session) older)) (Err NoVoterTarget)) voter ∙ ap Ok (sym same)
 
--- what a law of conf_plan says of undoing a run
+-- the law of conf_plan about undoing a run
 pub record UndoLaw : Type 0 where
   pub back : (before after : Configuration) (steps : List Step) → IsValidWithVoter before → IsRun before steps after → IsRun after (planned after before) before
   pub at_most_four : (before after : Configuration) (steps : List Step) → IsValidWithVoter before → IsRun before steps after → length (planned after before) ≤ 4

@@ -8,5 +8,6 @@ mod InputLines
 mod SameAnswer
 mod Kept
 mod EachOnce
+mod IndexRows
 mod QuorumValues
 mod ReadValues

@@ -1,4 +1,4 @@
--- A text of told lines can stand as an output.
+-- A text of reply lines is a valid output.
 use Rattle.std.proofs.Common.{◌≡◌, ℕ, suc, ◌-◌, ◌<◌, Bool, true, false, cond, not, ◌&&◌, ◌||◌, List, [], ◌∷◌, ◌++◌, length, drop, map, refl, ap, ◌∙◌, arith}
 use Rattle.std.specs.Prelude.{◌==◌, nat_eq}
 use Rattle.std.specs.List.{list_all, list_any, ends_with}
@@ -52,7 +52,7 @@ no_return_at_end [] h = refl
 no_return_at_end (x ∷ []) h = other_byte x (and-second _ _ (and-first _ _ h))
 no_return_at_end (x ∷ y ∷ bytes) h = ends-more 13 x y bytes ∙ no_return_at_end (y ∷ bytes) (and-second _ _ h)
 
--- what has a byte and a newline behind it ends in a newline
+-- a line with its newline ends in a newline
 ends-line : (bytes : List ℕ) → ends_with nat_eq (line bytes) newline ≡ true
 ends-line [] = refl
 ends-line (x ∷ []) = refl

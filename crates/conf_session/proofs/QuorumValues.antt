@@ -1,25 +1,20 @@
--- What the values of quorum arguments give, place by place.
-use Rattle.std.proofs.Common.{◌≡◌, ℕ, ◌+◌, ◌≤◌, ◌==◌, Bool, true, false, cond, not, List, [], ◌∷◌, ◌++◌, length, take, drop, refl, sym, ap, ◌∙◌, inl, inr, arith}
-use Rattle.std.specs.Prelude.{◌||◌, Option, Some, None, slice_get}
+-- The ids of a quorum, each once, and the value of each.
+use Rattle.std.proofs.Common.{◌≡◌, ◌≢◌, ℕ, zero, suc, ◌+◌, ◌==◌, Bool, true, false, cond, not, List, [], ◌∷◌, ◌++◌, take, drop, refl, sym, ap, ◌∙◌, arith}
+use Rattle.std.specs.Prelude.{Option, Some, None, slice_get}
 use Rattle.std.specs.List.{list_any}
 use Rattle.std.specs.Ordering.{nat_cmp, eq_by_cmp}
 use Rattle.std.specs.Cmp.{nat_cmp_total, unsigned_tied, eq_by_cmp_equiv}
-use Rattle.std.specs.BTreeSet.{BTreeSet, Updates, contains}
 use Rattle.std.specs.FinMap as finite
-use Rattle.std.proofs.lemmas.List.{append-nil, drop_more, drop_all}
-use Rattle.std.proofs.lemmas.Option.{slice_get_within, slice_get_cases, get_or_from_slice_get}
+use Rattle.std.proofs.lemmas.List.{append-nil, drop_more}
+use Rattle.std.proofs.lemmas.Bool.{eq-eqb, eqb-true, false_from_ne_true}
+use Rattle.std.proofs.lemmas.Option.{slice_get_within, get_or_from_slice_get}
 use Rattle.quorum_sets.proofs.Offered.{take-one_more}
-use Rattle.conf_session.specs.Quorum.{each_once, with_given, map_given}
+use Rattle.conf_session.specs.IdIndex.{IsAbsent, IsFirstIndex}
+use Rattle.conf_session.specs.Quorum.{each_once, with_value, values_by_id}
 use Rattle.conf_session.proofs.EachOnce.{each_once-append}
 
 tied : (id q : ℕ) → eq_by_cmp nat_cmp id q ≡ (q == id)
 tied id q = (eq_by_cmp_equiv nat_cmp_total).symm id q ∙ unsigned_tied q id
-
-not_within : {X : Type 0} (xs : List X) (i : ℕ) → slice_get xs i ≡ None → length xs ≤ i
-not_within xs i e = elim (slice_get_cases xs i).1 [
-  | inl within ↦ let is = within.2 in cc
-  | inr past ↦ past.0
-]
 
 -- ---- each id once
 kept-alone : (x : ℕ) (there : Bool) → cond (not there) (x ∷ []) [] ≡ cond there [] (x ∷ [])
@@ -32,47 +27,37 @@ once-more xs x = each_once-append xs (x ∷ []) ∙ ap (λ t. each_once xs ++ t)
 pub drop-here : {X : Type 0} (xs : List X) (i : ℕ) (x : X) → slice_get xs i ≡ Some x → drop i xs ≡ x ∷ drop (i + 1) xs
 drop-here xs i x e = drop_more xs i x (slice_get_within xs i x e) ∙ ap (λ y. y ∷ drop (i + 1) xs) (get_or_from_slice_get xs i x x e)
 
--- ---- what is given behind a place, and at it
-pub value-here : {V : Type 0} (ids : List ℕ) (values : List (Option V)) (i k id : ℕ) (one : Option V) → i + 1 ≡ k → slice_get ids i ≡ Some id → slice_get values i ≡ Some one →
-    with_given (map_given (drop k ids) (drop k values)) id one ≡ map_given (drop i ids) (drop i values)
-value-here ids values i k id one next e f =
-    ap (λ n. with_given (map_given (drop n ids) (drop n values)) id one) (sym next)
-    ∙ sym (λ j. map_given (drop-here ids i id e j) (drop-here values i one f j))
+-- ---- the value of an id
+-- the value at an index of a list of values, if it is known
+abbrev pub value_at : {V : Type 0} → Option (Option V) → Option V
+value_at None = None
+value_at (Some one) = one
 
-nothing-given : {V : Type 0} (ids : List ℕ) → map_given {V = V} ids [] ≡ finite.empty
-nothing-given [] = refl
-nothing-given (id ∷ ids) = refl
+get-same : {V : Type 0} (map : finite.FinMap nat_cmp V) (x id : ℕ) (one : Option V) → (x == id) ≡ true → finite.get (with_value map x one) id ≡ one
+get-same map x id None is = finite.get-remove nat_cmp_total map x id ∙ ap (λ b. cond b None (finite.get map id)) (tied id x ∙ is)
+get-same map x id (Some v) is = finite.get-insert nat_cmp_total map x v id ∙ ap (λ b. cond b (Some v) (finite.get map id)) (tied id x ∙ is)
 
-pub value-past : {V : Type 0} (ids : List ℕ) (values : List (Option V)) (i k : ℕ) → i + 1 ≡ k → slice_get values i ≡ None →
-    map_given (drop k ids) (drop k values) ≡ map_given (drop i ids) (drop i values)
-value-past ids values i k next e =
-    ap (map_given (drop k ids)) (none_behind values i k next e).1 ∙ nothing-given (drop k ids)
-    ∙ sym (ap (map_given (drop i ids)) (none_behind values i k next e).0 ∙ nothing-given (drop i ids))
-  where
-    none_behind : {X : Type 0} (xs : List X) (i k : ℕ) → i + 1 ≡ k → slice_get xs i ≡ None → (drop i xs ≡ []) × (drop k xs ≡ [])
-    none_behind xs i k next e =
-        let past : length xs ≤ i = not_within xs i e in (drop_all i xs past, drop_all k xs (omega arith))
+get-other : {V : Type 0} (map : finite.FinMap nat_cmp V) (x id : ℕ) (one : Option V) → (x == id) ≡ false → finite.get (with_value map x one) id ≡ finite.get map id
+get-other map x id None is = finite.get-remove nat_cmp_total map x id ∙ ap (λ b. cond b None (finite.get map id)) (tied id x ∙ is)
+get-other map x id (Some v) is = finite.get-insert nat_cmp_total map x v id ∙ ap (λ b. cond b (Some v) (finite.get map id)) (tied id x ∙ is)
 
--- ---- what a set has seen
-any-here : (ids : List ℕ) (i id q : ℕ) → slice_get ids i ≡ Some id → list_any (λ other. q == other) (take (i + 1) ids) ≡ ((q == id) || list_any (λ other. q == other) (take i ids))
-any-here ids i id q e = ap (list_any (λ other. q == other)) (take-one_more ids i id e) ∙ any-behind (take i ids) where
-  or-swap : (a b c : Bool) → (a || (b || c)) ≡ (b || (a || c))
-  or-swap true true c = refl
-  or-swap true false c = refl
-  or-swap false b c = refl
+other_id : (x id : ℕ) (ids : List ℕ) → slice_get (x ∷ ids) 0 ≢ Some id → (x == id) ≡ false
+other_id x id ids apart = false_from_ne_true _ (λ same. apart (ap Some (eqb-true x id same)))
 
-  any-behind : (xs : List ℕ) → list_any (λ other. q == other) (xs ++ id ∷ []) ≡ ((q == id) || list_any (λ other. q == other) xs)
-  any-behind [] = refl
-  any-behind (x ∷ xs) = ap (λ b. (q == x) || b) (any-behind xs) ∙ or-swap (q == x) (q == id) (list_any (λ other. q == other) xs)
+pub value-absent : {V : Type 0} (id : ℕ) (ids : List ℕ) (values : List (Option V)) → IsAbsent ids id → None ≡ finite.get (values_by_id ids values) id
+value-absent id [] values absent = sym (finite.get-empty nat_cmp id)
+value-absent id (x ∷ ids) [] absent = sym (finite.get-empty nat_cmp id)
+value-absent id (x ∷ ids) (one ∷ values) absent =
+    value-absent id ids values (λ k. absent (suc k)) ∙ sym (get-other (values_by_id ids values) x id one (other_id x id ids (absent 0)))
 
-pub seen-here : (ids : List ℕ) (i id : ℕ) (s n : BTreeSet ℕ) → slice_get ids i ≡ Some id → ((q : ℕ) → contains nat_cmp s q ≡ list_any (λ other. q == other) (take i ids)) → Updates nat_cmp s n id true →
-    (q : ℕ) → contains nat_cmp n q ≡ list_any (λ other. q == other) (take (i + 1) ids)
-seen-here ids i id s n e seen u q =
-    u.0 q ∙ or_cond _ _ _ (tied id q) ∙ ap (λ b. (q == id) || b) (seen q) ∙ sym (any-here ids i id q e)
-  where
-    or_cond : (a b c : Bool) → a ≡ b → cond a true c ≡ (b || c)
-    or_cond true b c e = rw (sym e) refl
-    or_cond false b c e = rw (sym e) refl
+pub value-first : {V : Type 0} (id index : ℕ) (ids : List ℕ) (values : List (Option V)) → IsFirstIndex ids id index → value_at (slice_get values index) ≡ finite.get (values_by_id ids values) id
+value-first id index [] values first = let there = first.there in cc
+value-first id index (x ∷ ids) [] first = sym (finite.get-empty nat_cmp id)
+value-first id zero (x ∷ ids) (one ∷ values) first =
+    let same : x ≡ id = (let there = first.there in cc) in sym (get-same (values_by_id ids values) x id one (eq-eqb x id same))
+value-first id (suc index) (x ∷ ids) (one ∷ values) first =
+    let later : IsFirstIndex ids id index = record { there = first.there; none_before = λ k less. first.none_before (suc k) (omega arith) } in
+    value-first id index ids values later ∙ sym (get-other (values_by_id ids values) x id one (other_id x id ids (first.none_before 0 (omega arith))))
 
 -- an id that comes first, and one that came before
 pub new-there : (ids : List ℕ) (i id : ℕ) → slice_get ids i ≡ Some id → list_any (λ other. id == other) (take i ids) ≡ false → each_once (take i ids) ++ id ∷ [] ≡ each_once (take (i + 1) ids)

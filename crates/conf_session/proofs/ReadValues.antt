@@ -13,7 +13,7 @@ use Rattle.conf_change.specs.declared.transition.Transition.TheVariants.{Auto}
 use Rattle.conf_session.proofs.QuorumValues.{drop-here}
 use Rattle.conf_session.specs.Arguments.{parameter_of, has_key, is_good, first_bad, bad_argument, missing_argument, argument_of}
 use Rattle.conf_session.specs.Parameter.{key_of, at_least, flag_in, transition_in, number_from, id_in, index_in, vote_in}
-use Rattle.conf_session.specs.Values.{Values, value_or, listed, values_in, with_more, HasMore, values_read, read_arguments}
+use Rattle.conf_session.specs.Values.{Values, values_in, with_more, HasMore, values_read, read_arguments}
 use Rattle.conf_session.specs.declared.parameter.Parameter.{Parameter}
 use Rattle.conf_session.specs.declared.parameter.Parameter.TheVariants.{AutoLeave, Transition as TransitionAsked, Steps, Id, Index, Incoming, Outgoing, Indexes, Votes}
 
@@ -37,166 +37,60 @@ or-none None = refl
 or-none (Some x) = refl
 
 -- ---- one more argument, whose key is new
--- it is not that of another parameter
-other : (q : Parameter) (before : List ArgumentText) (a : ArgumentText) → bytes_eq a.key (key_of q) ≡ false → argument_of q (before ++ a ∷ []) ≡ argument_of q before
-other q before a is =
+-- the values, by the argument of each parameter
+abbrev values_by : (Parameter → Option ArgumentText) → Values
+values_by argument = record {
+  auto_leave = unwrap_or (option_and_then (λ a. flag_in a.values) (argument AutoLeave)) false;
+  transition = unwrap_or (option_and_then (λ a. transition_in a.values) (argument TransitionAsked)) Auto;
+  steps = unwrap_or (option_and_then (λ a. number_from 1 a.values) (argument Steps)) 1;
+  id = unwrap_or (option_and_then (λ a. number_from 1 a.values) (argument Id)) 0;
+  index = unwrap_or (option_and_then (λ a. number_from 0 a.values) (argument Index)) 0;
+  incoming = unwrap_or (option_map (λ a. filter_map id_in a.values) (argument Incoming)) [];
+  outgoing = unwrap_or (option_map (λ a. filter_map id_in a.values) (argument Outgoing)) [];
+  indexes = unwrap_or (option_map (λ a. filter_map index_in a.values) (argument Indexes)) [];
+  votes = unwrap_or (option_map (λ a. filter_map vote_in a.values) (argument Votes)) [];
+}
+
+-- the argument of each parameter, where that of `p` is this one
+abbrev with_own : Parameter → Option ArgumentText → (Parameter → Option ArgumentText) → Parameter → Option ArgumentText
+with_own p own argument q = cond (bytes_eq (key_of p) (key_of q)) own (argument q)
+
+own-more : (p : Parameter) (argument : Parameter → Option ArgumentText) (a : ArgumentText) → values_by (with_own p (Some a) argument) ≡ with_more (values_by (with_own p None argument)) p a.values
+own-more AutoLeave argument a = refl
+own-more TransitionAsked argument a = refl
+own-more Steps argument a = refl
+own-more Id argument a = refl
+own-more Index argument a = refl
+own-more Incoming argument a = refl
+own-more Outgoing argument a = refl
+own-more Indexes argument a = refl
+own-more Votes argument a = refl
+
+none-before : (p q : Parameter) (before : List ArgumentText) (a : ArgumentText) → a.key ≡ key_of p → has_key before a.key ≡ false → bytes_eq (key_of p) (key_of q) ≡ true → argument_of q before ≡ None
+none-before p q before a key new same =
+    find-none _ before (ap (has_key before) (sym (key ∙ (bytes_eq-Decides (key_of p) (key_of q)).0 same)) ∙ new)
+
+argument-before : (p q : Parameter) (before : List ArgumentText) (a : ArgumentText) → a.key ≡ key_of p → has_key before a.key ≡ false → argument_of q before ≡ with_own p None (λ r. argument_of r before) q
+argument-before p q before a key new = at (bytes_eq (key_of p) (key_of q)) refl where
+  at : (b : Bool) → bytes_eq (key_of p) (key_of q) ≡ b → argument_of q before ≡ cond b None (argument_of q before)
+  at true is = none-before p q before a key new is
+  at false is = refl
+
+argument-after : (p q : Parameter) (before : List ArgumentText) (a : ArgumentText) → a.key ≡ key_of p → has_key before a.key ≡ false → argument_of q (before ++ a ∷ []) ≡ with_own p (Some a) (λ r. argument_of r before) q
+argument-after p q before a key new =
     find-append (λ x. bytes_eq x.key (key_of q)) before (a ∷ [])
-    ∙ ap (λ b. option_or (argument_of q before) (cond b (Some a) None)) is ∙ or-none (argument_of q before)
-
--- it is that of its own
-record Own (q : Parameter) (before : List ArgumentText) (a : ArgumentText) : Type 0 where
-  after : argument_of q (before ++ a ∷ []) ≡ Some a
-  none : argument_of q before ≡ None
-
-own : (q : Parameter) (before : List ArgumentText) (a : ArgumentText) → a.key ≡ key_of q → has_key before a.key ≡ false → Own q before a
-own q before a key new =
-    let none : argument_of q before ≡ None = find-none _ before (ap (has_key before) (sym key) ∙ new) in
-    let is : bytes_eq a.key (key_of q) ≡ true = (bytes_eq-Decides a.key (key_of q)).1 key in
-    record {
-      after = find-append (λ x. bytes_eq x.key (key_of q)) before (a ∷ []) ∙ (λ i. option_or (none i) (cond (is i) (Some a) None));
-      none = none;
-    }
-
-value_or-other : {V : Type 0} (read : List (List ℕ) → Option V) (default : V) (q : Parameter) (before : List ArgumentText) (a : ArgumentText) → bytes_eq a.key (key_of q) ≡ false →
-    value_or read default q (before ++ a ∷ []) ≡ value_or read default q before
-value_or-other read default q before a is = ap (λ o. unwrap_or (option_and_then (λ argument. read argument.values) o) default) (other q before a is)
-
-value_or-own : {V : Type 0} (read : List (List ℕ) → Option V) (default : V) (q : Parameter) (before : List ArgumentText) (a : ArgumentText) → a.key ≡ key_of q → has_key before a.key ≡ false →
-    value_or read default q (before ++ a ∷ []) ≡ unwrap_or (read a.values) (value_or read default q before)
-value_or-own {V = V} read default q before a key new =
-    let value : Option ArgumentText → V = λ o. unwrap_or (option_and_then (λ argument. read argument.values) o) default in
-    let is = own q before a key new in
-    ap value is.after ∙ ap (λ d. unwrap_or (read a.values) d) (sym (ap value is.none))
-
-listed-other : {V : Type 0} (read : List ℕ → Option V) (q : Parameter) (before : List ArgumentText) (a : ArgumentText) → bytes_eq a.key (key_of q) ≡ false →
-    listed read q (before ++ a ∷ []) ≡ listed read q before
-listed-other read q before a is = ap (λ o. unwrap_or (option_map (λ argument. filter_map read argument.values) o) []) (other q before a is)
-
-listed-own : {V : Type 0} (read : List ℕ → Option V) (q : Parameter) (before : List ArgumentText) (a : ArgumentText) → a.key ≡ key_of q → has_key before a.key ≡ false →
-    listed read q (before ++ a ∷ []) ≡ listed read q before ++ filter_map read a.values
-listed-own {V = V} read q before a key new =
-    let value : Option ArgumentText → List V = λ o. unwrap_or (option_map (λ argument. filter_map read argument.values) o) [] in
-    let is = own q before a key new in
-    ap value is.after ∙ ap (λ xs. xs ++ filter_map read a.values) (sym (ap value is.none))
+    ∙ ap (λ k. option_or (argument_of q before) (cond (bytes_eq k (key_of q)) (Some a) None)) key
+    ∙ at (bytes_eq (key_of p) (key_of q)) refl
+  where
+    at : (b : Bool) → bytes_eq (key_of p) (key_of q) ≡ b → option_or (argument_of q before) (cond b (Some a) None) ≡ cond b (Some a) (argument_of q before)
+    at true is = ap (λ o. option_or o (Some a)) (none-before p q before a key new is)
+    at false is = or-none (argument_of q before)
 
 values-more : (p : Parameter) (before : List ArgumentText) (a : ArgumentText) → a.key ≡ key_of p → has_key before a.key ≡ false → values_in (before ++ a ∷ []) ≡ with_more (values_in before) p a.values
-values-more AutoLeave before a key new =
-    let apart : (q : Parameter) → bytes_eq a.key (key_of q) ≡ bytes_eq (key_of AutoLeave) (key_of q) = λ q. ap (λ k. bytes_eq k (key_of q)) key in
-    λ i. record {
-      auto_leave = value_or-own flag_in false AutoLeave before a key new i;
-      transition = value_or-other transition_in Auto TransitionAsked before a (apart TransitionAsked) i;
-      steps = value_or-other (number_from 1) 1 Steps before a (apart Steps) i;
-      id = value_or-other (number_from 1) 0 Id before a (apart Id) i;
-      index = value_or-other (number_from 0) 0 Index before a (apart Index) i;
-      incoming = listed-other id_in Incoming before a (apart Incoming) i;
-      outgoing = listed-other id_in Outgoing before a (apart Outgoing) i;
-      indexes = listed-other index_in Indexes before a (apart Indexes) i;
-      votes = listed-other vote_in Votes before a (apart Votes) i;
-    }
-values-more TransitionAsked before a key new =
-    let apart : (q : Parameter) → bytes_eq a.key (key_of q) ≡ bytes_eq (key_of TransitionAsked) (key_of q) = λ q. ap (λ k. bytes_eq k (key_of q)) key in
-    λ i. record {
-      auto_leave = value_or-other flag_in false AutoLeave before a (apart AutoLeave) i;
-      transition = value_or-own transition_in Auto TransitionAsked before a key new i;
-      steps = value_or-other (number_from 1) 1 Steps before a (apart Steps) i;
-      id = value_or-other (number_from 1) 0 Id before a (apart Id) i;
-      index = value_or-other (number_from 0) 0 Index before a (apart Index) i;
-      incoming = listed-other id_in Incoming before a (apart Incoming) i;
-      outgoing = listed-other id_in Outgoing before a (apart Outgoing) i;
-      indexes = listed-other index_in Indexes before a (apart Indexes) i;
-      votes = listed-other vote_in Votes before a (apart Votes) i;
-    }
-values-more Steps before a key new =
-    let apart : (q : Parameter) → bytes_eq a.key (key_of q) ≡ bytes_eq (key_of Steps) (key_of q) = λ q. ap (λ k. bytes_eq k (key_of q)) key in
-    λ i. record {
-      auto_leave = value_or-other flag_in false AutoLeave before a (apart AutoLeave) i;
-      transition = value_or-other transition_in Auto TransitionAsked before a (apart TransitionAsked) i;
-      steps = value_or-own (number_from 1) 1 Steps before a key new i;
-      id = value_or-other (number_from 1) 0 Id before a (apart Id) i;
-      index = value_or-other (number_from 0) 0 Index before a (apart Index) i;
-      incoming = listed-other id_in Incoming before a (apart Incoming) i;
-      outgoing = listed-other id_in Outgoing before a (apart Outgoing) i;
-      indexes = listed-other index_in Indexes before a (apart Indexes) i;
-      votes = listed-other vote_in Votes before a (apart Votes) i;
-    }
-values-more Id before a key new =
-    let apart : (q : Parameter) → bytes_eq a.key (key_of q) ≡ bytes_eq (key_of Id) (key_of q) = λ q. ap (λ k. bytes_eq k (key_of q)) key in
-    λ i. record {
-      auto_leave = value_or-other flag_in false AutoLeave before a (apart AutoLeave) i;
-      transition = value_or-other transition_in Auto TransitionAsked before a (apart TransitionAsked) i;
-      steps = value_or-other (number_from 1) 1 Steps before a (apart Steps) i;
-      id = value_or-own (number_from 1) 0 Id before a key new i;
-      index = value_or-other (number_from 0) 0 Index before a (apart Index) i;
-      incoming = listed-other id_in Incoming before a (apart Incoming) i;
-      outgoing = listed-other id_in Outgoing before a (apart Outgoing) i;
-      indexes = listed-other index_in Indexes before a (apart Indexes) i;
-      votes = listed-other vote_in Votes before a (apart Votes) i;
-    }
-values-more Index before a key new =
-    let apart : (q : Parameter) → bytes_eq a.key (key_of q) ≡ bytes_eq (key_of Index) (key_of q) = λ q. ap (λ k. bytes_eq k (key_of q)) key in
-    λ i. record {
-      auto_leave = value_or-other flag_in false AutoLeave before a (apart AutoLeave) i;
-      transition = value_or-other transition_in Auto TransitionAsked before a (apart TransitionAsked) i;
-      steps = value_or-other (number_from 1) 1 Steps before a (apart Steps) i;
-      id = value_or-other (number_from 1) 0 Id before a (apart Id) i;
-      index = value_or-own (number_from 0) 0 Index before a key new i;
-      incoming = listed-other id_in Incoming before a (apart Incoming) i;
-      outgoing = listed-other id_in Outgoing before a (apart Outgoing) i;
-      indexes = listed-other index_in Indexes before a (apart Indexes) i;
-      votes = listed-other vote_in Votes before a (apart Votes) i;
-    }
-values-more Incoming before a key new =
-    let apart : (q : Parameter) → bytes_eq a.key (key_of q) ≡ bytes_eq (key_of Incoming) (key_of q) = λ q. ap (λ k. bytes_eq k (key_of q)) key in
-    λ i. record {
-      auto_leave = value_or-other flag_in false AutoLeave before a (apart AutoLeave) i;
-      transition = value_or-other transition_in Auto TransitionAsked before a (apart TransitionAsked) i;
-      steps = value_or-other (number_from 1) 1 Steps before a (apart Steps) i;
-      id = value_or-other (number_from 1) 0 Id before a (apart Id) i;
-      index = value_or-other (number_from 0) 0 Index before a (apart Index) i;
-      incoming = listed-own id_in Incoming before a key new i;
-      outgoing = listed-other id_in Outgoing before a (apart Outgoing) i;
-      indexes = listed-other index_in Indexes before a (apart Indexes) i;
-      votes = listed-other vote_in Votes before a (apart Votes) i;
-    }
-values-more Outgoing before a key new =
-    let apart : (q : Parameter) → bytes_eq a.key (key_of q) ≡ bytes_eq (key_of Outgoing) (key_of q) = λ q. ap (λ k. bytes_eq k (key_of q)) key in
-    λ i. record {
-      auto_leave = value_or-other flag_in false AutoLeave before a (apart AutoLeave) i;
-      transition = value_or-other transition_in Auto TransitionAsked before a (apart TransitionAsked) i;
-      steps = value_or-other (number_from 1) 1 Steps before a (apart Steps) i;
-      id = value_or-other (number_from 1) 0 Id before a (apart Id) i;
-      index = value_or-other (number_from 0) 0 Index before a (apart Index) i;
-      incoming = listed-other id_in Incoming before a (apart Incoming) i;
-      outgoing = listed-own id_in Outgoing before a key new i;
-      indexes = listed-other index_in Indexes before a (apart Indexes) i;
-      votes = listed-other vote_in Votes before a (apart Votes) i;
-    }
-values-more Indexes before a key new =
-    let apart : (q : Parameter) → bytes_eq a.key (key_of q) ≡ bytes_eq (key_of Indexes) (key_of q) = λ q. ap (λ k. bytes_eq k (key_of q)) key in
-    λ i. record {
-      auto_leave = value_or-other flag_in false AutoLeave before a (apart AutoLeave) i;
-      transition = value_or-other transition_in Auto TransitionAsked before a (apart TransitionAsked) i;
-      steps = value_or-other (number_from 1) 1 Steps before a (apart Steps) i;
-      id = value_or-other (number_from 1) 0 Id before a (apart Id) i;
-      index = value_or-other (number_from 0) 0 Index before a (apart Index) i;
-      incoming = listed-other id_in Incoming before a (apart Incoming) i;
-      outgoing = listed-other id_in Outgoing before a (apart Outgoing) i;
-      indexes = listed-own index_in Indexes before a key new i;
-      votes = listed-other vote_in Votes before a (apart Votes) i;
-    }
-values-more Votes before a key new =
-    let apart : (q : Parameter) → bytes_eq a.key (key_of q) ≡ bytes_eq (key_of Votes) (key_of q) = λ q. ap (λ k. bytes_eq k (key_of q)) key in
-    λ i. record {
-      auto_leave = value_or-other flag_in false AutoLeave before a (apart AutoLeave) i;
-      transition = value_or-other transition_in Auto TransitionAsked before a (apart TransitionAsked) i;
-      steps = value_or-other (number_from 1) 1 Steps before a (apart Steps) i;
-      id = value_or-other (number_from 1) 0 Id before a (apart Id) i;
-      index = value_or-other (number_from 0) 0 Index before a (apart Index) i;
-      incoming = listed-other id_in Incoming before a (apart Incoming) i;
-      outgoing = listed-other id_in Outgoing before a (apart Outgoing) i;
-      indexes = listed-other index_in Indexes before a (apart Indexes) i;
-      votes = listed-own vote_in Votes before a key new i;
-    }
+values-more p before a key new =
+    (λ i. values_by (λ q. argument-after p q before a key new i))
+    ∙ own-more p (λ q. argument_of q before) a
+    ∙ sym (λ i. with_more (values_by (λ q. argument-before p q before a key new i)) p a.values)
 
 pub HasMore-values : (ps : List Parameter) (args : List ArgumentText) (i : ℕ) (a : ArgumentText) (old new : Values) → slice_get args i ≡ Some a → old ≡ values_in (take i args) → has_key (take i args) a.key ≡ false →
     HasMore old ps a new → new ≡ values_in (take (i + 1) args)

@@ -1,4 +1,4 @@
--- What each directive is answered is told lines.
+-- Each reply is reply lines.
 use Rattle.std.proofs.Common.{◌≡◌, ℕ, Bool, true, false, cond, not, List, [], ◌∷◌, ◌++◌, filter, refl, sym, ap, ◌∙◌, subst, arith}
 use Rattle.std.specs.Prelude.{◌==◌, Option, Some, None, Result, Ok, Err, codes}
 use Rattle.std.specs.List.{list_all, slice_split, onto_first}
@@ -33,7 +33,7 @@ use Rattle.conf_session.specs.SessionState.{SessionState}
 use Rattle.conf_session.specs.Reply.{Reply, replied_line}
 use Rattle.conf_session.specs.Undo.{undo_plan_of, undo_fault_text, undone_changer}
 use Rattle.conf_session.specs.declared.undo_fault.UndoFault.{UndoFault}
-use Rattle.conf_session.specs.Quorum.{voters_named, ids_named, map_given, is_one_each, committed_text, vote_text, with_one_each}
+use Rattle.conf_session.specs.Quorum.{voters_named, ids_named, values_by_id, is_one_each, committed_text, vote_text, with_one_each}
 use Rattle.conf_session.specs.Input.{Input, no_input_line, changes_read, no_change_read, conf_state_read, read_input}
 use Rattle.conf_session.specs.Values.{Values, values_in, values_read, read_arguments}
 use Rattle.conf_session.specs.ReplyTexts.{line}
@@ -215,11 +215,11 @@ command-in_lines Ack session input values = ack-in_lines session.changer values.
 command-in_lines CommitIndex session input values = replied_line-in_lines _ (index-in_lines (committed_by session.changer.tracker))
 command-in_lines Committed session input values =
     let voters = voters_named values in
-    let acks = map_given (ids_named values) values.indexes in
+    let acks = values_by_id (ids_named values) values.indexes in
     let chart : HasReplyText (replied_line (committed_text voters acks)) = chart-in_lines (ascending (union voters.incoming voters.outgoing)) acks (joint_committed_index voters acks) in
     one_each-in_lines (ids_named values) values.indexes (committed_text voters acks) chart
 command-in_lines Vote session input values =
-    let result = joint_vote_result (voters_named values) (map_given (ids_named values) values.votes) in
+    let result = joint_vote_result (voters_named values) (values_by_id (ids_named values) values.votes) in
     one_each-in_lines (ids_named values) values.votes (vote_text result) (replied_line-in_lines (vote_text result) (vote-in_lines result))
 command-in_lines Unknown session input values = replied_line-in_lines (codes "unknown command") refl
 

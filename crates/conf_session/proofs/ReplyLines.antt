@@ -1,4 +1,4 @@
--- Which texts are told lines.
+-- Which texts are reply lines.
 use Rattle.std.proofs.Common.{◌≡◌, ℕ, zero, suc, ◌/◌, ◌%◌, ◌≤◌, Bool, true, false, cond, not, ◌&&◌, List, [], ◌∷◌, ◌++◌, map, refl, sym, ap, ◌∙◌, arith}
 use Rattle.std.specs.Prelude.{◌==◌, ◌||◌, nat_le, codes, decimal, flat_map}
 use Rattle.std.specs.List.{AllZip, list_all, list_any, join_with_byte}
@@ -279,7 +279,7 @@ tracker-in_lines tracker =
       valid = and-both _ _ (config-in_lines tracker.config) (members-in_lines members);
     }
 
--- one text behind another
+-- one text after another
 texts-append : (xs ys : List (List ℕ)) → text_of xs ++ text_of ys ≡ text_of (xs ++ ys)
 texts-append [] ys = refl
 texts-append (x ∷ xs) ys = append_assoc (line x) (text_of xs) (text_of ys) ∙ ap (λ rest. line x ++ rest) (texts-append xs ys)
@@ -312,7 +312,7 @@ pub changes-words : (changes : List Change) → list_all (λ word. list_all is_l
 changes-words [] = refl
 changes-words (change ∷ changes) = and-both _ _ (change-bytes change) (changes-words changes)
 
--- a word, and others behind it
+-- a word, and others after it
 words-line : (word : List ℕ) (words : List (List ℕ)) → IsLine word → list_all (λ w. list_all is_line_byte w) words ≡ true → IsLine (join_with_byte 32 (word ∷ words))
 words-line word [] h k = h
 words-line word (next ∷ words) h k = h ▸ IsTail-from_bytes (32 ∷ join_with_byte 32 (next ∷ words)) (spaced-words (next ∷ words) k)

@@ -31,7 +31,7 @@ no-conf_state text h = at (conf_state_in text) refl where
   at None e = e
   at (Some saved) e = let whole = saved-bytes text saved (StandsForConfState-from_some text saved e) in absurd cc
 
--- three things are asked of an input: the saved configuration that it stands for, its changes, and whether it is empty
+-- an answer depends on three things of an input: the saved configuration that it denotes, its changes, and whether it is empty
 conf_state-same : (input other : List ℕ) → ends_of input ≡ ends_of other → conf_state_in input ≡ conf_state_in other
 conf_state-same input other same = at (has_one (ends_of other)) (subst (λ ls. IsOneLine (has_one ls) (first_line ls) (trimmed input)) same (trimmed-in_lines input)) (trimmed-in_lines other) where
   at : (one : Bool) → IsOneLine one (first_line (ends_of other)) (trimmed input) → IsOneLine one (first_line (ends_of other)) (trimmed other) → conf_state_in input ≡ conf_state_in other

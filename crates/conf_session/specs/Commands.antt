@@ -1,4 +1,4 @@
--- What a session answers to a directive.
+-- The answer of a session to a directive.
 use Rattle.std.specs.Prelude.{ℕ, List, [], ◌∷◌, Option, Some, None, Result, Ok, Err, if◌then◌else◌, codes, bytes_eq}
 use Rattle.quorum_sets.specs.Committed.{joint_committed_index}
 use Rattle.dd_file.specs.DirectiveText.{DirectiveText}
@@ -32,8 +32,8 @@ use Rattle.conf_session.specs.declared.undo_fault.UndoFault.{UndoFault}
 use Rattle.conf_session.specs.declared.commands.Command.{Command}
 use Rattle.conf_session.specs.declared.commands.Command.TheVariants.{Simple, EnterJoint, LeaveJoint, ConfChange, ConfState, Restore, Undo, Ack, CommitIndex, Committed, Vote, Unknown}
 
--- a command, the input that it takes, and the arguments that it has, required ones in the order in which missing ones are
--- reported; None where its arguments are not looked at
+-- a command, the kind of its input, and its parameters, in the order in which missing arguments are reported; None if its
+-- arguments are ignored
 pub record Row : Type 0 where
   pub command : Command
   pub input : InputKind
@@ -66,12 +66,12 @@ after_step (Err refused) = replied_line (refused_text refused)
 abbrev pub on_step : ChangerState → Step → Reply
 on_step changer step = after_step (changer_after changer step)
 
--- a saved configuration that is restored, or describes none
+-- a saved form that is restored, or describes no configuration
 abbrev pub after_restored : ChangerState → Option Configuration → Reply
 after_restored changer None = replied_line (codes "not a configuration")
 after_restored changer (Some c) = begun_again (begun_with changer.tracker.floor changer.last_index c)
 
--- the plan is carried out, or it is reported why there is none
+-- the reply to `undo` with this plan, or with the reason why there is none
 abbrev pub after_planned : SessionState → ℕ → Result (List Step) UndoFault → Reply
 after_planned session count (Ok steps) = undone session count steps
 after_planned session count (Err fault) = replied_line (undo_fault_text fault)
@@ -88,11 +88,11 @@ after_ack changer id (Err IndexTooLarge) = replied_line (codes "index too large"
 abbrev pub on_ack : ChangerState → ℕ → ℕ → Reply
 on_ack changer id index = after_ack changer id (ack_answer changer.tracker id index)
 
--- the index that the configuration commits, where each member has acknowledged its match
+-- the index that the configuration commits if each member has acknowledged its match index
 abbrev pub committed_by : TrackerState → ℕ
 committed_by tracker = joint_committed_index (voters_of tracker.config) (matches tracker)
 
--- the reply of a command to what its input and its arguments are read as
+-- the reply of a command to its input and the values of its arguments
 abbrev pub reply_of : Command → SessionState → Input → Values → Reply
 reply_of Simple session input values = on_step session.changer (SimpleStep input.changes)
 reply_of EnterJoint session input values = on_step session.changer (EnterStep values.auto_leave input.changes)
@@ -107,12 +107,12 @@ reply_of Committed session input values = replied_line (committed_reply values)
 reply_of Vote session input values = replied_line (vote_reply values)
 reply_of Unknown session input values = replied_line (codes "unknown command")
 
--- a fault that was found while reading is reported
+-- the reply to what was read, or the line that reports why it could not be
 abbrev pub if_read : {V : Type 0} → (V → Reply) → Result V (List ℕ) → Reply
 if_read reply (Ok read) = reply read
 if_read reply (Err found) = replied found
 
--- the reply of a row: the input is looked at first, then the arguments, then the session
+-- the reply of a row: the input is read first, then the arguments, and then the command is run
 abbrev pub reply_by : Row → SessionState → List ℕ → List ArgumentText → Reply
 reply_by row session text arguments =
     if_read (λ input. if_read (λ values. reply_of row.command session input values) (read_arguments row.parameters arguments)) (read_input row.input text)
@@ -121,16 +121,16 @@ reply_by row session text arguments =
 abbrev pub reply_to : SessionState → DirectiveText → Reply
 reply_to session directive = reply_by (row_of directive.command) session directive.input directive.arguments
 
--- the text that is found, and the session afterwards
+-- the output, and the session afterwards
 pub record Answer : Type 0 where
   pub found : List ℕ
   pub session : SessionState
 
--- the session takes on what the reply makes of it
+-- the answer with a reply: the session after its effect
 abbrev pub answered : SessionState → Reply → Answer
 answered session reply = record { found = reply.found; session = after_directive session reply.effect }
 
--- The answer to a directive. After a refused one nothing alters but the last index.
+-- The answer to a directive. A refused one changes only the last index.
 abbrev pub answer : SessionState → DirectiveText → Answer
 answer session directive = answered session (reply_to session directive)
 

@@ -1,4 +1,4 @@
--- The configurations of before the accepted changes of a session, as many as are kept.
+-- The configurations before the accepted changes of a session, as many as are kept.
 use Rattle.std.specs.Prelude.{ℕ, List, ◌∷◌, take, drop, refl}
 use Rattle.std.specs.Coded.{Coded, coded_ℕ, coded_list, coded×, code_by}
 use Rattle.conf_change.specs.Configuration.{Configuration}
@@ -14,10 +14,10 @@ history_code =
     code_by (ℕ × List Configuration) (coded× coded_ℕ (coded_list configuration_code))
     (λ h. (h.most, h.kept)) (λ p. record { most = p.0; kept = p.1 }) (λ _. refl)
 
--- with a newer one; the oldest goes where there would be too many
+-- with one more, the newest; the oldest is dropped if there would be too many
 abbrev pub with_newer : HistoryState → Configuration → HistoryState
 with_newer history c = record { most = history.most; kept = take history.most (c ∷ history.kept) }
 
--- without the newest ones, so many of them
+-- without the `count` newest
 abbrev pub without_newest : HistoryState → ℕ → HistoryState
 without_newest history count = record { most = history.most; kept = drop count history.kept }

@@ -5,6 +5,7 @@ pub mod Parameter
 pub mod Arguments
 pub mod Values
 pub mod Input
+pub mod IdIndex
 pub mod Quorum
 pub mod Reply
 pub mod Undo

@@ -1,4 +1,4 @@
--- The arguments that commands have: how each is called, and what its values are read as.
+-- The parameters of commands: their keys, and what values their arguments may have.
 use Rattle.std.specs.Prelude.{ℕ, Bool, true, false, ◌||◌, List, [], ◌∷◌, Option, Some, None, is_some, option_map, option_and_then, nat_lt, if◌then◌else◌, codes, bytes_eq}
 use Rattle.std.specs.List.{list_all}
 use Rattle.ascii_text.specs.Number.{number_in}
@@ -7,7 +7,7 @@ use Rattle.conf_change.specs.declared.transition.Transition.TheVariants.{Auto, I
 use Rattle.conf_session.specs.declared.parameter.Parameter.{Parameter}
 use Rattle.conf_session.specs.declared.parameter.Parameter.TheVariants.{AutoLeave, Transition, Steps, Id, Index, Incoming, Outgoing, Indexes, Votes}
 
--- the key of its argument
+-- the key of a parameter's argument
 abbrev pub key_of : Parameter → List ℕ
 key_of AutoLeave = codes "autoleave"
 key_of Transition = codes "transition"
@@ -19,64 +19,64 @@ key_of Outgoing = codes "cfgj"
 key_of Indexes = codes "idx"
 key_of Votes = codes "votes"
 
--- its argument may not be left out
+-- a command with this parameter needs its argument
 abbrev pub is_required : Parameter → Bool
 is_required Id = true
 is_required Index = true
 is_required parameter = false
 
 -- ---- an argument of one value
--- this value and no other
+-- the values are this one alone
 abbrev pub has_only : List ℕ → List (List ℕ) → Bool
 has_only value [] = false
 has_only value (first ∷ []) = bytes_eq first value
 has_only value (first ∷ second ∷ values) = false
 
--- the flag that is the only value
+-- the flag that the only value denotes
 abbrev pub flag_in : List (List ℕ) → Option Bool
 flag_in values = if has_only (codes "true") values then Some true else (if has_only (codes "false") values then Some false else None)
 
--- the transition that is the only value
+-- the transition that the only value denotes
 abbrev pub transition_in : List (List ℕ) → Option HowTaken
 transition_in values =
     if has_only (codes "auto") values then Some Auto
     else (if has_only (codes "implicit") values then Some Implicit
     else (if has_only (codes "explicit") values then Some Explicit else None))
 
--- the number, where it is at least this one
+-- the number, if it is at least `least`
 abbrev pub at_least : ℕ → ℕ → Option ℕ
 at_least least number = if nat_lt number least then None else Some number
 
--- the number that is the only value, where it is at least this one
+-- the number that the only value denotes, if it is at least `least`
 abbrev pub number_from : ℕ → List (List ℕ) → Option ℕ
 number_from least [] = None
 number_from least (first ∷ []) = option_and_then (at_least least) (number_in first)
 number_from least (first ∷ second ∷ values) = None
 
 -- ---- a value of a list
--- the id
+-- the id that a value denotes
 abbrev pub id_in : List ℕ → Option ℕ
 id_in value = option_and_then (at_least 1) (number_in value)
 
--- the value of what is not known
+-- the value of an unknown index or vote
 abbrev pub is_unknown : List ℕ → Bool
 is_unknown value = bytes_eq value (codes "_")
 
--- the acknowledged index, from 1, if it is known
+-- the acknowledged index that a value denotes, at least 1, or None inside if it is unknown
 abbrev pub index_in : List ℕ → Option (Option ℕ)
 index_in value = if is_unknown value then Some None else option_map (λ index. Some index) (id_in value)
 
--- the vote, if it is known
+-- the vote that a value denotes, or None inside if it is unknown
 abbrev pub vote_in : List ℕ → Option (Option Bool)
 vote_in value =
     if bytes_eq value (codes "y") then Some (Some true)
     else (if bytes_eq value (codes "n") then Some (Some false) else (if is_unknown value then Some None else None))
 
--- each value can be read so
+-- each value is valid
 abbrev pub all_read : {V : Type 0} → (List ℕ → Option V) → List (List ℕ) → Bool
 all_read read values = list_all (λ value. is_some (read value)) values
 
--- its argument may have these values
+-- the values are valid for the parameter
 abbrev pub allows : Parameter → List (List ℕ) → Bool
 allows AutoLeave values = is_some (flag_in values)
 allows Transition values = is_some (transition_in values)

@@ -1,4 +1,4 @@
--- The quorum that arguments name, and what its ids are given.
+-- The quorum that the arguments of a command name, and the values of its ids.
 use Rattle.std.specs.Prelude.{ℕ, Bool, not, ◌==◌, List, [], ◌∷◌, ◌++◌, length, filter, Option, Some, None, codes, decimal, nat_eq, if◌then◌else◌}
 use Rattle.std.specs.Ordering.{nat_cmp}
 use Rattle.std.specs.FinMap as finite
@@ -10,41 +10,41 @@ use Rattle.quorum_sets.specs.Votes.{joint_vote_result}
 use Rattle.quorum_sets.specs.declared.voting.VoteResult.{VoteResult}
 use Rattle.quorum_sets.specs.declared.voting.VoteResult.TheVariants.{VotePending, VoteLost, VoteWon}
 use Rattle.conf_session.specs.Values.{Values}
-use Rattle.conf_session.specs.declared.given.Given.{Given}
+use Rattle.conf_session.specs.declared.values_by_id.ValuesById.{ValuesById}
 
--- both sets
+-- the incoming and the outgoing set
 abbrev pub voters_named : Values → Voters
 voters_named values = record { incoming = ids_of values.incoming; outgoing = ids_of values.outgoing }
 
--- the ids, each once, in the order in which they are named first
+-- the ids, each once, in the order in which they come first
 abbrev pub each_once : List ℕ → List ℕ
 each_once [] = []
 each_once (id ∷ ids) = id ∷ filter (λ other. not (other == id)) (each_once ids)
 
--- the ids that are given values: those of the first set, then those of the second
+-- the ids that have values: those of the first set, then those of the second
 abbrev pub ids_named : Values → List ℕ
 ids_named values = each_once (values.incoming ++ values.outgoing)
 
--- what is given, by id, with what one more id is given, if that is known
-abbrev pub with_given : {V : Type 0} → finite.FinMap nat_cmp V → ℕ → Option V → finite.FinMap nat_cmp V
-with_given map id None = map
-with_given map id (Some value) = finite.insert map id value
+-- a map by id in which one id has this value, or none where it is not known
+abbrev pub with_value : {V : Type 0} → finite.FinMap nat_cmp V → ℕ → Option V → finite.FinMap nat_cmp V
+with_value map id None = finite.remove map id
+with_value map id (Some value) = finite.insert map id value
 
--- what the ids are given, each by the value at its index
-abbrev pub map_given : {V : Type 0} → List ℕ → List (Option V) → finite.FinMap nat_cmp V
-map_given [] values = finite.empty
-map_given (id ∷ ids) [] = finite.empty
-map_given (id ∷ ids) (value ∷ values) = with_given (map_given ids values) id value
+-- the values by id: each id has the value at its index
+abbrev pub values_by_id : {V : Type 0} → List ℕ → List (Option V) → finite.FinMap nat_cmp V
+values_by_id [] values = finite.empty
+values_by_id (id ∷ ids) [] = finite.empty
+values_by_id (id ∷ ids) (value ∷ values) = with_value (values_by_id ids values) id value
 
--- the same as it is kept
-abbrev pub given_in : {V : Type 0} → Given V → finite.FinMap nat_cmp V
-given_in given = finite.from_entries given.map.entries
+-- the map that a value of the type denotes
+abbrev pub map_of : {V : Type 0} → ValuesById V → finite.FinMap nat_cmp V
+map_of by_id = values_by_id by_id.ids by_id.values.now
 
 -- there are as many values as ids
 abbrev pub is_one_each : {V : Type 0} → List ℕ → List (Option V) → Bool
 is_one_each ids values = nat_eq (length values) (length ids)
 
--- a committed index: the greatest is written as infinity
+-- a committed index; the greatest is written as infinity
 abbrev pub index_text : ℕ → List ℕ
 index_text index = if nat_eq index greatest_index then 226 ∷ 136 ∷ 158 ∷ [] else decimal index
 
@@ -53,22 +53,23 @@ abbrev pub committed_text : Voters → Acks → List ℕ
 committed_text voters acks =
     chart_text (ascending (union voters.incoming voters.outgoing)) acks ++ index_text (joint_committed_index voters acks)
 
--- how a vote stands
+-- the result of a vote
 abbrev pub vote_text : VoteResult → List ℕ
 vote_text VotePending = codes "VotePending"
 vote_text VoteLost = codes "VoteLost"
 vote_text VoteWon = codes "VoteWon"
 
--- ---- what the commands reply that name a quorum
+-- ---- the replies of the commands that name a quorum
+-- the text if there is one value for each id, else an error
 abbrev pub with_one_each : {V : Type 0} → List ℕ → List (Option V) → List ℕ → List ℕ
 with_one_each ids values text = if is_one_each ids values then text else codes "wrong number of values"
 
--- its chart and its committed index, where its ids have acknowledged these indexes
+-- `committed`: the chart and the committed index of the named quorum
 abbrev pub committed_reply : Values → List ℕ
 committed_reply values =
-    with_one_each (ids_named values) values.indexes (committed_text (voters_named values) (map_given (ids_named values) values.indexes))
+    with_one_each (ids_named values) values.indexes (committed_text (voters_named values) (values_by_id (ids_named values) values.indexes))
 
--- how its vote stands, where its ids have voted so
+-- `vote`: the result of the vote of the named quorum
 abbrev pub vote_reply : Values → List ℕ
 vote_reply values =
-    with_one_each (ids_named values) values.votes (vote_text (joint_vote_result (voters_named values) (map_given (ids_named values) values.votes)))
+    with_one_each (ids_named values) values.votes (vote_text (joint_vote_result (voters_named values) (values_by_id (ids_named values) values.votes)))

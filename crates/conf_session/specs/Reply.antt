@@ -1,4 +1,4 @@
--- What a command replies.
+-- The reply of a command.
 use Rattle.std.specs.Prelude.{ℕ, List, option_map, unwrap_or}
 use Rattle.std.specs.Result.{result_ok}
 use Rattle.conf_change.specs.Acknowledgement.{ack_answer, changer_with_progress}
@@ -10,21 +10,21 @@ use Rattle.conf_session.specs.SessionState.{SessionChange, Nothing, Acknowledged
 use Rattle.conf_session.specs.declared.effect.Effect.{Effect}
 use Rattle.conf_session.specs.declared.effect.Effect.TheVariants as effect
 
--- the text that is found, and what becomes of the session
+-- the output, and how the session changes
 pub record Reply : Type 0 where
   pub found : List ℕ
   pub effect : SessionChange
 
--- the same as the session keeps it: the changer that takes the place of its own is the next one
+-- the same as the code has it: an effect says whether the next changer takes the place of the current one
 pub record ReplyParts : Type 0 where
   pub found : List ℕ
   pub effect : Effect
 
--- the changer after an acknowledgement; the same, where it is refused
+-- the changer after an acknowledgement; unchanged if it is refused
 abbrev pub after_acknowledgement : ChangerState → ℕ → ℕ → ChangerState
 after_acknowledgement changer id index = unwrap_or (option_map (changer_with_progress changer id) (result_ok (ack_answer changer.tracker id index))) changer
 
--- what an effect makes of a session with this changer, where the other one is the next
+-- how a session with this changer and this next one changes by an effect
 abbrev pub session_change : ChangerState → ChangerState → Effect → SessionChange
 session_change changer next effect.Nothing = Nothing
 session_change changer next (effect.Acknowledged id index) = Acknowledged (after_acknowledgement changer id index)
@@ -32,25 +32,26 @@ session_change changer next effect.Stepped = Stepped next
 session_change changer next effect.Restored = Restored next
 session_change changer next (effect.Undone count) = Undone next count
 
+-- the reply that the code's parts denote
 abbrev pub reply_in : ChangerState → ChangerState → ReplyParts → Reply
 reply_in changer next parts = record { found = parts.found; effect = session_change changer next parts.effect }
 
--- a text in lines, after which the session stays
+-- an output after which the session is unchanged
 abbrev pub replied : List ℕ → Reply
 replied found = record { found = found; effect = Nothing }
 
--- the same of one line
+-- one line after which the session is unchanged
 abbrev pub replied_line : List ℕ → Reply
 replied_line text = replied (line text)
 
--- the changer after an accepted change
+-- an accepted change, with the changer after it
 abbrev pub stepped : ChangerState → Reply
 stepped after = record { found = tracker_text after.tracker; effect = Stepped after }
 
--- the changer that begins again
+-- a restored configuration, with the changer that has it
 abbrev pub begun_again : ChangerState → Reply
 begun_again after = record { found = tracker_text after.tracker; effect = Restored after }
 
--- the progress of a member that acknowledged an index
+-- an acknowledged index, with the progress of its member
 abbrev pub acknowledged_by : ChangerState → ℕ → Progress → Reply
 acknowledged_by after id p = record { found = line (progress_text id p); effect = Acknowledged after }

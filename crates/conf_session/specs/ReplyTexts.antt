@@ -1,4 +1,4 @@
--- The texts that are answered, each a line or more.
+-- The texts of replies, each a line or more.
 use Rattle.std.specs.Prelude.{ℕ, List, ◌++◌, flat_map}
 use Rattle.std.specs.FinMap as finite
 use Rattle.ascii_text.specs.Lines.{newline}

@@ -1,4 +1,4 @@
--- What a session holds.
+-- The state of a session, and what holds of every session.
 use Rattle.std.specs.Prelude.{◌≡◌, ℕ, ◌+◌, ◌-◌, ◌^◌, ◌≤◌, true, List, [], ◌∷◌, length, take, drop, min, Ok, ⊤, refl}
 use Rattle.std.specs.Coded.{Coded, coded_ℕ, coded_list, coded×, code_by}
 use Rattle.conf_change.specs.ChangerState.{ChangerState, changer_code}
@@ -20,17 +20,17 @@ session_code =
     code_by (ChangerState × (ℕ × List Configuration)) (coded× changer_code (coded× coded_ℕ (coded_list configuration_code)))
     (λ s. (s.changer, (s.history, s.kept))) (λ p. record { changer = p.0; history = p.1.0; kept = p.1.1 }) (λ _. refl)
 
--- nobody is in it, and no directive came yet
+-- an empty configuration, before the first directive
 abbrev pub new_session : ℕ → Floor → SessionState
 new_session history floor = record { changer = new_changer floor 0; history = history; kept = [] }
 
--- the configuration of now
+-- the current configuration
 abbrev pub current : SessionState → Configuration
 current session = session.changer.tracker.config
 
--- ---- what a command makes of it
--- it stays as it is; or it has this changer, after an acknowledgement, after an accepted change, restored, or with so many
--- changes undone
+-- ---- how it changes
+-- not at all; or this changer takes the place of its own: after an acknowledgement, after an accepted change, restored, or
+-- with the last changes undone, as many as the number
 pub data SessionChange : Type 0 where
   Nothing : SessionChange
   Acknowledged : ChangerState → SessionChange
@@ -46,8 +46,8 @@ changer_left session (Stepped after) = after
 changer_left session (Restored after) = after
 changer_left session (Undone after count) = after
 
--- The configurations that are kept afterwards: that of before an accepted change is the newest, and the oldest goes where
--- there would be too many.
+-- The configurations that are kept afterwards: the one before an accepted change is the newest, and the oldest is dropped
+-- if there would be too many.
 abbrev pub kept_after : SessionState → SessionChange → List Configuration
 kept_after session Nothing = session.kept
 kept_after session (Acknowledged after) = session.kept
@@ -59,7 +59,7 @@ kept_after session (Undone after count) = drop count session.kept
 abbrev pub index_after : ℕ → ℕ
 index_after index = min (index + 1) (2 ^ 64 - 1)
 
--- the session after a directive that makes this of it: the last index rises
+-- the session after a directive that changes it so: the last index rises
 abbrev pub after_directive : SessionState → SessionChange → SessionState
 after_directive session effect =
     let left = changer_left session effect in
@@ -76,7 +76,7 @@ abbrev pub LedTo : Configuration → List Configuration → Type 0
 LedTo now [] = ⊤
 LedTo now (older ∷ kept) = (is_restorable older ≡ true) × Leads older now × LedTo older kept
 
--- its tracker is sound, no more configurations are kept than may be, and they lead to the one of now
+-- its tracker is sound, no more configurations are kept than may be, and they lead to the current one
 pub record IsSession (session : SessionState) : Type 0 where
   pub sound : IsSound session.changer.tracker
   pub few : length session.kept ≤ session.history

@@ -17,11 +17,11 @@ abbrev pub plan_back : SessionState → Option Configuration → Result (List St
 plan_back session None = Err (NotKept (length session.kept))
 plan_back session (Some older) = if has_voter older then Ok (planned (current session) older) else Err NoVoterTarget
 
--- the plan that undoes so many changes, one at least: to the configuration of before the last of them
+-- the plan that undoes the last `count` changes, one at least: to the configuration before them
 abbrev pub undo_plan_of : SessionState → ℕ → Result (List Step) UndoFault
 undo_plan_of session count = plan_back session (slice_get session.kept (count - 1))
 
--- why there is no plan; want of memory is no reason that a session has
+-- the message of an error; a session is never refused a plan for lack of memory
 abbrev pub undo_fault_text : UndoFault → List ℕ
 undo_fault_text (NotKept kept) = codes "no plan: " ++ decimal kept ++ codes " earlier configurations are kept"
 undo_fault_text NoVoterTarget = codes "no plan: the earlier configuration has no voter"
@@ -31,14 +31,15 @@ undo_fault_text NoMemory = codes "out of memory"
 abbrev pub undone_changer : SessionState → List Step → ChangerState
 undone_changer session steps = unwrap_or (after_steps session.changer steps) session.changer
 
--- the plan, and the changer after it; the undone changes are kept no more
+-- the plan, and the changer after it; the configurations before the undone changes are dropped
 abbrev pub undone_by : ChangerState → ℕ → List Step → Reply
 undone_by after count steps = record { found = plan_text steps ++ tracker_text after.tracker; effect = Undone after count }
 
+-- the reply to `undo` whose plan has these steps
 abbrev pub undone : SessionState → ℕ → List Step → Reply
 undone session count steps = undone_by (undone_changer session steps) count steps
 
--- the configuration can be restored, so many accepted steps lead from it to the one of now, and that one has a voter
+-- the configuration can be restored, `count` accepted steps lead from it to the current one, and that one has a voter
 pub record IsEarlier (session : SessionState) (count : ℕ) (older : Configuration) : Type 0 where
   pub restorable : is_restorable older ≡ true
   pub steps : List Step
@@ -46,7 +47,7 @@ pub record IsEarlier (session : SessionState) (count : ℕ) (older : Configurati
   pub counted : length steps ≡ count
   pub voter : has_voter (current session) ≡ true
 
--- the steps lead from the configuration of now to the one of so many changes ago
+-- the steps lead from the current configuration to the one before the last `count` changes
 pub record LeadsBack (session : SessionState) (count : ℕ) (steps : List Step) : Type 0 where
   pub older : Configuration
   pub is_kept : slice_get session.kept (count - 1) ≡ Some older

@@ -1,4 +1,4 @@
--- What the arguments of a directive are read as.
+-- The values of a directive's arguments.
 use Rattle.std.specs.Prelude.{◌≡◌, ℕ, Bool, false, IsSomeAnd, List, [], ◌++◌, filter_map, Option, Some, None, option_map, option_and_then, unwrap_or, Result, Ok, Err, codes}
 use Rattle.dd_file.specs.Words.{ArgumentText}
 use Rattle.conf_change.specs.declared.transition.Transition.{Transition}
@@ -9,7 +9,7 @@ use Rattle.conf_session.specs.ReplyTexts.{line}
 use Rattle.conf_session.specs.declared.parameter.Parameter.{Parameter}
 use Rattle.conf_session.specs.declared.parameter.Parameter.TheVariants.{AutoLeave, Transition as TransitionAsked, Steps, Id, Index, Incoming, Outgoing, Indexes, Votes}
 
--- what each argument says
+-- the value of each argument
 pub record Values : Type 0 where
   pub auto_leave : Bool
   pub transition : Transition
@@ -21,15 +21,15 @@ pub record Values : Type 0 where
   pub indexes : List (Option ℕ)
   pub votes : List (Option Bool)
 
--- what an argument is read as, or this, where it is left out
+-- what the argument of a parameter denotes, or the default if it is missing
 abbrev pub value_or : {V : Type 0} → (List (List ℕ) → Option V) → V → Parameter → List ArgumentText → V
 value_or read default parameter arguments = unwrap_or (option_and_then (λ argument. read argument.values) (argument_of parameter arguments)) default
 
--- what the values of an argument are read as; none where it is left out
+-- what the values of a parameter's argument denote; none if it is missing
 abbrev pub listed : {V : Type 0} → (List ℕ → Option V) → Parameter → List ArgumentText → List V
 listed read parameter arguments = unwrap_or (option_map (λ argument. filter_map read argument.values) (argument_of parameter arguments)) []
 
--- the values of these arguments, none of which is bad
+-- the values of arguments of which none is bad
 abbrev pub values_in : List ArgumentText → Values
 values_in arguments = record {
   auto_leave = value_or flag_in false AutoLeave arguments;
@@ -43,7 +43,7 @@ values_in arguments = record {
   votes = listed vote_in Votes arguments;
 }
 
--- the values with those of one more argument
+-- the values after one more argument
 abbrev pub with_more : Values → Parameter → List (List ℕ) → Values
 with_more so_far AutoLeave values = record so_far { auto_leave = unwrap_or (flag_in values) so_far.auto_leave }
 with_more so_far TransitionAsked values = record so_far { transition = unwrap_or (transition_in values) so_far.transition }
@@ -55,17 +55,17 @@ with_more so_far Outgoing values = record so_far { outgoing = so_far.outgoing ++
 with_more so_far Indexes values = record so_far { indexes = so_far.indexes ++ filter_map index_in values }
 with_more so_far Votes values = record so_far { votes = so_far.votes ++ filter_map vote_in values }
 
--- the same of an argument of one of these
+-- the values after an argument that has a parameter among these
 abbrev pub HasMore : Values → List Parameter → ArgumentText → Values → Type 0
 HasMore before parameters argument after = IsSomeAnd (parameter_of parameters argument) (λ parameter. after ≡ with_more before parameter argument.values)
 
--- the first bad argument is reported, or else the first that is missing
+-- the first bad argument is reported, or else the first missing one
 abbrev pub values_read : Option (List ℕ) → Option Parameter → Values → Result Values (List ℕ)
 values_read (Some key) missing values = Err (line (codes "bad argument: " ++ key))
 values_read None (Some parameter) values = Err (line (codes "missing argument: " ++ key_of parameter))
 values_read None None values = Ok values
 
--- what the arguments of a command are read as, or the line that reports a fault; a command without parameters does not look at them
+-- the values of a command's arguments, or the line that reports an error; without parameters the arguments are ignored
 abbrev pub read_arguments : Option (List Parameter) → List ArgumentText → Result Values (List ℕ)
 read_arguments None arguments = Ok (values_in [])
 read_arguments (Some parameters) arguments = values_read (bad_argument parameters arguments) (missing_argument parameters arguments) (values_in arguments)

@@ -1,11 +1,11 @@
-//! The arguments of a directive, held against those that its command has.
+//! The arguments of a directive, compared with the parameters of its command.
 ghost use Rattle.std.specs.Prelude.{◌≡◌, option_copied};
 ghost use Rattle.conf_session.specs.Arguments as spec;
 
 use crate::parameter::Parameter;
 use dd_file::item::Argument;
 
-/// The one of these that has the argument's key.
+/// The parameter of an argument.
 pub(crate) fn parameter_of<'a>(
     parameters: &'a [Parameter],
     argument: &Argument,
@@ -17,7 +17,7 @@ pub(crate) fn parameter_of<'a>(
         .find(|parameter| argument.key() == parameter.key())
 }
 
-/// The first of these that is required and left out.
+/// The first required parameter that has no argument.
 pub(crate) fn missing_argument<'a>(
     parameters: &'a [Parameter],
     arguments: &[Argument],

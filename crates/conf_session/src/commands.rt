@@ -1,5 +1,5 @@
-//! The commands of a script. Each is a row: its name, the input that it takes, and its arguments. A directive's input is
-//! read first, then its arguments, and then the command is run: it leaves the session as it is, and what it makes of it is
+//! The commands of a script. Each is a row of a table: its name, the kind of its input, and its parameters. A directive's
+//! input is read first, then its arguments, and then the command is run. It does not change the session: its effect is
 //! part of the reply.
 ghost use Rattle.std.specs.Prelude.{◌≡◌, ◌≤◌, option_map, IfOk};
 ghost use Rattle.conf_session.specs.Reply.{reply_in};
@@ -13,20 +13,21 @@ mod step;
 mod undo;
 mod vote;
 
-use crate::input::{Input, InputKind, read_input};
+use crate::buffers::Buffers;
+use crate::input::{Input, InputKind};
 use crate::laws::found_text_stands;
 use crate::parameter::Parameter;
 use crate::reply::Reply;
 use crate::reply_texts::{conf_state_line, line_of};
-use crate::session::Session;
 use crate::session_ids::SessionIds;
-use crate::values::{Values, read_arguments};
+use crate::state::State;
+use crate::values::Values;
 use conf_change::{Changer, StepKind, taken};
 use dd_file::item::{Argument, Directive};
 use quorum_sets::NoMemory;
 use std::alloc::Global;
 
-/// What a directive asks for.
+/// The command of a directive.
 #[derive(Clone, Copy)]
 pub(crate) enum Command {
     Simple,
@@ -43,8 +44,8 @@ pub(crate) enum Command {
     Unknown,
 }
 
-// A command, the input that it takes, and the arguments that it has, required ones in the order in which missing ones are
-// reported. Without parameters its arguments are not looked at.
+// A command, the kind of its input, and its parameters, in the order in which missing arguments are reported. The arguments
+// of a command without parameters are ignored.
 #[derive(Drop)]
 struct Row {
     command: Command,
@@ -121,15 +122,14 @@ fn row_of(name: &[u8]) -> Row
     }
 }
 
-/// Runs a directive. If it leads to another changer, that one is written into the next one, whose contents are else
-/// unspecified.
+/// Runs a directive. If it leads to another changer, that one is the next one in the buffers.
 pub(crate) fn run_directive(
     alloc: Global,
-    session: &Session,
-    next: &mut Changer<SessionIds>,
+    session: &State,
+    buffers: &mut Buffers,
     directive: &Directive,
 ) -> Result<Reply, NoMemory>
-    ensures reply { IfOk result (λ reply. reply_in session.now.changer next.new reply ≡ spec.reply_to session.now directive.now) }
+    ensures reply { IfOk result (λ reply. reply_in session.now.changer buffers.new.next reply ≡ spec.reply_to session.now directive.now) }
     ensures valid_output { IfOk result (λ reply. IsValidOutput reply.found) }
 {
     found_text_stands();
@@ -137,7 +137,7 @@ pub(crate) fn run_directive(
     run_row(
         alloc,
         session,
-        next,
+        buffers,
         &row,
         directive.input(),
         directive.arguments(),
@@ -147,30 +147,33 @@ pub(crate) fn run_directive(
 // Reads what the row takes, and runs its command.
 fn run_row(
     alloc: Global,
-    session: &Session,
-    next: &mut Changer<SessionIds>,
+    session: &State,
+    buffers: &mut Buffers,
     row: &Row,
     text: &[u8],
     arguments: &[Argument],
 ) -> Result<Reply, NoMemory>
-    ensures { IfOk result (λ reply. reply_in session.now.changer next.new reply
+    ensures { IfOk result (λ reply. reply_in session.now.changer buffers.new.next reply
         ≡ spec.reply_by (spec.row_with row.now.command row.now.input (option_map (λ p. p.now) row.now.parameters)) session.now text.now arguments.now) }
 {
-    let input = match read_input(alloc, row.input, text)? {
-        Ok(input) => input,
-        Err(found) => return Ok(Reply::of_text(found)),
-    };
-    let values = match read_arguments(alloc, row.parameters, arguments)? {
-        Ok(values) => values,
-        Err(found) => return Ok(Reply::of_text(found)),
-    };
-    run_command(alloc, session, next, row.command, &input, &values)
+    if let Err(found) = buffers.input.read(row.input, text)? {
+        return Ok(Reply::of_text(found));
+    }
+    if let Err(found) = buffers.values.read_arguments(row.parameters, arguments)? {
+        return Ok(Reply::of_text(found));
+    }
+    let Buffers {
+        next,
+        input,
+        values,
+    } = buffers;
+    run_command(alloc, session, next, row.command, input, values)
 }
 
 // Runs a command.
 fn run_command(
     alloc: Global,
-    session: &Session,
+    session: &State,
     next: &mut Changer<SessionIds>,
     command: Command,
     input: &Input,

@@ -1,16 +1,17 @@
-//! What a command makes of a session.
+//! The effect of a command on the session.
 
-/// What becomes of a session.
+/// How the session changes after a command.
 #[derive(Clone, Copy)]
 pub(crate) enum Effect {
-    /// It stays as it is.
+    /// It does not.
     Nothing,
     /// The member of this id acknowledged this index.
     Acknowledged(u64, u64),
-    /// A change was accepted, after which its changer is the next one: the configuration of before is kept.
+    /// A change was accepted: the next changer takes the place of the current one, whose configuration is kept.
     Stepped,
-    /// It begins again with the next changer: no earlier configuration is kept.
+    /// The next changer takes the place of the current one, and no earlier configuration is kept.
     Restored,
-    /// So many changes were undone, after which its changer is the next one: the configurations of before them are dropped.
+    /// This many changes were undone: the next changer takes the place of the current one, and the configurations before
+    /// those changes are dropped.
     Undone(usize),
 }

@@ -1,4 +1,4 @@
-//! The configurations of before the accepted changes of a session.
+//! The configurations before the accepted changes of a session.
 ghost use Rattle.std.specs.Prelude.{◌≡◌, [], length, option_copied, slice_get, IfOk};
 ghost use Rattle.conf_session.specs.History.{with_newer, without_newest};
 
@@ -9,8 +9,8 @@ use std::alloc::Global;
 use std::collections::VecDeque;
 use std::marker::Model;
 
-/// Configurations, the newest first, and how many are kept at most. Their places are reserved, so that keeping one takes
-/// no memory.
+/// Configurations, the newest first, and how many are kept at most. Memory for that many is reserved, so that keeping one
+/// takes none.
 #[derive(Drop)]
 pub(crate) struct History {
     most: usize,
@@ -32,7 +32,7 @@ impl Model for History {
 }
 
 impl History {
-    /// None are kept yet.
+    /// An empty history.
     pub(crate) fn new(alloc: Global, most: usize) -> Result<History, NoMemory>
         ensures { IfOk result (λ history. history ≡ record { most = most; kept = [] }) }
     {
@@ -49,14 +49,14 @@ impl History {
         self.kept.len()
     }
 
-    /// The one at a place, counted from 0, which is the newest.
+    /// The configuration at an index; the newest is at 0.
     pub(crate) fn get(&self, index: usize) -> Option<&Config<SessionIds>>
         ensures { option_copied result ≡ slice_get self.now.kept index }
     {
         self.kept.get(index)
     }
 
-    /// Keeps a newer one. The oldest goes where there would be too many.
+    /// Adds the newest, and drops the oldest if there would be too many.
     #[inline(always)]
     pub(crate) fn keep(&mut self, config: Config<SessionIds>)
         ensures { self.new ≡ with_newer self.old config }
@@ -68,7 +68,7 @@ impl History {
         self.kept.push_front_reserved(config);
     }
 
-    /// Lets the newest ones go, so many of them.
+    /// Drops the `count` newest.
     pub(crate) fn forget(&mut self, count: usize)
         ensures { self.new ≡ without_newest self.old count }
     {
@@ -78,7 +78,7 @@ impl History {
         self.kept.truncate(left);
     }
 
-    /// Lets all of them go.
+    /// Drops all.
     pub(crate) fn clear(&mut self)
         ensures { self.new ≡ record { most = self.old.most; kept = [] } }
     {

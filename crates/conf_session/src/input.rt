@@ -1,27 +1,29 @@
-//! What the input of a directive is read as.
-ghost use Rattle.std.specs.Prelude.{◌≡◌, Ok, Err, IfOk, MatchResult};
+//! The input of a directive.
+ghost use Rattle.std.specs.Prelude.{◌≡◌, [], Ok, Err, IfOk, MatchResult};
 ghost use Rattle.conf_session.specs.Input as spec;
 
 use crate::reply_texts::{bad_token_line, line_of};
-use conf_change::{Change, ConfState, ConfStateFault, TokenFault, read_changes, read_conf_state};
+use conf_change::{
+    Change, ConfState, ConfStateFault, TokenFault, read_changes_into, read_conf_state,
+};
 use quorum_sets::NoMemory;
 use std::alloc::Global;
 use std::marker::Model;
 
-/// What a command takes as its input.
+/// What the input of a command is.
 #[derive(Clone, Copy)]
 pub(crate) enum InputKind {
     /// A list of changes.
     Changes,
-    /// A list of changes that has none.
+    /// An empty list of changes.
     NoChange,
-    /// The line of a saved configuration.
+    /// The ConfState line of a saved configuration.
     ConfStateLine,
     /// Nothing, not even white space.
     Nothing,
 }
 
-/// The changes that an input lists, and the saved configuration; each is empty where the input is of another kind.
+/// The changes of an input, or its saved configuration. The other is empty.
 #[derive(Drop)]
 pub(crate) struct Input {
     pub(crate) changes: Vec<Change>,
@@ -36,75 +38,102 @@ impl Model for Input {
     ghost view = { λ i. record { changes = i.changes.items; saved = i.saved } };
 }
 
-/// Reads an input, or gives the line that reports its fault.
-pub(crate) fn read_input(
-    alloc: Global,
-    kind: InputKind,
-    text: &[u8],
-) -> Result<Result<Input, Vec<u8>>, NoMemory>
-    ensures { IfOk result (λ read. MatchResult read (λ input. spec.read_input kind text.now ≡ Ok input) (λ found. spec.read_input kind text.now ≡ Err found.items)) }
-{
-    match kind {
-        InputKind::Changes => read_change_list(alloc, text),
-        InputKind::NoChange => read_no_change(alloc, text),
-        InputKind::ConfStateLine => read_saved(alloc, text),
-        InputKind::Nothing => read_nothing(alloc, text),
+impl Input {
+    ghost use Rattle.std.specs.Prelude.{◌≡◌, Ok, Err, IfOk, MatchResult};
+    ghost use Rattle.conf_session.specs.Input as spec;
+
+    /// An empty input. It takes no memory.
+    pub(crate) fn new(alloc: Global) -> Input {
+        Input {
+            changes: Vec::new(alloc),
+            saved: empty_conf_state(alloc),
+        }
+    }
+
+    /// Reads an input over the previous one, or gives the line that reports its fault.
+    pub(crate) fn read(
+        &mut self,
+        kind: InputKind,
+        text: &[u8],
+    ) -> Result<Result<(), Vec<u8>>, NoMemory>
+        ensures { IfOk result (λ read. MatchResult read (λ _. spec.read_input kind text.now ≡ Ok self.new) (λ found. spec.read_input kind text.now ≡ Err found.items)) }
+    {
+        let alloc = *self.changes.allocator();
+        self.changes.clear();
+        self.saved = empty_conf_state(alloc);
+        match kind {
+            InputKind::Changes => read_change_list(alloc, &mut self.changes, text),
+            InputKind::NoChange => read_no_change(alloc, &mut self.changes, text),
+            InputKind::ConfStateLine => read_saved(alloc, &mut self.saved, text),
+            InputKind::Nothing => read_nothing(alloc, text),
+        }
     }
 }
 
-// These changes, and nothing saved.
-fn of_changes(alloc: Global, changes: Vec<Change>) -> Input
-    ensures { result ≡ spec.of_changes changes.items }
+// A saved configuration in which every list is empty.
+fn empty_conf_state(alloc: Global) -> ConfState
+    ensures { result ≡ spec.nothing_saved }
 {
-    let saved = ConfState {
+    ConfState {
         voters: Vec::new(alloc),
         voters_outgoing: Vec::new(alloc),
         learners: Vec::new(alloc),
         learners_next: Vec::new(alloc),
         auto_leave: false,
-    };
-    Input { changes, saved }
+    }
 }
 
-fn read_change_list(alloc: Global, text: &[u8]) -> Result<Result<Input, Vec<u8>>, NoMemory>
-    ensures { IfOk result (λ read. MatchResult read (λ input. spec.read_input InputKind.Changes text.now ≡ Ok input) (λ found. spec.read_input InputKind.Changes text.now ≡ Err found.items)) }
+fn read_change_list(
+    alloc: Global,
+    changes: &mut Vec<Change>,
+    text: &[u8],
+) -> Result<Result<(), Vec<u8>>, NoMemory>
+    ensures { IfOk result (λ read. MatchResult read (λ _. spec.read_input InputKind.Changes text.now ≡ Ok (spec.of_changes changes.new.items)) (λ found. spec.read_input InputKind.Changes text.now ≡ Err found.items)) }
 {
-    match read_changes(alloc, text) {
-        Ok(changes) => Ok(Ok(of_changes(alloc, changes))),
+    match read_changes_into(changes, text) {
+        Ok(()) => Ok(Ok(())),
         Err(TokenFault::NoMemory) => Err(NoMemory),
         Err(fault) => Ok(Err(bad_token_line(alloc, fault)?)),
     }
 }
 
-fn read_no_change(alloc: Global, text: &[u8]) -> Result<Result<Input, Vec<u8>>, NoMemory>
-    ensures { IfOk result (λ read. MatchResult read (λ input. spec.read_input InputKind.NoChange text.now ≡ Ok input) (λ found. spec.read_input InputKind.NoChange text.now ≡ Err found.items)) }
+fn read_no_change(
+    alloc: Global,
+    changes: &mut Vec<Change>,
+    text: &[u8],
+) -> Result<Result<(), Vec<u8>>, NoMemory>
+    ensures { IfOk result (λ read. MatchResult read (λ _. spec.read_input InputKind.NoChange text.now ≡ Ok (spec.of_changes changes.new.items)) (λ found. spec.read_input InputKind.NoChange text.now ≡ Err found.items)) }
 {
-    match read_changes(alloc, text) {
-        Ok(changes) if changes.is_empty() => Ok(Ok(of_changes(alloc, changes))),
-        Ok(_) => Ok(Err(no_input_line(alloc)?)),
+    match read_changes_into(changes, text) {
+        Ok(()) if changes.is_empty() => Ok(Ok(())),
+        Ok(()) => Ok(Err(no_input_line(alloc)?)),
         Err(TokenFault::NoMemory) => Err(NoMemory),
         Err(fault) => Ok(Err(bad_token_line(alloc, fault)?)),
     }
 }
 
-fn read_saved(alloc: Global, text: &[u8]) -> Result<Result<Input, Vec<u8>>, NoMemory>
-    ensures { IfOk result (λ read. MatchResult read (λ input. spec.read_input InputKind.ConfStateLine text.now ≡ Ok input) (λ found. spec.read_input InputKind.ConfStateLine text.now ≡ Err found.items)) }
+fn read_saved(
+    alloc: Global,
+    saved: &mut ConfState,
+    text: &[u8],
+) -> Result<Result<(), Vec<u8>>, NoMemory>
+    ensures { IfOk result (λ read. MatchResult read (λ _. spec.read_input InputKind.ConfStateLine text.now ≡ Ok (record { changes = []; saved = saved.new })) (λ found. spec.read_input InputKind.ConfStateLine text.now ≡ Err found.items)) }
 {
     match read_conf_state(alloc, text) {
-        Ok(saved) => Ok(Ok(Input {
-            changes: Vec::new(alloc),
-            saved,
-        })),
+        Ok(read) => {
+            *saved = read;
+            Ok(Ok(()))
+        }
         Err(ConfStateFault::BadConfState) => Ok(Err(line_of(alloc, b"bad conf state", b"")?)),
         Err(ConfStateFault::NoMemory) => Err(NoMemory),
     }
 }
 
-fn read_nothing(alloc: Global, text: &[u8]) -> Result<Result<Input, Vec<u8>>, NoMemory>
-    ensures { IfOk result (λ read. MatchResult read (λ input. spec.read_input InputKind.Nothing text.now ≡ Ok input) (λ found. spec.read_input InputKind.Nothing text.now ≡ Err found.items)) }
+fn read_nothing(alloc: Global, text: &[u8]) -> Result<Result<(), Vec<u8>>, NoMemory>
+    ensures { IfOk result (λ read. MatchResult read (λ _. spec.read_input InputKind.Nothing text.now ≡ Ok (spec.of_changes [])) (λ found. spec.read_input InputKind.Nothing text.now ≡ Err found.items)) }
 {
     if text.is_empty() {
-        Ok(Ok(of_changes(alloc, Vec::new(alloc))))
+        Ok(Ok(()))
     } else {
         Ok(Err(no_input_line(alloc)?))
     }

@@ -16,16 +16,16 @@ use conf_change::laws::{
 };
 use conf_plan::laws::{one_changer_after_steps, undo_of_run};
 
-/// The text that is found can stand as the output of a directive: it is whole lines, one at least, and none of them is
-/// blank, of four dashes or ends in a carriage return. The keys of a script's arguments are keys (`dd_file::laws`).
+/// The reply to a directive is a valid output: whole lines, one at least, none of which is blank, is four dashes or ends
+/// in a carriage return.
 pub fn found_text_stands()
     ensures { (session : SessionState) (directive : DirectiveText) → has_keys directive.arguments ≡ true → IsValidOutput (answer session directive).found }
 {
     one_list_per_text();
 }
 
-/// The kept configurations of a session are those of before its last accepted changes: so many accepted steps lead from
-/// each to the one of now, which has a voter.
+/// The kept configurations of a session are those before its last accepted changes: `count` accepted steps lead from the
+/// one at index `count - 1` to the current one, which has a voter.
 pub fn kept_lead_to_now()
     ensures { (session : SessionState) (count : ℕ) (older : Configuration) → IsSession session → 1 ≤ count → slice_get session.kept (count - 1) ≡ Some older → IsEarlier session count older }
 {
@@ -54,7 +54,7 @@ pub fn answers_keep_session()
     trackers_stay_sound();
 }
 
-/// The plan that undoes the last changes of a session leads back to the configuration of before them.
+/// The plan that undoes the last changes of a session leads back to the configuration before them.
 pub fn undo_plan_leads_back()
     ensures { (session : SessionState) (count : ℕ) (steps : List Step) → IsSession session → 1 ≤ count → undo_plan_of session count ≡ Ok steps → LeadsBack session count steps }
 {
@@ -62,8 +62,8 @@ pub fn undo_plan_leads_back()
     undo_of_run();
 }
 
-/// Whatever changes were accepted, the plan that undoes the last ones leaves the voters, learners, next learners and the
-/// flag of before them.
+/// Whatever changes were accepted, the plan that undoes the last ones restores the voters, learners, next learners and the
+/// flag as they were before them.
 pub fn undo_brings_back()
     ensures { (session : SessionState) (count : ℕ) (older : Configuration) → IsSession session → 1 ≤ count → slice_get session.kept (count - 1) ≡ Some older → has_voter older ≡ true
         → (undone_changer session (planned (current session) older)).tracker.config ≡ older }

@@ -18,10 +18,11 @@
 #![tactic(auto)]
 
 mod arguments;
+mod buffers;
 mod commands;
 mod effect;
-mod given;
 mod history;
+mod id_index;
 mod input;
 pub mod laws;
 mod parameter;
@@ -30,8 +31,10 @@ mod reply;
 mod reply_texts;
 pub mod session;
 pub mod session_ids;
+mod state;
 pub mod undo_fault;
 mod values;
+mod values_by_id;
 
 pub use session::Session;
 pub use session_ids::SessionIds;

@@ -1,4 +1,4 @@
-//! The arguments that commands have: how each is called, and what its values are read as.
+//! The parameters of commands: their keys, and what values their arguments may have.
 ghost use Rattle.std.specs.Prelude.{◌≡◌};
 ghost use Rattle.conf_session.specs.Parameter as spec;
 
@@ -6,7 +6,7 @@ use ascii_text::number::read_number;
 use conf_change::Transition as HowTaken;
 use dd_file::item::Argument;
 
-/// An argument that a command has.
+/// A parameter of a command.
 #[derive(Clone, Copy)]
 pub(crate) enum Parameter {
     /// `autoleave`: `true` or `false`.
@@ -23,9 +23,9 @@ pub(crate) enum Parameter {
     Incoming,
     /// `cfgj`: ids, or `zero` for none.
     Outgoing,
-    /// `idx`: numbers from 1, and `_` where nothing is known.
+    /// `idx`: numbers from 1, and `_` if unknown.
     Indexes,
-    /// `votes`: `y` and `n`, and `_` where nothing is known.
+    /// `votes`: `y` and `n`, and `_` if unknown.
     Votes,
 }
 
@@ -50,7 +50,7 @@ impl Parameter {
         }
     }
 
-    /// Whether its argument may not be left out.
+    /// Whether a command needs its argument.
     pub(crate) fn is_required(self) -> bool
         ensures { result ≡ spec.is_required self }
     {
@@ -97,7 +97,7 @@ pub(crate) fn transition_in(argument: &Argument) -> Option<HowTaken>
     }
 }
 
-/// The number that is its only value, where it is at least this one.
+/// The number that is its only value, if it is at least `least`.
 pub(crate) fn number_from(least: u64, argument: &Argument) -> Option<u64>
     ensures { result ≡ spec.number_from least argument.now.values }
 {
@@ -117,10 +117,10 @@ pub(crate) fn number_from(least: u64, argument: &Argument) -> Option<u64>
 pub(crate) trait Listed: Copy + Drop {
     ghost use Rattle.std.specs.Prelude.{◌≡◌, ℕ, List, Option};
 
-    /// What a value is read as.
+    /// What a value denotes, if it is valid.
     ghost reads: { List ℕ → Option Self };
 
-    /// Reads a value.
+    /// Parses a value.
     fn read(value: &[u8]) -> Option<Self>
         ensures { result ≡ reads value.now };
 }
@@ -175,7 +175,7 @@ impl Listed for Option<bool> {
     }
 }
 
-// Whether the value is that of what is not known.
+// Whether the value is `_`, for what is not known.
 fn is_unknown(value: &[u8]) -> bool
     ensures { result ≡ spec.is_unknown value.now }
 {

@@ -1,11 +1,11 @@
-//! What a command replies.
+//! The reply of a command.
 ghost use Rattle.std.specs.Prelude.{◌≡◌};
 ghost use Rattle.conf_session.specs.Reply as spec;
 
 use crate::effect::Effect;
 use std::marker::Model;
 
-/// The text that is found, and what becomes of the session.
+/// The output of a command, and its effect on the session.
 #[derive(Drop)]
 pub(crate) struct Reply {
     found: Vec<u8>,
@@ -21,14 +21,14 @@ impl Model for Reply {
 }
 
 impl Reply {
-    /// A text in lines, with an effect.
+    /// An output with an effect.
     pub(crate) fn new(found: Vec<u8>, effect: Effect) -> Reply
         ensures { result ≡ record { found = found.items; effect = effect } }
     {
         Reply { found, effect }
     }
 
-    /// A text in lines, after which the session stays.
+    /// An output with no effect.
     pub(crate) fn of_text(found: Vec<u8>) -> Reply
         ensures { result ≡ record { found = found.items; effect = Effect.Nothing } }
     {

@@ -1,18 +1,18 @@
-//! The texts that a session answers, each in lines.
+//! The outputs of a session, each in whole lines.
 ghost use Rattle.std.specs.Prelude.{◌≡◌, ◌≢◌, ◌++◌, IfOk, OnOk, IsSomeAnd};
 ghost use Rattle.quorum_sets.specs.Voters.{pair};
 ghost use Rattle.conf_change.specs.ChangeList.{bad_token};
 ghost use Rattle.conf_change.specs.ConfState.{lists_of};
 ghost use Rattle.conf_change.specs.Text.{refused_text, progress_text, bad_token_text};
 ghost use Rattle.conf_change.specs.ConfStateLine.{conf_state_text};
-ghost use Rattle.conf_session.specs.Quorum.{given_in, index_text, committed_text, vote_text};
+ghost use Rattle.conf_session.specs.Quorum.{map_of, index_text, committed_text, vote_text};
 ghost use Rattle.quorum_sets.specs.Votes.{joint_vote_result};
 ghost use Rattle.conf_session.specs.ReplyTexts.{line, member_lines, tracker_text};
 ghost use Rattle.conf_session.specs.Undo as spec;
 
-use crate::given::Given;
 use crate::session_ids::SessionIds;
 use crate::undo_fault::{UndoFault, undo_fault_text};
+use crate::values_by_id::ValuesById;
 use ascii_text::append::append_number;
 use conf_change::{
     Config, Progress, Refused, TokenFault, Tracker, conf_state, write_conf_state, write_config,
@@ -21,7 +21,7 @@ use conf_change::{
 use quorum_sets::{MemberSet, NoMemory, VoteResult, joint_chart, joint_committed, joint_vote};
 use std::alloc::Global;
 
-// Ends a text, so that it is whole lines.
+// Adds the newline of the last line.
 fn end_line(text: Vec<u8>) -> Result<Vec<u8>, NoMemory>
     ensures { IfOk result (λ whole. whole.items ≡ line text.items) }
 {
@@ -30,7 +30,7 @@ fn end_line(text: Vec<u8>) -> Result<Vec<u8>, NoMemory>
     Ok(ended)
 }
 
-/// Two texts, one behind the other, as a line.
+/// A line of two parts.
 pub(crate) fn line_of(alloc: Global, front: &[u8], back: &[u8]) -> Result<Vec<u8>, NoMemory>
     ensures { IfOk result (λ text. text.items ≡ line (front.now ++ back.now)) }
 {
@@ -41,10 +41,10 @@ pub(crate) fn line_of(alloc: Global, front: &[u8], back: &[u8]) -> Result<Vec<u8
     end_line(text)
 }
 
-// The room that a line of one fault, one number or one member mostly needs.
+// How much memory a line of one error, one number or one member usually needs.
 const USUAL_LINE_ROOM: usize = 64;
 
-/// Which word spells no change.
+/// The error of a token that is not a change.
 pub(crate) fn bad_token_line(alloc: Global, fault: TokenFault<'_>) -> Result<Vec<u8>, NoMemory>
     ensures { IfOk result (λ text. IsSomeAnd (bad_token fault.entry) (λ bad. text.items ≡ line (bad_token_text bad))) }
 {
@@ -53,7 +53,7 @@ pub(crate) fn bad_token_line(alloc: Global, fault: TokenFault<'_>) -> Result<Vec
     end_line(text)
 }
 
-/// Why a change was refused. Want of memory is no refusal of a change.
+/// Why a change was refused, other than for lack of memory.
 pub(crate) fn refused_line(alloc: Global, refused: Refused) -> Result<Vec<u8>, NoMemory>
     requires { refused ≢ Refused.NoMemory }
     ensures { IfOk result (λ text. text.items ≡ line (refused_text refused)) }
@@ -63,10 +63,10 @@ pub(crate) fn refused_line(alloc: Global, refused: Refused) -> Result<Vec<u8>, N
     end_line(text)
 }
 
-// The room that the saved form of a small configuration needs.
+// How much memory the ConfState of a small configuration needs.
 const USUAL_STATE_ROOM: usize = 128;
 
-/// The saved form of a configuration.
+/// The ConfState line of a configuration.
 pub(crate) fn conf_state_line(
     alloc: Global,
     config: &Config<SessionIds>,
@@ -86,7 +86,7 @@ pub(crate) fn undo_fault_line(alloc: Global, fault: UndoFault) -> Result<Vec<u8>
     end_line(undo_fault_text(alloc, fault)?)
 }
 
-/// A committed index; the greatest is written as infinity.
+/// A committed index; 2^64-1 is written as infinity.
 pub(crate) fn index_line(alloc: Global, index: u64) -> Result<Vec<u8>, NoMemory>
     ensures { IfOk result (λ text. text.items ≡ line (index_text index)) }
 {
@@ -95,14 +95,14 @@ pub(crate) fn index_line(alloc: Global, index: u64) -> Result<Vec<u8>, NoMemory>
     end_line(text)
 }
 
-/// The chart of the ids of both sets, and the index that the two commit.
+/// The chart of the ids of both sets, and the index that they commit.
 pub(crate) fn committed_lines(
     alloc: Global,
     incoming: &SessionIds,
     outgoing: &SessionIds,
-    acks: &Given<u64>,
+    acks: &ValuesById<u64>,
 ) -> Result<Vec<u8>, NoMemory>
-    ensures { IfOk result (λ text. text.items ≡ line (committed_text (pair incoming.now outgoing.now) (given_in acks.now))) }
+    ensures { IfOk result (λ text. text.items ≡ line (committed_text (pair incoming.now outgoing.now) (map_of acks.now))) }
 {
     let mut text = Vec::new(alloc);
     text.reserve(usual_chart_room(incoming, outgoing))?;
@@ -111,14 +111,14 @@ pub(crate) fn committed_lines(
     end_line(text)
 }
 
-/// How the vote of both sets stands.
+/// The result of the vote of both sets.
 pub(crate) fn vote_line(
     alloc: Global,
     incoming: &SessionIds,
     outgoing: &SessionIds,
-    votes: &Given<bool>,
+    votes: &ValuesById<bool>,
 ) -> Result<Vec<u8>, NoMemory>
-    ensures { IfOk result (λ text. text.items ≡ line (vote_text (joint_vote_result (pair incoming.now outgoing.now) (given_in votes.now)))) }
+    ensures { IfOk result (λ text. text.items ≡ line (vote_text (joint_vote_result (pair incoming.now outgoing.now) (map_of votes.now)))) }
 {
     line_of(alloc, b"", vote_name(joint_vote(incoming, outgoing, votes)))
 }
@@ -134,13 +134,13 @@ fn vote_name(vote: VoteResult) -> &'static [u8]
     }
 }
 
-// The room that a chart of few ids needs, so that it seldom grows while it is written.
+// How much memory the chart of few ids needs, so that the text rarely has to grow.
 fn usual_chart_room(incoming: &SessionIds, outgoing: &SessionIds) -> usize {
     let ids = incoming.len().saturating_add(outgoing.len());
     ids.min(16).saturating_mul(48).saturating_add(64)
 }
 
-// Appends a committed index. After want of memory a part of it may be appended.
+// Appends a committed index, or on `NoMemory` a part of it.
 fn append_index(text: &mut Vec<u8>, index: u64) -> Result<(), NoMemory>
     ensures { OnOk result (text.new.items ≡ text.old.items ++ index_text index) }
 {
@@ -152,7 +152,7 @@ fn append_index(text: &mut Vec<u8>, index: u64) -> Result<(), NoMemory>
     Ok(())
 }
 
-/// A configuration, and behind it each member with its progress, in ascending order of the ids.
+/// A configuration, then each member with its progress, in ascending order of the ids.
 pub(crate) fn tracker_lines(
     alloc: Global,
     tracker: &Tracker<SessionIds>,
@@ -164,7 +164,7 @@ pub(crate) fn tracker_lines(
     Ok(text)
 }
 
-/// Appends the same. After want of memory only a part may be appended.
+/// Appends the same, or on `NoMemory` a part of it.
 pub(crate) fn append_tracker(
     text: &mut Vec<u8>,
     tracker: &Tracker<SessionIds>,
@@ -177,17 +177,17 @@ pub(crate) fn append_tracker(
     append_members(tracker, text)
 }
 
-/// The room that the text mostly needs, so that it seldom grows while it is written.
+/// How much memory this text usually needs, so that it rarely has to grow.
 pub(crate) fn usual_room(tracker: &Tracker<SessionIds>) -> usize {
     tracker.member_count().saturating_mul(64).saturating_add(64)
 }
 
-// Appends each member with its progress. After want of memory only some may be appended.
+// Appends each member with its progress, or on `NoMemory` some of them.
 fn append_members(tracker: &Tracker<SessionIds>, text: &mut Vec<u8>) -> Result<(), NoMemory>
     ensures { OnOk result (text.new.items ≡ text.old.items ++ member_lines tracker.now) }
 {
-    for index in 0..tracker.member_count() {
-        if let Some((id, progress)) = tracker.member_at(index) {
+    for place in 0..tracker.member_count() {
+        if let Some((id, progress)) = tracker.member_at(place) {
             append_member(text, id, progress)?;
         }
     }

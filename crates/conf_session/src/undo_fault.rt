@@ -18,7 +18,7 @@ const OUT_OF_MEMORY: &str = "out of memory";
 /// Why there is no plan that undoes changes.
 #[derive(Clone, Copy, Debug, PartialEq, Eq, Error)]
 pub enum UndoFault {
-    /// So many earlier configurations are kept, which are too few.
+    /// Only this many earlier configurations are kept.
     #[error("{front}{0}{back}", front = NO_PLAN, back = ARE_KEPT)]
     NotKept(usize),
     #[error("{front}{why}", front = NO_PLAN, why = NO_VOTER)]
@@ -27,10 +27,10 @@ pub enum UndoFault {
     NoMemory,
 }
 
-// The room that the text needs.
+// How much memory the text needs.
 const FAULT_ROOM: usize = 64;
 
-/// Why there is no plan. Want of memory is no reason that a session has.
+/// The message of an error.
 pub fn undo_fault_text(alloc: Global, fault: UndoFault) -> Result<Vec<u8>, NoMemory>
     ensures { IfOk result (λ text. text.items ≡ spec.undo_fault_text fault) }
 {

@@ -1,5 +1,5 @@
-//! What the arguments of a directive are read as.
-ghost use Rattle.std.specs.Prelude.{◌≡◌, true, ◌++◌, filter_map, is_some, option_map, unwrap_or, Ok, Err, IfOk, MatchResult};
+//! The values of a directive's arguments.
+ghost use Rattle.std.specs.Prelude.{◌≡◌, true, ◌++◌, filter_map, is_some, unwrap_or, IfOk};
 ghost use Rattle.conf_session.specs.Parameter.{allows, all_read, id_in};
 ghost use Rattle.conf_session.specs.Values as spec;
 
@@ -12,14 +12,14 @@ use quorum_sets::NoMemory;
 use std::alloc::Global;
 use std::marker::Model;
 
-/// What each argument says; an argument that is left out says what it usually does.
+/// The value of each argument, or its default if the argument is missing.
 #[derive(Drop)]
 pub(crate) struct Values {
-    /// False where it is left out.
+    /// False by default.
     pub(crate) auto_leave: bool,
-    /// Auto where it is left out.
+    /// Auto by default.
     pub(crate) transition: Transition,
-    /// From 1, which it is where it is left out.
+    /// At least 1, the default.
     pub(crate) steps: u64,
     pub(crate) id: u64,
     pub(crate) index: u64,
@@ -49,37 +49,14 @@ impl Model for Values {
     } };
 }
 
-/// Reads the arguments of a command that has these parameters, or gives the line that reports a fault: the first bad
-/// argument, or else the first that is missing. Without parameters they are not looked at.
-pub(crate) fn read_arguments(
-    alloc: Global,
-    parameters: Option<&[Parameter]>,
-    arguments: &[Argument],
-) -> Result<Result<Values, Vec<u8>>, NoMemory>
-    ensures { IfOk result (λ read. MatchResult read (λ values. spec.read_arguments (option_map (λ p. p.now) parameters.entry) arguments.now ≡ Ok values)
-        (λ found. spec.read_arguments (option_map (λ p. p.now) parameters.entry) arguments.now ≡ Err found.items)) }
-{
-    let mut values = Values::new(alloc);
-    let Some(parameters) = parameters else {
-        return Ok(Ok(values));
-    };
-    if let Some(key) = values.read(parameters, arguments)? {
-        return Ok(Err(line_of(alloc, b"bad argument: ", key)?));
-    }
-    if let Some(parameter) = missing_argument(parameters, arguments) {
-        return Ok(Err(line_of(alloc, b"missing argument: ", parameter.key())?));
-    }
-    Ok(Ok(values))
-}
-
 impl Values {
-    ghost use Rattle.std.specs.Prelude.{◌≡◌, true, [], None, option_map, IfOk};
+    ghost use Rattle.std.specs.Prelude.{◌≡◌, true, [], None, Ok, Err, option_map, IfOk, MatchResult};
     ghost use Rattle.conf_session.specs.Arguments.{bad_argument, is_allowed};
     ghost use Rattle.conf_session.specs.Parameter.{allows};
     ghost use Rattle.conf_session.specs.Values as spec;
 
-    // Nothing is said.
-    fn new(alloc: Global) -> Values
+    /// The values if no argument is there. They take no memory.
+    pub(crate) fn new(alloc: Global) -> Values
         ensures { result ≡ spec.values_in [] }
     {
         Values {
@@ -95,8 +72,47 @@ impl Values {
         }
     }
 
-    // Reads the arguments, and gives the key of the first that is bad, if there is one: it is none of these with values that
-    // it may have, or its key came before.
+    /// Reads the arguments of a command that has these parameters over the previous values, or gives the line that reports
+    /// a fault: the first bad argument, or else the first that is missing. Without parameters they are not looked at.
+    pub(crate) fn read_arguments(
+        &mut self,
+        parameters: Option<&[Parameter]>,
+        arguments: &[Argument],
+    ) -> Result<Result<(), Vec<u8>>, NoMemory>
+        ensures { IfOk result (λ read. MatchResult read (λ _. spec.read_arguments (option_map (λ p. p.now) parameters.entry) arguments.now ≡ Ok self.new)
+            (λ found. spec.read_arguments (option_map (λ p. p.now) parameters.entry) arguments.now ≡ Err found.items)) }
+    {
+        self.clear();
+        let Some(parameters) = parameters else {
+            return Ok(Ok(()));
+        };
+        let alloc = *self.incoming.allocator();
+        if let Some(key) = self.read(parameters, arguments)? {
+            return Ok(Err(line_of(alloc, b"bad argument: ", key)?));
+        }
+        if let Some(parameter) = missing_argument(parameters, arguments) {
+            return Ok(Err(line_of(alloc, b"missing argument: ", parameter.key())?));
+        }
+        Ok(Ok(()))
+    }
+
+    // The values if no argument is there, in the same memory.
+    fn clear(&mut self)
+        ensures { self.new ≡ spec.values_in [] }
+    {
+        self.auto_leave = false;
+        self.transition = Transition::Auto;
+        self.steps = 1;
+        self.id = 0;
+        self.index = 0;
+        self.incoming.clear();
+        self.outgoing.clear();
+        self.indexes.clear();
+        self.votes.clear();
+    }
+
+    // Reads the arguments, and returns the key of the first bad one: it has no parameter, its values are not valid, or its
+    // key came before.
     fn read<'a>(
         &mut self,
         parameters: &[Parameter],
@@ -106,15 +122,15 @@ impl Values {
         ensures bad { IfOk result (λ bad. option_map (λ key. key.now) bad ≡ bad_argument parameters.now arguments.now) }
         ensures values { IfOk result (λ bad. bad ≡ None → self.new ≡ spec.values_in arguments.now) }
     {
-        for (index, argument) in arguments.iter().enumerate() {
-            if has_key(&arguments[..index], argument.key()) || !self.take(parameters, argument)? {
+        for (place, argument) in arguments.iter().enumerate() {
+            if has_key(&arguments[..place], argument.key()) || !self.take(parameters, argument)? {
                 return Ok(Some(argument.key()));
             }
         }
         Ok(None)
     }
 
-    // Reads an argument, and returns whether it is one of these with values that it may have.
+    // Reads an argument, and returns whether it has a parameter and valid values.
     fn take(&mut self, parameters: &[Parameter], argument: &Argument) -> Result<bool, NoMemory>
         ensures allowed { IfOk result (λ good. good ≡ is_allowed parameters.now argument.now) }
         ensures values { IfOk result (λ good. good ≡ true → spec.HasMore self.old parameters.now argument.now self.new) }
@@ -125,7 +141,7 @@ impl Values {
         }
     }
 
-    // Reads the values of an argument, and returns whether it may have them.
+    // Reads the values of an argument, and returns whether they are valid.
     fn put(&mut self, parameter: Parameter, argument: &Argument) -> Result<bool, NoMemory>
         ensures allowed { IfOk result (λ good. good ≡ allows parameter argument.now.values) }
         ensures values { IfOk result (λ good. good ≡ true → self.new ≡ spec.with_more self.old parameter argument.now.values) }
@@ -144,7 +160,7 @@ impl Values {
     }
 }
 
-// Sets what was read, and returns whether it was.
+// Sets the value, and returns whether there is one.
 fn set<T: Copy + Drop>(slot: &mut T, read: Option<T>) -> bool
     ensures read { result ≡ is_some read }
     ensures set { slot.new ≡ unwrap_or read slot.old }
@@ -158,7 +174,7 @@ fn set<T: Copy + Drop>(slot: &mut T, read: Option<T>) -> bool
     }
 }
 
-// Reads a list of ids, and returns whether each value is one; `zero` is an empty list.
+// Reads a list of ids, and returns whether each value is valid; `zero` is an empty list.
 fn read_list_or_zero(list: &mut Vec<u64>, argument: &Argument) -> Result<bool, NoMemory>
     ensures all { IfOk result (λ all. all ≡ allows Parameter.Outgoing argument.now.values) }
     ensures list { IfOk result (λ all. all ≡ true → list.new.items ≡ list.old.items ++ filter_map id_in argument.now.values) }
@@ -170,7 +186,7 @@ fn read_list_or_zero(list: &mut Vec<u64>, argument: &Argument) -> Result<bool, N
     }
 }
 
-// Reads the values of a list after the others, and returns whether each of them can be read.
+// Appends the values of an argument to a list, and returns whether each of them is valid.
 fn read_list<T: Listed>(list: &mut Vec<T>, argument: &Argument) -> Result<bool, NoMemory>
     ensures all { IfOk result (λ all. all ≡ all_read T.reads argument.now.values) }
     ensures list { IfOk result (λ all. all ≡ true → list.new.items ≡ list.old.items ++ filter_map T.reads argument.now.values) }

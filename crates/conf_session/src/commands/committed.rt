@@ -12,7 +12,7 @@ use conf_change::Tracker;
 use quorum_sets::{NoMemory, joint_committed};
 use std::alloc::Global;
 
-/// The index that the configuration commits, where each member has acknowledged its match.
+/// The index that the configuration commits if each member has acknowledged its match index.
 pub(super) fn commit_index(
     alloc: Global,
     tracker: &Tracker<SessionIds>,
@@ -24,7 +24,7 @@ pub(super) fn commit_index(
     index_line(alloc, index)
 }
 
-/// The chart and the committed index of the quorum that is named, where its ids have acknowledged these indexes.
+/// The chart and the committed index of the quorum that the arguments name.
 pub(super) fn committed(alloc: Global, values: &Values) -> Result<Vec<u8>, NoMemory>
     ensures { IfOk result (λ found. found.items ≡ line (committed_reply values.now)) }
 {
@@ -33,5 +33,5 @@ pub(super) fn committed(alloc: Global, values: &Values) -> Result<Vec<u8>, NoMem
     let Some(quorum) = Quorum::of(alloc, incoming, outgoing, values.indexes.as_slice())? else {
         return line_of(alloc, b"wrong number of values", b"");
     };
-    committed_lines(alloc, &quorum.incoming, &quorum.outgoing, &quorum.given)
+    committed_lines(alloc, &quorum.incoming, &quorum.outgoing, &quorum.values)
 }

@@ -1,4 +1,4 @@
-//! `restore`: begins again with the configuration of a saved form, all progress being fresh.
+//! `restore`: restores a saved configuration, in which each member has initial progress.
 ghost use Rattle.std.specs.Prelude.{◌≡◌, IfOk};
 ghost use Rattle.conf_change.specs.ConfState.{restored};
 ghost use Rattle.conf_session.specs.Reply.{reply_in};
@@ -12,7 +12,7 @@ use conf_change::{Changer, ConfState, RestoreFault, laws};
 use quorum_sets::NoMemory;
 use std::alloc::Global;
 
-/// Makes the next changer one that begins with the saved form, and prints it.
+/// Restores the saved configuration into the next changer, and prints it.
 pub(super) fn run(
     alloc: Global,
     changer: &Changer<SessionIds>,

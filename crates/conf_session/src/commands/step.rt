@@ -12,7 +12,7 @@ use conf_change::{Change, Changer, Refused, StepKind};
 use quorum_sets::NoMemory;
 use std::alloc::Global;
 
-/// Writes the next changer, and prints it, or prints why the step is refused.
+/// Takes the step in the next changer and prints it, or prints why the step is refused.
 pub(super) fn run(
     alloc: Global,
     changer: &Changer<SessionIds>,

@@ -9,8 +9,8 @@ ghost use Rattle.conf_session.specs.Undo.{undo_plan_of, undone};
 use crate::effect::Effect;
 use crate::reply::Reply;
 use crate::reply_texts::{append_tracker, undo_fault_line, usual_room};
-use crate::session::Session;
 use crate::session_ids::SessionIds;
+use crate::state::State;
 use crate::undo_fault::UndoFault;
 use conf_change::{Changer, Tracker};
 use conf_plan::laws::one_changer_after_steps;
@@ -18,17 +18,17 @@ use conf_plan::{Plan, apply_plan, print_plan};
 use quorum_sets::NoMemory;
 use std::alloc::Global;
 
-/// Undoes so many changes in the next changer, and prints the plan and where it leads.
+/// Undoes the last `count` changes in the next changer, and prints the plan and the resulting configuration.
 pub(super) fn run(
     alloc: Global,
-    session: &Session,
+    session: &State,
     next: &mut Changer<SessionIds>,
     count: usize,
 ) -> Result<Reply, NoMemory>
     requires { 1 ≤ count }
     ensures { IfOk result (λ reply. reply_in session.now.changer next.new reply ≡ undo_last session.now count) }
 {
-    match session.undo_plan(count) {
+    match session.undo_plan(alloc, count) {
         Ok(plan) => take_steps(alloc, session, next, count, &plan),
         Err(fault) => match fault {
             UndoFault::NoMemory => Err(NoMemory),
@@ -40,7 +40,7 @@ pub(super) fn run(
 // Takes the steps of the plan.
 fn take_steps(
     alloc: Global,
-    session: &Session,
+    session: &State,
     next: &mut Changer<SessionIds>,
     count: usize,
     plan: &Plan,
@@ -55,15 +55,15 @@ fn take_steps(
             let found = undone_text(alloc, plan, next.tracker())?;
             Ok(Reply::new(found, Effect::Undone(count)))
         }
-        // A plan is a run, so no step of it is refused for another reason.
+        // Each step of a plan is accepted, so nothing else can be refused.
         Err(_) => Err(NoMemory),
     }
 }
 
-// The room that the text of a plan mostly needs.
+// How much memory the text of a plan usually needs.
 const USUAL_PLAN_ROOM: usize = 128;
 
-// The steps of the plan, and then where they lead.
+// The steps of the plan, then the configuration that they lead to.
 fn undone_text(alloc: Global, plan: &Plan, after: &Tracker<SessionIds>) -> Result<Vec<u8>, NoMemory>
     ensures { IfOk result (λ text. text.items ≡ plan_text plan.now ++ tracker_text after.now) }
 {

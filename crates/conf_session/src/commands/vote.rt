@@ -1,4 +1,4 @@
-//! `vote`: how the vote of a quorum stands.
+//! `vote`: the result of a vote.
 ghost use Rattle.std.specs.Prelude.{◌≡◌, IfOk};
 ghost use Rattle.conf_session.specs.Quorum.{vote_reply};
 ghost use Rattle.conf_session.specs.ReplyTexts.{line};
@@ -9,7 +9,7 @@ use crate::values::Values;
 use quorum_sets::NoMemory;
 use std::alloc::Global;
 
-/// How the vote of the quorum that is named stands, where its ids have voted so.
+/// The result of the vote of the quorum that the arguments name.
 pub(super) fn vote(alloc: Global, values: &Values) -> Result<Vec<u8>, NoMemory>
     ensures { IfOk result (λ found. found.items ≡ line (vote_reply values.now)) }
 {
@@ -18,5 +18,5 @@ pub(super) fn vote(alloc: Global, values: &Values) -> Result<Vec<u8>, NoMemory>
     let Some(quorum) = Quorum::of(alloc, incoming, outgoing, values.votes.as_slice())? else {
         return line_of(alloc, b"wrong number of values", b"");
     };
-    vote_line(alloc, &quorum.incoming, &quorum.outgoing, &quorum.given)
+    vote_line(alloc, &quorum.incoming, &quorum.outgoing, &quorum.values)
 }

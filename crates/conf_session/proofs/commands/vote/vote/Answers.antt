@@ -4,7 +4,7 @@ use Rattle.std.proofs.lemmas.Result.{IfOk-weaker}
 use Rattle.quorum_sets.specs.Ids.{ids_of}
 use Rattle.quorum_sets.specs.Voters.{pair}
 use Rattle.quorum_sets.specs.Votes.{joint_vote_result}
-use Rattle.conf_session.specs.Quorum.{each_once, ids_named, voters_named, map_given, given_in, is_one_each, vote_text, vote_reply}
+use Rattle.conf_session.specs.Quorum.{each_once, ids_named, voters_named, values_by_id, map_of, is_one_each, vote_text, vote_reply}
 use Rattle.conf_session.specs.ReplyTexts.{line}
 use Rattle.conf_session.specs.Values.{Values}
 use Rattle.conf_session.proofs.commands.vote.vote.Goals as goal
@@ -21,11 +21,11 @@ returns c =
     let one : is_one_each (ids_named v) v.votes ≡ true = sym (λ i. is_one_each (ids i) (votes i)) ∙ sym read.one_each ∙ ap is_some c.in-Some.is in
     let first = rw c.in-Some.is at read.incoming in
     let second = rw c.in-Some.is at read.outgoing in
-    let given = rw c.in-Some.is at read.given in
+    let given = rw c.in-Some.is at read.values in
     let left : q.incoming ≡ ids_of v.incoming = first ∙ ap ids_of incoming in
     let right : q.outgoing ≡ ids_of v.outgoing = second ∙ ap ids_of outgoing in
-    let map : given_in q.given ≡ map_given (ids_named v) v.votes = given ∙ (λ i. map_given (ids i) (votes i)) in
-    let text = vote_text (joint_vote_result (voters_named v) (map_given (ids_named v) v.votes)) in
-    let same : vote_text (joint_vote_result (pair q.incoming q.outgoing) (given_in q.given)) ≡ vote_reply v =
+    let map : map_of q.values ≡ values_by_id (ids_named v) v.votes = given ∙ (λ i. values_by_id (ids i) (votes i)) in
+    let text = vote_text (joint_vote_result (voters_named v) (values_by_id (ids_named v) v.votes)) in
+    let same : vote_text (joint_vote_result (pair q.incoming q.outgoing) (map_of q.values)) ≡ vote_reply v =
     (λ i. vote_text (joint_vote_result (pair (left i) (right i)) (map i))) ∙ sym (ap (λ b. cond b text (codes "wrong number of values")) one) in
     IfOk-weaker c.vote_line.result _ _ (λ found is. is ∙ ap line same) c.vote_line.ensures

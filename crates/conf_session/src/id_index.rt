@@ -1,0 +1,83 @@
+//! At which index a list of ids has an id.
+ghost use Rattle.std.specs.Prelude.{◌≡◌, [], OnOk};
+ghost use Rattle.conf_session.specs.IdIndex.{HasRows};
+
+use quorum_sets::NoMemory;
+use std::alloc::Global;
+use std::marker::Model;
+
+/// A list of ids in which an id is found by binary search.
+#[derive(Drop)]
+pub(crate) struct IdIndex {
+    ids: Vec<u64>,
+    // Each id with its index, in ascending order.
+    rows: Vec<(u64, usize)>,
+}
+
+impl Model for IdIndex {
+    ghost use Rattle.std.specs.Prelude.{ℕ, List};
+    ghost use Rattle.conf_session.specs.IdIndex.{IsIndex};
+
+    ghost Value = { List ℕ };
+
+    ghost view = { λ index. index.ids.items };
+
+    ghost invariant = { λ index. IsIndex index.ids.items index.rows.items };
+}
+
+impl IdIndex {
+    ghost use Rattle.std.specs.Prelude.{◌≡◌, ◌==◌, ℕ, Some, IfOk, MatchOption, not, slice_get, take};
+    ghost use Rattle.std.specs.List.{list_any};
+    ghost use Rattle.conf_session.specs.IdIndex.{IsAbsent, IsFirstIndex};
+
+    /// The index of a list.
+    pub(crate) fn new(alloc: Global, ids: Vec<u64>) -> Result<IdIndex, NoMemory>
+        ensures { IfOk result (λ index. index ≡ ids.items) }
+    {
+        let mut rows = Vec::with_capacity(alloc, ids.len())?;
+        push_rows(&mut rows, ids.as_slice())?;
+        rows.as_mut_slice().sort_unstable();
+        Ok(IdIndex { ids, rows })
+    }
+
+    /// The ids.
+    pub(crate) fn ids(&self) -> &[u64]
+        ensures { result.now ≡ self.now }
+    {
+        self.ids.as_slice()
+    }
+
+    /// The index at which the id comes first.
+    pub(crate) fn first(&self, id: u64) -> Option<usize>
+        ensures { MatchOption result (IsAbsent self.now id) (IsFirstIndex self.now id) }
+    {
+        let rows = self.rows.as_slice();
+        let place = rows.partition_point(|row| row.0 < id);
+        match rows.get(place) {
+            Some((found, index)) if *found == id => Some(*index),
+            _ => None,
+        }
+    }
+
+    /// Whether the id at an index comes first there.
+    pub(crate) fn is_first(&self, index: usize, id: u64) -> bool
+        requires { slice_get self.now index ≡ Some id }
+        ensures { result ≡ not (list_any (λ other. id == other) (take index self.now)) }
+    {
+        match self.first(id) {
+            Some(first) => first == index,
+            None => false,
+        }
+    }
+}
+
+// Adds a row for each id.
+fn push_rows(rows: &mut Vec<(u64, usize)>, ids: &[u64]) -> Result<(), NoMemory>
+    requires { rows.old.items ≡ [] }
+    ensures { OnOk result (HasRows ids.now rows.new.items) }
+{
+    for (index, id) in ids.iter().enumerate() {
+        rows.push((*id, index))?;
+    }
+    Ok(())
+}

@@ -1,0 +1,133 @@
+//! What a session holds from one directive to the next.
+ghost use Rattle.std.specs.Prelude.{◌≡◌, ◌≢◌, ◌↔◌, ◌≤◌, ◌-◌, Some, Ok, Err, IfOk, length, option_copied, slice_get};
+ghost use Rattle.conf_change.specs.Changer.{IsSound};
+ghost use Rattle.conf_change.specs.Configuration.{Configuration};
+ghost use Rattle.conf_plan.specs.Best.{IsBest};
+ghost use Rattle.conf_session.specs.SessionState.{IsSession, new_session, current, after_directive};
+ghost use Rattle.conf_session.specs.Reply.{session_change};
+ghost use Rattle.conf_session.specs.Undo.{LeadsBack, undo_plan_of};
+ghost use Rattle.conf_session.specs.declared.undo_fault.UndoFault.{UndoFault as WhyNot};
+
+use crate::effect::Effect;
+use crate::history::History;
+use crate::laws::kept_lead_to_now;
+use crate::session_ids::SessionIds;
+use crate::undo_fault::UndoFault;
+use conf_change::{Changer, Config, Floor};
+use conf_plan::laws::undo_of_run;
+use conf_plan::{Plan, PlanFault, plan};
+use quorum_sets::NoMemory;
+use std::alloc::Global;
+use std::marker::Model;
+use std::mem::swap;
+
+/// The changer, and the configurations before its last accepted changes.
+#[derive(Drop)]
+pub(crate) struct State {
+    changer: Changer<SessionIds>,
+    history: History,
+}
+
+impl Model for State {
+    ghost use Rattle.conf_session.specs.SessionState.{SessionState, IsSession, session_code};
+
+    ghost Value = { SessionState };
+
+    ghost coded = { session_code };
+
+    ghost view = { λ s. record { changer = s.changer; history = s.history.most; kept = s.history.kept } };
+
+    ghost invariant = { λ s. IsSession (record { changer = s.changer; history = s.history.most; kept = s.history.kept }) };
+}
+
+impl State {
+    /// An empty configuration, last index 0, this floor, and no earlier configuration of `history` at most.
+    pub(crate) fn new(alloc: Global, history: usize, floor: Floor) -> Result<State, NoMemory>
+        ensures { IfOk result (λ state. state ≡ new_session history floor) }
+    {
+        Ok(State {
+            changer: Changer::new_with_floor(alloc, 0, floor),
+            history: History::new(alloc, history)?,
+        })
+    }
+
+    /// Every state is sound.
+    pub(crate) fn is_session(&self)
+        ensures { IsSession self.now }
+    {
+        let _ = &self.changer;
+    }
+
+    /// The changer.
+    pub(crate) fn changer(&self) -> &Changer<SessionIds>
+        ensures changer { result.now ≡ self.now.changer }
+        ensures sound { IsSound self.now.changer.tracker }
+        ensures session { IsSession self.now }
+    {
+        &self.changer
+    }
+
+    /// How many earlier configurations are kept.
+    pub(crate) fn kept(&self) -> usize
+        ensures kept { result ≡ length self.now.kept }
+        ensures few { result ≤ self.now.history }
+    {
+        self.history.len()
+    }
+
+    /// An earlier configuration, the newest at index 0.
+    pub(crate) fn kept_at(&self, index: usize) -> Option<&Config<SessionIds>>
+        ensures { option_copied result ≡ slice_get self.now.kept index }
+    {
+        self.history.get(index)
+    }
+
+    /// The plan that undoes the last `count` accepted changes.
+    pub(crate) fn undo_plan(&self, alloc: Global, count: usize) -> Result<Plan, UndoFault>
+        requires { 1 ≤ count }
+        ensures planned { IfOk result (λ plan. undo_plan_of self.now count ≡ Ok plan) }
+        ensures refused { (fault : WhyNot) → fault ≢ UndoFault.NoMemory → ((result ≡ Err fault) ↔ (undo_plan_of self.now count ≡ Err fault)) }
+        ensures back { IfOk result (LeadsBack self.now count) }
+        ensures best { IfOk result (λ plan. (older : Configuration) → slice_get self.now.kept (count - 1) ≡ Some older → IsBest (current self.now) plan older) }
+    {
+        kept_lead_to_now();
+        undo_of_run();
+        let now = self.changer().tracker().config();
+        let Some(older) = self.kept_at(count - 1) else {
+            return Err(UndoFault::NotKept(self.kept()));
+        };
+        match plan(alloc, now, older) {
+            Ok(plan) => Ok(plan),
+            Err(PlanFault::NoVoterNow) => unreachable!(),
+            Err(PlanFault::NoVoterTarget) => Err(UndoFault::NoVoterTarget),
+            Err(PlanFault::NoMemory) => Err(UndoFault::NoMemory),
+        }
+    }
+
+    /// Applies the effect of a directive, which may swap the current changer with the next one. It takes no memory.
+    pub(crate) fn apply(&mut self, effect: Effect, next: &mut Changer<SessionIds>)
+        requires { IsSession (after_directive self.old (session_change self.old.changer next.old effect)) }
+        ensures { self.new ≡ after_directive self.old (session_change self.old.changer next.old effect) }
+    {
+        match effect {
+            Effect::Nothing => {}
+            Effect::Acknowledged(id, index) => {
+                let _ = self.changer.ack(id, index);
+            }
+            Effect::Stepped => {
+                swap(&mut self.changer, next);
+                self.history.keep(next.take_config());
+            }
+            Effect::Restored => {
+                swap(&mut self.changer, next);
+                self.history.clear();
+            }
+            Effect::Undone(count) => {
+                swap(&mut self.changer, next);
+                self.history.forget(count);
+            }
+        }
+        let last_index = self.changer.last_index();
+        self.changer.set_last_index(last_index.saturating_add(1));
+    }
+}
