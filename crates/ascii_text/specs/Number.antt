@@ -5,7 +5,7 @@ use Rattle.std.specs.Str.Parse.{IsNumeral, digits_value}
 use Rattle.ascii_text.specs.Words.{has_bytes}
 
 -- the bytes are digits that spell the number
-pub record SpellsNumber (digits : List ℕ) (number : ℕ) : Type 0 where
+pub record ParsesToNumber (digits : List ℕ) (number : ℕ) : Type 0 where
   pub numeral : IsNumeral 10 digits
   pub value : digits_value 10 digits ≡ number
   pub in_range : number < 2 ^ 64

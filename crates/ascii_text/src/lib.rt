@@ -14,7 +14,7 @@
 #![tactic(auto)]
 
 pub mod append;
-pub mod cut;
+pub mod position;
 pub mod lines;
 mod no_memory;
 pub mod number;

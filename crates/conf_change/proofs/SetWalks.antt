@@ -2,5 +2,5 @@
 
 pub mod TestOfEachId
 pub mod SideBySide
-pub mod PlaceByPlace
+pub mod PositionByPosition
 pub mod FirstThat

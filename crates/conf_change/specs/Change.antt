@@ -26,8 +26,8 @@ abbrev pub names : ℕ → Change → Bool
 names id change = (change.id == id) && not (id == 0) && not (is_update change.kind)
 
 -- the kind of the last change that has a say on the id
-abbrev pub last_word : List Change → ℕ → Option Kind
-last_word changes id = option_map (λ change. change.kind) (find (names id) (reverse changes))
+abbrev pub last_effective : List Change → ℕ → Option Kind
+last_effective changes id = option_map (λ change. change.kind) (find (names id) (reverse changes))
 
 -- whether an id is an incoming voter, after this last word on it and from what it was
 abbrev pub is_incoming_after : Option Kind → Bool → Bool
@@ -60,10 +60,10 @@ named_or_in changes ids = map (λ change. change.id) changes ++ ascending ids
 -- the configuration that the changes make: the outgoing voters and the flag stay, and each id goes by the last word on it
 abbrev pub result_of : Configuration → List Change → Configuration
 result_of c changes = record {
-  incoming = ids_where (λ id. is_incoming_after (last_word changes id) (has c.incoming id)) (named_or_in changes c.incoming);
+  incoming = ids_where (λ id. is_incoming_after (last_effective changes id) (has c.incoming id)) (named_or_in changes c.incoming);
   outgoing = c.outgoing;
-  learners = ids_where (λ id. is_learner_after (last_word changes id) (has c.outgoing id) (has c.learners id)) (named_or_in changes c.learners);
-  learners_next = ids_where (λ id. is_next_after (last_word changes id) (has c.outgoing id) (has c.learners_next id)) (named_or_in changes c.learners_next);
+  learners = ids_where (λ id. is_learner_after (last_effective changes id) (has c.outgoing id) (has c.learners id)) (named_or_in changes c.learners);
+  learners_next = ids_where (λ id. is_next_after (last_effective changes id) (has c.outgoing id) (has c.learners_next id)) (named_or_in changes c.learners_next);
   auto_leave = c.auto_leave;
 }
 

@@ -16,8 +16,8 @@ use Rattle.conf_change.specs.declared.refused.Refused.TheVariants.{NoMemory}
 use Rattle.conf_change.specs.declared.step.Step.{Step}
 
 -- nobody is in it
-abbrev pub nobody : Floor → TrackerState
-nobody floor = record { config = empty_configuration; progress = finite.empty; floor = floor }
+abbrev pub empty_tracker : Floor → TrackerState
+empty_tracker floor = record { config = empty_configuration; progress = finite.empty; floor = floor }
 
 -- the tracker of a configuration and of progress, with this floor
 abbrev pub tracker_of : Floor → Configuration → ProgressMap → TrackerState
@@ -29,7 +29,7 @@ changer_of tracker last_index = record { tracker = tracker; last_index = last_in
 
 -- the changer that nobody is in yet
 abbrev pub new_changer : Floor → ℕ → ChangerState
-new_changer floor last_index = record { tracker = nobody floor; last_index = last_index }
+new_changer floor last_index = record { tracker = empty_tracker floor; last_index = last_index }
 
 -- a changer that begins with a configuration whose progress is all fresh
 abbrev pub begun_with : Floor → ℕ → Configuration → ChangerState

@@ -15,14 +15,14 @@ pub record ConfStateLists : Type 0 where
   pub auto_leave : Bool
 
 -- whether two saved forms have the same lists, in the same order, and the same flag
-abbrev pub is_same_form : ConfStateLists → ConfStateLists → Bool
-is_same_form a b =
+abbrev pub is_same_conf_state : ConfStateLists → ConfStateLists → Bool
+is_same_conf_state a b =
     pointwise nat_eq a.voters b.voters && pointwise nat_eq a.voters_outgoing b.voters_outgoing
     && pointwise nat_eq a.learners b.learners && pointwise nat_eq a.learners_next b.learners_next && beq a.auto_leave b.auto_leave
 
 -- being the same form is symmetric and transitive
-pub is_same_form-laws : IsPartialEquivalence is_same_form
-is_same_form-laws =
+pub is_same_conf_state-laws : IsPartialEquivalence is_same_conf_state
+is_same_conf_state-laws =
     let lists = lists_per (partial_equiv_from_equiv nat_eq_equiv) in
     and_per (and_per (and_per (and_per
     (on_per (λ s. s.voters) lists) (on_per (λ s. s.voters_outgoing) lists)) (on_per (λ s. s.learners) lists)) (on_per (λ s. s.learners_next) lists))

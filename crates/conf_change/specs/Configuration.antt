@@ -81,12 +81,12 @@ pub record ValidByMember (c : Configuration) : Type 0 where
   pub auto_leave : is_joint c ≡ false → c.auto_leave ≡ false
 
 -- it has an incoming voter, or nobody is in it
-abbrev pub has_voter_or_nobody : Configuration → Bool
-has_voter_or_nobody c = has_voter c || (is_empty c.incoming && is_empty c.outgoing && is_empty c.learners && is_empty c.learners_next)
+abbrev pub has_voter_or_is_empty : Configuration → Bool
+has_voter_or_is_empty c = has_voter c || (is_empty c.incoming && is_empty c.outgoing && is_empty c.learners && is_empty c.learners_next)
 
 -- it is valid, and has an incoming voter or nobody at all
 abbrev pub is_restorable : Configuration → Bool
-is_restorable c = is_valid c && has_voter_or_nobody c
+is_restorable c = is_valid c && has_voter_or_is_empty c
 
 -- no id is in just one of the sets
 abbrev pub is_same_set : Ids → Ids → Bool

@@ -10,10 +10,10 @@ pub record IsLeast (a b least : Option ℕ) : Type 0 where
 
 -- no id of the set from the place on is below this one
 abbrev pub IsLeastFrom : Ids → ℕ → ℕ → Type 0
-IsLeastFrom ids place id = (k : ℕ) → place ≤ k → k < size ids → id ≤ slice_index (ascending ids) k
+IsLeastFrom ids position id = (k : ℕ) → position ≤ k → k < size ids → id ≤ slice_index (ascending ids) k
 
 -- a walk that comes to the id goes on behind it, where it stands at the place
-pub record Passes (ids : Ids) (id place next : ℕ) : Type 0 where
-  pub kept : place ≤ next
-  pub passed : (k : ℕ) → place ≤ k → k < next → k < size ids → slice_index (ascending ids) k ≡ id
+pub record Passes (ids : Ids) (id position next : ℕ) : Type 0 where
+  pub kept : position ≤ next
+  pub passed : (k : ℕ) → position ≤ k → k < next → k < size ids → slice_index (ascending ids) k ≡ id
   pub ahead : (k : ℕ) → next ≤ k → k < size ids → id < slice_index (ascending ids) k

@@ -22,17 +22,17 @@ abbrev pub entry_in : ℕ → Configuration → Option Progress → ℕ → Opti
 entry_in next_index c had id = entry_of next_index (is_member c id) (has c.learners id) had
 
 -- each id has what it is to have, and the id 0 nothing
-pub record IsDue (next_index : ℕ) (c : Configuration) (progress : ProgressMap) : Type 0 where
+pub record HasEntries (next_index : ℕ) (c : Configuration) (progress : ProgressMap) : Type 0 where
   pub each : (id : ℕ) → finite.get progress id ≡ entry_in next_index c (finite.get progress id) id
-  pub nobody : finite.get progress 0 ≡ None
+  pub no_zero : finite.get progress 0 ≡ None
 
 -- what is left of what an id had, unless it is removed and does not go out
-abbrev pub progress_left_by_word : Bool → Bool → Option Progress → Option Progress
-progress_left_by_word removed goes_out had = if removed && not goes_out then None else had
+abbrev pub progress_left_after : Bool → Bool → Option Progress → Option Progress
+progress_left_after removed is_outgoing had = if removed && not is_outgoing then None else had
 
 -- what the changes leave to an id
 abbrev pub progress_left : TrackerState → List Change → ℕ → Option Progress
-progress_left t changes id = progress_left_by_word (removes changes id) (has t.config.outgoing id) (finite.get t.progress id)
+progress_left t changes id = progress_left_after (removes changes id) (has t.config.outgoing id) (finite.get t.progress id)
 
 -- an id with its progress, where it has any
 abbrev pub entries_of : ℕ → Option Progress → List (ℕ × Progress)

@@ -9,12 +9,12 @@ use Rattle.conf_change.specs.declared.transition.Transition.{Transition}
 use Rattle.conf_change.specs.declared.transition.Transition.TheVariants.{Auto, Implicit, Explicit}
 
 -- without a word on it no change leaves, one is simple, and more enter; with one they always enter. Each change counts, whatever it says
-abbrev pub taken_of : Transition → List Change → StepKind
-taken_of Auto [] = kind.Leave
-taken_of Auto (_ ∷ []) = kind.Simple
-taken_of Auto (_ ∷ _ ∷ _) = kind.Enter true
-taken_of Implicit _ = kind.Enter true
-taken_of Explicit _ = kind.Enter false
+abbrev pub step_kind_of : Transition → List Change → StepKind
+step_kind_of Auto [] = kind.Leave
+step_kind_of Auto (_ ∷ []) = kind.Simple
+step_kind_of Auto (_ ∷ _ ∷ _) = kind.Enter true
+step_kind_of Implicit _ = kind.Enter true
+step_kind_of Explicit _ = kind.Enter false
 
 -- the step of this kind, with its list
 abbrev pub step_of : StepKind → List Change → Step
@@ -23,9 +23,9 @@ step_of (kind.Enter auto_leave) changes = EnterJoint auto_leave changes
 step_of kind.Leave changes = LeaveJoint
 
 -- the step that a list of changes takes
-abbrev pub step_taken : Transition → List Change → Step
-step_taken transition changes = step_of (taken_of transition changes) changes
+abbrev pub step_for : Transition → List Change → Step
+step_for transition changes = step_of (step_kind_of transition changes) changes
 
 -- the steps that lists of changes take, one after another
-abbrev pub steps_taken : List (Transition × List Change) → List Step
-steps_taken lists = map (λ list. step_taken list.0 list.1) lists
+abbrev pub steps_for : List (Transition × List Change) → List Step
+steps_for lists = map (λ list. step_for list.0 list.1) lists

@@ -10,7 +10,7 @@ ghost use Rattle.conf_change.specs.declared.floor.Floor.TheVariants.{One};
 ghost use Rattle.conf_change.specs.declared.progress.Progress.{Progress};
 ghost use Rattle.conf_change.specs.declared.step.Step.TheVariants.{Simple, EnterJoint, LeaveJoint};
 ghost use Rattle.conf_change.specs.Progress.{fresh_next_of};
-ghost use Rattle.conf_change.specs.Transition.{step_of, step_taken};
+ghost use Rattle.conf_change.specs.Transition.{step_of, step_for};
 ghost use Rattle.conf_change.specs.Changer.{IsSound, GivesNext, Makes, left_in, new_changer, changer_of, with_last_index};
 
 use crate::acknowledgement::AckFault;
@@ -138,11 +138,11 @@ impl<S: MemberSet> Changer<S> {
     }
 
     // The changer that nobody is in, with the same floor and last index.
-    fn nobody(&self) -> Changer<S>
+    fn emptied(&self) -> Changer<S>
         ensures new { result ≡ new_changer self.now.tracker.floor self.now.last_index }
         ensures sound { IsSound result.tracker }
     {
-        Changer::begin(self.tracker.nobody(), self.last_index)
+        Changer::begin(self.tracker.emptied(), self.last_index)
     }
 
     /// Overwrites `self` with the changer after a step of another one, reusing its memory, or with an empty one where the
@@ -163,7 +163,7 @@ impl<S: MemberSet> Changer<S> {
                 Ok(())
             }
             Err(refused) => {
-                *self = before.nobody();
+                *self = before.emptied();
                 Err(refused)
             }
         }
@@ -226,7 +226,7 @@ impl<S: MemberSet> Changer<S> {
 
     /// Takes the step that a list of changes takes, as `taken` gives it, with its refusals.
     pub fn change(&mut self, transition: Transition, changes: &[Change]) -> Result<(), Refused>
-        ensures { Makes self.old (step_taken transition changes.now) result self.new }
+        ensures { Makes self.old (step_for transition changes.now) result self.new }
     {
         self.make(taken(transition, changes), changes)
     }
@@ -235,7 +235,7 @@ impl<S: MemberSet> Changer<S> {
     fn make(&mut self, kind: StepKind, changes: &[Change]) -> Result<(), Refused>
         ensures { Makes self.old (step_of kind changes.now) result self.new }
     {
-        let mut next = self.nobody();
+        let mut next = self.emptied();
         next.become_next(self, kind, changes)?;
         *self = next;
         Ok(())

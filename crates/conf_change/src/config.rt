@@ -185,14 +185,14 @@ fn check_next<S: MemberSet>(next: &S, incoming: &S, outgoing: &S) -> Result<(), 
     ensures broken { IfErr result (λ broken. broken ≡ (if is_within (S.ids next.now) (S.ids outgoing.now) then Invariant.NextAndIncoming else Invariant.NextNotOutgoing)) }
 {
     let mut apart = true;
-    let mut incoming_place = 0;
-    let mut outgoing_place = 0;
-    for place in 0..next.len() {
-        if let Some(id) = next.at(place) {
-            if !has_next(outgoing, &mut outgoing_place, id) {
+    let mut incoming_position = 0;
+    let mut outgoing_position = 0;
+    for position in 0..next.len() {
+        if let Some(id) = next.at(position) {
+            if !has_next(outgoing, &mut outgoing_position, id) {
                 return Err(Invariant::NextNotOutgoing);
             }
-            if has_next(incoming, &mut incoming_place, id) {
+            if has_next(incoming, &mut incoming_position, id) {
                 apart = false;
             }
         }
@@ -208,11 +208,11 @@ fn check_next<S: MemberSet>(next: &S, incoming: &S, outgoing: &S) -> Result<(), 
 fn is_apart_from_both<S: MemberSet>(ids: &S, first: &S, second: &S) -> bool
     ensures { result ≡ (is_apart (S.ids ids.now) (S.ids first.now) && is_apart (S.ids ids.now) (S.ids second.now)) }
 {
-    let mut first_place = 0;
-    let mut second_place = 0;
-    for place in 0..ids.len() {
-        if let Some(id) = ids.at(place) {
-            if has_next(first, &mut first_place, id) || has_next(second, &mut second_place, id) {
+    let mut first_position = 0;
+    let mut second_position = 0;
+    for position in 0..ids.len() {
+        if let Some(id) = ids.at(position) {
+            if has_next(first, &mut first_position, id) || has_next(second, &mut second_position, id) {
                 return false;
             }
         }

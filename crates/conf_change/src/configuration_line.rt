@@ -5,7 +5,7 @@ ghost use Rattle.conf_change.specs.ConfStateLine.{conf_state_in};
 ghost use Rattle.conf_change.specs.Described.{described};
 ghost use Rattle.conf_change.specs.Violation.{first_repeat, repeat_in, valid_of, configuration_in};
 
-use crate::conf_state_form::{ConfState, ConfStateFault};
+use crate::saved_configuration::{ConfState, ConfStateFault};
 use crate::conf_state_line::read_conf_state;
 use crate::config::Config;
 use crate::restore::{RestoreFault, described};
@@ -104,11 +104,11 @@ fn first_repeat(alloc: Global, list: &[u64]) -> Result<Option<u64>, NoMemory>
 {
     let mut later = TreeIds::empty(alloc);
     let mut repeat = None;
-    let mut place = list.len();
-    while place > 0 {
-        place -= 1;
-        if !later.insert(list[place])? {
-            repeat = Some(list[place]);
+    let mut position = list.len();
+    while position > 0 {
+        position -= 1;
+        if !later.insert(list[position])? {
+            repeat = Some(list[position]);
         }
     }
     Ok(repeat)

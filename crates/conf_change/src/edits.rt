@@ -1,12 +1,12 @@
 //! Changes of a configuration, one at a time. Progress is not touched.
 ghost use Rattle.std.specs.Prelude.{◌≡◌, ◌≢◌, [], ◌∷◌, IfOk, OnOk, OnErr};
 ghost use Rattle.conf_change.specs.Change.{result_of};
-ghost use Rattle.conf_change.specs.Seat.{membership_in};
+ghost use Rattle.conf_change.specs.Roles.{membership_in};
 ghost use Rattle.conf_change.specs.declared.change.Change.{Change};
 
 use crate::change::{Change, Kind};
 use crate::config::Config;
-use crate::seat::Membership;
+use crate::roles::Membership;
 use quorum_sets::{MemberSet, NoMemory};
 
 // Makes one change, and answers what its id is then. After want of memory the configuration is as it was.

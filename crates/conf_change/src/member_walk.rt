@@ -17,16 +17,16 @@ pub(crate) fn least(a: Option<u64>, b: Option<u64>) -> Option<u64>
 }
 
 // Moves the place behind the id, where the id stands there, and tells whether it does.
-pub(crate) fn step_over<S: MemberSet>(set: &S, place: &mut usize, id: u64) -> bool
-    requires { IsLeastFrom (S.ids set.now) place.old id }
-    ensures passes { Passes (S.ids set.now) id place.old place.new }
-    ensures there { result ≡ true → slice_get (ascending (S.ids set.now)) place.old ≡ Some id }
-    ensures stays { result ≡ false → place.new ≡ place.old }
+pub(crate) fn step_over<S: MemberSet>(set: &S, position: &mut usize, id: u64) -> bool
+    requires { IsLeastFrom (S.ids set.now) position.old id }
+    ensures passes { Passes (S.ids set.now) id position.old position.new }
+    ensures there { result ≡ true → slice_get (ascending (S.ids set.now)) position.old ≡ Some id }
+    ensures stays { result ≡ false → position.new ≡ position.old }
 {
-    if *place < set.len() {
-        if let Some(found) = set.at(*place) {
+    if *position < set.len() {
+        if let Some(found) = set.at(*position) {
             if found == id {
-                *place += 1;
+                *position += 1;
                 return true;
             }
         }

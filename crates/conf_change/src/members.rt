@@ -3,47 +3,47 @@ ghost use Rattle.std.specs.Prelude.{◌≡◌, ℕ, true, length, ◌==◌, Some
 ghost use Rattle.std.specs.Ordering.{nat_cmp};
 ghost use Rattle.std.specs.FinMap as finite;
 ghost use Rattle.smallvec.specs.SmallVec.{HasRoomFor};
-ghost use Rattle.quorum_sets.specs.Rising.{IsRising, StandsAt, GoesTo};
+ghost use Rattle.quorum_sets.specs.AscendingLists.{IsAscending, IsAtPosition, IsInsertionPoint};
 ghost use Rattle.conf_change.specs.Progress.{fresh_progress, with_mark};
 ghost use Rattle.conf_change.specs.TrackerEdits.{entry_of};
 
 use crate::progress::Progress;
-use crate::seat::Membership;
+use crate::roles::Membership;
 use quorum_sets::NoMemory;
 use smallvec::SmallVec;
 
 // The progress of the id.
 pub(crate) fn progress_of(members: &[(u64, Progress)], id: u64) -> Option<Progress>
-    requires { IsRising (map (λ m. m.0) members.now) }
+    requires { IsAscending (map (λ m. m.0) members.now) }
     ensures { result ≡ finite.get (finite.from_entries {R = nat_cmp} members.now) id }
 {
-    match place_of(members, id) {
-        Ok(place) => Some(members[place].1),
+    match position_of(members, id) {
+        Ok(position) => Some(members[position].1),
         Err(_) => None,
     }
 }
 
 // Sets the progress of an id that is there; any other id it leaves alone.
 pub(crate) fn set_progress_of(members: &mut [(u64, Progress)], id: u64, progress: Progress)
-    requires { IsRising (map (λ m. m.0) members.old) }
+    requires { IsAscending (map (λ m. m.0) members.old) }
     ensures keys { map (λ m. m.0) members.new ≡ map (λ m. m.0) members.old }
     ensures gets { is_some (finite.get (finite.from_entries {R = nat_cmp} members.old) id) ≡ true → (q : ℕ) → finite.get (finite.from_entries {R = nat_cmp} members.new) q ≡ (if q == id then Some progress else finite.get (finite.from_entries {R = nat_cmp} members.old) q) }
 {
-    if let Ok(place) = place_of(members, id) {
-        members[place] = (id, progress);
+    if let Ok(position) = position_of(members, id) {
+        members[position] = (id, progress);
     }
 }
 
 // Gives an id the progress that it is to have where it is this in a configuration: a member keeps what it has or begins
 // afresh, with its mark, and anybody else has none.
-pub(crate) fn follow(
+pub(crate) fn update_member(
     members: &mut SmallVec<(u64, Progress), 1>,
     id: u64,
     id_is: Membership,
     next_index: u64,
 ) -> Result<(), NoMemory>
-    requires { IsRising (map (λ m. m.0) members.old.items) }
-    ensures rising { IsRising (map (λ m. m.0) members.new.items) }
+    requires { IsAscending (map (λ m. m.0) members.old.items) }
+    ensures ascends { IsAscending (map (λ m. m.0) members.new.items) }
     ensures entries { OnOk result ((q : ℕ) → finite.get (finite.from_entries {R = nat_cmp} members.new.items) q ≡ (if q == id then entry_of next_index id_is.member id_is.learner (finite.get (finite.from_entries {R = nat_cmp} members.old.items) id) else finite.get (finite.from_entries {R = nat_cmp} members.old.items) q)) }
     ensures room { HasRoomFor members.old 1 → IsOk result }
 {
@@ -62,16 +62,16 @@ fn keep_or_begin(
     learner: bool,
     next_index: u64,
 ) -> Result<(), NoMemory>
-    requires { IsRising (map (λ m. m.0) members.old.items) }
-    ensures rising { IsRising (map (λ m. m.0) members.new.items) }
+    requires { IsAscending (map (λ m. m.0) members.old.items) }
+    ensures ascends { IsAscending (map (λ m. m.0) members.new.items) }
     ensures entries { OnOk result ((q : ℕ) → finite.get (finite.from_entries {R = nat_cmp} members.new.items) q ≡ (if q == id then Some (with_mark learner (unwrap_or (finite.get (finite.from_entries {R = nat_cmp} members.old.items) id) (fresh_progress next_index learner))) else finite.get (finite.from_entries {R = nat_cmp} members.old.items) q)) }
     ensures room { HasRoomFor members.old 1 → IsOk result }
 {
-    match place_of(members.as_slice(), id) {
-        Ok(place) => mark(members.as_mut_slice(), id, place, learner),
-        Err(place) => {
+    match position_of(members.as_slice(), id) {
+        Ok(position) => mark(members.as_mut_slice(), id, position, learner),
+        Err(position) => {
             let fresh = Progress::fresh(next_index);
-            members.insert(place, (id, Progress { learner, ..fresh }))?;
+            members.insert(position, (id, Progress { learner, ..fresh }))?;
         }
     }
     Ok(())
@@ -79,30 +79,30 @@ fn keep_or_begin(
 
 // Takes an id out.
 fn take_out(members: &mut SmallVec<(u64, Progress), 1>, id: u64)
-    requires { IsRising (map (λ m. m.0) members.old.items) }
-    ensures rising { IsRising (map (λ m. m.0) members.new.items) }
+    requires { IsAscending (map (λ m. m.0) members.old.items) }
+    ensures ascends { IsAscending (map (λ m. m.0) members.new.items) }
     ensures entries { (q : ℕ) → finite.get (finite.from_entries {R = nat_cmp} members.new.items) q ≡ (if q == id then None else finite.get (finite.from_entries {R = nat_cmp} members.old.items) q) }
 {
-    if let Ok(place) = place_of(members.as_slice(), id) {
-        members.remove(place);
+    if let Ok(position) = position_of(members.as_slice(), id) {
+        members.remove(position);
     }
 }
 
 // The index of the member with this id, or else the index where it is to be inserted.
-fn place_of(members: &[(u64, Progress)], id: u64) -> Result<usize, usize>
-    requires { IsRising (map (λ m. m.0) members.now) }
-    ensures { MatchResult result (λ place. StandsAt (map (λ m. m.0) members.now) id place) (λ place. GoesTo (map (λ m. m.0) members.now) id place) }
+fn position_of(members: &[(u64, Progress)], id: u64) -> Result<usize, usize>
+    requires { IsAscending (map (λ m. m.0) members.now) }
+    ensures { MatchResult result (λ position. IsAtPosition (map (λ m. m.0) members.now) id position) (λ position. IsInsertionPoint (map (λ m. m.0) members.now) id position) }
 {
     members.binary_search_by_key(&id, |member| member.0)
 }
 
 // Marks the member at a place, which keeps its progress.
-fn mark(members: &mut [(u64, Progress)], id: u64, place: usize, learner: bool)
-    requires rising { IsRising (map (λ m. m.0) members.old) }
-    requires stands { StandsAt (map (λ m. m.0) members.old) id place }
+fn mark(members: &mut [(u64, Progress)], id: u64, position: usize, learner: bool)
+    requires ascends { IsAscending (map (λ m. m.0) members.old) }
+    requires at_position { IsAtPosition (map (λ m. m.0) members.old) id position }
     ensures keys { map (λ m. m.0) members.new ≡ map (λ m. m.0) members.old }
     ensures entries { (q : ℕ) → finite.get (finite.from_entries {R = nat_cmp} members.new) q ≡ (if q == id then option_map (with_mark learner) (finite.get (finite.from_entries {R = nat_cmp} members.old) id) else finite.get (finite.from_entries {R = nat_cmp} members.old) q) }
 {
-    let known = members[place].1;
-    members[place] = (id, Progress { learner, ..known });
+    let known = members[position].1;
+    members[position] = (id, Progress { learner, ..known });
 }

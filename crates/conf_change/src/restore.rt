@@ -1,8 +1,8 @@
 //! Restoring a saved configuration.
 ghost use Rattle.std.specs.Prelude.{◌≡◌, ℕ, Some, None, Err, true, false, map, IfOk, MatchResult};
 ghost use Rattle.std.specs.FinMap as finite;
-ghost use Rattle.quorum_sets.specs.Rising.{IsRising};
-ghost use Rattle.conf_change.specs.Configuration.{Configuration, has_voter_or_nobody, is_restorable};
+ghost use Rattle.quorum_sets.specs.AscendingLists.{IsAscending};
+ghost use Rattle.conf_change.specs.Configuration.{Configuration, has_voter_or_is_empty, is_restorable};
 ghost use Rattle.conf_change.specs.ConfState.{Describes, Lists, names_once, restored};
 ghost use Rattle.conf_change.specs.Described.{described};
 ghost use Rattle.conf_change.specs.Progress.{IsFreshOf, all_fresh};
@@ -10,7 +10,7 @@ ghost use Rattle.conf_change.specs.declared.floor.Floor.TheVariants.{One};
 ghost use Rattle.conf_change.specs.Changer.{IsSound, begun_with};
 
 use crate::changer::Changer;
-use crate::conf_state_form::ConfState;
+use crate::saved_configuration::ConfState;
 use crate::config::{Config, check};
 use crate::floor::Floor;
 use crate::member_walk::{least, step_over};
@@ -118,12 +118,12 @@ fn set_from<S: MemberSet>(alloc: Global, list: &[u64]) -> Result<S, RestoreFault
 fn is_restorable<S: MemberSet>(config: &Config<S>) -> bool
     ensures { result ≡ is_restorable config.now }
 {
-    check(config).is_ok() && has_voter_or_nobody(config)
+    check(config).is_ok() && has_voter_or_is_empty(config)
 }
 
 // Whether the configuration has an incoming voter, or nobody is in it.
-fn has_voter_or_nobody<S: MemberSet>(config: &Config<S>) -> bool
-    ensures { result ≡ has_voter_or_nobody config.now }
+fn has_voter_or_is_empty<S: MemberSet>(config: &Config<S>) -> bool
+    ensures { result ≡ has_voter_or_is_empty config.now }
 {
     config.incoming.len() != 0
         || (config.outgoing.len() == 0
@@ -137,7 +137,7 @@ fn fresh_progress<S: MemberSet>(
     config: &Config<S>,
     next_index: u64,
 ) -> Result<SmallVec<(u64, Progress), 1>, NoMemory>
-    ensures rising { IfOk result (λ members. IsRising (map (λ m. m.0) members.items)) }
+    ensures ascends { IfOk result (λ members. IsAscending (map (λ m. m.0) members.items)) }
     ensures fresh { IfOk result (λ members. finite.from_entries members.items ≡ all_fresh next_index config.now) }
 {
     fresh_of(
@@ -165,17 +165,17 @@ fn fresh_of<S: MemberSet>(
         .saturating_add(outgoing.len())
         .saturating_add(learners.len());
     let mut members = SmallVec::with_capacity(alloc, most)?;
-    let mut incoming_place = 0;
-    let mut outgoing_place = 0;
-    let mut learner_place = 0;
+    let mut incoming_position = 0;
+    let mut outgoing_position = 0;
+    let mut learner_position = 0;
     loop {
-        let voter = least(incoming.at(incoming_place), outgoing.at(outgoing_place));
-        let Some(id) = least(voter, learners.at(learner_place)) else {
+        let voter = least(incoming.at(incoming_position), outgoing.at(outgoing_position));
+        let Some(id) = least(voter, learners.at(learner_position)) else {
             return Ok(members);
         };
-        step_over(incoming, &mut incoming_place, id);
-        step_over(outgoing, &mut outgoing_place, id);
-        let learner = step_over(learners, &mut learner_place, id);
+        step_over(incoming, &mut incoming_position, id);
+        step_over(outgoing, &mut outgoing_position, id);
+        let learner = step_over(learners, &mut learner_position, id);
         members.push((id, Progress { learner, ..fresh }))?;
     }
 }

@@ -2,10 +2,10 @@
 ghost use Rattle.std.specs.Prelude.{◌≡◌, ◌≢◌, ◌++◌, not, decimal, OnOk, OnErr, IsSomeAnd};
 ghost use Rattle.quorum_sets.specs.Ids.{ascending, is_empty};
 ghost use Rattle.ascii_text.specs.Append.{Extends};
-ghost use Rattle.conf_change.specs.Text.{spaced_numbers, set_text, where_there, config_text, progress_text, refused_text, bad_token_text};
+ghost use Rattle.conf_change.specs.Text.{spaced_numbers, set_text, text_if, config_text, progress_text, refused_text, bad_token_text};
 ghost use Rattle.conf_change.specs.ChangeList.{bad_token};
 
-use crate::append::{append_number_at, append_where};
+use crate::append::{append_number_at, append_if};
 use crate::change_list::TokenFault;
 use crate::config::Config;
 use crate::progress::Progress;
@@ -32,13 +32,13 @@ fn append_config<S: MemberSet>(text: &mut Vec<u8>, config: &Config<S>) -> Result
     append_any(text, b"&&", &config.outgoing)?;
     append_any(text, b" learners=", &config.learners)?;
     append_any(text, b" learners_next=", &config.learners_next)?;
-    append_where(text, config.auto_leave, b" autoleave")
+    append_if(text, config.auto_leave, b" autoleave")
 }
 
 // Appends a name and a set, unless the set is empty.
 #[inline(always)]
 fn append_any<S: MemberSet>(text: &mut Vec<u8>, name: &[u8], set: &S) -> Result<(), NoMemory>
-    ensures ok { OnOk result (text.new.items ≡ text.old.items ++ where_there (not (is_empty (S.ids set.now))) (name.now ++ set_text (S.ids set.now))) }
+    ensures ok { OnOk result (text.new.items ≡ text.old.items ++ text_if (not (is_empty (S.ids set.now))) (name.now ++ set_text (S.ids set.now))) }
     ensures extends { Extends text.old.items text.new.items }
 {
     if set.len() > 0 {
@@ -64,9 +64,9 @@ fn append_ids<S: MemberSet>(text: &mut Vec<u8>, set: &S) -> Result<(), NoMemory>
     ensures ok { OnOk result (text.new.items ≡ text.old.items ++ spaced_numbers (ascending (S.ids set.now))) }
     ensures extends { Extends text.old.items text.new.items }
 {
-    for place in 0..set.len() {
-        if let Some(id) = set.at(place) {
-            append_number_at(text, place, id)?;
+    for position in 0..set.len() {
+        if let Some(id) = set.at(position) {
+            append_number_at(text, position, id)?;
         }
     }
     Ok(())
@@ -90,7 +90,7 @@ fn append_progress(text: &mut Vec<u8>, id: u64, progress: Progress) -> Result<()
     append_number(text, id)?;
     append_labelled(text, b": StateProbe match=", progress.matched)?;
     append_labelled(text, b" next=", progress.next)?;
-    append_where(text, progress.learner, b" learner")
+    append_if(text, progress.learner, b" learner")
 }
 
 fn append_labelled(text: &mut Vec<u8>, label: &[u8], number: u64) -> Result<(), NoMemory>
@@ -128,19 +128,19 @@ pub fn write_token_fault(text: &mut Vec<u8>, fault: TokenFault<'_>) -> Result<()
 }
 
 // Appends words and the token that they tell of, or nothing.
-fn append_both(text: &mut Vec<u8>, words: &[u8], token: &[u8]) -> Result<(), NoMemory>
-    ensures ok { OnOk result (text.new.items ≡ text.old.items ++ (words.now ++ token.now)) }
+fn append_both(text: &mut Vec<u8>, message: &[u8], token: &[u8]) -> Result<(), NoMemory>
+    ensures ok { OnOk result (text.new.items ≡ text.old.items ++ (message.now ++ token.now)) }
     ensures err { OnErr result (text.new.items ≡ text.old.items) }
 {
     let len = text.len();
-    let appended = append_parts(text, words, token);
+    let appended = append_parts(text, message, token);
     keep_whole(text, len, appended)
 }
 
-fn append_parts(text: &mut Vec<u8>, words: &[u8], token: &[u8]) -> Result<(), NoMemory>
-    ensures ok { OnOk result (text.new.items ≡ text.old.items ++ (words.now ++ token.now)) }
+fn append_parts(text: &mut Vec<u8>, message: &[u8], token: &[u8]) -> Result<(), NoMemory>
+    ensures ok { OnOk result (text.new.items ≡ text.old.items ++ (message.now ++ token.now)) }
     ensures extends { Extends text.old.items text.new.items }
 {
-    append(text, words)?;
+    append(text, message)?;
     append(text, token)
 }

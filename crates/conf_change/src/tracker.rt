@@ -3,24 +3,24 @@ ghost use Rattle.std.specs.Prelude.{◌≡◌, ℕ, ◌-◌, ◌^◌, min, true,
 ghost use Rattle.std.specs.Ordering.{nat_cmp};
 ghost use Rattle.std.specs.FinMap as finite;
 ghost use Rattle.quorum_sets.specs.Ids.{has, with_id, without_id, is_empty, difference_count};
-ghost use Rattle.quorum_sets.specs.Rising.{IsRising};
+ghost use Rattle.quorum_sets.specs.AscendingLists.{IsAscending};
 ghost use Rattle.conf_change.specs.Configuration.{is_member, is_joint, has_voter};
 ghost use Rattle.conf_change.specs.Change.{result_of};
 ghost use Rattle.conf_change.specs.Outcome.{after_leave};
-ghost use Rattle.conf_change.specs.Seat.{seat_in, is_member_seat};
-ghost use Rattle.conf_change.specs.TrackerEdits.{Applies, IsDue, Keeps, beginning, entry_of, progress_left_by_word, entries_of, progress_kept};
-ghost use Rattle.conf_change.specs.Changer.{IsSound, nobody, tracker_of};
+ghost use Rattle.conf_change.specs.Roles.{roles_in, has_member_role};
+ghost use Rattle.conf_change.specs.TrackerEdits.{Applies, HasEntries, Keeps, beginning, entry_of, progress_left_after, entries_of, progress_kept};
+ghost use Rattle.conf_change.specs.Changer.{IsSound, empty_tracker, tracker_of};
 ghost use Rattle.conf_change.specs.Acknowledgement.{with_progress};
 
 use crate::change::{Change, Kind};
 use crate::config::Config;
 use crate::edits;
 use crate::floor::Floor;
-use crate::last_words::{LastWord, last_words};
-use crate::members::{follow, progress_of, set_progress_of};
-use crate::places::Places;
+use crate::change_summary::{ChangeSummary, summarize};
+use crate::members::{update_member, progress_of, set_progress_of};
+use crate::positions::Positions;
 use crate::progress::Progress;
-use crate::seat::Seat;
+use crate::roles::Roles;
 use quorum_sets::{MemberSet, NoMemory, has_next, symdiff};
 use smallvec::SmallVec;
 use std::alloc::Global;
@@ -45,7 +45,7 @@ pub struct Tracker<S: MemberSet> {
 impl<S: MemberSet> Model for Tracker<S> {
     ghost use Rattle.std.specs.Prelude.{map};
     ghost use Rattle.std.specs.FinMap as finite;
-    ghost use Rattle.quorum_sets.specs.Rising.{IsRising};
+    ghost use Rattle.quorum_sets.specs.AscendingLists.{IsAscending};
     ghost use Rattle.conf_change.specs.TrackerState.{TrackerState, tracker_code};
 
     ghost Value = { TrackerState };
@@ -54,14 +54,14 @@ impl<S: MemberSet> Model for Tracker<S> {
 
     ghost view = { λ t. record { config = t.config; progress = finite.from_entries t.members.items; floor = t.floor } };
 
-    ghost invariant = { λ t. IsRising (map (λ m. m.0) t.members.items) };
+    ghost invariant = { λ t. IsAscending (map (λ m. m.0) t.members.items) };
 }
 
 impl<S: MemberSet> Tracker<S> {
     // Nobody is in it.
     #[inline(always)]
     pub(crate) fn new(alloc: Global, floor: Floor) -> Tracker<S>
-        ensures { result ≡ nobody floor }
+        ensures { result ≡ empty_tracker floor }
     {
         Tracker {
             config: Config::empty(alloc),
@@ -79,7 +79,7 @@ impl<S: MemberSet> Tracker<S> {
         config: Config<S>,
         members: SmallVec<(u64, Progress), 1>,
     ) -> Tracker<S>
-        requires { IsRising (map (λ m. m.0) members.items) }
+        requires { IsAscending (map (λ m. m.0) members.items) }
         ensures { result ≡ tracker_of floor config (finite.from_entries members.items) }
     {
         Tracker {
@@ -108,7 +108,7 @@ impl<S: MemberSet> Tracker<S> {
     #[inline(always)]
     pub(crate) fn take_config(&mut self) -> Config<S>
         ensures config { result ≡ self.old.config }
-        ensures left { self.new ≡ nobody self.old.floor }
+        ensures left { self.new ≡ empty_tracker self.old.floor }
     {
         self.members.clear();
         replace(&mut self.config, Config::empty(self.alloc))
@@ -129,10 +129,10 @@ impl<S: MemberSet> Tracker<S> {
     }
 
     /// The member at a place, in ascending order of the ids, with its progress.
-    pub fn member_at(&self, place: usize) -> Option<(u64, Progress)>
-        ensures { result ≡ slice_get (finite.entries self.now.progress) place }
+    pub fn member_at(&self, position: usize) -> Option<(u64, Progress)>
+        ensures { result ≡ slice_get (finite.entries self.now.progress) position }
     {
-        self.members.as_slice().get(place).copied()
+        self.members.as_slice().get(position).copied()
     }
 
     // The same tracker once more.
@@ -190,7 +190,7 @@ impl<S: MemberSet> Tracker<S> {
     {
         self.members.reserve(1)?;
         let id_is = edits::apply(&mut self.config, change)?;
-        let Ok(()) = follow(&mut self.members, change.id, id_is, next_index) else {
+        let Ok(()) = update_member(&mut self.members, change.id, id_is, next_index) else {
             unreachable!()
         };
         Ok(())
@@ -205,8 +205,8 @@ impl<S: MemberSet> Tracker<S> {
 
     // The tracker that nobody is in, with the same floor.
     #[inline(always)]
-    pub(crate) fn nobody(&self) -> Tracker<S>
-        ensures { result ≡ nobody self.now.floor }
+    pub(crate) fn emptied(&self) -> Tracker<S>
+        ensures { result ≡ empty_tracker self.now.floor }
     {
         Tracker::new(self.alloc, self.floor)
     }
@@ -227,7 +227,7 @@ impl<S: MemberSet> Tracker<S> {
         ensures { OnOk result (Applies next_index changes.now (beginning before.now (S.ids outgoing.now) auto_leave) self.new) }
     {
         if changes.len() > SHORT_LIST {
-            *self = before.after_last_words(
+            *self = before.after_summaries(
                 outgoing.try_clone()?,
                 auto_leave,
                 changes,
@@ -263,7 +263,7 @@ impl<S: MemberSet> Tracker<S> {
     }
 
     // The tracker with these outgoing voters and this flag, after a list of changes, by one walk over the last words.
-    fn after_last_words(
+    fn after_summaries(
         &self,
         outgoing: S,
         auto_leave: bool,
@@ -275,19 +275,19 @@ impl<S: MemberSet> Tracker<S> {
         ensures { IfOk result (Applies next_index changes.now (beginning self.now (S.ids outgoing) auto_leave)) }
     {
         let alloc = self.alloc;
-        let words = last_words(alloc, self.members.as_slice(), changes)?;
+        let summaries = summarize(alloc, self.members.as_slice(), changes)?;
         let mut incoming = S::empty(alloc);
         let mut learners = S::empty(alloc);
         let mut learners_next = S::empty(alloc);
-        let mut members = SmallVec::with_capacity(alloc, words.len())?;
-        let mut places = Places::default();
-        for word in words.as_slice() {
-            let seat = self.seat(&outgoing, word.id, &mut places).after(word.last);
-            put_where(&mut incoming, word.id, seat.incoming)?;
-            put_where(&mut learners, word.id, seat.learner)?;
-            put_where(&mut learners_next, word.id, seat.next)?;
-            let entry = self.entry_after(*word, seat, next_index, &mut places.members);
-            push_entry(&mut members, word.id, entry)?;
+        let mut members = SmallVec::with_capacity(alloc, summaries.len())?;
+        let mut positions = Positions::default();
+        for summary in summaries.as_slice() {
+            let roles = self.roles(&outgoing, summary.id, &mut positions).after(summary.last);
+            insert_if(&mut incoming, summary.id, roles.incoming)?;
+            insert_if(&mut learners, summary.id, roles.learner)?;
+            insert_if(&mut learners_next, summary.id, roles.next)?;
+            let entry = self.entry_after(*summary, roles, next_index, &mut positions.members);
+            push_entry(&mut members, summary.id, entry)?;
         }
         let config = Config {
             incoming,
@@ -300,14 +300,14 @@ impl<S: MemberSet> Tracker<S> {
     }
 
     // What an id is here, apart from the outgoing voters that are given.
-    fn seat(&self, outgoing: &S, id: u64, places: &mut Places) -> Seat
-        ensures { result ≡ seat_in (beginning self.now (S.ids outgoing.now) self.now.config.auto_leave).config id }
+    fn roles(&self, outgoing: &S, id: u64, positions: &mut Positions) -> Roles
+        ensures { result ≡ roles_in (beginning self.now (S.ids outgoing.now) self.now.config.auto_leave).config id }
     {
-        Seat {
-            incoming: has_next(&self.config.incoming, &mut places.incoming, id),
-            outgoing: has_next(outgoing, &mut places.outgoing, id),
-            learner: has_next(&self.config.learners, &mut places.learners, id),
-            next: has_next(&self.config.learners_next, &mut places.next, id),
+        Roles {
+            incoming: has_next(&self.config.incoming, &mut positions.incoming, id),
+            outgoing: has_next(outgoing, &mut positions.outgoing, id),
+            learner: has_next(&self.config.learners, &mut positions.learners, id),
+            next: has_next(&self.config.learners_next, &mut positions.next, id),
         }
     }
 
@@ -315,33 +315,33 @@ impl<S: MemberSet> Tracker<S> {
     // out, or begins afresh, and anybody else has none.
     fn entry_after(
         &self,
-        word: LastWord,
-        seat: Seat,
+        summary: ChangeSummary,
+        roles: Roles,
         next_index: u64,
-        place: &mut usize,
+        position: &mut usize,
     ) -> Option<Progress>
-        ensures { result ≡ entry_of next_index (is_member_seat seat) seat.learner (progress_left_by_word word.removes seat.outgoing (finite.get self.now.progress word.id)) }
+        ensures { result ≡ entry_of next_index (has_member_role roles) roles.learner (progress_left_after summary.removes roles.outgoing (finite.get self.now.progress summary.id)) }
     {
-        if !seat.is_member() {
+        if !roles.is_member() {
             return None;
         }
         let fresh = Progress::fresh(next_index);
-        let known = if word.removes && !seat.outgoing {
+        let known = if summary.removes && !roles.outgoing {
             fresh
         } else {
-            self.next_progress(place, word.id).unwrap_or(fresh)
+            self.next_progress(position, summary.id).unwrap_or(fresh)
         };
-        let learner = seat.learner;
+        let learner = roles.learner;
         Some(Progress { learner, ..known })
     }
 
     // The progress of the id, which is looked for first at the place; None where it is no member.
-    fn next_progress(&self, place: &mut usize, id: u64) -> Option<Progress>
+    fn next_progress(&self, position: &mut usize, id: u64) -> Option<Progress>
         ensures { result ≡ finite.get self.now.progress id }
     {
-        match self.members.as_slice().get(*place).copied() {
+        match self.members.as_slice().get(*position).copied() {
             Some((found, progress)) if found == id => {
-                *place = place.saturating_add(1);
+                *position = position.saturating_add(1);
                 Some(progress)
             }
             _ => self.progress(id),
@@ -365,15 +365,15 @@ fn make_each<S: MemberSet>(
     changes: &[Change],
     next_index: u64,
 ) -> Result<(), NoMemory>
-    requires rising { IsRising (map (λ m. m.0) members.old.items) }
-    requires due { IsDue next_index config.old (finite.from_entries members.old.items) }
-    ensures rising { IsRising (map (λ m. m.0) members.new.items) }
+    requires ascends { IsAscending (map (λ m. m.0) members.old.items) }
+    requires expected { HasEntries next_index config.old (finite.from_entries members.old.items) }
+    ensures ascends { IsAscending (map (λ m. m.0) members.new.items) }
     ensures made { OnOk result ((floor : Floor) → Applies next_index changes.now
         (tracker_of floor config.old (finite.from_entries members.old.items)) (tracker_of floor config.new (finite.from_entries members.new.items))) }
 {
     for change in changes {
         let id_is = edits::apply(config, *change)?;
-        follow(members, change.id, id_is, next_index)?;
+        update_member(members, change.id, id_is, next_index)?;
     }
     Ok(())
 }
@@ -384,8 +384,8 @@ fn copy_members(
     others: &[(u64, Progress)],
     more: usize,
 ) -> Result<(), NoMemory>
-    requires { IsRising (map (λ m. m.0) others.now) }
-    ensures rising { IsRising (map (λ m. m.0) members.new.items) }
+    requires { IsAscending (map (λ m. m.0) others.now) }
+    ensures ascends { IsAscending (map (λ m. m.0) members.new.items) }
     ensures same { OnOk result (members.new.items ≡ others.now) }
 {
     members.clear();
@@ -400,15 +400,15 @@ fn keep_members<S: MemberSet>(
     config: &Config<S>,
     others: &[(u64, Progress)],
 ) -> Result<(), NoMemory>
-    requires { IsRising (map (λ m. m.0) others.now) }
-    ensures rising { IsRising (map (λ m. m.0) members.new.items) }
+    requires { IsAscending (map (λ m. m.0) others.now) }
+    ensures ascends { IsAscending (map (λ m. m.0) members.new.items) }
     ensures kept { OnOk result ((q : ℕ) → finite.get (finite.from_entries {R = nat_cmp} members.new.items) q ≡ progress_kept (is_member config.now q) (has config.now.learners q) (finite.get (finite.from_entries {R = nat_cmp} others.now) q)) }
 {
     members.clear();
     members.reserve(others.len())?;
-    let mut places = Places::default();
+    let mut positions = Positions::default();
     for member in others {
-        let entry = kept(config, member.0, member.1, &mut places);
+        let entry = kept(config, member.0, member.1, &mut positions);
         if push_entry(members, member.0, entry).is_err() {
             members.clear();
             return Err(NoMemory);
@@ -433,13 +433,13 @@ fn kept<S: MemberSet>(
     config: &Config<S>,
     id: u64,
     progress: Progress,
-    places: &mut Places,
+    positions: &mut Positions,
 ) -> Option<Progress>
     ensures { result ≡ progress_kept (is_member config.now id) (has config.now.learners id) (Some progress) }
 {
-    let learner = has_next(&config.learners, &mut places.learners, id);
-    let incoming = has_next(&config.incoming, &mut places.incoming, id);
-    if learner || incoming || has_next(&config.outgoing, &mut places.outgoing, id) {
+    let learner = has_next(&config.learners, &mut positions.learners, id);
+    let incoming = has_next(&config.incoming, &mut positions.incoming, id);
+    if learner || incoming || has_next(&config.outgoing, &mut positions.outgoing, id) {
         Some(Progress {
             learner,
             ..progress
@@ -450,7 +450,7 @@ fn kept<S: MemberSet>(
 }
 
 // Puts an id that is there into a set.
-fn put_where<S: MemberSet>(set: &mut S, id: u64, there: bool) -> Result<(), NoMemory>
+fn insert_if<S: MemberSet>(set: &mut S, id: u64, there: bool) -> Result<(), NoMemory>
     ensures { OnOk result (S.ids set.new ≡ (if there then with_id (S.ids set.old) id else S.ids set.old)) }
 {
     if there {

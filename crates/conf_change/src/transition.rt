@@ -1,6 +1,6 @@
 //! Which of the three changes a list of changes takes.
 ghost use Rattle.std.specs.Prelude.{◌≡◌};
-ghost use Rattle.conf_change.specs.Transition.{taken_of};
+ghost use Rattle.conf_change.specs.Transition.{step_kind_of};
 
 use crate::change::Change;
 use crate::step::StepKind;
@@ -20,7 +20,7 @@ pub enum Transition {
 /// enters, with auto-leave unless it is Explicit; else it is simple (etcd's `raftpb.ConfChangeV2`). Each change of the
 /// list counts, also one of the id 0, an update or a repeated one.
 pub fn taken(transition: Transition, changes: &[Change]) -> StepKind
-    ensures { result ≡ taken_of transition changes.now }
+    ensures { result ≡ step_kind_of transition changes.now }
 {
     match (transition, changes.len()) {
         (Transition::Auto, 0) => StepKind::Leave,

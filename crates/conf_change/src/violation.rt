@@ -69,8 +69,8 @@ fn violation_by<S: MemberSet>(config: &Config<S>, invariant: Invariant) -> Optio
 fn first_outside<S: MemberSet>(ids: &S, other: &S) -> Option<u64>
     ensures { result ≡ find (λ id. not (has (S.ids other.now) id)) (ascending (S.ids ids.now)) }
 {
-    for place in 0..ids.len() {
-        if let Some(id) = ids.at(place) {
+    for position in 0..ids.len() {
+        if let Some(id) = ids.at(position) {
             if !other.contains(id) {
                 return Some(id);
             }
@@ -83,8 +83,8 @@ fn first_outside<S: MemberSet>(ids: &S, other: &S) -> Option<u64>
 fn first_inside<S: MemberSet>(ids: &S, other: &S) -> Option<u64>
     ensures { result ≡ find (λ id. has (S.ids other.now) id) (ascending (S.ids ids.now)) }
 {
-    for place in 0..ids.len() {
-        if let Some(id) = ids.at(place) {
+    for position in 0..ids.len() {
+        if let Some(id) = ids.at(position) {
             if other.contains(id) {
                 return Some(id);
             }
@@ -97,8 +97,8 @@ fn first_inside<S: MemberSet>(ids: &S, other: &S) -> Option<u64>
 fn first_in_either<S: MemberSet>(ids: &S, first: &S, second: &S) -> Option<u64>
     ensures { result ≡ find (λ id. has (S.ids first.now) id || has (S.ids second.now) id) (ascending (S.ids ids.now)) }
 {
-    for place in 0..ids.len() {
-        if let Some(id) = ids.at(place) {
+    for position in 0..ids.len() {
+        if let Some(id) = ids.at(position) {
             if first.contains(id) || second.contains(id) {
                 return Some(id);
             }

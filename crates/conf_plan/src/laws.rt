@@ -3,10 +3,10 @@ ghost use Rattle.std.specs.Prelude.{◌≡◌, ◌≤◌, ◌↔◌, ◌⊎◌, 
 ghost use Rattle.std.specs.List.{join_with_byte};
 ghost use Rattle.conf_change.specs.Configuration.{Configuration};
 ghost use Rattle.conf_change.specs.Changer.{ChangerState, IsSound, Accepts};
-ghost use Rattle.conf_change.specs.ChangeList.{StandsFor};
+ghost use Rattle.conf_change.specs.ChangeList.{Denotes};
 ghost use Rattle.conf_change.specs.Progress.{keeps_progress};
 ghost use Rattle.conf_change.specs.Step.{changes_of};
-ghost use Rattle.conf_change.specs.Transition.{steps_taken};
+ghost use Rattle.conf_change.specs.Transition.{steps_for};
 ghost use Rattle.conf_change.specs.declared.change.Change.{Change};
 ghost use Rattle.conf_change.specs.declared.step.Step.{Step};
 ghost use Rattle.conf_change.specs.declared.transition.Transition.{Transition};
@@ -73,11 +73,11 @@ pub fn undo_of_run()
 /// After any lists of changes, each taken by its transition, the plan leads back in at most four steps, and in at most three
 /// after one list.
 pub fn undo_of_changes()
-    ensures back { (before after : Configuration) (lists : List (Transition × List Change)) → IsValidWithVoter before → IsRun before (steps_taken lists) after
+    ensures back { (before after : Configuration) (lists : List (Transition × List Change)) → IsValidWithVoter before → IsRun before (steps_for lists) after
         → IsRun after (planned after before) before }
-    ensures at_most_four { (before after : Configuration) (lists : List (Transition × List Change)) → IsValidWithVoter before → IsRun before (steps_taken lists) after
+    ensures at_most_four { (before after : Configuration) (lists : List (Transition × List Change)) → IsValidWithVoter before → IsRun before (steps_for lists) after
         → length (planned after before) ≤ 4 }
-    ensures at_most_three { (before after : Configuration) (lists : List (Transition × List Change)) → IsValidWithVoter before → IsRun before (steps_taken lists) after
+    ensures at_most_three { (before after : Configuration) (lists : List (Transition × List Change)) → IsValidWithVoter before → IsRun before (steps_for lists) after
         → length lists ≡ 1 → length (planned after before) ≤ 3 }
 {}
 
@@ -98,7 +98,7 @@ pub fn one_plan_per_text()
     ensures each { (text : List ℕ) → ((steps : List Step) × StandsForPlan text steps) ⊎ ((fault : PlanTextFault) × HasFault text fault) }
     ensures one { (text : List ℕ) (a b : List Step) → StandsForPlan text a → StandsForPlan text b → a ≡ b }
     ensures printed { (steps : List Step) → IsPlan steps → StandsForPlan (plan_text steps) steps }
-    ensures changes { (step : Step) → HasWordIds step → StandsFor (join_with_byte 32 (map change_text (changes_of step))) (changes_of step) }
+    ensures changes { (step : Step) → HasWordIds step → Denotes (join_with_byte 32 (map change_text (changes_of step))) (changes_of step) }
 {}
 
 /// Plans are equal, by `==`, exactly where they are the same.

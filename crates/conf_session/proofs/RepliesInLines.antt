@@ -8,7 +8,7 @@ use Rattle.quorum_sets.specs.Committed.{joint_committed_index}
 use Rattle.quorum_sets.specs.Ids.{ascending, union}
 use Rattle.quorum_sets.specs.Votes.{joint_vote_result}
 use Rattle.dd_file.specs.DirectiveText.{DirectiveText}
-use Rattle.dd_file.specs.Words.{ArgumentText, is_key, is_key_byte}
+use Rattle.dd_file.specs.DirectiveLine.{ArgumentText, is_key, is_key_byte}
 use Rattle.conf_change.specs.ChangerState.{ChangerState}
 use Rattle.conf_change.specs.Acknowledgement.{ack_answer}
 use Rattle.conf_change.specs.Configuration.{Configuration}
@@ -18,7 +18,7 @@ use Rattle.conf_change.specs.ChangeList.{BadToken, unknown_token, unknown_input,
 use Rattle.conf_change.specs.ConfState.{ConfStateLists, lists_of, restored}
 use Rattle.conf_change.specs.ConfStateLine.{conf_state_in, conf_state_text}
 use Rattle.conf_change.specs.Text.{refused_text, progress_text, bad_token_text}
-use Rattle.conf_change.specs.Transition.{step_taken}
+use Rattle.conf_change.specs.Transition.{step_for}
 use Rattle.conf_change.specs.Changer.{begun_with, changer_after}
 use Rattle.conf_change.specs.declared.acknowledgement.AckFault.{AckFault}
 use Rattle.conf_change.specs.declared.acknowledgement.AckFault.TheVariants.{NotMember, IndexTooLarge}
@@ -39,7 +39,7 @@ use Rattle.conf_session.specs.Values.{Values, values_in, values_read, read_argum
 use Rattle.conf_session.specs.ReplyTexts.{line}
 use Rattle.conf_session.specs.Commands.{row_of, after_step, after_restored, after_planned, after_ack, committed_by, if_read, reply_of, reply_to}
 use Rattle.conf_session.specs.ReplyLines.{is_line_byte, is_reply_line, IsReplyText}
-use Rattle.dd_file.specs.Words.{has_keys}
+use Rattle.dd_file.specs.DirectiveLine.{has_keys}
 use Rattle.conf_session.specs.declared.parameter.Parameter.{Parameter}
 use Rattle.conf_session.specs.declared.parameter.Parameter.TheVariants.{AutoLeave, Transition, Steps, Id, Index, Incoming, Outgoing, Indexes, Votes}
 use Rattle.conf_session.specs.declared.input.InputKind.{InputKind}
@@ -207,7 +207,7 @@ command-in_lines : (command : Command) (session : SessionState) (input : Input) 
 command-in_lines Simple session input values = step-in_lines (changer_after session.changer (SimpleStep input.changes))
 command-in_lines EnterJoint session input values = step-in_lines (changer_after session.changer (EnterStep values.auto_leave input.changes))
 command-in_lines LeaveJoint session input values = step-in_lines (changer_after session.changer LeaveStep)
-command-in_lines ConfChange session input values = step-in_lines (changer_after session.changer (step_taken values.transition input.changes))
+command-in_lines ConfChange session input values = step-in_lines (changer_after session.changer (step_for values.transition input.changes))
 command-in_lines ConfState session input values = let saved = lists_of session.changer.tracker.config in replied_line-in_lines (conf_state_text saved) (conf_state-in_lines saved)
 command-in_lines Restore session input values = restored-in_lines session.changer (restored input.saved)
 command-in_lines Undo session input values = undo-in_lines session values.steps (undo_plan_of session values.steps)

@@ -10,7 +10,7 @@ is_comma byte = byte == 44
 -- the ids that the pieces are, if each is one
 abbrev pub ids_in_pieces : List (List ℕ) → Option (List ℕ)
 ids_in_pieces [] = Some []
-ids_in_pieces (piece ∷ pieces) = and_number (id_in piece) (ids_in_pieces pieces)
+ids_in_pieces (full_line ∷ full_lines) = and_number (id_in full_line) (ids_in_pieces full_lines)
 
 -- the ids of a text with one comma between, if each piece is one; an empty piece is none
 abbrev pub ids_listed : List ℕ → Option (List ℕ)

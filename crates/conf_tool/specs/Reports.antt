@@ -1,6 +1,6 @@
 -- What the modes for scripts write of each item.
 use Rattle.std.specs.Prelude.{ℕ, Bool, false, not, List, [], ◌∷◌, ◌++◌, flat_map, count_by, codes, decimal, bytes_eq, if◌then◌else◌}
-use Rattle.ascii_text.specs.Lines.{pieces, without_last}
+use Rattle.ascii_text.specs.Lines.{full_lines, without_last}
 use Rattle.dd_file.specs.DirectiveText.{DirectiveText}
 use Rattle.dd_file.specs.Rewritten.{Entry, entry, entry_text, is_directive}
 use Rattle.dd_file.specs.declared.item.Item.{Item}
@@ -28,7 +28,7 @@ answered_entries session (item ∷ items) = entry item (found_for session item) 
 
 -- the items, each with what is found, as they are written again
 abbrev pub obeyed_text : SessionState → List Item → List ℕ
-obeyed_text session items = flat_map (λ (entry : Entry). entry_text entry.item entry.found) (answered_entries session items)
+obeyed_text session items = flat_map (λ (entry : Entry). entry_text entry.item entry.output) (answered_entries session items)
 
 -- it is a directive whose expected text is another
 abbrev pub expects_other : List ℕ → Item → Bool
@@ -38,11 +38,11 @@ expects_other found (Directive directive) = not (bytes_eq found directive.expect
 
 -- an entry differs: its directive expects another text
 abbrev pub differs : Entry → Bool
-differs entry = expects_other entry.found entry.item
+differs entry = expects_other entry.output entry.item
 
 -- each line of a text behind a sign
 abbrev pub marked : List ℕ → List ℕ → List ℕ
-marked sign text = flat_map (λ piece. line (sign ++ without_last 10 piece)) (pieces text)
+marked sign text = flat_map (λ full_line. line (sign ++ without_last 10 full_line)) (full_lines text)
 
 -- a directive's line number and command, what it expects and what was found
 abbrev pub difference_text : List ℕ → DirectiveText → List ℕ
@@ -57,7 +57,7 @@ report_of found (Directive directive) = if not (bytes_eq found directive.expecte
 
 -- the report on an entry: nothing, unless it differs
 abbrev pub report : Entry → List ℕ
-report entry = report_of entry.found entry.item
+report entry = report_of entry.output entry.item
 
 -- how many directives there are, and how many differ
 abbrev pub counts_line : ℕ → ℕ → List ℕ

@@ -4,7 +4,7 @@ ghost use Rattle.std.specs.List.{slice_split};
 ghost use Rattle.conf_session.specs.Parameter.{id_in};
 ghost use Rattle.conf_tool.specs.IdList.{is_comma, ids_listed};
 
-use ascii_text::cut::place_of;
+use ascii_text::position::position_of;
 use ascii_text::number::read_number;
 use quorum_sets::NoMemory;
 use std::alloc::Global;
@@ -16,8 +16,8 @@ pub(crate) fn ids_listed(alloc: Global, text: &[u8]) -> Result<Option<Vec<u64>>,
     let mut ids = Vec::new(alloc);
     let mut rest = text;
     loop {
-        let (piece, behind) = first_piece(rest);
-        let Some(id) = read_id(piece) else {
+        let (full_line, behind) = first_piece(rest);
+        let Some(id) = read_id(full_line) else {
             return Ok(None);
         };
         ids.push(id)?;
@@ -34,7 +34,7 @@ fn first_piece(text: &[u8]) -> (&[u8], &[u8])
     ensures more { 0 < length result.1.now → slice_split is_comma text.now ≡ result.0.now ∷ slice_split is_comma (drop 1 result.1.now) }
     ensures within { length result.1.now ≤ length text.now }
 {
-    text.split_at(place_of(text, b','))
+    text.split_at(position_of(text, b','))
 }
 
 // The id that a text is.

@@ -1,25 +1,25 @@
 -- What calls that read or write one after another say together.
 use Rattle.std.specs.Prelude.{◌≡◌, ℕ, true, ◌⊎◌, List, ◌++◌, Option}
 use Rattle.std.specs.Io.KnownBytes.{Appends, IsAtEnd}
-use Rattle.dd_file.specs.Device.{AppendsPart, LosesFront}
+use Rattle.dd_file.specs.Device.{AppendsPart, LosesPrefix}
 use Rattle.dd_file.specs.ReaderState.{ReaderState}
 use Rattle.dd_file.specs.RewriterState.{Continues, BreaksOff}
 use Rattle.dd_file.specs.Answer.{Agrees}
 
 -- what two calls took is taken at once
 abbrev pub TakenInTurn : Type 0
-TakenInTurn = (before between after : Option (List ℕ)) → LosesFront before between → LosesFront between after → LosesFront before after
+TakenInTurn = (before between after : Option (List ℕ)) → LosesPrefix before between → LosesPrefix between after → LosesPrefix before after
 
 -- An input that agrees with what two calls read agrees with what the first one read, and what is held then, with what
 -- comes behind it, agrees with what the second one read.
 pub record AgreesInTurn (old mid : ReaderState) (before between after : Option (List ℕ)) (input more : List ℕ) : Type 0 where
-  pub behind : List ℕ
-  pub first : Agrees old before between input behind
-  pub second : Agrees mid between after (mid.held ++ behind) more
+  pub suffix : List ℕ
+  pub first : Agrees old before between input suffix
+  pub second : Agrees mid between after (mid.buffered ++ suffix) more
 
 -- what two calls read agrees in turn
 abbrev pub ReadInTurn : Type 0
-ReadInTurn = (old mid : ReaderState) (before between after : Option (List ℕ)) (input more : List ℕ) → LosesFront before between → LosesFront between after →
+ReadInTurn = (old mid : ReaderState) (before between after : Option (List ℕ)) (input more : List ℕ) → LosesPrefix before between → LosesPrefix between after →
     (mid.is_ended ≡ true → (old.is_ended ≡ true) ⊎ IsAtEnd between) → Agrees old before after input more → AgreesInTurn old mid before between after input more
 
 -- bytes that are appended one part after another

@@ -4,9 +4,9 @@ use Rattle.std.specs.List.{list_all, list_any}
 use Rattle.ascii_text.specs.Lines.{newline, lines_of}
 use Rattle.ascii_text.specs.WhiteSpace.{is_blank, trimmed, without_trailing_space}
 use Rattle.dd_file.specs.DirectiveText.{DirectiveText}
-use Rattle.dd_file.specs.Words.{CommandText, command_of, has_keys}
-use Rattle.dd_file.specs.Script.{Front, front, first_of, directive, is_comment, is_continued, is_separator}
-use Rattle.dd_file.specs.Place.{Place, longest_input}
+use Rattle.dd_file.specs.DirectiveLine.{CommandText, command_of, has_keys}
+use Rattle.dd_file.specs.Script.{FirstItem, first_item, first_of, directive, is_comment, is_continued, is_separator}
+use Rattle.dd_file.specs.Position.{Position, longest_input}
 use Rattle.dd_file.specs.Reading.{followed, next_item, next_line, items_from, lines_from, script_of}
 use Rattle.dd_file.specs.Rewritten.{Entry, entry, entry_text, rewritten_text, is_output, is_directive, raw_lines_of}
 use Rattle.dd_file.specs.declared.item.Item.{Item}
@@ -16,11 +16,11 @@ use Rattle.dd_file.specs.declared.fault.FileFault.TheVariants.{Read, NoMemory, B
 
 -- What is read from a place on is told by what comes next: nothing, something and what is read behind it, or a fault.
 abbrev pub ItemsByNext : Type 0
-ItemsByNext = (place : Place) (bytes : List ℕ) → items_from place bytes ≡ followed items_from (next_item longest_input place bytes)
+ItemsByNext = (position : Position) (bytes : List ℕ) → items_from position bytes ≡ followed items_from (next_item longest_input position bytes)
 
 -- the same of lines
 abbrev pub LinesByNext : Type 0
-LinesByNext = (place : Place) (bytes : List ℕ) → lines_from place bytes ≡ followed lines_from (next_line longest_input place bytes)
+LinesByNext = (position : Position) (bytes : List ℕ) → lines_from position bytes ≡ followed lines_from (next_line longest_input position bytes)
 
 -- bytes without a newline
 abbrev pub is_line : List ℕ → Bool
@@ -31,35 +31,35 @@ abbrev pub SameButEnds : List (List ℕ) → List (List ℕ) → Type 0
 SameButEnds lines others = map without_trailing_space lines ≡ map without_trailing_space others
 
 -- the directive again, from line n on and with this output expected
-pub record IsSameDirective (n : ℕ) (found : List ℕ) (directive again : DirectiveText) : Type 0 where
+pub record IsSameDirective (n : ℕ) (output : List ℕ) (directive again : DirectiveText) : Type 0 where
   pub line : again.line ≡ n
   pub command : again.command ≡ directive.command
   pub arguments : again.arguments ≡ directive.arguments
   pub input : SameButEnds (lines_of again.input) (lines_of directive.input)
-  pub expected : again.expected ≡ found
+  pub expected : again.expected ≡ output
   pub raw_lines : SameButEnds again.raw_lines directive.raw_lines
 
 -- the item again, from line n on, a directive with this output expected
 abbrev pub IsSameItem : ℕ → List ℕ → Item → Item → Type 0
-IsSameItem n found (Comment lines) again = (others : List (List ℕ)) × (again ≡ Comment others) × SameButEnds others lines
-IsSameItem n found (Blank lines) again = (others : List (List ℕ)) × (again ≡ Blank others) × SameButEnds others lines
-IsSameItem n found (Directive directive) again = (other : DirectiveText) × (again ≡ Directive other) × IsSameDirective n found directive other
+IsSameItem n output (Comment lines) again = (others : List (List ℕ)) × (again ≡ Comment others) × SameButEnds others lines
+IsSameItem n output (Blank lines) again = (others : List (List ℕ)) × (again ≡ Blank others) × SameButEnds others lines
+IsSameItem n output (Directive directive) again = (other : DirectiveText) × (again ≡ Directive other) × IsSameDirective n output directive other
 
 -- An item of a script, written with an output that was found, is read again as that item, whatever lines follow, and
 -- leaves those lines.
 abbrev pub WrittenItem : Type 0
 WrittenItem =
-    (n m count : ℕ) (is_ended : Bool) (lines more : List (List ℕ)) (item : Item) (found : List ℕ) →
-    list_all is_line lines ≡ true → is_output found ≡ true → first_of n lines ≡ Some (front (Ok item) count is_ended) →
-    (again : Item) × (first_of m (lines_of (entry_text item found) ++ more) ≡ Some (front (Ok again) (length (lines_of (entry_text item found))) true)) × IsSameItem m found item again
+    (n m count : ℕ) (is_ended : Bool) (lines more : List (List ℕ)) (item : Item) (output : List ℕ) →
+    list_all is_line lines ≡ true → is_output output ≡ true → first_of n lines ≡ Some (first_item (Ok item) count is_ended) →
+    (again : Item) × (first_of m (lines_of (entry_text item output) ++ more) ≡ Some (first_item (Ok again) (length (lines_of (entry_text item output))) true)) × IsSameItem m output item again
 
 -- The entries are read again item by item, each with what was found as what is expected. A blank of one empty line at the
 -- end may be gone.
 pub data AreReadAgain : List Entry → List Item → Type 0 where
   AreOver : AreReadAgain [] []
-  LastIsGone : (found : List ℕ) → AreReadAgain (entry (Blank ([] ∷ [])) found ∷ []) []
-  ReadAgain : (n : ℕ) (item again : Item) (found : List ℕ) (entries : List Entry) (items : List Item) →
-      IsSameItem n found item again → AreReadAgain entries items → AreReadAgain (entry item found ∷ entries) (again ∷ items)
+  LastIsRemoved : (output : List ℕ) → AreReadAgain (entry (Blank ([] ∷ [])) output ∷ []) []
+  ReadAgain : (n : ℕ) (item again : Item) (output : List ℕ) (entries : List Entry) (items : List Item) →
+      IsSameItem n output item again → AreReadAgain entries items → AreReadAgain (entry item output ∷ entries) (again ∷ items)
 
 -- the last item is a blank of several lines
 abbrev pub ends_in_long_blank : List Item → Bool
@@ -76,7 +76,7 @@ pub record IsGiven (item : Item) : Type 0 where
   pub are_lines : list_all is_line lines ≡ true
   pub count : ℕ
   pub is_ended : Bool
-  pub first : first_of number lines ≡ Some (front (Ok item) count is_ended)
+  pub first : first_of number lines ≡ Some (first_item (Ok item) count is_ended)
 
 -- items that the grammar gives
 abbrev pub AreGiven : List Item → Type 0
@@ -100,7 +100,7 @@ abbrev pub WrittenScript : Type 0
 WrittenScript =
     (entries : List Entry) →
     let items = map (λ entry. entry.item) entries in
-    AreGiven items → list_all (λ entry. is_output entry.found) entries ≡ true → ends_in_long_blank items ≡ false →
+    AreGiven items → list_all (λ entry. is_output entry.output) entries ≡ true → ends_in_long_blank items ≡ false →
     length (rewritten_text entries) ≤ longest_input →
     let again = script_of (rewritten_text entries) in (again.fault ≡ None) × AreReadAgain entries again.items
 
@@ -122,7 +122,7 @@ has_separator count (Err fault) = false
 -- The lines from number n on are complete: they are items without fault, and each directive has its separator.
 pub data IsComplete : ℕ → List (List ℕ) → Type 0 where
   Done : (n : ℕ) → IsComplete n []
-  More : (n : ℕ) (lines : List (List ℕ)) (item : Front) → first_of n lines ≡ Some item → has_separator item.count item.found ≡ true →
+  More : (n : ℕ) (lines : List (List ℕ)) (item : FirstItem) → first_of n lines ≡ Some item → has_separator item.count item.result ≡ true →
       IsComplete (n + item.count) (drop item.count lines) → IsComplete n lines
 
 -- complete, told by what the lines begin with: nothing, an item with its separator before complete lines, or a fault
@@ -131,9 +131,9 @@ IsCompleteWith n lines count (Ok item) = (has_separator count (Ok item) ≡ true
 IsCompleteWith n lines count (Err fault) = ⊥
 
 -- the same of what lines begin with, if there are any
-abbrev pub IsCompleteBy : ℕ → List (List ℕ) → Option Front → Type 0
+abbrev pub IsCompleteBy : ℕ → List (List ℕ) → Option FirstItem → Type 0
 IsCompleteBy n lines None = ⊤
-IsCompleteBy n lines (Some item) = IsCompleteWith n lines item.count item.found
+IsCompleteBy n lines (Some item) = IsCompleteWith n lines item.count item.result
 
 -- whether lines are complete is given by what they begin with
 abbrev pub CompleteByFirst : Type 0

@@ -15,7 +15,7 @@ ends_of start (line ∷ lines) = (start + length line) ∷ ends_of (start + leng
 -- a text has these lines, each with a newline, and they end at these places
 pub record LieIn (text ends : List ℕ) (lines : List (List ℕ)) : Type 0 where
   pub whole : text ≡ text_of lines
-  pub places : ends ≡ ends_of 0 lines
+  pub positions : ends ≡ ends_of 0 lines
 
 -- the lines that end at these places have the whole text
 abbrev pub FillText : List ℕ → List ℕ → Type 0

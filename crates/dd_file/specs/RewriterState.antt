@@ -6,7 +6,7 @@ use Rattle.dd_file.specs.Device.{AppendsPart}
 use Rattle.dd_file.specs.Rewritten.{without_double_end, newlines_at_end}
 use Rattle.dd_file.specs.declared.fault.WriteFault.{WriteFault}
 use Rattle.dd_file.specs.declared.stage.Stage.{Stage}
-use Rattle.dd_file.specs.declared.stage.Stage.TheVariants.{Ready, FoundWanted, Over, Failed}
+use Rattle.dd_file.specs.declared.stage.Stage.TheVariants.{Ready, NeedsOutput, Over, Failed}
 
 -- its stage, and how many newlines end the text so far: 0, 1, or 2 for two and more
 pub record RewriterState : Type 0 where
@@ -18,8 +18,8 @@ abbrev pub CanKeep : RewriterState → Type 0
 CanKeep state = (state.stage ≡ Ready) ⊎ (state.stage ≡ Failed)
 
 -- an output is wanted
-abbrev pub WantsFound : RewriterState → Type 0
-WantsFound state = (state.stage ≡ FoundWanted) ⊎ (state.stage ≡ Failed)
+abbrev pub IsOutputNext : RewriterState → Type 0
+IsOutputNext state = (state.stage ≡ NeedsOutput) ⊎ (state.stage ≡ Failed)
 
 -- What the writer gained since the start is a front part of the whole script, whatever follows this text in it.
 abbrev pub HasBegun : Option (List ℕ) → Option (List ℕ) → List ℕ → Type 0

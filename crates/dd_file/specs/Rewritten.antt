@@ -1,7 +1,7 @@
 -- A script as it is written, with what was found in the place of what was expected.
 use Rattle.std.specs.Prelude.{ℕ, Bool, true, false, not, ◌&&◌, ◌||◌, List, [], ◌∷◌, ◌++◌, ◌==◌, nat_eq, length, flat_map, if◌then◌else◌, codes}
 use Rattle.std.specs.List.{list_all, list_any, ends_with}
-use Rattle.ascii_text.specs.Lines.{newline, pieces, lines_of, text_of, without_last}
+use Rattle.ascii_text.specs.Lines.{newline, full_lines, lines_of, text_of, without_last}
 use Rattle.ascii_text.specs.WhiteSpace.{is_blank}
 use Rattle.dd_file.specs.Script.{is_dashes}
 use Rattle.dd_file.specs.declared.item.Item.{Item}
@@ -42,8 +42,8 @@ closing true = (dashes ++ dashes) ++ newline
 closing false = newline
 
 -- an output behind its separator
-abbrev pub found_text : List ℕ → List ℕ
-found_text found = (opening (has_blank_line found) ++ found) ++ closing (has_blank_line found)
+abbrev pub output_text : List ℕ → List ℕ
+output_text output = (opening (has_blank_line output) ++ output) ++ closing (has_blank_line output)
 
 -- a line that can stand in an output: not four dashes, and no carriage return at its end
 abbrev pub is_output_line : List ℕ → Bool
@@ -51,11 +51,11 @@ is_output_line line = not (is_dashes line || ends_with nat_eq line (13 ∷ []))
 
 -- A text that can be written as an output: whole lines, none of four dashes and none that ends in a carriage return.
 abbrev pub is_output : List ℕ → Bool
-is_output text = (length text == 0 || ends_with nat_eq text newline) && list_all (λ piece. is_output_line (without_last 10 piece)) (pieces text)
+is_output text = (length text == 0 || ends_with nat_eq text newline) && list_all (λ full_line. is_output_line (without_last 10 full_line)) (full_lines text)
 
 -- an item with the output that was found, which only a directive has
 abbrev pub entry_text : Item → List ℕ → List ℕ
-entry_text item found = kept_text item ++ (if is_directive item then found_text found else [])
+entry_text item output = kept_text item ++ (if is_directive item then output_text output else [])
 
 -- the text without its last newline where it ends in two
 abbrev pub without_double_end : List ℕ → List ℕ
@@ -64,15 +64,15 @@ without_double_end text = if ends_with nat_eq text (newline ++ newline) then wit
 -- an item, and what was found where it is a directive
 pub record Entry : Type 0 where
   pub item : Item
-  pub found : List ℕ
+  pub output : List ℕ
 
 -- an entry by its parts
 abbrev pub entry : Item → List ℕ → Entry
-entry item found = record { item = item; found = found }
+entry item output = record { item = item; output = output }
 
 -- a script that is written again
 abbrev pub rewritten_text : List Entry → List ℕ
-rewritten_text entries = without_double_end (flat_map (λ entry. entry_text entry.item entry.found) entries)
+rewritten_text entries = without_double_end (flat_map (λ entry. entry_text entry.item entry.output) entries)
 
 -- how many newlines end a text: 0, 1, or 2 for two and more
 abbrev pub newlines_at_end : List ℕ → ℕ

@@ -7,7 +7,7 @@ ghost use Rattle.dd_file.specs.Device.{AppendsPart, is_failed_write};
 use crate::device::Sink;
 use crate::fault::{DeviceFault, WriteFault};
 use crate::room::append;
-use crate::writing::write_front;
+use crate::writing::write_prefix;
 use std::alloc::{AllocError, Global};
 
 const BLOCK_BYTES: usize = 16_384;
@@ -44,7 +44,7 @@ impl<W: Sink> Blocks<W> {
     }
 
     /// Writes on what waits, and has room for a block then.
-    fn pass_on(&mut self) -> Result<(), DeviceFault>
+    fn flush_block(&mut self) -> Result<(), DeviceFault>
         ensures bytes { Keeps (⟦<Blocks<W> as Sink>⟧.contents self.old) (⟦<Blocks<W> as Sink>⟧.contents self.new) }
         ensures ok { OnOk result (NothingWaits self.new) }
         ensures part { AppendsPart (W.contents (gathering_writer self.old)) (W.contents (gathering_writer self.new)) (waiting_bytes self.old) }
@@ -56,9 +56,9 @@ impl<W: Sink> Blocks<W> {
             return Err(DeviceFault);
         }
         let waiting = &self.block[self.written..];
-        let wanted = waiting.len();
-        let count = write_front(&mut self.writer, waiting);
-        if count < wanted {
+        let total = waiting.len();
+        let count = write_prefix(&mut self.writer, waiting);
+        if count < total {
             self.written += count;
             return Err(DeviceFault);
         }
@@ -77,7 +77,7 @@ impl<W: Sink> Blocks<W> {
         ensures failed { W.has_failed (gathering_writer self.new) ≡ (W.has_failed (gathering_writer self.old) || is_failed_write result bytes.now) }
     {
         if self.block.len() == BLOCK_BYTES {
-            self.pass_on()?;
+            self.flush_block()?;
             if bytes.len() >= BLOCK_BYTES {
                 return self.writer.write(bytes);
             }
@@ -98,7 +98,7 @@ impl<W: Sink> Blocks<W> {
         // The writer has failed exactly if it had failed before, or a fault is returned.
         ensures failed { W.has_failed (gathering_writer self.new) ≡ (W.has_failed (gathering_writer self.old) || is_err result) }
     {
-        match self.pass_on() {
+        match self.flush_block() {
             Ok(()) => Ok(()),
             Err(_) => Err(WriteFault),
         }
@@ -139,7 +139,7 @@ impl<W: Sink> Sink for Blocks<W> {
     }
 
     fn write_on(&mut self) -> Result<(), DeviceFault> {
-        self.pass_on()?;
+        self.flush_block()?;
         self.writer.write_on()
     }
 

@@ -1,12 +1,12 @@
 //! Bytes that are read ahead.
 ghost use Rattle.std.specs.Prelude.{◌≡◌, ◌≤◌, ◌==◌, ◌++◌, ◌||◌, [], length, take, drop, is_ok, is_err, if◌then◌else◌, IfOk, OnOk, MatchResult};
 ghost use Rattle.std.specs.Io.KnownBytes.{Consumes, IsAtEnd, Keeps};
-ghost use Rattle.dd_file.specs.Place.{longest_lookahead};
+ghost use Rattle.dd_file.specs.Position.{longest_lookahead};
 ghost use Rattle.ascii_text.specs.Lines.{first_len};
 
 use crate::device::Source;
 use crate::fault::DeviceFault;
-use ascii_text::lines::piece_len;
+use ascii_text::lines::first_line_len;
 use std::alloc::{AllocError, Global};
 use std::marker::Model;
 
@@ -49,7 +49,7 @@ impl Buffer {
     }
 
     /// What it holds.
-    pub(crate) fn held(&self) -> &[u8]
+    pub(crate) fn buffered(&self) -> &[u8]
         ensures { result.now ≡ self.now }
     {
         &self.bytes[self.start..self.end]
@@ -78,13 +78,13 @@ impl Buffer {
     }
 
     /// Moves the bytes up to the first newline, with it, behind a line so far.
-    pub(crate) fn move_piece(&mut self, line: &mut Vec<u8>) -> Result<(), AllocError>
+    pub(crate) fn move_line(&mut self, line: &mut Vec<u8>) -> Result<(), AllocError>
         ensures line { OnOk result (line.new.items ≡ line.old.items ++ take (first_len self.old) self.old) }
         ensures rest { self.new ≡ (if is_ok result then drop (first_len self.old) self.old else self.old) }
     {
-        let held = &self.bytes[self.start..self.end];
-        let count = piece_len(held);
-        line.extend_from_slice(&held[..count])?;
+        let buffered = &self.bytes[self.start..self.end];
+        let count = first_line_len(buffered);
+        line.extend_from_slice(&buffered[..count])?;
         self.start += count;
         Ok(())
     }

@@ -3,7 +3,7 @@ ghost use Rattle.std.specs.Prelude.{◌≡◌, ◌≤◌, [], ◌∷◌, true, l
 ghost use Rattle.ascii_text.specs.WhiteSpace.{trimmed};
 ghost use Rattle.ascii_text.specs.Lines.{text_of};
 ghost use Rattle.dd_file.specs.Script.{directive};
-ghost use Rattle.dd_file.specs.Words.{has_keys, command_of};
+ghost use Rattle.dd_file.specs.DirectiveLine.{has_keys, command_of};
 
 use crate::command::{Command, Name, parse_command};
 pub use crate::raw_lines::RawLines;
@@ -17,7 +17,7 @@ use std::marker::Model;
 #[derive(Drop)]
 pub struct Argument {
     /// The word that says it. A short one takes no memory.
-    word: SmallVec<u8, 32>,
+    token: SmallVec<u8, 32>,
     /// How much of it is the key.
     key_len: usize,
 }
@@ -25,30 +25,30 @@ pub struct Argument {
 impl Model for Argument {
     ghost use Rattle.std.specs.Prelude.{◌≡◌, true};
     ghost use Rattle.std.specs.List.{prefix_len};
-    ghost use Rattle.dd_file.specs.ArgumentValues.{says_argument, argument_in};
-    ghost use Rattle.dd_file.specs.Words.{ArgumentText, is_key_byte};
+    ghost use Rattle.dd_file.specs.ArgumentValues.{is_argument, argument_in};
+    ghost use Rattle.dd_file.specs.DirectiveLine.{ArgumentText, is_key_byte};
 
     ghost Value = { ArgumentText };
 
-    ghost view = { λ a. argument_in a.word.items };
+    ghost view = { λ a. argument_in a.token.items };
 
-    ghost invariant = { λ a. (says_argument a.word.items ≡ true) × (a.key_len ≡ prefix_len is_key_byte a.word.items) };
+    ghost invariant = { λ a. (is_argument a.token.items ≡ true) × (a.key_len ≡ prefix_len is_key_byte a.token.items) };
 }
 
 impl Argument {
     ghost use Rattle.std.specs.Prelude.{◌≡◌, true, length};
     ghost use Rattle.std.specs.List.{prefix_len};
-    ghost use Rattle.dd_file.specs.ArgumentValues.{says_argument, argument_in};
-    ghost use Rattle.dd_file.specs.Words.{is_key_byte};
+    ghost use Rattle.dd_file.specs.ArgumentValues.{is_argument, argument_in};
+    ghost use Rattle.dd_file.specs.DirectiveLine.{is_key_byte};
 
     /// The argument that a word says, of which the key comes first.
-    pub(crate) fn new(alloc: Global, word: &[u8], key_len: usize) -> Result<Argument, AllocError>
-        requires says { says_argument word.now ≡ true }
-        requires key { key_len ≡ prefix_len is_key_byte word.now }
-        ensures { IfOk result (λ argument. argument ≡ argument_in word.now) }
+    pub(crate) fn new(alloc: Global, token: &[u8], key_len: usize) -> Result<Argument, AllocError>
+        requires parses { is_argument token.now ≡ true }
+        requires key { key_len ≡ prefix_len is_key_byte token.now }
+        ensures { IfOk result (λ argument. argument ≡ argument_in token.now) }
     {
         Ok(Argument {
-            word: SmallVec::from_slice(alloc, word)?,
+            token: SmallVec::from_slice(alloc, token)?,
             key_len,
         })
     }
@@ -57,14 +57,14 @@ impl Argument {
     pub fn key(&self) -> &[u8]
         ensures { result.now ≡ self.now.key }
     {
-        &self.word.as_slice()[..self.key_len]
+        &self.token.as_slice()[..self.key_len]
     }
 
     /// Its values, one after another (datadriven's `CmdArg.Vals`).
     pub fn values(&self) -> Values<'_>
         ensures { result ≡ self.now.values }
     {
-        Values::behind(self.word.as_slice().split_at(self.key_len).1)
+        Values::after_key(self.token.as_slice().split_at(self.key_len).1)
     }
 
     /// The value at a place, counted from 0. The values before it are passed over.
@@ -97,7 +97,7 @@ impl Model for Directive {
     ghost use Rattle.std.specs.Prelude.{◌≡◌, ◌≤◌, ◌-◌, true, length, take, drop};
     ghost use Rattle.ascii_text.specs.Lines.{text_of};
     ghost use Rattle.dd_file.specs.DirectiveText.{DirectiveText};
-    ghost use Rattle.dd_file.specs.Words.{has_keys};
+    ghost use Rattle.dd_file.specs.DirectiveLine.{has_keys};
 
     ghost Value = { DirectiveText };
 
@@ -121,21 +121,21 @@ impl Directive {
         line: usize,
         command: Command,
         raw_lines: RawLines,
-        heads: usize,
+        directive_line_count: usize,
         expected: Vec<u8>,
     ) -> Directive
-        requires { heads ≤ length raw_lines }
+        requires { directive_line_count ≤ length raw_lines }
         ensures { result ≡ record {
           line = line;
           command = command.name;
           arguments = command.arguments;
-          input = trimmed (text_of (drop heads raw_lines));
+          input = trimmed (text_of (drop directive_line_count raw_lines));
           expected = expected.items;
           raw_lines = raw_lines;
         } }
     {
         let Command { name, arguments } = command;
-        let input = raw_lines.text_behind(heads);
+        let input = raw_lines.text_after(directive_line_count);
         let ended = without_trailing_space(input);
         let begun = without_leading_space(ended);
         let input_end = raw_lines.text().len() - (input.len() - ended.len());

@@ -41,5 +41,5 @@ pub mod rewriter;
 mod room;
 pub mod stage;
 mod values;
-mod words;
+mod tokens;
 pub mod writing;

@@ -1,9 +1,9 @@
 //! Reading an input line by line.
 ghost use Rattle.std.specs.Prelude.{◌≡◌, ◌≤◌, ◌<◌, ◌+◌, ◌||◌, None, [], true, false, IfOk, IfErr, IsOkUnless, MatchOption, length, vec_len};
-ghost use Rattle.dd_file.specs.Place.{longest_input};
-ghost use Rattle.dd_file.specs.InHand.{HeldReadsOn, is_line_in_hand, CanTell, passed};
+ghost use Rattle.dd_file.specs.Position.{longest_input};
+ghost use Rattle.dd_file.specs.Buffered.{BufferedReadsOn, is_line_buffered, CanReadBuffered, passed};
 ghost use Rattle.ascii_text.specs.Lines.{line_of, without_last};
-ghost use Rattle.dd_file.specs.PieceRead.{PieceRead, PieceFault};
+ghost use Rattle.dd_file.specs.FullLineRead.{FullLineRead, FullLineFault};
 ghost use Rattle.dd_file.specs.Reading.{next_line};
 ghost use Rattle.dd_file.specs.ReaderState.{fresh, IsWithin};
 ghost use Rattle.dd_file.specs.Answer.{ReadsOn, MovesOn, IsLineFault, is_read_fault};
@@ -12,7 +12,7 @@ use crate::buffer::Buffer;
 use crate::device::Source;
 use crate::fault::FileFault;
 use crate::line::Line;
-use ascii_text::lines::{is_whole, line_of, piece_len, without_end};
+use ascii_text::lines::{is_whole, line_of, first_line_len, without_end};
 use std::alloc::Global;
 use std::marker::Model;
 
@@ -36,9 +36,9 @@ impl Model for Lines {
     ghost Value = { ReaderState };
 
     ghost view = { λ a. record {
-      held = a.buffer;
+      buffered = a.buffer;
       is_ended = a.is_ended;
-      place = record { lines = a.lines; bytes = a.bytes };
+      position = record { lines = a.lines; bytes = a.bytes };
       fault = a.fault;
     } };
 
@@ -75,8 +75,8 @@ impl Lines {
         if self.is_ended {
             return Ok(None);
         }
-        match self.read_piece(reader) {
-            Ok(piece) => Ok(self.take_line(piece)),
+        match self.read_line(reader) {
+            Ok(full_line) => Ok(self.take_line(full_line)),
             Err(fault) => {
                 self.fault = Some(fault);
                 Err(fault)
@@ -86,20 +86,20 @@ impl Lines {
 
     /// The next line where its newline is in hand, so that no reader is asked. Nothing is done where what is held does
     /// not tell: it has no newline, or the end was met or a fault, or the limit may be passed in it (own).
-    pub fn next_held<R: Source>(&mut self, reader: &R) -> Option<Result<Option<Line>, FileFault>>
-        ensures { HeldReadsOn R.remaining R.has_failed (λ line. line) (next_line longest_input) IsLineFault is_line_in_hand self.old self.new reader.now result }
+    pub fn next_buffered<R: Source>(&mut self, reader: &R) -> Option<Result<Option<Line>, FileFault>>
+        ensures { BufferedReadsOn R.remaining R.has_failed (λ line. line) (next_line longest_input) IsLineFault is_line_buffered self.old self.new reader.now result }
     {
         let _ = reader;
-        if !self.can_tell() {
+        if !self.can_read_buffered() {
             return None;
         }
-        let held = self.held();
-        let len = piece_len(held);
-        let piece = &held[..len];
-        if !is_whole(piece) {
+        let buffered = self.buffered();
+        let len = first_line_len(buffered);
+        let full_line = &buffered[..len];
+        if !is_whole(full_line) {
             return None;
         }
-        match Vec::from_slice(self.alloc, line_of(piece)) {
+        match Vec::from_slice(self.alloc, line_of(full_line)) {
             Ok(bytes) => {
                 self.pass(1, len);
                 Some(Ok(Some(Line::new(bytes))))
@@ -112,28 +112,28 @@ impl Lines {
     }
 
     /// Whether what is held is told line by line: there is no fault, the end was not met, and the limit is not passed in it.
-    pub(crate) fn can_tell(&self) -> bool
-        ensures told { result ≡ true → CanTell self.now }
-        ensures untold { CanTell self.now → result ≡ true }
-        ensures within { IsWithin self.now.held self.now.is_ended self.now.place.lines self.now.place.bytes }
+    pub(crate) fn can_read_buffered(&self) -> bool
+        ensures ready { result ≡ true → CanReadBuffered self.now }
+        ensures not_ready { CanReadBuffered self.now → result ≡ true }
+        ensures within { IsWithin self.now.buffered self.now.is_ended self.now.position.lines self.now.position.bytes }
     {
         self.fault.is_none()
             && !self.is_ended
-            && self.buffer.held().len() <= LONGEST_INPUT - self.bytes
+            && self.buffer.buffered().len() <= LONGEST_INPUT - self.bytes
     }
 
     /// The bytes that are held.
-    pub(crate) fn held(&self) -> &[u8]
-        ensures { result.now ≡ self.now.held }
+    pub(crate) fn buffered(&self) -> &[u8]
+        ensures { result.now ≡ self.now.buffered }
     {
-        self.buffer.held()
+        self.buffer.buffered()
     }
 
     /// Gives out so many lines of so many bytes of what is held.
     pub(crate) fn pass(&mut self, lines: usize, bytes: usize)
-        requires held { bytes ≤ length self.old.held }
+        requires buffered { bytes ≤ length self.old.buffered }
         requires some { lines ≤ bytes }
-        requires limit { self.old.place.bytes + bytes ≤ longest_input }
+        requires limit { self.old.position.bytes + bytes ≤ longest_input }
         ensures { self.new ≡ passed self.old lines bytes }
     {
         self.buffer.pass(bytes);
@@ -144,9 +144,9 @@ impl Lines {
     /// Whether the end was met, and so everything before it was given out.
     pub(crate) fn is_over(&self) -> bool
         ensures ended { result ≡ self.now.is_ended }
-        ensures empty { self.now.is_ended ≡ true → self.now.held ≡ [] }
-        ensures limit { self.now.place.bytes ≤ longest_input }
-        ensures counted { self.now.place.lines ≤ longest_input }
+        ensures empty { self.now.is_ended ≡ true → self.now.buffered ≡ [] }
+        ensures limit { self.now.position.bytes ≤ longest_input }
+        ensures counted { self.now.position.lines ≤ longest_input }
     {
         let _ = &self.buffer;
         self.is_ended
@@ -154,33 +154,33 @@ impl Lines {
 
     /// How many lines were given out.
     pub(crate) fn count(&self) -> usize
-        ensures count { result ≡ self.now.place.lines }
-        ensures limit { self.now.place.lines ≤ longest_input }
+        ensures count { result ≡ self.now.position.lines }
+        ensures limit { self.now.position.lines ≤ longest_input }
     {
         self.lines
     }
 
     /// Reads the bytes of the next line with its newline, or what is left at the end.
-    fn read_piece<R: Source>(&mut self, reader: &mut R) -> Result<Vec<u8>, FileFault>
+    fn read_line<R: Source>(&mut self, reader: &mut R) -> Result<Vec<u8>, FileFault>
         requires faultless { self.old.fault ≡ None }
         requires unended { self.old.is_ended ≡ false }
-        ensures place { self.new.place ≡ self.old.place }
+        ensures position { self.new.position ≡ self.old.position }
         ensures faultless { self.new.fault ≡ None }
-        ensures piece { IfOk result (λ piece. PieceRead self.old self.new (R.remaining reader.old) (R.remaining reader.new) piece.items) }
-        ensures fault { IfErr result (PieceFault self.old self.new (R.remaining reader.old) (R.remaining reader.new)) }
+        ensures full_line { IfOk result (λ full_line. FullLineRead self.old self.new (R.remaining reader.old) (R.remaining reader.new) full_line.items) }
+        ensures fault { IfErr result (FullLineFault self.old self.new (R.remaining reader.old) (R.remaining reader.new)) }
         ensures moves { MovesOn R.remaining self.old self.new reader.old reader.new }
         ensures read { R.has_failed reader.new ≡ (R.has_failed reader.old || is_read_fault result) }
     {
-        let mut piece = Vec::new(self.alloc);
+        let mut full_line = Vec::new(self.alloc);
         loop {
             self.buffer
-                .move_piece(&mut piece)
+                .move_line(&mut full_line)
                 .map_err(|_| FileFault::NoMemory)?;
-            if piece.len() > LONGEST_INPUT - self.bytes {
+            if full_line.len() > LONGEST_INPUT - self.bytes {
                 return Err(FileFault::InputTooLong(self.lines + 1));
             }
-            if self.is_ended || is_whole(piece.as_slice()) {
-                return Ok(piece);
+            if self.is_ended || is_whole(full_line.as_slice()) {
+                return Ok(full_line);
             }
             self.buffer.fill(reader).map_err(|_| FileFault::Read)?;
             self.is_ended = self.buffer.is_empty();
@@ -188,21 +188,21 @@ impl Lines {
     }
 
     /// Counts the piece that was read, and answers its line.
-    fn take_line(&mut self, mut piece: Vec<u8>) -> Option<Line>
-        requires { self.old.place.bytes + vec_len piece ≤ longest_input }
+    fn take_line(&mut self, mut full_line: Vec<u8>) -> Option<Line>
+        requires { self.old.position.bytes + vec_len full_line ≤ longest_input }
         ensures { MatchOption result
-            ((piece.items ≡ []) × (self.new ≡ self.old))
-            (λ line. (line ≡ line_of piece.items) × (0 < length piece.items) × (self.old.place.lines + 1 ≤ longest_input)
-            × (self.new ≡ record self.old { place = record { lines = self.old.place.lines + 1; bytes = self.old.place.bytes + length piece.items } })) }
+            ((full_line.items ≡ []) × (self.new ≡ self.old))
+            (λ line. (line ≡ line_of full_line.items) × (0 < length full_line.items) × (self.old.position.lines + 1 ≤ longest_input)
+            × (self.new ≡ record self.old { position = record { lines = self.old.position.lines + 1; bytes = self.old.position.bytes + length full_line.items } })) }
     {
-        if piece.is_empty() {
+        if full_line.is_empty() {
             return None;
         }
         self.lines += 1;
-        self.bytes += piece.len();
-        drop_end(&mut piece, b'\n');
-        drop_end(&mut piece, b'\r');
-        Some(Line::new(piece))
+        self.bytes += full_line.len();
+        drop_end(&mut full_line, b'\n');
+        drop_end(&mut full_line, b'\r');
+        Some(Line::new(full_line))
     }
 }
 

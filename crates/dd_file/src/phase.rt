@@ -14,7 +14,7 @@ pub(crate) enum Phase {
     /// It is blank lines.
     BlankLines,
     /// Each line of its head so far is continued.
-    Head,
+    DirectiveLines,
     /// Its head has no command.
     NoCommand,
     /// Its head is complete, and lines of its input come.

@@ -99,7 +99,7 @@ impl RawLines {
             return None;
         }
         let len = self.end(i) - self.start(i);
-        Some(self.text_behind(i).split_at(len).0)
+        Some(self.text_after(i).split_at(len).0)
     }
 
     pub(crate) fn last(&self) -> Option<&[u8]>
@@ -116,7 +116,7 @@ impl RawLines {
     }
 
     /// The lines behind the first few, each with a newline.
-    pub(crate) fn text_behind(&self, count: usize) -> &[u8]
+    pub(crate) fn text_after(&self, count: usize) -> &[u8]
         requires { count ≤ length self.now }
         ensures { result.now ≡ text_of (drop count self.now) }
     {
@@ -143,7 +143,7 @@ impl RawLines {
     /// Where the line at a place begins in the text, or would begin behind the last.
     fn start(&self, i: usize) -> usize
         requires { i ≤ length self.now }
-        ensures place { result ≡ length (text_of (take i self.now)) }
+        ensures position { result ≡ length (text_of (take i self.now)) }
         ensures within { result ≤ length (text_of self.now) }
     {
         if i == 0 {
@@ -155,7 +155,7 @@ impl RawLines {
     /// Where the line at a place ends in the text.
     fn end(&self, i: usize) -> usize
         requires { i < length self.now }
-        ensures place { result ≡ length (text_of (take i self.now)) + length (slice_index_or self.now i []) }
+        ensures position { result ≡ length (text_of (take i self.now)) + length (slice_index_or self.now i []) }
         ensures within { result < length (text_of self.now) }
         ensures small { result < 2 ^ 63 }
     {

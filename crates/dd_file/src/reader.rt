@@ -1,9 +1,9 @@
 //! Reading a script item by item.
 ghost use Rattle.std.specs.Prelude.{◌≡◌, [], None, true, false, IfOk, IfSome, IsOkUnless, OnOk};
-ghost use Rattle.dd_file.specs.Place.{longest_input};
+ghost use Rattle.dd_file.specs.Position.{longest_input};
 ghost use Rattle.dd_file.specs.Reading.{next_item};
 ghost use Rattle.dd_file.specs.ReaderState.{fresh, IsWithin};
-ghost use Rattle.dd_file.specs.InHand.{CanTell, HeldReadsOn, is_item_in_hand};
+ghost use Rattle.dd_file.specs.Buffered.{CanReadBuffered, BufferedReadsOn, is_item_buffered};
 ghost use Rattle.dd_file.specs.Answer.{ReadsOn, IsItemFault, fault_of};
 
 use crate::device::Source;
@@ -12,7 +12,7 @@ use crate::fault::FileFault;
 use crate::item::Item;
 use crate::lines::Lines;
 use crate::raw_lines::RawLines;
-use ascii_text::lines::{is_whole, line_of, piece_len};
+use ascii_text::lines::{is_whole, line_of, first_line_len};
 use std::alloc::Global;
 use std::marker::Model;
 
@@ -23,7 +23,7 @@ pub struct Reader {
     lines: Lines,
     fault: Option<FileFault>,
     /// No text, in the memory of one that is done with.
-    spare: Vec<u8>,
+    text_buffer: Vec<u8>,
 }
 
 impl Model for Reader {
@@ -34,7 +34,7 @@ impl Model for Reader {
 
     ghost view = { λ a. record a.lines { fault = a.fault } };
 
-    ghost invariant = { λ a. (a.fault ≡ None → a.lines.fault ≡ None) × (a.spare.items ≡ []) };
+    ghost invariant = { λ a. (a.fault ≡ None → a.lines.fault ≡ None) × (a.text_buffer.items ≡ []) };
 }
 
 impl Reader {
@@ -47,7 +47,7 @@ impl Reader {
             alloc,
             lines: Lines::new(alloc)?,
             fault: None,
-            spare: Vec::new(alloc),
+            text_buffer: Vec::new(alloc),
         })
     }
 
@@ -63,7 +63,7 @@ impl Reader {
         if self.lines.is_over() {
             return Ok(None);
         }
-        let raw_lines = RawLines::over(self.alloc, &mut self.spare);
+        let raw_lines = RawLines::over(self.alloc, &mut self.text_buffer);
         let found = read_item(self.alloc, raw_lines, &mut self.lines, reader);
         self.fault = fault_in(&found);
         found
@@ -73,14 +73,14 @@ impl Reader {
     /// does not tell: no item ends in it, or the end was met or a fault, or the limit may be passed in it (own).
     // Written out where it is called, as what it calls is, so that an item is built where it stays.
     #[inline(always)]
-    pub fn next_held<R: Source>(&mut self, reader: &R) -> Option<Result<Option<Item>, FileFault>>
-        ensures { HeldReadsOn R.remaining R.has_failed (λ item. item) (next_item longest_input) IsItemFault is_item_in_hand self.old self.new reader.now result }
+    pub fn next_buffered<R: Source>(&mut self, reader: &R) -> Option<Result<Option<Item>, FileFault>>
+        ensures { BufferedReadsOn R.remaining R.has_failed (λ item. item) (next_item longest_input) IsItemFault is_item_buffered self.old self.new reader.now result }
     {
-        if !self.can_tell() {
+        if !self.can_read_buffered() {
             return None;
         }
-        let raw_lines = RawLines::over(self.alloc, &mut self.spare);
-        let answer = held_item(self.alloc, raw_lines, &mut self.lines, reader)?;
+        let raw_lines = RawLines::over(self.alloc, &mut self.text_buffer);
+        let answer = buffered_item(self.alloc, raw_lines, &mut self.lines, reader)?;
         self.fault = fault_in(&answer);
         Some(answer)
     }
@@ -92,16 +92,16 @@ impl Reader {
     {
         let mut text = item.into_raw_lines().into_text();
         text.clear();
-        self.spare = text;
+        self.text_buffer = text;
     }
 
     /// Whether what is held is told item by item: there is no fault, the end was not met, and the limit is not passed in it.
-    fn can_tell(&self) -> bool
-        ensures told { result ≡ true → CanTell self.now }
-        ensures untold { CanTell self.now → result ≡ true }
-        ensures within { result ≡ true → IsWithin self.now.held self.now.is_ended self.now.place.lines self.now.place.bytes }
+    fn can_read_buffered(&self) -> bool
+        ensures ready { result ≡ true → CanReadBuffered self.now }
+        ensures not_ready { CanReadBuffered self.now → result ≡ true }
+        ensures within { result ≡ true → IsWithin self.now.buffered self.now.is_ended self.now.position.lines self.now.position.bytes }
     {
-        self.fault.is_none() && self.lines.can_tell()
+        self.fault.is_none() && self.lines.can_read_buffered()
     }
 }
 
@@ -145,34 +145,34 @@ fn read_item<R: Source>(
 
 /// Reads the lines of one item into the memory of these, off what is held, where all of them are there. Else nothing is taken.
 #[inline(always)]
-fn held_item<R: Source>(
+fn buffered_item<R: Source>(
     alloc: Global,
     raw_lines: RawLines,
     lines: &mut Lines,
     reader: &R,
 ) -> Option<Result<Option<Item>, FileFault>>
     requires empty { raw_lines ≡ [] }
-    requires tells { CanTell lines.old }
-    requires within { IsWithin lines.old.held lines.old.is_ended lines.old.place.lines lines.old.place.bytes }
-    ensures told { IfSome result (λ answer. ReadsOn R.remaining R.has_failed (λ item. item) (next_item longest_input) IsItemFault lines.old
+    requires can_read { CanReadBuffered lines.old }
+    requires within { IsWithin lines.old.buffered lines.old.is_ended lines.old.position.lines lines.old.position.bytes }
+    ensures read { IfSome result (λ answer. ReadsOn R.remaining R.has_failed (λ item. item) (next_item longest_input) IsItemFault lines.old
         (record lines.new { fault = fault_of answer }) reader.now reader.now answer) }
-    ensures untold { result ≡ None → (lines.new ≡ lines.old) × (is_item_in_hand lines.old.place lines.old.held ≡ false) }
+    ensures unread { result ≡ None → (lines.new ≡ lines.old) × (is_item_buffered lines.old.position lines.old.buffered ≡ false) }
     ensures faultless { lines.new.fault ≡ None }
 {
     let _ = reader;
     let mut draft = Draft::new(alloc, lines.count() + 1, raw_lines);
     let mut count = 0;
     let mut taken = 0;
-    'held: loop {
-        let rest = &lines.held()[taken..];
-        let len = piece_len(rest);
-        let piece = &rest[..len];
-        if !is_whole(piece) {
+    'buffered: loop {
+        let rest = &lines.buffered()[taken..];
+        let len = first_line_len(rest);
+        let full_line = &rest[..len];
+        if !is_whole(full_line) {
             return None;
         }
         count += 1;
         taken += len;
-        match draft.add(line_of(piece)) {
+        match draft.add(line_of(full_line)) {
             Ok(true) => {
                 lines.pass(count, taken);
                 return Some(draft.finish());

@@ -3,15 +3,15 @@ ghost use Rattle.std.specs.Prelude.{◌≡◌, ℕ, List, [], ◌∷◌, ◌++�
 ghost use Rattle.std.specs.Io.KnownBytes.{Appends};
 ghost use Rattle.ascii_text.specs.Lines.{newline, text_of, without_last};
 ghost use Rattle.dd_file.specs.Device.{AppendsPart};
-ghost use Rattle.dd_file.specs.RewriterState.{CanKeep, WantsFound, HasWritten, Continues, BreaksOff, WritesMore, WritesEnd};
-ghost use Rattle.dd_file.specs.Rewritten.{kept_text, found_text, opening, closing, has_blank_line, is_output, is_directive, newlines_at_end};
+ghost use Rattle.dd_file.specs.RewriterState.{CanKeep, IsOutputNext, HasWritten, Continues, BreaksOff, WritesMore, WritesEnd};
+ghost use Rattle.dd_file.specs.Rewritten.{kept_text, output_text, opening, closing, has_blank_line, is_output, is_directive, newlines_at_end};
 
 use crate::device::Sink;
 use crate::fault::WriteFault;
 use crate::item::Item;
 use crate::stage::Stage;
 use crate::writing::write_all;
-use ascii_text::lines::{next_piece, without_end};
+use ascii_text::lines::{next_full_line, without_end};
 use ascii_text::white_space::is_blank;
 use std::marker::Model;
 
@@ -29,10 +29,10 @@ fn count_newline(newlines: u8, byte: u8) -> u8
 fn count_newlines(newlines: u8, bytes: &[u8]) -> u8
     ensures { (text : List ℕ) → newlines ≡ newlines_at_end text → result ≡ newlines_at_end (text ++ bytes.now) }
 {
-    let Some((last, front)) = bytes.split_last() else {
+    let Some((last, prefix)) = bytes.split_last() else {
         return newlines;
     };
-    match front.split_last() {
+    match prefix.split_last() {
         None => count_newline(newlines, *last),
         Some((before, _)) => count_newline(count_newline(0, *before), *last),
     }
@@ -46,7 +46,7 @@ fn last_newline(newlines: u8) -> &'static [u8]
 }
 
 /// Writes the newline that is held back where so many end the text.
-fn write_held_newline<W: Sink>(writer: &mut W, newlines: u8) -> Result<(), WriteFault>
+fn write_pending_newline<W: Sink>(writer: &mut W, newlines: u8) -> Result<(), WriteFault>
     ensures ok { OnOk result (Appends (W.contents writer.old) (W.contents writer.new) (if newlines == 0 then [] else newline)) }
     ensures err { OnErr result (AppendsPart (W.contents writer.old) (W.contents writer.new) (if newlines == 0 then [] else newline)) }
     ensures failed { OnErr result (W.has_failed writer.new ≡ true) }
@@ -68,7 +68,7 @@ fn write_text<W: Sink>(writer: &mut W, newlines: u8, text: &[u8]) -> Result<u8, 
     if text.is_empty() {
         return Ok(newlines);
     }
-    write_held_newline(writer, newlines)?;
+    write_pending_newline(writer, newlines)?;
     write_all(writer, without_end(text, b'\n'))?;
     Ok(count_newlines(newlines, text))
 }
@@ -78,18 +78,18 @@ fn needs_double(text: &[u8]) -> bool
     ensures { result ≡ has_blank_line text.now }
 {
     let mut rest = text;
-    while let Some((piece, behind)) = next_piece(rest) {
-        if is_blank(piece) {
+    while let Some((full_line, suffix)) = next_full_line(rest) {
+        if is_blank(full_line) {
             return true;
         }
-        rest = behind;
+        rest = suffix;
     }
     false
 }
 
 /// What is written before an output, in double dashes or not: the newline that is held back where so many end the text,
 /// and the dashes.
-fn before_found(newlines: u8, double: bool) -> &'static [u8]
+fn before_output(newlines: u8, double: bool) -> &'static [u8]
     ensures { result.now ≡ (if newlines == 0 then [] else newline) ++ opening double }
 {
     if newlines == 0 {
@@ -103,31 +103,31 @@ fn before_found(newlines: u8, double: bool) -> &'static [u8]
 }
 
 /// What stands behind an output, in double dashes or not.
-fn behind_found(double: bool) -> &'static [u8]
+fn after_output(double: bool) -> &'static [u8]
     ensures { result.now ≡ closing double }
 {
     if double { b"----\n----\n\n" } else { b"\n" }
 }
 
 /// Writes an output between dashes, double ones or not, behind so many newlines, and holds the newline at its end back.
-fn write_found<W: Sink>(
+fn write_output<W: Sink>(
     writer: &mut W,
     newlines: u8,
     text: &[u8],
     double: bool,
 ) -> Result<u8, WriteFault>
     requires { double ≡ has_blank_line text.now }
-    ensures ok { IfOk result (λ count. Continues newlines count (W.contents writer.old) (W.contents writer.new) (found_text text.now)) }
-    ensures err { OnErr result (BreaksOff newlines (W.contents writer.old) (W.contents writer.new) (found_text text.now)) }
+    ensures ok { IfOk result (λ count. Continues newlines count (W.contents writer.old) (W.contents writer.new) (output_text text.now)) }
+    ensures err { OnErr result (BreaksOff newlines (W.contents writer.old) (W.contents writer.new) (output_text text.now)) }
     ensures failed { OnErr result (W.has_failed writer.new ≡ true) }
     ensures sound { OnOk result (W.has_failed writer.new ≡ W.has_failed writer.old) }
 {
-    let behind = behind_found(double);
-    write_all(writer, before_found(newlines, double))?;
+    let suffix = after_output(double);
+    write_all(writer, before_output(newlines, double))?;
     write_all(writer, text)?;
-    write_all(writer, without_end(behind, b'\n'))?;
+    write_all(writer, without_end(suffix, b'\n'))?;
     // One newline ends the dashes.
-    Ok(count_newlines(count_newlines(1, text), behind))
+    Ok(count_newlines(count_newlines(1, text), suffix))
 }
 
 /// Writes a script again. The last newline of the text so far is held back until more text comes.
@@ -158,7 +158,7 @@ impl Rewriter {
     }
 
     /// Ends a call that wrote: keeps how many newlines end the text then and goes on to this stage, or fails for good.
-    fn settle(&mut self, written: Result<u8, WriteFault>, stage: Stage) -> Result<(), WriteFault>
+    fn finish_call(&mut self, written: Result<u8, WriteFault>, stage: Stage) -> Result<(), WriteFault>
         ensures ok { IfOk written (λ count. IsOk result × (self.new ≡ record { stage = stage; newlines = count })) }
         ensures err { OnErr written (IsErr result × (self.new ≡ record self.old { stage = Stage.Failed })) }
     {
@@ -178,51 +178,51 @@ impl Rewriter {
     /// Writes the lines of an item, of a directive those up to its separator. After a directive comes what was found.
     pub fn keep<W: Sink>(&mut self, writer: &mut W, item: &Item) -> Result<(), WriteFault>
         requires { CanKeep self.old }
-        ensures { WritesMore W.contents W.has_failed self.old self.new writer.old writer.new (if is_directive item.now then Stage.FoundWanted else Stage.Ready) (kept_text item.now) result }
+        ensures { WritesMore W.contents W.has_failed self.old self.new writer.old writer.new (if is_directive item.now then Stage.NeedsOutput else Stage.Ready) (kept_text item.now) result }
     {
         if self.stage == Stage::Failed {
             return Err(WriteFault);
         }
         let next = if item.is_directive() {
-            Stage::FoundWanted
+            Stage::NeedsOutput
         } else {
             Stage::Ready
         };
         let written = write_text(writer, self.newlines, item.raw_text());
-        self.settle(written, next)
+        self.finish_call(written, next)
     }
 
     /// Writes what was found for the directive that was kept last.
     pub fn found<W: Sink>(&mut self, writer: &mut W, text: &[u8]) -> Result<(), WriteFault>
-        requires wanted { WantsFound self.old }
-        requires output { self.old.stage ≡ Stage.FoundWanted → is_output text.now ≡ true }
-        ensures { WritesMore W.contents W.has_failed self.old self.new writer.old writer.new Stage.Ready (found_text text.now) result }
+        requires output_next { IsOutputNext self.old }
+        requires output { self.old.stage ≡ Stage.NeedsOutput → is_output text.now ≡ true }
+        ensures { WritesMore W.contents W.has_failed self.old self.new writer.old writer.new Stage.Ready (output_text text.now) result }
     {
         if self.stage == Stage::Failed {
             return Err(WriteFault);
         }
         let double = needs_double(text);
-        let written = write_found(writer, self.newlines, text, double);
-        self.settle(written, Stage::Ready)
+        let written = write_output(writer, self.newlines, text, double);
+        self.finish_call(written, Stage::Ready)
     }
 
     /// Writes what was found for the directive that was kept last, as `found` does, where no line of it is blank; so it is
     /// not looked through for one (own).
-    pub fn found_full_lines<W: Sink>(
+    pub fn found_without_blanks<W: Sink>(
         &mut self,
         writer: &mut W,
         text: &[u8],
     ) -> Result<(), WriteFault>
-        requires wanted { WantsFound self.old }
-        requires output { self.old.stage ≡ Stage.FoundWanted → is_output text.now ≡ true }
+        requires output_next { IsOutputNext self.old }
+        requires output { self.old.stage ≡ Stage.NeedsOutput → is_output text.now ≡ true }
         requires full { has_blank_line text.now ≡ false }
-        ensures { WritesMore W.contents W.has_failed self.old self.new writer.old writer.new Stage.Ready (found_text text.now) result }
+        ensures { WritesMore W.contents W.has_failed self.old self.new writer.old writer.new Stage.Ready (output_text text.now) result }
     {
         if self.stage == Stage::Failed {
             return Err(WriteFault);
         }
-        let written = write_found(writer, self.newlines, text, false);
-        self.settle(written, Stage::Ready)
+        let written = write_output(writer, self.newlines, text, false);
+        self.finish_call(written, Stage::Ready)
     }
 
     /// Writes the newline that is held back, unless the text ends in two.

@@ -1,6 +1,6 @@
 //! The values of an argument, one after another.
 
-use ascii_text::cut::place_of;
+use ascii_text::position::position_of;
 use ascii_text::white_space::{is_blank, trimmed};
 use std::marker::Model;
 
@@ -33,12 +33,12 @@ impl<'a> Model for Values<'a> {
 
 impl<'a> Values<'a> {
     ghost use Rattle.std.specs.Prelude.{◌≡◌, true, [], ◌∷◌, length, MatchOption};
-    ghost use Rattle.dd_file.specs.ArgumentValues.{says_values, values_behind};
+    ghost use Rattle.dd_file.specs.ArgumentValues.{has_values, values_after};
 
     /// The values that stand behind a key: none, one plain value behind `=`, or a list in parentheses there.
-    pub(crate) fn behind(text: &'a [u8]) -> Values<'a>
-        requires { says_values text.now ≡ true }
-        ensures { result ≡ values_behind text.now }
+    pub(crate) fn after_key(text: &'a [u8]) -> Values<'a>
+        requires { has_values text.now ≡ true }
+        ensures { result ≡ values_after text.now }
     {
         let Some((_, said)) = text.split_first() else {
             return Values {
@@ -72,8 +72,8 @@ impl<'a> Values<'a> {
                 Some(self.rest)
             }
             Left::Listed => {
-                let (value, behind) = self.rest.split_at(place_of(self.rest, b','));
-                match behind.split_first() {
+                let (value, suffix) = self.rest.split_at(position_of(self.rest, b','));
+                match suffix.split_first() {
                     Some((_, rest)) => self.rest = rest,
                     None => self.left = Left::Nothing,
                 }

@@ -21,13 +21,13 @@ fn write_once<W: Sink>(writer: &mut W, bytes: &[u8]) -> usize
 
 /// Goes on with bytes of which so many are written until all are or a write fails, and answers how many are.
 #[cold]
-fn write_behind<W: Sink>(writer: &mut W, bytes: &[u8], front: usize) -> usize
-    requires { front ≤ length bytes.now }
+fn write_rest<W: Sink>(writer: &mut W, bytes: &[u8], first_count: usize) -> usize
+    requires { first_count ≤ length bytes.now }
     ensures bound { result ≤ length bytes.now }
-    ensures bytes { (start : Option (List ℕ)) → Appends start (W.contents writer.old) (take front bytes.now) → Appends start (W.contents writer.new) (take result bytes.now) }
+    ensures bytes { (start : Option (List ℕ)) → Appends start (W.contents writer.old) (take first_count bytes.now) → Appends start (W.contents writer.new) (take result bytes.now) }
     ensures failed { W.has_failed writer.new ≡ (W.has_failed writer.old || nat_lt result (length bytes.now)) }
 {
-    let mut written = front;
+    let mut written = first_count;
     while written < bytes.len() {
         let count = write_once(writer, &bytes[written..]);
         if count == 0 {
@@ -41,7 +41,7 @@ fn write_behind<W: Sink>(writer: &mut W, bytes: &[u8], front: usize) -> usize
 /// Writes bytes from their front on until all are written or a write fails, and answers how many were written.
 // Mostly it copies a few bytes into a block, which takes less than a call.
 #[inline(always)]
-pub(crate) fn write_front<W: Sink>(writer: &mut W, bytes: &[u8]) -> usize
+pub(crate) fn write_prefix<W: Sink>(writer: &mut W, bytes: &[u8]) -> usize
     ensures bound { result ≤ length bytes.now }
     ensures bytes { Appends (W.contents writer.old) (W.contents writer.new) (take result bytes.now) }
     ensures failed { W.has_failed writer.new ≡ (W.has_failed writer.old || nat_lt result (length bytes.now)) }
@@ -54,7 +54,7 @@ pub(crate) fn write_front<W: Sink>(writer: &mut W, bytes: &[u8]) -> usize
     if count == 0 || count == bytes.len() {
         return count;
     }
-    write_behind(writer, bytes, count)
+    write_rest(writer, bytes, count)
 }
 
 /// Writes the whole of some bytes, part by part, and takes no memory. A fault is the writer's own, or that it took no
@@ -68,7 +68,7 @@ pub fn write_all<W: Sink>(writer: &mut W, bytes: &[u8]) -> Result<(), WriteFault
     ensures sound { OnOk result (W.has_failed writer.new ≡ W.has_failed writer.old) }
     ensures nothing { bytes.now ≡ [] → IsOk result × (writer.new ≡ writer.old) }
 {
-    if write_front(writer, bytes) < bytes.len() {
+    if write_prefix(writer, bytes) < bytes.len() {
         return Err(WriteFault);
     }
     Ok(())

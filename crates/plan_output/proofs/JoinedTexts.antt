@@ -4,7 +4,7 @@ use Rattle.std.specs.Prelude.{codes, decimal}
 use Rattle.std.specs.List.{join_with_byte}
 use Rattle.std.proofs.lemmas.Bool.{lt-ltb, eqb-true}
 use Rattle.std.proofs.lemmas.List.{append_assoc, append-nil, map_more}
-use Rattle.conf_change.specs.Text.{where_there}
+use Rattle.conf_change.specs.Text.{text_if}
 use Rattle.conf_change.specs.Step.{changes_of}
 use Rattle.conf_change.specs.declared.change.Change.{Change}
 use Rattle.conf_change.specs.declared.step.Step.{Step}
@@ -22,7 +22,7 @@ join-one_more f [] i within = absurd (omega arith)
 join-one_more f (n ∷ ns) zero within = refl
 join-one_more f (n ∷ ns) (suc i) within =
     ap (join_with_byte 32) (map_more f (n ∷ ns) (suc i) 0 within) ∙ join-push (f n) (map f (take i ns)) (f (get_or ns i 0))
-    ∙ ap (λ t. join_with_byte 32 (map f (take (suc i) (n ∷ ns))) ++ (where_there t (codes " ") ++ f (get_or ns i 0))) (sym (lt-ltb 0 (suc i) (omega arith)))
+    ∙ ap (λ t. join_with_byte 32 (map f (take (suc i) (n ∷ ns))) ++ (text_if t (codes " ") ++ f (get_or ns i 0))) (sym (lt-ltb 0 (suc i) (omega arith)))
 
 -- a step's line is its command, and if it has changes, a space and its changes
 abbrev changes_part : List Change → List ℕ

@@ -4,7 +4,7 @@ use Rattle.std.specs.List.{join_with_byte}
 use Rattle.quorum_sets.specs.Ids.{Ids, has, ascending, size, ids_of, is_empty}
 use Rattle.quorum_sets.specs.Voters.{majority}
 use Rattle.conf_change.specs.Configuration.{Configuration, is_joint, members}
-use Rattle.conf_change.specs.Text.{spaced_numbers, where_there}
+use Rattle.conf_change.specs.Text.{spaced_numbers, text_if}
 use Rattle.conf_change.specs.declared.step.Step.{Step}
 use Rattle.conf_plan.specs.PlanText.{line_text}
 use Rattle.plan_output.specs.Grid.{grid_text}
@@ -24,7 +24,7 @@ flush_right width cell = replicate (width - length cell) 32 ++ cell
 
 -- what is before the text at a place of those that are joined with one space between
 abbrev pub gap : ℕ → List ℕ
-gap place = where_there (nat_lt 0 place) (codes " ")
+gap place = text_if (nat_lt 0 place) (codes " ")
 
 -- the marks of ids with one space between, each flush right under its id
 abbrev pub marks_text : List ℕ → Configuration → List ℕ
@@ -36,7 +36,7 @@ majority_of ids = decimal (majority (size ids)) ++ codes " of " ++ decimal (size
 
 -- the majority of the voters, or in a joint configuration that of the incoming and that of the outgoing ones
 abbrev pub majority_text : Configuration → List ℕ
-majority_text c = majority_of c.incoming ++ where_there (is_joint c) (codes " and " ++ majority_of c.outgoing)
+majority_text c = majority_of c.incoming ++ text_if (is_joint c) (codes " and " ++ majority_of c.outgoing)
 
 -- the most ids that may be down, if the others are a quorum with none down
 abbrev pub down_text : Option ℕ → List ℕ
@@ -45,7 +45,7 @@ down_text None = codes "stalls"
 
 -- what may be down until the members have caught up that have to; where there are none, nothing
 abbrev pub until_text : StageState → List ℕ
-until_text stage = where_there (not (is_empty stage.catching_up)) (down_text (until_then stage))
+until_text stage = text_if (not (is_empty stage.catching_up)) (down_text (until_then stage))
 
 -- whether a configuration commits
 abbrev pub commits_text : Bool → List ℕ

@@ -21,13 +21,13 @@ bar_text n None width = codes "?" ++ replicate n 32
 bar_text n (Some index) width = replicate width 120 ++ codes ">" ++ replicate (n - width) 32
 
 -- a number, right-aligned in five places; a wider one in full
-abbrev pub in_five_places : ℕ → List ℕ
-in_five_places k = replicate (5 - length (decimal k)) 32 ++ decimal k
+abbrev pub in_five_columns : ℕ → List ℕ
+in_five_columns k = replicate (5 - length (decimal k)) 32 ++ decimal k
 
 -- the line of one of n ids, by the index that it acknowledged and the width of its bar
 abbrev pub row_text : ℕ → ℕ → Option ℕ → ℕ → List ℕ
 row_text n id acked width =
-    bar_text n acked width ++ codes " " ++ in_five_places (unwrap_or acked 0) ++ codes "    (id=" ++ decimal id ++ codes ")\n"
+    bar_text n acked width ++ codes " " ++ in_five_columns (unwrap_or acked 0) ++ codes "    (id=" ++ decimal id ++ codes ")\n"
 
 -- the line of one of the ids
 abbrev pub chart_row : List ℕ → Acks → ℕ → List ℕ
@@ -46,4 +46,4 @@ ranked acks id = (acked_index acks id, id)
 -- the ids with the indexes that they acknowledged, in the order by index and then by id
 pub record IsRanking (ids : List ℕ) (acks : Acks) (rows : List (ℕ × ℕ)) : Type 0 where
   pub same : IsPermutation (map (ranked acks) ids) rows
-  pub rises : IsSorted (λ x y. ordering_then (nat_cmp x.0 y.0) (nat_cmp x.1 y.1)) rows
+  pub ascends : IsSorted (λ x y. ordering_then (nat_cmp x.0 y.0) (nat_cmp x.1 y.1)) rows

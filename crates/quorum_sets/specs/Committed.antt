@@ -31,7 +31,7 @@ is_passed ids acks k = on_most (λ id. nat_lt k (acked_index acks id)) ids
 
 -- k is the committed index: more than half have acknowledged at least k, and not more than half have acknowledged more
 pub record IsCommitted (ids : Ids) (acks : Acks) (k : ℕ) : Type 0 where
-  pub of_nobody : IsTrue (is_empty ids) → k ≡ greatest_index
+  pub of_empty : IsTrue (is_empty ids) → k ≡ greatest_index
   pub reached : is_empty ids ≡ false → IsTrue (is_reached ids acks k)
   pub not_passed : is_empty ids ≡ false → is_passed ids acks k ≡ false
 

@@ -18,8 +18,8 @@ pub record IsLeastCommon (first second : Ids) (id : ℕ) : Type 0 where
 
 -- the first set is a quorum of the first pair, and the second of the second
 pub record AreQuorums (before after : Voters) (first second : Ids) : Type 0 where
-  pub of_before : IsTrue (is_quorum before first)
-  pub of_after : IsTrue (is_quorum after second)
+  pub quorum_before : IsTrue (is_quorum before first)
+  pub quorum_after : IsTrue (is_quorum after second)
 
 -- each quorum of the first pair shares an id with each quorum of the second
 abbrev pub QuorumsMeet : Voters → Voters → Type 0

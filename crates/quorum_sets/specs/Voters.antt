@@ -27,7 +27,7 @@ pub record DifferInOneVoter (before after : Voters) : Type 0 where
   pub one_at_most : difference_count before.incoming after.incoming ≤ 1
 
 -- The first is not joint, and its voters are the outgoing ones of the second. If it has voters, the second is joint.
-pub record GoesJoint (before after : Voters) : Type 0 where
+pub record EntersJoint (before after : Voters) : Type 0 where
   pub before_single : before.outgoing ≡ no_ids
   pub outgoing : after.outgoing ≡ before.incoming
 
@@ -38,4 +38,4 @@ pub record LeavesJoint (before after : Voters) : Type 0 where
 
 -- one safe change leads from the first pair to the second
 abbrev pub AreNeighbours : Voters → Voters → Type 0
-AreNeighbours before after = DifferInOneVoter before after ⊎ GoesJoint before after ⊎ LeavesJoint before after
+AreNeighbours before after = DifferInOneVoter before after ⊎ EntersJoint before after ⊎ LeavesJoint before after

@@ -5,7 +5,7 @@ ghost use Rattle.ascii_text.specs.Append.{Extends};
 ghost use Rattle.quorum_sets.specs.Ids as spec;
 ghost use Rattle.quorum_sets.specs.Ids.{ascending};
 ghost use Rattle.quorum_sets.specs.Committed.{Acks, acked_index};
-ghost use Rattle.quorum_sets.specs.Chart.{IsRanking, bar_text, bar_width, chart_row, chart_text, in_five_places, row_text};
+ghost use Rattle.quorum_sets.specs.Chart.{IsRanking, bar_text, bar_width, chart_row, chart_text, in_five_columns, row_text};
 
 use crate::acknowledgement::AckSource;
 use crate::joining::{add_ids, union};
@@ -99,9 +99,9 @@ fn width_of_bar(ranking: &[(u64, u64)], index: u64, id: u64) -> usize
         → index ≡ acked_index acks id → result ≡ bar_width ids acks id }
     ensures within { result ≤ length ranking.now }
 {
-    let place = ranking.partition_point(|row| row.0 < index);
-    match ranking.get(place) {
-        Some((_, first)) if *first == id => place,
+    let position = ranking.partition_point(|row| row.0 < index);
+    match ranking.get(position) {
+        Some((_, first)) if *first == id => position,
         _ => 0,
     }
 }
@@ -121,7 +121,7 @@ fn append_row(
 {
     append_bar(text, n, acked, width)?;
     append(text, b" ")?;
-    append_in_five_places(text, acked.unwrap_or(0))?;
+    append_in_five_columns(text, acked.unwrap_or(0))?;
     append(text, b"    (id=")?;
     append_number(text, id)?;
     append(text, b")\n")
@@ -149,8 +149,8 @@ fn append_bar(
 }
 
 // Appends a number, right-aligned in five places.
-fn append_in_five_places(text: &mut Vec<u8>, number: u64) -> Result<(), NoMemory>
-    ensures ok { OnOk result (text.new.items ≡ text.old.items ++ in_five_places number) }
+fn append_in_five_columns(text: &mut Vec<u8>, number: u64) -> Result<(), NoMemory>
+    ensures ok { OnOk result (text.new.items ≡ text.old.items ++ in_five_columns number) }
     ensures extends { Extends text.old.items text.new.items }
 {
     let mut buffer = Buffer::new();

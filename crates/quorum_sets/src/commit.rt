@@ -59,8 +59,8 @@ fn gather<S: MemberSet, A: AckSource>(
     ensures no_memory { size (S.ids set.now) ≤ 8 → IsOk result }
 {
     indexes.reserve(set.len())?;
-    for place in 0..set.len() {
-        if let Some(id) = set.at(place) {
+    for position in 0..set.len() {
+        if let Some(id) = set.at(position) {
             indexes.push_reserved(acks.acked(id).unwrap_or(0));
         }
     }

@@ -12,8 +12,8 @@ pub fn count_where<S: MemberSet, F: Fn(u64) -> bool>(set: &S, test: F) -> usize
     ensures { (passes : ℕ → Bool) → Decides (F.post test) passes → result ≡ count_of passes (S.ids set.now) }
 {
     let mut count = 0;
-    for place in 0..set.len() {
-        if let Some(id) = set.at(place) {
+    for position in 0..set.len() {
+        if let Some(id) = set.at(position) {
             if test(id) {
                 count += 1;
             }

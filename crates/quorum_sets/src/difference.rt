@@ -2,7 +2,7 @@
 ghost use Rattle.std.specs.Prelude.{◌≡◌, ◌-◌, ◌^◌, ◌≤◌, min};
 ghost use Rattle.quorum_sets.specs.Ids.{has, size, count_of, difference_count};
 
-use crate::looking::has_next;
+use crate::lookup::has_next;
 use crate::member_set::MemberSet;
 
 /// How many ids are in just one of the sets, or the greatest `usize` where that is less. It is
@@ -21,10 +21,10 @@ fn common_count<S: MemberSet>(a: &S, b: &S) -> usize
     ensures within_other { result ≤ size (S.ids b.now) }
 {
     let mut count = 0;
-    let mut other_place = 0;
-    for place in 0..a.len() {
-        if let Some(id) = a.at(place) {
-            if has_next(b, &mut other_place, id) {
+    let mut other_position = 0;
+    for position in 0..a.len() {
+        if let Some(id) = a.at(position) {
+            if has_next(b, &mut other_position, id) {
                 count += 1;
             }
         }

@@ -23,8 +23,8 @@ pub(crate) fn add_ids<S: MemberSet>(ids: &mut SmallVec<u64, 16>, set: &S) -> Res
     ensures { OnOk result (ids.new.items ≡ ids.old.items ++ ascending (S.ids set.now)) }
 {
     ids.reserve(set.len())?;
-    for place in 0..set.len() {
-        if let Some(id) = set.at(place) {
+    for position in 0..set.len() {
+        if let Some(id) = set.at(position) {
             ids.push(id)?;
         }
     }

@@ -18,7 +18,7 @@ pub fn sets_by_member()
     ensures without_one { (ids : Ids) (old id : ℕ) → has (without_id ids old) id ≡ (not (id == old) && has ids id) }
     ensures united { (one other : Ids) (id : ℕ) → has (union one other) id ≡ (has one id || has other id) }
     ensures listed { (ids : Ids) (id : ℕ) → has ids id ≡ list_any (λ listed. id == listed) (ascending ids) }
-    ensures rises { (ids : Ids) → IsStrictlySortedBy nat_cmp (ascending ids) }
+    ensures ascends { (ids : Ids) → IsStrictlySortedBy nat_cmp (ascending ids) }
     ensures equal { (one other : Ids) → ((id : ℕ) → has one id ≡ has other id) → one ≡ other }
 {}
 

@@ -52,6 +52,6 @@ pub trait MemberSet: Drop {
         ensures { result ≡ size (ids self.now) };
 
     /// The id at a place, counted from 0 in ascending order, or `None` from the length on.
-    fn at(&self, place: usize) -> Option<u64>
-        ensures { result ≡ slice_get (ascending (ids self.now)) place };
+    fn at(&self, position: usize) -> Option<u64>
+        ensures { result ≡ slice_get (ascending (ids self.now)) position };
 }

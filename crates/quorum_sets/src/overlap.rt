@@ -31,18 +31,18 @@ fn least_common<S: MemberSet>(a: &S, b: &S) -> Option<u64>
     ensures least { IfSome result (IsLeastCommon (S.ids a.now) (S.ids b.now)) }
     ensures none { IfNone result ((id : ℕ) → ¬ IsCommon (S.ids a.now) (S.ids b.now) id) }
 {
-    let mut place = 0;
-    let mut other_place = 0;
-    while place < a.len() && other_place < b.len() {
-        let id = a.at(place);
-        let other = b.at(other_place);
+    let mut position = 0;
+    let mut other_position = 0;
+    while position < a.len() && other_position < b.len() {
+        let id = a.at(position);
+        let other = b.at(other_position);
         if id == other {
             return id;
         }
         if id < other {
-            place += 1;
+            position += 1;
         } else {
-            other_place += 1;
+            other_position += 1;
         }
     }
     None

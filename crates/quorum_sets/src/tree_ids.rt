@@ -77,15 +77,15 @@ impl MemberSet for TreeIds {
         self.tree.len()
     }
 
-    fn at(&self, place: usize) -> Option<u64> {
-        key_at(&self.tree, place)
+    fn at(&self, position: usize) -> Option<u64> {
+        key_at(&self.tree, position)
     }
 }
 
 // The key at a place, in ascending order.
-fn key_at(tree: &BTreeSet<u64>, place: usize) -> Option<u64>
-    ensures key { result ≡ slice_get tree.now.keys place }
+fn key_at(tree: &BTreeSet<u64>, position: usize) -> Option<u64>
+    ensures key { result ≡ slice_get tree.now.keys position }
     ensures ordered { IsOrdered nat_cmp tree.now }
 {
-    tree.iter().copied().nth(place)
+    tree.iter().copied().nth(position)
 }

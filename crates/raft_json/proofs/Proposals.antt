@@ -5,7 +5,7 @@ use Rattle.std.proofs.lemmas.Bool.{true≢false, not-true, eqb-false, false_from
 use Rattle.quorum_sets.specs.Ids.{has, ascending, difference_count}
 use Rattle.quorum_sets.proofs.Offered.{has-no_ids}
 use Rattle.conf_change.specs.Configuration.{Configuration, is_valid, is_joint, has_voter}
-use Rattle.conf_change.specs.Change.{result_of, last_word, is_learner_after, is_next_after}
+use Rattle.conf_change.specs.Change.{result_of, last_effective, is_learner_after, is_next_after}
 use Rattle.conf_change.specs.Outcome.{outcome, with_outgoing, after_leave, leave_outcome}
 use Rattle.conf_change.specs.Transition.{step_taken}
 use Rattle.conf_change.specs.declared.change.Change.{Change}
@@ -101,11 +101,11 @@ entered_and_left before changes valid single =
     (sym (outgoing-none before single))
     (λ q. has-after_leave joint q
     ∙ (λ i. has-learners_after (with_outgoing before true) changes q i || has-next_after (with_outgoing before true) changes q i)
-    ∙ joined_learners (last_word changes q) (has before.incoming q) (has before.learners q) (has before.learners_next q) (none_next q)
-    ∙ sym (has-learners_after before changes q ∙ ap (λ out. is_learner_after (last_word changes q) out (has before.learners q)) (none_out q)))
+    ∙ joined_learners (last_effective changes q) (has before.incoming q) (has before.learners q) (has before.learners_next q) (none_next q)
+    ∙ sym (has-learners_after before changes q ∙ ap (λ out. is_learner_after (last_effective changes q) out (has before.learners q)) (none_out q)))
     (λ q. has-no_ids q
-    ∙ sym (has-next_after before changes q ∙ ap (λ out. is_next_after (last_word changes q) out (has before.learners_next q)) (none_out q)
-    ∙ no_next (last_word changes q) (has before.learners_next q) (none_next q)))
+    ∙ sym (has-next_after before changes q ∙ ap (λ out. is_next_after (last_effective changes q) out (has before.learners_next q)) (none_out q)
+    ∙ no_next (last_effective changes q) (has before.learners_next q) (none_next q)))
     (sym (valid_by.auto_leave single))
 
 through_joint : (before after : Configuration) (changes : List Change) → is_valid before ≡ true → has_voter before ≡ true

@@ -11,13 +11,13 @@ use Rattle.std.proofs.lemmas.List.Sums.{sum_by-cons, length-filter}
 use Rattle.quorum_sets.specs.Ids.{Ids, has, ascending, union, is_empty}
 use Rattle.quorum_sets.proofs.Offered.{ascending-is_sorted}
 use Rattle.conf_change.specs.Configuration.{Configuration, is_joint, is_same}
-use Rattle.conf_change.specs.Change.{last_word, is_update, is_incoming_after, is_learner_after}
+use Rattle.conf_change.specs.Change.{last_effective, is_update, is_incoming_after, is_learner_after}
 use Rattle.conf_change.specs.Outcome.{after_leave}
 use Rattle.conf_change.specs.declared.change.Change.{Change}
 use Rattle.conf_change.specs.declared.change.Kind.TheVariants.{Voter, Learner}
 use Rattle.conf_change.specs.declared.step.Step.{Step}
 use Rattle.conf_change.specs.declared.step.Step.TheVariants.{Simple, EnterJoint, LeaveJoint}
-use Rattle.conf_change.proofs.Offered.{SimpleTaken-from_outcome, LeaveTaken-from_outcome, has-incoming_after, has-learners_after, has-none_in_empty, is_empty-no_ids, is_same-is_equality, last_word-one}
+use Rattle.conf_change.proofs.Offered.{SimpleTaken-from_outcome, LeaveTaken-from_outcome, has-incoming_after, has-learners_after, has-none_in_empty, is_empty-no_ids, is_same-is_equality, last_effective-one}
 use Rattle.conf_plan.specs.Alive.{ChangesOneLearnerFirst}
 use Rattle.conf_plan.specs.OneAtATime.{one_change, join_steps, retire_step, in_turn, joining, retiring, learner_change, learner_steps, one_at_a_time_from_single}
 use Rattle.conf_plan.specs.PathBy.{path_by}
@@ -107,7 +107,7 @@ one_at_most false = omega arith
 change-others : (c after : Configuration) (x : Change) (q : ℕ) → Gives c (Simple (x ∷ [])) after → (x.id == q) ≡ false
     → (has after.incoming q ≡ has c.incoming q) × (has after.learners q ≡ has c.learners q)
 change-others c after x q gives other =
-    let silent : last_word (x ∷ []) q ≡ None = last_word-one x q ∙ ap (λ b. cond (b && not (q == 0) && not (is_update x.kind)) (Some x.kind) None) other in
+    let silent : last_effective (x ∷ []) q ≡ None = last_effective-one x q ∙ ap (λ b. cond (b && not (q == 0) && not (is_update x.kind)) (Some x.kind) None) other in
     let P : Configuration → Type 0 = λ d. (has d.incoming q ≡ has c.incoming q) × (has d.learners q ≡ has c.learners q) in
     subst P (SimpleTaken-from_outcome c after (x ∷ []) gives).made (
       has-incoming_after c (x ∷ []) q ∙ ap (λ word. is_incoming_after word (has c.incoming q)) silent,

@@ -5,19 +5,19 @@ use Rattle.std.specs.Cmp.{nat_eq_equiv}
 use Rattle.std.proofs.lemmas.Bool.{or_left, true≢false, false_from_ne_true}
 use Rattle.quorum_sets.specs.Ids.{Ids, no_ids, has, with_id, without_id, is_empty}
 use Rattle.quorum_sets.proofs.Offered.{difference_count-with_id, difference_count-without_id, has-no_ids, has-with_id, has-without_id}
-use Rattle.conf_change.specs.Change.{last_word, is_update, is_incoming_after, is_learner_after, is_next_after, result_of}
+use Rattle.conf_change.specs.Change.{last_effective, is_update, is_incoming_after, is_learner_after, is_next_after, result_of}
 use Rattle.conf_change.specs.declared.change.Kind.{Kind}
 use Rattle.conf_change.specs.declared.change.Kind.TheVariants.{Voter, Learner, Remove}
-use Rattle.conf_change.proofs.Offered.{outcome-simple_accepted, configuration-by_members, has-incoming_after, has-learners_after, has-next_after, has-none_in_empty, last_word-one, is_empty-no_ids}
+use Rattle.conf_change.proofs.Offered.{outcome-simple_accepted, configuration-by_members, has-incoming_after, has-learners_after, has-next_after, has-none_in_empty, last_effective-one, is_empty-no_ids}
 use Rattle.conf_plan.specs.OneAtATime.{one_change}
 use Rattle.conf_plan.specs.Planned.{single_with}
 use Rattle.conf_plan.specs.Run.{Gives}
 use Rattle.conf_plan.proofs.FindingMoves.OfEachId.{change_of}
 
 -- the list of one change has its say on that id alone
-one_word : (kind : Kind) (id q : ℕ) → is_update kind ≡ false → (id == 0) ≡ false → last_word (change_of id kind ∷ []) q ≡ cond (q == id) (Some kind) None
+one_word : (kind : Kind) (id q : ℕ) → is_update kind ≡ false → (id == 0) ≡ false → last_effective (change_of id kind ∷ []) q ≡ cond (q == id) (Some kind) None
 one_word kind id q plain other =
-    last_word-one (change_of id kind) q
+    last_effective-one (change_of id kind) q
     ∙ (λ i. cond (nat_eq_equiv.symm id q i && not (q == 0) && not (plain i)) (Some kind) None)
     ∙ ap (λ b. cond b (Some kind) None) (same (q == id) (q == 0) (λ is. ap (λ n. n == 0) (eqb-true q id is) ∙ other))
   where

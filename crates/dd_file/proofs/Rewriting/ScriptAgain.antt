@@ -7,21 +7,21 @@ use Rattle.std.proofs.lemmas.List.{append_assoc, append-nil}
 use Rattle.std.proofs.lemmas.List.Folds.{list_all-append}
 use Rattle.ascii_text.specs.Lines.{newline, line_of, lines_of, text_of}
 use Rattle.ascii_text.specs.WhiteSpace.{is_blank}
-use Rattle.dd_file.specs.Words.{CommandText, command_of}
-use Rattle.dd_file.specs.Script.{front, first_of, joined, is_comment, is_separator, directive}
-use Rattle.dd_file.specs.Place.{longest_input}
+use Rattle.dd_file.specs.DirectiveLine.{CommandText, command_of}
+use Rattle.dd_file.specs.Script.{first_item, first_of, joined, is_comment, is_separator, directive}
+use Rattle.dd_file.specs.Position.{longest_input}
 use Rattle.dd_file.specs.Reading.{Script, script_of, with_first}
 use Rattle.dd_file.specs.Rewritten.{Entry, entry, entry_text, has_blank_line, is_output, rewritten_text, without_double_end}
-use Rattle.dd_file.specs.Laws.{is_line, AreGiven, IsSameItem, AreReadAgain, AreOver, LastIsGone, ReadAgain, ends_in_long_blank}
+use Rattle.dd_file.specs.Laws.{is_line, AreGiven, IsSameItem, AreReadAgain, AreOver, LastIsRemoved, ReadAgain, ends_in_long_blank}
 use Rattle.dd_file.specs.declared.item.Item.{Item}
 use Rattle.dd_file.specs.declared.item.Item.TheVariants.{Comment, Blank, Directive}
 use Rattle.ascii_text.proofs.Offered.{list-by_last}
 use Rattle.dd_file.proofs.TextLines.LastNewlines.{double_end-pushed}
-use Rattle.dd_file.proofs.TextLines.CutAgain.{and-parts, lines-lines, pieces-text_of, text_of-append, output-lines}
+use Rattle.dd_file.proofs.TextLines.CutAgain.{and-parts, lines-lines, full_lines-text_of, text_of-append, output-lines}
 use Rattle.dd_file.proofs.ScriptGrammar.FoundInLines.{dashes_line}
 use Rattle.dd_file.proofs.ScriptGrammar.LinesOfItem.{IsHead, ReadItem, ReadComment, ReadBlank, ReadBlankHead, ReadDirective, given-read}
 use Rattle.dd_file.proofs.ScriptGrammar.AllItems.{items_of, items_of-first, script_of-lines}
-use Rattle.dd_file.proofs.Rewriting.ItemAgain.{read-again, directive-again, directive-text, directive_lines, directive_lines-are, output_behind}
+use Rattle.dd_file.proofs.Rewriting.ItemAgain.{read-again, directive-again, directive-text, lines_of_written, lines_of_written-are, output_behind}
 
 -- the entries are read again as the items of this script, which has no fault
 abbrev IsAgain : List Entry → Script Item → Type 0
@@ -30,12 +30,12 @@ IsAgain entries script = (script.fault ≡ None) × AreReadAgain entries script.
 -- entries of items that the grammar gives, with outputs
 abbrev AreWritten : List Entry → Type 0
 AreWritten [] = Unit {0}
-AreWritten (e ∷ entries) = ReadItem e.item × (is_output e.found ≡ true) × AreWritten entries
+AreWritten (e ∷ entries) = ReadItem e.item × (is_output e.output ≡ true) × AreWritten entries
 
-are-written : (entries : List Entry) → AreGiven (map (λ e. e.item) entries) → list_all (λ e. is_output e.found) entries ≡ true → AreWritten entries
+are-written : (entries : List Entry) → AreGiven (map (λ e. e.item) entries) → list_all (λ e. is_output e.output) entries ≡ true → AreWritten entries
 are-written [] given output = tt
 are-written (e ∷ entries) given output =
-    let k = and-parts (is_output e.found) (list_all (λ e. is_output e.found) entries) output in (given-read e.item given.0, k.0, are-written entries given.1 k.1)
+    let k = and-parts (is_output e.output) (list_all (λ e. is_output e.output) entries) output in (given-read e.item given.0, k.0, are-written entries given.1 k.1)
 
 -- a text of whole lines
 abbrev HasLines : List ℕ → Type 0
@@ -45,48 +45,48 @@ entry-lines : (item : Item) (found : List ℕ) → is_output found ≡ true → 
 entry-lines item found output (ReadComment line are comment) = (line ∷ [], append-nil (text_of (line ∷ [])), ap (λ b. b && true) are)
 entry-lines item found output (ReadBlank line are comment blank) = (line ∷ [], append-nil (text_of (line ∷ [])), ap (λ b. b && true) are)
 entry-lines item found output (ReadBlankHead line rest is are blank) = (line ∷ rest, append-nil (text_of (line ∷ rest)), are)
-entry-lines item found output (ReadDirective n command line rest input expected is says command_is none are) =
+entry-lines item found output (ReadDirective n command line rest input expected is parses command_is none are) =
     let found_is = output-lines found output in
     let raw = (line ∷ rest) ++ input in (
-      directive_lines true raw (has_blank_line found) found_is.0,
+      lines_of_written true raw (has_blank_line found) found_is.0,
       directive-text raw found_is.0 found found_is.1,
-      directive_lines-are true (has_blank_line found) raw found_is.0 are found_is.1.are_lines,
+      lines_of_written-are true (has_blank_line found) raw found_is.0 are found_is.1.are_lines,
     )
 
 -- the lines of such a text, and then those of what follows it
 lines-append : (text more : List ℕ) → HasLines text → lines_of (text ++ more) ≡ lines_of text ++ lines_of more
 lines-append text more has =
-    ap (λ t. lines_of (t ++ more)) has.1 ∙ lines-lines has.0 more has.2 ∙ sym (ap (λ t. lines_of t ++ lines_of more) has.1 ∙ ap (λ ps. map line_of ps ++ lines_of more) (pieces-text_of has.0 has.2))
+    ap (λ t. lines_of (t ++ more)) has.1 ∙ lines-lines has.0 more has.2 ∙ sym (ap (λ t. lines_of t ++ lines_of more) has.1 ∙ ap (λ ps. map line_of ps ++ lines_of more) (full_lines-text_of has.0 has.2))
 
 -- an entry that is read again first, and others behind it
-read-first : (m : ℕ) (lines more : List (List ℕ)) (is_ended : Bool) (e : Entry) (entries : List Entry) (again : Item) → first_of m (lines ++ more) ≡ Some (front (Ok again) (length lines) is_ended) →
-    IsSameItem m e.found e.item again → IsAgain entries (items_of (m + length lines) more) → IsAgain (e ∷ entries) (items_of m (lines ++ more))
+read-first : (m : ℕ) (lines more : List (List ℕ)) (is_ended : Bool) (e : Entry) (entries : List Entry) (again : Item) → first_of m (lines ++ more) ≡ Some (first_item (Ok again) (length lines) is_ended) →
+    IsSameItem m e.output e.item again → IsAgain entries (items_of (m + length lines) more) → IsAgain (e ∷ entries) (items_of m (lines ++ more))
 read-first m lines more is_ended e entries again read same rest =
     let whole : items_of m (lines ++ more) ≡ with_first again (items_of (m + length lines) more) =
-    items_of-first m (lines ++ more) (front (Ok again) (length lines) is_ended) again read refl
+    items_of-first m (lines ++ more) (first_item (Ok again) (length lines) is_ended) again read refl
     ∙ ap (λ (t : List (List ℕ)). with_first again (items_of (m + length lines) t)) (drop-append_seam lines more) in
-    subst (IsAgain (e ∷ entries)) (sym whole) (rest.0, ReadAgain m e.item again e.found entries _ same rest.1)
+    subst (IsAgain (e ∷ entries)) (sym whole) (rest.0, ReadAgain m e.item again e.output entries _ same rest.1)
 
-again-first : (m : ℕ) (e : Entry) (entries : List Entry) (more : List ℕ) → ReadItem e.item → is_output e.found ≡ true →
-    ((k : ℕ) → IsAgain entries (items_of k (lines_of more))) → IsAgain (e ∷ entries) (items_of m (lines_of (entry_text e.item e.found ++ more)))
+again-first : (m : ℕ) (e : Entry) (entries : List Entry) (more : List ℕ) → ReadItem e.item → is_output e.output ≡ true →
+    ((k : ℕ) → IsAgain entries (items_of k (lines_of more))) → IsAgain (e ∷ entries) (items_of m (lines_of (entry_text e.item e.output ++ more)))
 again-first m e entries more read output rest =
-    let text = entry_text e.item e.found in
-    let again = read-again m (lines_of more) e.item e.found output read in
-    subst (λ (ls : List (List ℕ)). IsAgain (e ∷ entries) (items_of m ls)) (sym (lines-append text more (entry-lines e.item e.found output read)))
+    let text = entry_text e.item e.output in
+    let again = read-again m (lines_of more) e.item e.output output read in
+    subst (λ (ls : List (List ℕ)). IsAgain (e ∷ entries) (items_of m ls)) (sym (lines-append text more (entry-lines e.item e.output output read)))
     (read-first m (lines_of text) (lines_of more) true e entries again.0 again.1 again.2 (rest (m + length (lines_of text))))
 
 no-entries : (k : ℕ) → IsAgain [] (items_of k (lines_of []))
 no-entries k = (refl, AreOver)
 
 abbrev texts_of : List Entry → List ℕ
-texts_of entries = flat_map (λ e. entry_text e.item e.found) entries
+texts_of entries = flat_map (λ e. entry_text e.item e.output) entries
 
 -- behind this text: what is left of the entries at the end of a script is read as they are
 abbrev IsLeft : List ℕ → List Entry → Type 0
 IsLeft before entries = (left : List ℕ) × (without_double_end (before ++ texts_of entries) ≡ before ++ left) × ((m : ℕ) → IsAgain entries (items_of m (lines_of left)))
 
 -- nothing is dropped
-all-left : (before : List ℕ) (e : Entry) → ReadItem e.item → is_output e.found ≡ true → without_double_end (before ++ texts_of (e ∷ [])) ≡ before ++ texts_of (e ∷ []) → IsLeft before (e ∷ [])
+all-left : (before : List ℕ) (e : Entry) → ReadItem e.item → is_output e.output ≡ true → without_double_end (before ++ texts_of (e ∷ [])) ≡ before ++ texts_of (e ∷ []) → IsLeft before (e ∷ [])
 all-left before e read output same = (texts_of (e ∷ []), same, λ m. again-first m e [] [] read output no-entries)
 
 -- a text of lines has a newline at its end
@@ -121,7 +121,7 @@ line-kept before line are some = elim (list-by_last line) [
 one-line : (line : List ℕ) → (((line ++ newline) ++ []) ++ []) ++ [] ≡ line ++ newline
 one-line line = append-nil _ ∙ append-nil _ ∙ append-nil (line ++ newline)
 
-line-left : (before line : List ℕ) (e : Entry) → ReadItem e.item → is_output e.found ≡ true → texts_of (e ∷ []) ≡ line ++ newline → is_line line ≡ true → (line ≡ [] → ⊥) → IsLeft before (e ∷ [])
+line-left : (before line : List ℕ) (e : Entry) → ReadItem e.item → is_output e.output ≡ true → texts_of (e ∷ []) ≡ line ++ newline → is_line line ≡ true → (line ≡ [] → ⊥) → IsLeft before (e ∷ [])
 line-left before line e read output text are some =
     all-left before e read output (ap (λ t. without_double_end (before ++ t)) text ∙ line-kept before line are some ∙ ap (λ t. before ++ t) (sym text))
 
@@ -135,12 +135,12 @@ blank-left before [] [] found is output are comment blank =
 blank-left before [] (first ∷ lines) found is output are comment blank = (
   [],
   ap (λ t. without_double_end (t ++ newline)) is ∙ empty-dropped [] first lines ∙ sym is ∙ sym (append-nil before),
-  λ m. (refl, LastIsGone found),
+  λ m. (refl, LastIsRemoved found),
 )
 
 -- the lines of a directive are those that are left and an empty one
-behind-blank : (raw : List (List ℕ)) (double : Bool) (lines : List (List ℕ)) → directive_lines true raw double lines ≡ directive_lines false raw double lines ++ [] ∷ []
-behind-blank raw double lines = ap (λ t. raw ++ dashes_line ∷ t) (at double) ∙ sym (append_assoc raw (dashes_line ∷ output_behind false double lines) ([] ∷ [])) where
+suffix-blank : (raw : List (List ℕ)) (double : Bool) (lines : List (List ℕ)) → lines_of_written true raw double lines ≡ lines_of_written false raw double lines ++ [] ∷ []
+suffix-blank raw double lines = ap (λ t. raw ++ dashes_line ∷ t) (at double) ∙ sym (append_assoc raw (dashes_line ∷ output_behind false double lines) ([] ∷ [])) where
   at : (d : Bool) → output_behind true d lines ≡ output_behind false d lines ++ [] ∷ []
   at false = refl
   at true = ap (λ t. dashes_line ∷ t) (sym (append_assoc lines (dashes_line ∷ dashes_line ∷ []) ([] ∷ [])))
@@ -149,18 +149,18 @@ behind-blank raw double lines = ap (λ t. raw ++ dashes_line ∷ t) (at double) 
 directive-left : (before : List ℕ) (n : ℕ) (command : CommandText) (line : List ℕ) (rest input expected : List (List ℕ)) (found : List ℕ) → is_output found ≡ true → IsHead line rest →
     is_blank (joined (line ∷ rest)) ≡ false → command_of (joined (line ∷ rest)) ≡ Some command → list_any is_separator input ≡ false → list_all is_line ((line ∷ rest) ++ input) ≡ true →
     IsLeft before (entry (directive n command (line ∷ rest) input expected) found ∷ [])
-directive-left before n command line rest input expected found output is says command_is none are =
+directive-left before n command line rest input expected found output is parses command_is none are =
     let found_is = output-lines found output in
     let lines = found_is.0 in
     let double = has_blank_line found in
     let raw = (line ∷ rest) ++ input in
-    let left = directive_lines false raw double lines in
+    let left = lines_of_written false raw double lines in
     let e = entry (directive n command (line ∷ rest) input expected) found in
     let whole : texts_of (e ∷ []) ≡ text_of left ++ newline =
-    append-nil (entry_text e.item found) ∙ directive-text raw lines found found_is.1 ∙ ap text_of (behind-blank raw double lines) ∙ text_of-append left ([] ∷ []) in
-    let again = λ (m : ℕ). directive-again false n m command line rest input expected [] lines found is says command_is none are found_is.1 in (
+    append-nil (entry_text e.item found) ∙ directive-text raw lines found found_is.1 ∙ ap text_of (suffix-blank raw double lines) ∙ text_of-append left ([] ∷ []) in
+    let again = λ (m : ℕ). directive-again false n m command line rest input expected [] lines found is parses command_is none are found_is.1 in (
       text_of left,
-      ap (λ t. without_double_end (before ++ t)) whole ∙ empty-dropped before line (directive_lines false (rest ++ input) double lines),
+      ap (λ t. without_double_end (before ++ t)) whole ∙ empty-dropped before line (lines_of_written false (rest ++ input) double lines),
       λ m. subst (λ (ls : List (List ℕ)). IsAgain (e ∷ []) (items_of m ls)) (append-nil (lines_of (text_of left)))
           (read-first m (lines_of (text_of left)) [] false e [] (again m).0 (again m).1 (again m).2 (no-entries (m + length (lines_of (text_of left))))),
     )
@@ -170,11 +170,11 @@ last-left : (before : List ℕ) (lines : List (List ℕ)) (item : Item) (found :
 last-left before lines item found is (ReadComment line are comment) output short =
     line-left before line (entry (Comment (line ∷ [])) found) (ReadComment line are comment) output (one-line line) are (λ e. let bad : false ≡ true = ap is_comment (sym e) ∙ comment in cc)
 last-left before lines item found is (ReadBlank line are comment blank) output short = blank-left before line lines found is output are comment blank
-last-left before lines item found is (ReadBlankHead line [] head are blank) output short =
-    line-left before line (entry (Blank (line ∷ [])) found) (ReadBlankHead line [] head are blank) output (one-line line) (and-parts (is_line line) true are).0 (λ e. let bad : true ≡ false = ap is_blank (sym e) ∙ head.blank in cc)
-last-left before lines item found is (ReadBlankHead line (next ∷ rest) head are blank) output short = absurd (search (rules, arith))
-last-left before lines item found is (ReadDirective n command line rest input expected head says command_is none are) output short =
-    directive-left before n command line rest input expected found output head says command_is none are
+last-left before lines item found is (ReadBlankHead line [] directive_lines are blank) output short =
+    line-left before line (entry (Blank (line ∷ [])) found) (ReadBlankHead line [] directive_lines are blank) output (one-line line) (and-parts (is_line line) true are).0 (λ e. let bad : true ≡ false = ap is_blank (sym e) ∙ directive_lines.blank in cc)
+last-left before lines item found is (ReadBlankHead line (next ∷ rest) directive_lines are blank) output short = absurd (search (rules, arith))
+last-left before lines item found is (ReadDirective n command line rest input expected directive_lines parses command_is none are) output short =
+    directive-left before n command line rest input expected found output directive_lines parses command_is none are
 
 -- the end of a script is told by its last item
 ends-next : (item next : Item) (items : List Item) → ends_in_long_blank (item ∷ next ∷ items) ≡ ends_in_long_blank (next ∷ items)
@@ -185,10 +185,10 @@ ends-next (Directive directive) next items = refl
 -- behind lines: the rest of a script
 rest-left : (before : List ℕ) (lines : List (List ℕ)) → before ≡ text_of lines → (e : Entry) (entries : List Entry) → AreWritten (e ∷ entries) → ends_in_long_blank (map (λ e. e.item) (e ∷ entries)) ≡ false →
     IsLeft before (e ∷ entries)
-rest-left before lines is e [] written short = last-left before lines e.item e.found is written.0 written.1 short
+rest-left before lines is e [] written short = last-left before lines e.item e.output is written.0 written.1 short
 rest-left before lines is e (next ∷ entries) written short =
-    let text = entry_text e.item e.found in
-    let own = entry-lines e.item e.found written.1 written.0 in
+    let text = entry_text e.item e.output in
+    let own = entry-lines e.item e.output written.1 written.0 in
     let so_far : before ++ text ≡ text_of (lines ++ own.0) = ap (λ t. t ++ text) is ∙ ap (λ t. text_of lines ++ t) own.1 ∙ sym (text_of-append lines own.0) in
     let more = rest-left (before ++ text) (lines ++ own.0) so_far next entries written.2 (sym (ends-next e.item next.item (map (λ e. e.item) entries)) ∙ short) in (
       text ++ more.0,
@@ -197,7 +197,7 @@ rest-left before lines is e (next ∷ entries) written short =
     )
 
 -- all of it
-pub written-again : (entries : List Entry) → AreGiven (map (λ e. e.item) entries) → list_all (λ e. is_output e.found) entries ≡ true → ends_in_long_blank (map (λ e. e.item) entries) ≡ false →
+pub written-again : (entries : List Entry) → AreGiven (map (λ e. e.item) entries) → list_all (λ e. is_output e.output) entries ≡ true → ends_in_long_blank (map (λ e. e.item) entries) ≡ false →
     length (rewritten_text entries) ≤ longest_input → IsAgain entries (script_of (rewritten_text entries))
 written-again [] given output short fits = subst (IsAgain []) (sym (script_of-lines [] fits)) (no-entries 1)
 written-again (e ∷ entries) given output short fits =

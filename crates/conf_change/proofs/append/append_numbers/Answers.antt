@@ -1,18 +1,18 @@
 use Rattle.std.proofs.Common.{◌<◌, ◌^◌, arith}
 use Rattle.std.proofs.lemmas.Grind.{common_steps}
 use Rattle.std.proofs.lemmas.List.Elements.{All-from_get_or}
-use Rattle.conf_change.proofs.Texts.ConfStateLine.{SpellsNumbers-spaced}
+use Rattle.conf_change.proofs.Texts.ConfStateLine.{ParsesToNumbers-spaced}
 use Rattle.ascii_text.proofs.Offered.{Extends-append}
 use Rattle.conf_change.proofs.Texts.AppendedParts.{spaced_numbers-one_more}
 use Rattle.conf_change.proofs.append.append_numbers.Goals as goal
 
 pub returns-in_err-append_number_at-clause-extends : goal.returns-in_err-append_number_at-clause-extends
 returns-in_err-append_number_at-clause-extends c =
-    Extends-append _ _ _ (rw c.loop-place.invariant at c.append_number_at.ensures.extends)
+    Extends-append _ _ _ (rw c.loop-position.invariant at c.append_number_at.ensures.extends)
 
-pub loop-place-preserved : goal.loop-place-preserved
-loop-place-preserved c = grind (arith, common_steps, spaced_numbers-one_more)
+pub loop-position-preserved : goal.loop-position-preserved
+loop-position-preserved c = grind (arith, common_steps, spaced_numbers-one_more)
 
-pub returns-clause-spells : goal.returns-clause-spells
-returns-clause-spells c =
-    SpellsNumbers-spaced c.args.numbers.now (All-from_get_or (λ n. n < 2 ^ 64) c.args.numbers.now 0 (λ i within. omega (arith, c.type_inv.numbers i)))
+pub returns-clause-parsed : goal.returns-clause-parsed
+returns-clause-parsed c =
+    ParsesToNumbers-spaced c.args.numbers.now (All-from_get_or (λ n. n < 2 ^ 64) c.args.numbers.now 0 (λ i within. omega (arith, c.type_inv.numbers i)))

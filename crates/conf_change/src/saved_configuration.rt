@@ -1,0 +1,91 @@
+//! Saved configurations.
+ghost use Rattle.std.specs.Prelude.{◌≡◌, IfOk};
+ghost use Rattle.quorum_sets.specs.Ids.{ascending};
+ghost use Rattle.conf_change.specs.ConfState.{Describes, lists_of};
+
+use crate::config::Config;
+use quorum_sets::{MemberSet, NoMemory};
+use std::alloc::Global;
+use std::marker::Model;
+use thiserror::Error;
+
+/// A saved configuration (etcd's `ConfState`): what its sets hold, as lists in any order, and its flag.
+#[derive(Debug, Drop)]
+pub struct ConfState {
+    /// The incoming voters.
+    pub voters: Vec<u64>,
+    /// The outgoing voters.
+    pub voters_outgoing: Vec<u64>,
+    /// The learners.
+    pub learners: Vec<u64>,
+    /// The next learners.
+    pub learners_next: Vec<u64>,
+    /// Whether the joint configuration is left without being asked.
+    pub auto_leave: bool,
+}
+
+impl Model for ConfState {
+    ghost use Rattle.conf_change.specs.ConfState.{ConfStateLists};
+
+    ghost Value = { ConfStateLists };
+
+    ghost view = { λ s. record {
+      voters = s.voters.items;
+      voters_outgoing = s.voters_outgoing.items;
+      learners = s.learners.items;
+      learners_next = s.learners_next.items;
+      auto_leave = s.auto_leave;
+    } };
+}
+
+impl PartialEq for ConfState {
+    ghost use Rattle.conf_change.specs.ConfState.{is_same_conf_state, is_same_conf_state-laws};
+
+    ghost eq = { is_same_conf_state };
+
+    ghost laws = { is_same_conf_state-laws };
+
+    fn eq(&self, other: &ConfState) -> bool {
+        self.voters == other.voters
+            && self.voters_outgoing == other.voters_outgoing
+            && self.learners == other.learners
+            && self.learners_next == other.learners_next
+            && self.auto_leave == other.auto_leave
+    }
+}
+
+/// Why a text is no saved configuration.
+#[derive(Clone, Copy, Debug, PartialEq, Eq, Error)]
+pub enum ConfStateFault {
+    #[error("bad conf state")]
+    BadConfState,
+    #[error("out of memory")]
+    NoMemory,
+}
+
+/// Saves a configuration, its lists in ascending order.
+pub fn conf_state<S: MemberSet>(alloc: Global, config: &Config<S>) -> Result<ConfState, NoMemory>
+    ensures ascending { IfOk result (λ state. state ≡ lists_of config.now) }
+    ensures describes { IfOk result (λ state. Describes state config.now) }
+{
+    Ok(ConfState {
+        voters: list_of(alloc, &config.incoming)?,
+        voters_outgoing: list_of(alloc, &config.outgoing)?,
+        learners: list_of(alloc, &config.learners)?,
+        learners_next: list_of(alloc, &config.learners_next)?,
+        auto_leave: config.auto_leave,
+    })
+}
+
+// The ids of a set in ascending order.
+fn list_of<S: MemberSet>(alloc: Global, set: &S) -> Result<Vec<u64>, NoMemory>
+    ensures { IfOk result (λ list. list.items ≡ ascending (S.ids set.now)) }
+{
+    let mut list = Vec::with_capacity(alloc, set.len())?;
+    for position in 0..set.len() {
+        if let Some(id) = set.at(position) {
+            list.push(id)?;
+        }
+    }
+    Ok(list)
+}

@@ -1,0 +1,46 @@
+-- What the bytes that are held say without a read.
+use Rattle.std.specs.Prelude.{◌≡◌, ◌≤◌, ◌+◌, ℕ, Bool, false, List, length, drop, map, filter, Option, Some, None, Result}
+use Rattle.std.specs.List.{list_any}
+use Rattle.ascii_text.specs.Lines.{full_lines, line_of, is_whole}
+use Rattle.dd_file.specs.Position.{Position, longest_input}
+use Rattle.dd_file.specs.Script.{FirstItem, first_of}
+use Rattle.dd_file.specs.Reading.{Next}
+use Rattle.dd_file.specs.ReaderState.{ReaderState}
+use Rattle.dd_file.specs.Answer.{ReadsOn}
+use Rattle.dd_file.specs.declared.fault.FileFault.{FileFault}
+
+-- no fault came and the end was not met, and what is held does not pass the limit
+pub record CanReadBuffered (state : ReaderState) : Type 0 where
+  pub faultless : state.fault ≡ None
+  pub unended : state.is_ended ≡ false
+  pub limit : state.position.bytes + length state.buffered ≤ longest_input
+
+-- the state after so many lines of so many of the bytes that were held
+abbrev pub passed : ReaderState → ℕ → ℕ → ReaderState
+passed state lines bytes = record state {
+  buffered = drop bytes state.buffered;
+  position = record { lines = state.position.lines + lines; bytes = state.position.bytes + bytes };
+}
+
+-- the lines of some bytes that have their newline
+abbrev pub whole_lines : List ℕ → List (List ℕ)
+whole_lines bytes = map line_of (filter is_whole (full_lines bytes))
+
+-- a line is in hand where a newline is
+abbrev pub is_line_buffered : Position → List ℕ → Bool
+is_line_buffered position buffered = list_any is_whole (full_lines buffered)
+
+-- it ends in its last line, so that no line behind could change it
+abbrev pub is_ended_item : Option FirstItem → Bool
+is_ended_item None = false
+is_ended_item (Some item) = item.is_ended
+
+-- an item, or its fault, is in hand where it ends in the whole lines that are
+abbrev pub is_item_buffered : Position → List ℕ → Bool
+is_item_buffered position buffered = is_ended_item (first_of (position.lines + 1) (whole_lines buffered))
+
+-- A call that asks no reader. It answers what comes next, or nothing where nothing is in hand.
+abbrev pub BufferedReadsOn : {R X A : Type 0} → (R → Option (List ℕ)) → (R → Bool) → (X → A) → (Position → List ℕ → Next A) → (Position → FileFault → Type 0) → (Position → List ℕ → Bool) →
+    ReaderState → ReaderState → R → Option (Result (Option X) FileFault) → Type 0
+BufferedReadsOn remaining has_failed view next IsFault is_buffered old new reader None = (new ≡ old) × (CanReadBuffered old → is_buffered old.position old.buffered ≡ false)
+BufferedReadsOn remaining has_failed view next IsFault is_buffered old new reader (Some answer) = ReadsOn remaining has_failed view next IsFault old new reader reader answer
