@@ -3,6 +3,6 @@ mod AppendedTexts
 mod WhiteSpace
 mod WordLemmas
 mod LineEnds
-mod Pieces
+mod FullLines
 mod NumberLemmas
 mod Digits

@@ -10,17 +10,17 @@ use Rattle.std.proofs.lemmas.Str.Parse.{IsNumeralModel, numerals_by_value, tells
 use Rattle.std.proofs.lemmas.Int.Digits.{digits_value_more}
 use Rattle.std.proofs.lemmas.Str.{digit_value_digit}
 use Rattle.ascii_text.specs.Words.{has_bytes}
-use Rattle.ascii_text.specs.Number.{SpellsNumber, number_in}
+use Rattle.ascii_text.specs.Number.{ParsesToNumber, number_in}
 
 model : IsNumeralModel (λ ds. all_ascii_digits ds ≡ true) (digits_value 10)
 model = numerals_by_value _ tells_all_ascii_digits
 
-pub number_in-ok : (digits : List ℕ) (number : ℕ) → SpellsNumber digits number → number_in digits ≡ Some number
+pub number_in-ok : (digits : List ℕ) (number : ℕ) → ParsesToNumber digits number → number_in digits ≡ Some number
 number_in-ok digits number h =
     rw (lt-ltb 0 (length digits) h.numeral.0, model.from digits h.numeral.1, h.value, lt-ltb number (2 ^ 64) h.in_range) refl
 
-pub SpellsNumber-from_some : (digits : List ℕ) (number : ℕ) → number_in digits ≡ Some number → SpellsNumber digits number
-SpellsNumber-from_some digits number e =
+pub ParsesToNumber-from_some : (digits : List ℕ) (number : ℕ) → number_in digits ≡ Some number → ParsesToNumber digits number
+ParsesToNumber-from_some digits number e =
     let value = digits_value 10 digits in
     let found = cond_some (has_bytes digits && all_ascii_digits digits && ltb value (2 ^ 64)) value number e in
     let tests = and_parts (has_bytes digits && all_ascii_digits digits) (ltb value (2 ^ 64)) found.0 in
@@ -31,11 +31,11 @@ SpellsNumber-from_some digits number e =
       in_range = let below = ltb-true value (2 ^ 64) tests.1 in omega (arith, found.1);
     }
 
-pub number_in-none : (digits : List ℕ) → ((number : ℕ) → ¬ (SpellsNumber digits number)) → number_in digits ≡ None
+pub number_in-none : (digits : List ℕ) → ((number : ℕ) → ¬ (ParsesToNumber digits number)) → number_in digits ≡ None
 number_in-none digits none =
     elim (number_in digits) as (λ o. number_in digits ≡ o → o ≡ None) [
       | None ↦ λ _. refl
-      | Some number ↦ λ e. absurd (none number (SpellsNumber-from_some digits number e))
+      | Some number ↦ λ e. absurd (none number (ParsesToNumber-from_some digits number e))
     ] refl
 
 -- a byte that is no digit

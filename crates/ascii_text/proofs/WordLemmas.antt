@@ -53,8 +53,8 @@ words-without_leading_space (b ∷ bs) = at (is_space b) refl (words-without_lea
   at true e ih = ih ∙ sym (words-at_space [] b bs e)
   at false e ih = refl
 
-filter-cons_yes : (piece : List ℕ) (pieces : List (List ℕ)) → 0 < length piece → filter has_bytes (piece ∷ pieces) ≡ piece ∷ filter has_bytes pieces
-filter-cons_yes piece pieces some = rw (lt-ltb 0 (length piece) some) refl
+filter-cons_yes : (full_line : List ℕ) (full_lines : List (List ℕ)) → 0 < length full_line → filter has_bytes (full_line ∷ full_lines) ≡ full_line ∷ filter has_bytes full_lines
+filter-cons_yes full_line full_lines some = rw (lt-ltb 0 (length full_line) some) refl
 
 -- a first word stands before the first white space
 words_first : (text : List ℕ) → 0 < position_or_len is_space text → words text ≡ take (position_or_len is_space text) text ∷ words (drop (position_or_len is_space text) text)
@@ -62,13 +62,13 @@ words_first text some =
     let n = position_or_len is_space text in
     elim (cases_lt n (length text)) [
       | inl within ↦
-          let piece : 0 < length (take n text) = omega (arith, length-take n text) in
+          let full_line : 0 < length (take n text) = omega (arith, length-take n text) in
           let rest : words (drop n text) ≡ words (after_first is_space text) = ap words (drop_more text n 0 within) ∙ words-at_space [] (get_or text n 0) (drop (n + 1) text) (passes_at_first is_space text 0 within) in
-          ap (filter has_bytes) (slice_split_first is_space text 0 within) ∙ filter-cons_yes (take n text) (slice_split is_space (after_first is_space text)) piece ∙ ap (λ others. take n text ∷ others) (sym rest)
+          ap (filter has_bytes) (slice_split_first is_space text 0 within) ∙ filter-cons_yes (take n text) (slice_split is_space (after_first is_space text)) full_line ∙ ap (λ others. take n text ∷ others) (sym rest)
       | inr past ↦
-          let piece : 0 < length text = omega (arith, prefix_len-le-length (λ b. not (is_space b)) text) in
+          let full_line : 0 < length text = omega (arith, prefix_len-le-length (λ b. not (is_space b)) text) in
           rw (take_all n text past, drop_all n text past)
-          (ap (filter has_bytes) (slice_split_none is_space text (λ k d h. fails_before_first is_space text k d (omega arith))) ∙ filter-cons_yes text [] piece)
+          (ap (filter has_bytes) (slice_split_none is_space text (λ k d h. fails_before_first is_space text k d (omega arith))) ∙ filter-cons_yes text [] full_line)
     ]
 
 -- a text without white space before it begins with another byte, or is empty

@@ -1,11 +1,11 @@
-//! Cutting a line from a text, and its end from a line.
+//! The lines of a text. A full line is a line with its newline; the last line of a text may have none.
 ghost use Rattle.std.specs.Prelude.{◌≡◌, ◌≤◌, ◌<◌, [], ◌∷◌, length, IfSome, MatchOption};
-ghost use Rattle.ascii_text.specs.Lines.{first_len, pieces, without_last, line_of, is_whole};
+ghost use Rattle.ascii_text.specs.Lines.{first_len, full_lines, without_last, line_of, is_whole};
 
 use memchr::memchr;
 
-/// How many bytes come up to the first newline, with it.
-pub fn piece_len(bytes: &[u8]) -> usize
+/// The length of the first full line.
+pub fn first_line_len(bytes: &[u8]) -> usize
     ensures count { result ≡ first_len bytes.now }
     ensures bound { result ≤ length bytes.now }
 {
@@ -15,19 +15,19 @@ pub fn piece_len(bytes: &[u8]) -> usize
     }
 }
 
-/// The first line of a text with its newline, and what stands behind it. An empty text has none (own).
-pub fn next_piece(text: &[u8]) -> Option<(&[u8], &[u8])>
-    ensures pieces { MatchOption result (pieces text.now ≡ [])
-        (λ found. pieces text.now ≡ found.0.now ∷ pieces found.1.now) }
+/// The first full line of a text, and the text after it. An empty text has none (own).
+pub fn next_full_line(text: &[u8]) -> Option<(&[u8], &[u8])>
+    ensures full_lines { MatchOption result (full_lines text.now ≡ [])
+        (λ found. full_lines text.now ≡ found.0.now ∷ full_lines found.1.now) }
     ensures shorter { IfSome result (λ found. length found.1.now < length text.now) }
 {
     if text.is_empty() {
         return None;
     }
-    Some(text.split_at(piece_len(text)))
+    Some(text.split_at(first_line_len(text)))
 }
 
-/// The bytes without this one at their end (own).
+/// The bytes without a last byte that is `end` (own).
 pub fn without_end(bytes: &[u8], end: u8) -> &[u8]
     ensures { result.now ≡ without_last end bytes.now }
 {
@@ -37,11 +37,11 @@ pub fn without_end(bytes: &[u8], end: u8) -> &[u8]
     }
 }
 
-/// A piece without its newline, and then without one carriage return.
-pub fn line_of(piece: &[u8]) -> &[u8]
-    ensures { result.now ≡ line_of piece.now }
+/// The line of a full line: without its newline, and then without one carriage return.
+pub fn line_of(full_line: &[u8]) -> &[u8]
+    ensures { result.now ≡ line_of full_line.now }
 {
-    without_end(without_end(piece, b'\n'), b'\r')
+    without_end(without_end(full_line, b'\n'), b'\r')
 }
 
 /// Whether the bytes end in a newline.

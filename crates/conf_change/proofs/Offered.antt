@@ -11,4 +11,4 @@ pub use Rattle.conf_change.proofs.Steps.Acceptance.{EnterTaken-from_outcome, Lea
 pub use Rattle.conf_change.proofs.Steps.ChangerAfter.{Accepts-from_changer_after, changer_after-from_Accepts}
 pub use Rattle.conf_change.proofs.Steps.Soundness.{get-after, has-after_leave, moved_to-is_sound, outcome-are_neighbours, outcome-has_voter, outcome-is_restorable, outcome-overlaps}
 pub use Rattle.conf_change.proofs.Texts.ChangeTokens.{AllZip-from_ok, changes_in_words-ok, kind_in-letter_of}
-pub use Rattle.conf_change.proofs.Texts.ConfStateLine.{StandsForConfState-from_some}
+pub use Rattle.conf_change.proofs.Texts.ConfStateLine.{DenotesConfState-from_some}

@@ -2,7 +2,7 @@
 use Rattle.std.specs.Prelude.{◌≡◌, ◌≢◌, ℕ, ◌<◌, ◌==◌, List, [], ◌∷◌, ◌++◌, length, slice_index, Option, Some, None, Result, Ok, Err, if◌then◌else◌}
 use Rattle.std.specs.List.{AllZip}
 use Rattle.ascii_text.specs.Words.{words}
-use Rattle.ascii_text.specs.Number.{SpellsNumber, number_in}
+use Rattle.ascii_text.specs.Number.{ParsesToNumber, number_in}
 use Rattle.conf_change.specs.declared.change.Change.{Change}
 use Rattle.conf_change.specs.declared.change.Kind.{Kind}
 use Rattle.conf_change.specs.declared.change.Kind.TheVariants.{Voter, Learner, Remove, Update}
@@ -17,14 +17,14 @@ letter_of Remove = 114
 letter_of Update = 117
 
 -- the token is the letter of the change's kind and a number that is its id
-pub record Spells (token : List ℕ) (change : Change) : Type 0 where
+pub record ParsesTo (token : List ℕ) (change : Change) : Type 0 where
   pub number : List ℕ
   pub letter_first : token ≡ letter_of change.kind ∷ number
-  pub id_behind : SpellsNumber number change.id
+  pub id_behind : ParsesToNumber number change.id
 
 -- the words of the text spell the changes, one word a change
-abbrev pub StandsFor : List ℕ → List Change → Type 0
-StandsFor text changes = AllZip Spells (words text) changes
+abbrev pub Denotes : List ℕ → List Change → Type 0
+Denotes text changes = AllZip ParsesTo (words text) changes
 
 -- a token that spells no change, with the reason
 pub data BadToken : Type 0 where
@@ -42,7 +42,7 @@ token_of (bad_number token) = token
 abbrev pub HasReason : BadToken → Type 0
 HasReason (unknown_token token) = length token < 2
 HasReason (unknown_input token) = (1 < length token) × ((kind : Kind) → slice_index token 0 ≢ letter_of kind)
-HasReason (bad_number token) = (kind : Kind) × (rest : List ℕ) × (1 < length token) × (token ≡ letter_of kind ∷ rest) × ((number : ℕ) → ¬ (SpellsNumber rest number))
+HasReason (bad_number token) = (kind : Kind) × (rest : List ℕ) × (1 < length token) × (token ≡ letter_of kind ∷ rest) × ((number : ℕ) → ¬ (ParsesToNumber rest number))
 
 -- the first of the tokens that spells no change: those before it all spell changes
 pub record IsFirstBad (tokens : List (List ℕ)) (bad : BadToken) : Type 0 where
@@ -50,7 +50,7 @@ pub record IsFirstBad (tokens : List (List ℕ)) (bad : BadToken) : Type 0 where
   pub after : List (List ℕ)
   pub changes : List Change
   pub place : tokens ≡ before ++ token_of bad ∷ after
-  pub spelled : AllZip Spells before changes
+  pub spelled : AllZip ParsesTo before changes
   pub reason : HasReason bad
 
 -- the bad token that was told

@@ -3,7 +3,7 @@ use Rattle.std.specs.Prelude.{◌≡◌, ℕ, Bool, true, false, ◌==◌, List,
 use Rattle.std.specs.List.{AllZip, join_with_byte, slice_split, position_or_len, before_first}
 use Rattle.ascii_text.specs.Words.{has_bytes}
 use Rattle.ascii_text.specs.WhiteSpace.{trimmed}
-use Rattle.ascii_text.specs.Number.{SpellsNumber, number_in}
+use Rattle.ascii_text.specs.Number.{ParsesToNumber, number_in}
 use Rattle.conf_change.specs.Text.{spaced_numbers}
 use Rattle.conf_change.specs.ConfState.{ConfStateLists}
 
@@ -23,22 +23,22 @@ conf_state_text saved =
     line_text (spaced_numbers saved.voters) (spaced_numbers saved.voters_outgoing) (spaced_numbers saved.learners) (spaced_numbers saved.learners_next) saved.auto_leave
 
 -- the text is numbers with one space between, and these are the numbers
-pub record SpellsNumbers (text : List ℕ) (numbers : List ℕ) : Type 0 where
-  pub pieces : List (List ℕ)
-  pub spaced : text ≡ join_with_byte 32 pieces
-  pub spelled : AllZip SpellsNumber pieces numbers
+pub record ParsesToNumbers (text : List ℕ) (numbers : List ℕ) : Type 0 where
+  pub tokens : List (List ℕ)
+  pub spaced : text ≡ join_with_byte 32 tokens
+  pub spelled : AllZip ParsesToNumber tokens numbers
 
 -- the text is the line of the saved configuration, with any white space at its ends and any zeros before its numbers
-pub record StandsForConfState (text : List ℕ) (saved : ConfStateLists) : Type 0 where
+pub record DenotesConfState (text : List ℕ) (saved : ConfStateLists) : Type 0 where
   pub voters : List ℕ
   pub voters_outgoing : List ℕ
   pub learners : List ℕ
   pub learners_next : List ℕ
   pub line : trimmed text ≡ line_text voters voters_outgoing learners learners_next saved.auto_leave
-  pub spells_voters : SpellsNumbers voters saved.voters
-  pub spells_voters_outgoing : SpellsNumbers voters_outgoing saved.voters_outgoing
-  pub spells_learners : SpellsNumbers learners saved.learners
-  pub spells_learners_next : SpellsNumbers learners_next saved.learners_next
+  pub spells_voters : ParsesToNumbers voters saved.voters
+  pub spells_voters_outgoing : ParsesToNumbers voters_outgoing saved.voters_outgoing
+  pub spells_learners : ParsesToNumbers learners saved.learners
+  pub spells_learners_next : ParsesToNumbers learners_next saved.learners_next
 
 -- the same as functions: what follows a prefix
 abbrev pub after_prefix : List ℕ → List ℕ → Option (List ℕ)
@@ -51,9 +51,9 @@ and_number (Some number) None = None
 and_number (Some number) (Some numbers) = Some (number ∷ numbers)
 
 -- the numbers of the pieces, if each is one
-abbrev pub numbers_in_pieces : List (List ℕ) → Option (List ℕ)
-numbers_in_pieces [] = Some []
-numbers_in_pieces (piece ∷ pieces) = and_number (number_in piece) (numbers_in_pieces pieces)
+abbrev pub numbers_in_tokens : List (List ℕ) → Option (List ℕ)
+numbers_in_tokens [] = Some []
+numbers_in_tokens (token ∷ tokens) = and_number (number_in token) (numbers_in_tokens tokens)
 
 -- the one space between numbers
 abbrev pub is_space_byte : ℕ → Bool
@@ -61,7 +61,7 @@ is_space_byte byte = byte == 32
 
 -- the numbers that a text has with one space between; the empty text has none
 abbrev pub numbers_in : List ℕ → Option (List ℕ)
-numbers_in text = if has_bytes text then numbers_in_pieces (slice_split is_space_byte text) else Some []
+numbers_in text = if has_bytes text then numbers_in_tokens (slice_split is_space_byte text) else Some []
 
 -- the bracket that ends a list
 abbrev pub is_close : ℕ → Bool

@@ -1,7 +1,7 @@
 -- What a list of changes says of each id, as one entry an id.
 use Rattle.std.specs.Prelude.{◌≡◌, ◌≢◌, ℕ, Bool, false, not, ◌&&◌, ◌||◌, ◌==◌, List, [], ◌∷◌, ◌++◌, map, Option, Some, None, ◌⊎◌, if◌then◌else◌}
 use Rattle.std.specs.List.{list_any, All}
-use Rattle.quorum_sets.specs.Rising.{IsRising}
+use Rattle.quorum_sets.specs.AscendingLists.{IsAscending}
 use Rattle.conf_change.specs.Change.{is_update, is_removal, last_word, removes}
 use Rattle.conf_change.specs.declared.change.Change.{Change}
 use Rattle.conf_change.specs.declared.change.Kind.{Kind}
@@ -49,7 +49,7 @@ pub record IsEntryAdded (before : List LastWord) (word : LastWord) (after : List
 
 -- one entry an id, in rising order, says what the entries say in order
 pub record Joins (each words : List LastWord) : Type 0 where
-  pub rising : IsRising (map (λ w. w.id) words)
+  pub ascends : IsAscending (map (λ w. w.id) words)
   pub last : (q : ℕ) → last_said words q ≡ last_said each q
   pub removal : (q : ℕ) → removal_said words q ≡ removal_said each q
   pub entries : (q : ℕ) → has_entry words q ≡ has_entry each q
@@ -61,6 +61,6 @@ pub record SaysOf (changes : List Change) (word : LastWord) : Type 0 where
 
 -- one entry for each of the ids and each id that the changes name, in rising order, says what the changes say
 pub record ListsLastWords (ids : List ℕ) (changes : List Change) (words : List LastWord) : Type 0 where
-  pub rising : IsRising (map (λ w. w.id) words)
+  pub ascends : IsAscending (map (λ w. w.id) words)
   pub says : All (SaysOf changes) words
   pub entries : (q : ℕ) → has_entry words q ≡ (list_any (λ id. q == id) ids || list_any (λ change. q == change.id) changes)

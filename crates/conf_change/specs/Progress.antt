@@ -3,7 +3,7 @@ use Rattle.std.specs.Prelude.{◌≡◌, ℕ, ◌==◌, Bool, not, ◌&&◌, ◌
 use Rattle.std.specs.List.{list_any}
 use Rattle.std.specs.FinMap as finite
 use Rattle.quorum_sets.specs.Ids.{Ids, has}
-use Rattle.quorum_sets.specs.Rising.{IsRising}
+use Rattle.quorum_sets.specs.AscendingLists.{IsAscending}
 use Rattle.conf_change.specs.Configuration.{Configuration, is_member, members}
 use Rattle.conf_change.specs.Change.{removes}
 use Rattle.conf_change.specs.Floor.{fresh_next}
@@ -35,7 +35,7 @@ all_fresh next_index c = progress_by c (λ id. fresh_progress next_index (has c.
 
 -- a list in rising order of the ids has fresh progress for each id of the three sets, with the learners marked, and for nobody else
 pub record IsFreshOf (next_index : ℕ) (incoming outgoing learners : Ids) (entries : List (ℕ × Progress)) : Type 0 where
-  pub rising : IsRising (map (λ m. m.0) entries)
+  pub ascends : IsAscending (map (λ m. m.0) entries)
   pub members : (q : ℕ) → list_any (λ x. q == x) (map (λ m. m.0) entries) ≡ (has incoming q || has outgoing q || has learners q)
   pub fresh : entries ≡ map (λ id. (id, fresh_progress next_index (has learners id))) (map (λ m. m.0) entries)
 

@@ -1,7 +1,7 @@
 //! Parts of a text: one that may be left out, and numbers.
 ghost use Rattle.std.specs.Prelude.{◌≡◌, ◌++◌, OnOk};
 ghost use Rattle.ascii_text.specs.Append.{Extends};
-ghost use Rattle.conf_change.specs.ConfStateLine.{SpellsNumbers};
+ghost use Rattle.conf_change.specs.ConfStateLine.{ParsesToNumbers};
 ghost use Rattle.conf_change.specs.Text.{where_there, spaced_number, spaced_numbers};
 
 use ascii_text::NoMemory;
@@ -34,7 +34,7 @@ pub(crate) fn append_number_at(
 // Appends numbers with one space between.
 pub(crate) fn append_numbers(text: &mut Vec<u8>, numbers: &[u64]) -> Result<(), NoMemory>
     ensures ok { OnOk result (text.new.items ≡ text.old.items ++ spaced_numbers numbers.now) }
-    ensures spells { OnOk result (SpellsNumbers (spaced_numbers numbers.now) numbers.now) }
+    ensures spells { OnOk result (ParsesToNumbers (spaced_numbers numbers.now) numbers.now) }
     ensures extends { Extends text.old.items text.new.items }
 {
     for (place, number) in numbers.iter().enumerate() {

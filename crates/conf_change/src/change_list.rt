@@ -1,7 +1,7 @@
 //! Reading lists of changes, as the test scripts of etcd's raft packages write them: `v1 l2 r3`.
 ghost use Rattle.std.specs.Prelude.{◌≡◌, Ok, Err, [], length, IfOk, OnOk, OnErr, IfErr, IfSome, IsSomeAnd, MatchResult};
 ghost use Rattle.ascii_text.specs.Words.{words};
-ghost use Rattle.conf_change.specs.ChangeList.{StandsFor, IsFirstBad, bad_token, change_in, changes_in, kind_in};
+ghost use Rattle.conf_change.specs.ChangeList.{Denotes, IsFirstBad, bad_token, change_in, changes_in, kind_in};
 
 use crate::change::{Change, Kind};
 use ascii_text::number::read_number;
@@ -49,7 +49,7 @@ impl From<AllocError> for TokenFault<'_> {
 /// 2^64 and may have leading zeros; the first token that is none of these decides. A text without tokens is the empty
 /// list.
 pub fn read_changes(alloc: Global, text: &[u8]) -> Result<Vec<Change>, TokenFault<'_>>
-    ensures stands { IfOk result (λ changes. StandsFor text.now changes.items) }
+    ensures stands { IfOk result (λ changes. Denotes text.now changes.items) }
     ensures one_a_word { IfOk result (λ changes. length changes.items ≡ length (words text.now)) }
     ensures first_bad { IfErr result (λ fault. IfSome (bad_token fault) (IsFirstBad (words text.now))) }
 
@@ -67,7 +67,7 @@ pub fn read_changes_into<'a>(
     changes: &mut Vec<Change>,
     text: &'a [u8],
 ) -> Result<(), TokenFault<'a>>
-    ensures stands { OnOk result (StandsFor text.now changes.new.items) }
+    ensures stands { OnOk result (Denotes text.now changes.new.items) }
     ensures one_a_word { OnOk result (length changes.new.items ≡ length (words text.now)) }
     ensures first_bad { IfErr result (λ fault. IfSome (bad_token fault) (IsFirstBad (words text.now))) }
     ensures left { OnErr result (changes.new.items ≡ []) }

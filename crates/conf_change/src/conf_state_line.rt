@@ -5,12 +5,12 @@ ghost use Rattle.ascii_text.specs.Append.{Extends};
 ghost use Rattle.conf_change.specs.Text.{spaced_numbers};
 ghost use Rattle.conf_change.specs.ConfState.{ConfStateLists};
 ghost use Rattle.conf_change.specs.ConfStateLine as line;
-ghost use Rattle.conf_change.specs.ConfStateLine.{SpellsNumbers, StandsForConfState, conf_state_text, conf_state_in, numbers_in, field_in, line_in, auto_leave_in, is_space_byte};
+ghost use Rattle.conf_change.specs.ConfStateLine.{ParsesToNumbers, DenotesConfState, conf_state_text, conf_state_in, numbers_in, field_in, line_in, auto_leave_in, is_space_byte};
 
 use crate::append::append_numbers;
 use crate::conf_state_form::{ConfState, ConfStateFault};
 use ascii_text::append::{append, keep_whole};
-use ascii_text::cut::{far_place_of, place_of};
+use ascii_text::position::{far_position_of, position_of};
 use ascii_text::number::read_number;
 use ascii_text::white_space::trimmed;
 use quorum_sets::NoMemory;
@@ -42,7 +42,7 @@ impl From<AllocError> for ConfStateFault {
 #[tactic(auto, using(crate::proofs::Texts::ConfStateLine::line_laws))]
 pub fn write_conf_state(text: &mut Vec<u8>, state: &ConfState) -> Result<(), NoMemory>
     ensures ok { OnOk result (text.new.items ≡ text.old.items ++ conf_state_text state.now) }
-    ensures stands { OnOk result (StandsForConfState (conf_state_text state.now) state.now) }
+    ensures stands { OnOk result (DenotesConfState (conf_state_text state.now) state.now) }
     ensures reads_back { OnOk result (conf_state_in (conf_state_text state.now) ≡ Some state.now) }
     ensures err { OnErr result (text.new.items ≡ text.old.items) }
 {
@@ -53,7 +53,7 @@ pub fn write_conf_state(text: &mut Vec<u8>, state: &ConfState) -> Result<(), NoM
 
 fn append_conf_state(text: &mut Vec<u8>, state: &ConfState) -> Result<(), NoMemory>
     ensures ok { OnOk result (text.new.items ≡ text.old.items ++ conf_state_text state.now) }
-    ensures stands { OnOk result (StandsForConfState (conf_state_text state.now) state.now) }
+    ensures stands { OnOk result (DenotesConfState (conf_state_text state.now) state.now) }
     ensures extends { Extends text.old.items text.new.items }
 {
     append_field(text, b"Voters:[", &state.voters)?;
@@ -73,7 +73,7 @@ fn truth_text(truth: bool) -> &'static [u8]
 // Appends what stands before the numbers of a field, and the numbers.
 fn append_field(text: &mut Vec<u8>, name: &[u8], numbers: &[u64]) -> Result<(), NoMemory>
     ensures ok { OnOk result (text.new.items ≡ text.old.items ++ (name.now ++ spaced_numbers numbers.now)) }
-    ensures spells { OnOk result (SpellsNumbers (spaced_numbers numbers.now) numbers.now) }
+    ensures spells { OnOk result (ParsesToNumbers (spaced_numbers numbers.now) numbers.now) }
     ensures extends { Extends text.old.items text.new.items }
 {
     append(text, name)?;
@@ -84,8 +84,8 @@ fn append_field(text: &mut Vec<u8>, name: &[u8], numbers: &[u64]) -> Result<(), 
 /// ends and any zeros before its numbers, and nothing else. A list may have any order, which is kept.
 #[tactic(auto, using(crate::proofs::Texts::ConfStateLine::line_laws))]
 pub fn read_conf_state(alloc: Global, text: &[u8]) -> Result<ConfState, ConfStateFault>
-    ensures stands { IfOk result (StandsForConfState text.now) }
-    ensures bad { result ≡ Err ConfStateFault.BadConfState → (state : ConfStateLists) → ¬ (StandsForConfState text.now state) }
+    ensures stands { IfOk result (DenotesConfState text.now) }
+    ensures bad { result ≡ Err ConfStateFault.BadConfState → (state : ConfStateLists) → ¬ (DenotesConfState text.now state) }
 
     // The same by the function.
     ensures value { IfOk result (λ state. conf_state_in text.now ≡ Some state) }
@@ -124,7 +124,7 @@ fn read_field<'a>(
     let text = text
         .strip_prefix(prefix)
         .ok_or(ConfStateFault::BadConfState)?;
-    let (numbers, rest) = text.split_at(far_place_of(text, b']'));
+    let (numbers, rest) = text.split_at(far_position_of(text, b']'));
     Ok((read_numbers(alloc, numbers)?, rest))
 }
 
@@ -140,8 +140,8 @@ fn read_numbers(alloc: Global, text: &[u8]) -> Result<Vec<u64>, ConfStateFault>
     let mut numbers = Vec::with_capacity(alloc, text.len().div_ceil(2).min(64))?;
     let mut rest = text;
     loop {
-        let (piece, behind) = first_piece(rest);
-        let number = read_number(piece).ok_or(ConfStateFault::BadConfState)?;
+        let (token, behind) = first_token(rest);
+        let number = read_number(token).ok_or(ConfStateFault::BadConfState)?;
         numbers.push(number)?;
         let [_, next @ ..] = behind else {
             return Ok(numbers);
@@ -151,12 +151,12 @@ fn read_numbers(alloc: Global, text: &[u8]) -> Result<Vec<u64>, ConfStateFault>
 }
 
 // What stands before the first space, and the text from that space on.
-fn first_piece(text: &[u8]) -> (&[u8], &[u8])
+fn first_token(text: &[u8]) -> (&[u8], &[u8])
     ensures last { length result.1.now ≡ 0 → slice_split is_space_byte text.now ≡ result.0.now ∷ [] }
     ensures more { 0 < length result.1.now → slice_split is_space_byte text.now ≡ result.0.now ∷ slice_split is_space_byte (drop 1 result.1.now) }
     ensures within { length result.1.now ≤ length text.now }
 {
-    text.split_at(place_of(text, b' '))
+    text.split_at(position_of(text, b' '))
 }
 
 // Reads the last field.

@@ -7,7 +7,7 @@ ghost use Rattle.conf_change.specs.declared.change.Change.{Change};
 ghost use Rattle.conf_change.specs.Change.{last_word, is_incoming_after, is_learner_after, is_next_after, result_of};
 ghost use Rattle.conf_change.specs.Configuration.{ValidByMember, is_valid, voters_of};
 ghost use Rattle.ascii_text.specs.Words.{words};
-ghost use Rattle.conf_change.specs.ChangeList.{StandsFor, BadToken, IsFirstBad, changes_in};
+ghost use Rattle.conf_change.specs.ChangeList.{Denotes, BadToken, IsFirstBad, changes_in};
 ghost use Rattle.conf_change.specs.declared.floor.Floor.{Floor};
 ghost use Rattle.conf_change.specs.declared.progress.Progress.{Progress};
 ghost use Rattle.conf_change.specs.declared.refused.Refused.{Refused};
@@ -16,20 +16,20 @@ ghost use Rattle.conf_change.specs.Outcome.{outcome};
 ghost use Rattle.conf_change.specs.Changer.{ChangerState, Accepts, IsSound, begun_with, changer_after, moved_to, new_changer};
 ghost use Rattle.conf_change.specs.Configuration.{Configuration, has_voter, is_restorable, is_same};
 ghost use Rattle.conf_change.specs.ConfState.{ConfStateLists, Describes, is_same_form, lists_of, restored};
-ghost use Rattle.conf_change.specs.ConfStateLine.{StandsForConfState, conf_state_in};
+ghost use Rattle.conf_change.specs.ConfStateLine.{DenotesConfState, conf_state_in};
 
 /// A text stands for one list of changes at most, and it is the one that the function gives; where it stands for none,
 /// the function gives the first token that spells no change.
 pub fn one_list_per_text()
-    ensures ok { (text : List ℕ) (changes : List Change) → (StandsFor text changes) ↔ (changes_in text ≡ Ok changes) }
+    ensures ok { (text : List ℕ) (changes : List Change) → (Denotes text changes) ↔ (changes_in text ≡ Ok changes) }
     ensures err { (text : List ℕ) (bad : BadToken) → (IsFirstBad (words text) bad) ↔ (changes_in text ≡ Err bad) }
-    ensures one { (text : List ℕ) (a b : List Change) → StandsFor text a → StandsFor text b → a ≡ b }
+    ensures one { (text : List ℕ) (a b : List Change) → Denotes text a → Denotes text b → a ≡ b }
 {}
 
 /// A text is the line of one saved configuration at most, and it is the one that the function gives.
 pub fn one_conf_state_per_text()
-    ensures some { (text : List ℕ) (saved : ConfStateLists) → (StandsForConfState text saved) ↔ (conf_state_in text ≡ Some saved) }
-    ensures one { (text : List ℕ) (a b : ConfStateLists) → StandsForConfState text a → StandsForConfState text b → a ≡ b }
+    ensures some { (text : List ℕ) (saved : ConfStateLists) → (DenotesConfState text saved) ↔ (conf_state_in text ≡ Some saved) }
+    ensures one { (text : List ℕ) (a b : ConfStateLists) → DenotesConfState text a → DenotesConfState text b → a ≡ b }
 {}
 
 /// What a saved form is restored to: the configuration that it describes, where that one can be restored, and nothing

@@ -3,7 +3,7 @@ ghost use Rattle.std.specs.Prelude.{◌≡◌, ℕ, true, length, ◌==◌, Some
 ghost use Rattle.std.specs.Ordering.{nat_cmp};
 ghost use Rattle.std.specs.FinMap as finite;
 ghost use Rattle.smallvec.specs.SmallVec.{HasRoomFor};
-ghost use Rattle.quorum_sets.specs.Rising.{IsRising, StandsAt, GoesTo};
+ghost use Rattle.quorum_sets.specs.AscendingLists.{IsAscending, IsAtPosition, IsInsertionPoint};
 ghost use Rattle.conf_change.specs.Progress.{fresh_progress, with_mark};
 ghost use Rattle.conf_change.specs.TrackerEdits.{entry_of};
 
@@ -14,10 +14,10 @@ use smallvec::SmallVec;
 
 // The progress of the id.
 pub(crate) fn progress_of(members: &[(u64, Progress)], id: u64) -> Option<Progress>
-    requires { IsRising (map (λ m. m.0) members.now) }
+    requires { IsAscending (map (λ m. m.0) members.now) }
     ensures { result ≡ finite.get (finite.from_entries {R = nat_cmp} members.now) id }
 {
-    match place_of(members, id) {
+    match position_of(members, id) {
         Ok(place) => Some(members[place].1),
         Err(_) => None,
     }
@@ -25,11 +25,11 @@ pub(crate) fn progress_of(members: &[(u64, Progress)], id: u64) -> Option<Progre
 
 // Sets the progress of an id that is there; any other id it leaves alone.
 pub(crate) fn set_progress_of(members: &mut [(u64, Progress)], id: u64, progress: Progress)
-    requires { IsRising (map (λ m. m.0) members.old) }
+    requires { IsAscending (map (λ m. m.0) members.old) }
     ensures keys { map (λ m. m.0) members.new ≡ map (λ m. m.0) members.old }
     ensures gets { is_some (finite.get (finite.from_entries {R = nat_cmp} members.old) id) ≡ true → (q : ℕ) → finite.get (finite.from_entries {R = nat_cmp} members.new) q ≡ (if q == id then Some progress else finite.get (finite.from_entries {R = nat_cmp} members.old) q) }
 {
-    if let Ok(place) = place_of(members, id) {
+    if let Ok(place) = position_of(members, id) {
         members[place] = (id, progress);
     }
 }
@@ -42,8 +42,8 @@ pub(crate) fn follow(
     id_is: Membership,
     next_index: u64,
 ) -> Result<(), NoMemory>
-    requires { IsRising (map (λ m. m.0) members.old.items) }
-    ensures rising { IsRising (map (λ m. m.0) members.new.items) }
+    requires { IsAscending (map (λ m. m.0) members.old.items) }
+    ensures ascends { IsAscending (map (λ m. m.0) members.new.items) }
     ensures entries { OnOk result ((q : ℕ) → finite.get (finite.from_entries {R = nat_cmp} members.new.items) q ≡ (if q == id then entry_of next_index id_is.member id_is.learner (finite.get (finite.from_entries {R = nat_cmp} members.old.items) id) else finite.get (finite.from_entries {R = nat_cmp} members.old.items) q)) }
     ensures room { HasRoomFor members.old 1 → IsOk result }
 {
@@ -62,12 +62,12 @@ fn keep_or_begin(
     learner: bool,
     next_index: u64,
 ) -> Result<(), NoMemory>
-    requires { IsRising (map (λ m. m.0) members.old.items) }
-    ensures rising { IsRising (map (λ m. m.0) members.new.items) }
+    requires { IsAscending (map (λ m. m.0) members.old.items) }
+    ensures ascends { IsAscending (map (λ m. m.0) members.new.items) }
     ensures entries { OnOk result ((q : ℕ) → finite.get (finite.from_entries {R = nat_cmp} members.new.items) q ≡ (if q == id then Some (with_mark learner (unwrap_or (finite.get (finite.from_entries {R = nat_cmp} members.old.items) id) (fresh_progress next_index learner))) else finite.get (finite.from_entries {R = nat_cmp} members.old.items) q)) }
     ensures room { HasRoomFor members.old 1 → IsOk result }
 {
-    match place_of(members.as_slice(), id) {
+    match position_of(members.as_slice(), id) {
         Ok(place) => mark(members.as_mut_slice(), id, place, learner),
         Err(place) => {
             let fresh = Progress::fresh(next_index);
@@ -79,27 +79,27 @@ fn keep_or_begin(
 
 // Takes an id out.
 fn take_out(members: &mut SmallVec<(u64, Progress), 1>, id: u64)
-    requires { IsRising (map (λ m. m.0) members.old.items) }
-    ensures rising { IsRising (map (λ m. m.0) members.new.items) }
+    requires { IsAscending (map (λ m. m.0) members.old.items) }
+    ensures ascends { IsAscending (map (λ m. m.0) members.new.items) }
     ensures entries { (q : ℕ) → finite.get (finite.from_entries {R = nat_cmp} members.new.items) q ≡ (if q == id then None else finite.get (finite.from_entries {R = nat_cmp} members.old.items) q) }
 {
-    if let Ok(place) = place_of(members.as_slice(), id) {
+    if let Ok(place) = position_of(members.as_slice(), id) {
         members.remove(place);
     }
 }
 
 // The index of the member with this id, or else the index where it is to be inserted.
-fn place_of(members: &[(u64, Progress)], id: u64) -> Result<usize, usize>
-    requires { IsRising (map (λ m. m.0) members.now) }
-    ensures { MatchResult result (λ place. StandsAt (map (λ m. m.0) members.now) id place) (λ place. GoesTo (map (λ m. m.0) members.now) id place) }
+fn position_of(members: &[(u64, Progress)], id: u64) -> Result<usize, usize>
+    requires { IsAscending (map (λ m. m.0) members.now) }
+    ensures { MatchResult result (λ place. IsAtPosition (map (λ m. m.0) members.now) id place) (λ place. IsInsertionPoint (map (λ m. m.0) members.now) id place) }
 {
     members.binary_search_by_key(&id, |member| member.0)
 }
 
 // Marks the member at a place, which keeps its progress.
 fn mark(members: &mut [(u64, Progress)], id: u64, place: usize, learner: bool)
-    requires rising { IsRising (map (λ m. m.0) members.old) }
-    requires stands { StandsAt (map (λ m. m.0) members.old) id place }
+    requires ascends { IsAscending (map (λ m. m.0) members.old) }
+    requires stands { IsAtPosition (map (λ m. m.0) members.old) id place }
     ensures keys { map (λ m. m.0) members.new ≡ map (λ m. m.0) members.old }
     ensures entries { (q : ℕ) → finite.get (finite.from_entries {R = nat_cmp} members.new) q ≡ (if q == id then option_map (with_mark learner) (finite.get (finite.from_entries {R = nat_cmp} members.old) id) else finite.get (finite.from_entries {R = nat_cmp} members.old) q) }
 {

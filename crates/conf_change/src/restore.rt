@@ -1,7 +1,7 @@
 //! Restoring a saved configuration.
 ghost use Rattle.std.specs.Prelude.{◌≡◌, ℕ, Some, None, Err, true, false, map, IfOk, MatchResult};
 ghost use Rattle.std.specs.FinMap as finite;
-ghost use Rattle.quorum_sets.specs.Rising.{IsRising};
+ghost use Rattle.quorum_sets.specs.AscendingLists.{IsAscending};
 ghost use Rattle.conf_change.specs.Configuration.{Configuration, has_voter_or_nobody, is_restorable};
 ghost use Rattle.conf_change.specs.ConfState.{Describes, Lists, names_once, restored};
 ghost use Rattle.conf_change.specs.Described.{described};
@@ -137,7 +137,7 @@ fn fresh_progress<S: MemberSet>(
     config: &Config<S>,
     next_index: u64,
 ) -> Result<SmallVec<(u64, Progress), 1>, NoMemory>
-    ensures rising { IfOk result (λ members. IsRising (map (λ m. m.0) members.items)) }
+    ensures ascends { IfOk result (λ members. IsAscending (map (λ m. m.0) members.items)) }
     ensures fresh { IfOk result (λ members. finite.from_entries members.items ≡ all_fresh next_index config.now) }
 {
     fresh_of(

@@ -3,7 +3,7 @@ ghost use Rattle.std.specs.Prelude.{◌≡◌, ℕ, ◌-◌, ◌^◌, min, true,
 ghost use Rattle.std.specs.Ordering.{nat_cmp};
 ghost use Rattle.std.specs.FinMap as finite;
 ghost use Rattle.quorum_sets.specs.Ids.{has, with_id, without_id, is_empty, difference_count};
-ghost use Rattle.quorum_sets.specs.Rising.{IsRising};
+ghost use Rattle.quorum_sets.specs.AscendingLists.{IsAscending};
 ghost use Rattle.conf_change.specs.Configuration.{is_member, is_joint, has_voter};
 ghost use Rattle.conf_change.specs.Change.{result_of};
 ghost use Rattle.conf_change.specs.Outcome.{after_leave};
@@ -45,7 +45,7 @@ pub struct Tracker<S: MemberSet> {
 impl<S: MemberSet> Model for Tracker<S> {
     ghost use Rattle.std.specs.Prelude.{map};
     ghost use Rattle.std.specs.FinMap as finite;
-    ghost use Rattle.quorum_sets.specs.Rising.{IsRising};
+    ghost use Rattle.quorum_sets.specs.AscendingLists.{IsAscending};
     ghost use Rattle.conf_change.specs.TrackerState.{TrackerState, tracker_code};
 
     ghost Value = { TrackerState };
@@ -54,7 +54,7 @@ impl<S: MemberSet> Model for Tracker<S> {
 
     ghost view = { λ t. record { config = t.config; progress = finite.from_entries t.members.items; floor = t.floor } };
 
-    ghost invariant = { λ t. IsRising (map (λ m. m.0) t.members.items) };
+    ghost invariant = { λ t. IsAscending (map (λ m. m.0) t.members.items) };
 }
 
 impl<S: MemberSet> Tracker<S> {
@@ -79,7 +79,7 @@ impl<S: MemberSet> Tracker<S> {
         config: Config<S>,
         members: SmallVec<(u64, Progress), 1>,
     ) -> Tracker<S>
-        requires { IsRising (map (λ m. m.0) members.items) }
+        requires { IsAscending (map (λ m. m.0) members.items) }
         ensures { result ≡ tracker_of floor config (finite.from_entries members.items) }
     {
         Tracker {
@@ -365,9 +365,9 @@ fn make_each<S: MemberSet>(
     changes: &[Change],
     next_index: u64,
 ) -> Result<(), NoMemory>
-    requires rising { IsRising (map (λ m. m.0) members.old.items) }
+    requires ascends { IsAscending (map (λ m. m.0) members.old.items) }
     requires due { IsDue next_index config.old (finite.from_entries members.old.items) }
-    ensures rising { IsRising (map (λ m. m.0) members.new.items) }
+    ensures ascends { IsAscending (map (λ m. m.0) members.new.items) }
     ensures made { OnOk result ((floor : Floor) → Applies next_index changes.now
         (tracker_of floor config.old (finite.from_entries members.old.items)) (tracker_of floor config.new (finite.from_entries members.new.items))) }
 {
@@ -384,8 +384,8 @@ fn copy_members(
     others: &[(u64, Progress)],
     more: usize,
 ) -> Result<(), NoMemory>
-    requires { IsRising (map (λ m. m.0) others.now) }
-    ensures rising { IsRising (map (λ m. m.0) members.new.items) }
+    requires { IsAscending (map (λ m. m.0) others.now) }
+    ensures ascends { IsAscending (map (λ m. m.0) members.new.items) }
     ensures same { OnOk result (members.new.items ≡ others.now) }
 {
     members.clear();
@@ -400,8 +400,8 @@ fn keep_members<S: MemberSet>(
     config: &Config<S>,
     others: &[(u64, Progress)],
 ) -> Result<(), NoMemory>
-    requires { IsRising (map (λ m. m.0) others.now) }
-    ensures rising { IsRising (map (λ m. m.0) members.new.items) }
+    requires { IsAscending (map (λ m. m.0) others.now) }
+    ensures ascends { IsAscending (map (λ m. m.0) members.new.items) }
     ensures kept { OnOk result ((q : ℕ) → finite.get (finite.from_entries {R = nat_cmp} members.new.items) q ≡ progress_kept (is_member config.now q) (has config.now.learners q) (finite.get (finite.from_entries {R = nat_cmp} others.now) q)) }
 {
     members.clear();

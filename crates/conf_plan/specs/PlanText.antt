@@ -2,7 +2,7 @@
 use Rattle.std.specs.Prelude.{◌≡◌, ℕ, ◌+◌, ◌≤◌, Bool, ◌==◌, ◌⊎◌, List, [], ◌∷◌, ◌++◌, length, map, flat_map, filter, codes, decimal, if◌then◌else◌}
 use Rattle.std.specs.List.{AllZip, join_with_byte, slice_split}
 use Rattle.ascii_text.specs.Words.{has_bytes, words}
-use Rattle.conf_change.specs.ChangeList.{letter_of, Spells}
+use Rattle.conf_change.specs.ChangeList.{letter_of, ParsesTo}
 use Rattle.conf_change.specs.ConfStateLine.{truth_text}
 use Rattle.conf_change.specs.declared.change.Change.{Change}
 use Rattle.conf_change.specs.declared.step.Step.{Step}
@@ -59,7 +59,7 @@ lines_of text = if has_bytes text then without_empty_end (slice_split is_newline
 pub record IsLineOf (line : List ℕ) (step : Step) : Type 0 where
   pub tokens : List (List ℕ)
   pub line_words : words line ≡ command_words step ++ tokens
-  pub spelled : AllZip Spells tokens (changes_of step)
+  pub spelled : AllZip ParsesTo tokens (changes_of step)
 
 -- the text is one line, whose words say that there is nothing to do
 pub record SaysNothing (text : List ℕ) : Type 0 where

@@ -3,7 +3,7 @@ ghost use Rattle.std.specs.Prelude.{◌≡◌, ◌≤◌, ◌↔◌, ◌⊎◌, 
 ghost use Rattle.std.specs.List.{join_with_byte};
 ghost use Rattle.conf_change.specs.Configuration.{Configuration};
 ghost use Rattle.conf_change.specs.Changer.{ChangerState, IsSound, Accepts};
-ghost use Rattle.conf_change.specs.ChangeList.{StandsFor};
+ghost use Rattle.conf_change.specs.ChangeList.{Denotes};
 ghost use Rattle.conf_change.specs.Progress.{keeps_progress};
 ghost use Rattle.conf_change.specs.Step.{changes_of};
 ghost use Rattle.conf_change.specs.Transition.{steps_taken};
@@ -95,7 +95,7 @@ pub fn one_plan_per_text()
     ensures each { (text : List ℕ) → ((steps : List Step) × StandsForPlan text steps) ⊎ ((fault : PlanTextFault) × HasFault text fault) }
     ensures one { (text : List ℕ) (a b : List Step) → StandsForPlan text a → StandsForPlan text b → a ≡ b }
     ensures printed { (steps : List Step) → IsPlan steps → StandsForPlan (plan_text steps) steps }
-    ensures changes { (step : Step) → HasWordIds step → StandsFor (join_with_byte 32 (map change_text (changes_of step))) (changes_of step) }
+    ensures changes { (step : Step) → HasWordIds step → Denotes (join_with_byte 32 (map change_text (changes_of step))) (changes_of step) }
 {}
 
 /// Plans are equal, by `==`, exactly where they are the same.

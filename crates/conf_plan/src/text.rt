@@ -12,7 +12,7 @@ ghost use Rattle.conf_plan.specs.declared.text.PlanTextFault.{PlanTextFault};
 
 use crate::step_list::Plan;
 use ascii_text::append::append_number;
-use ascii_text::cut::far_place_of;
+use ascii_text::position::far_position_of;
 use ascii_text::words::next_token;
 use conf_change::{Change, Changes, Kind, Step, TokenFault, read_changes};
 use quorum_sets::NoMemory;
@@ -212,7 +212,7 @@ fn first_line(text: &[u8]) -> (&[u8], &[u8])
     ensures within { length result.1.now ≤ length text.now }
     ensures shorter { 0 < length result.1.now → length result.1.now < length text.now }
 {
-    let (line, behind) = text.split_at(far_place_of(text, b'\n'));
+    let (line, behind) = text.split_at(far_position_of(text, b'\n'));
     match behind {
         [_, behind @ ..] => (line, behind),
         [] => (line, behind),

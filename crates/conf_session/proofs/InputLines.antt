@@ -6,7 +6,7 @@ use Rattle.std.specs.List.{list_all}
 use Rattle.std.proofs.Math.Bool.{and-true, and-false}
 use Rattle.std.proofs.lemmas.List.{append_assoc, append-nil}
 use Rattle.std.proofs.lemmas.List.Folds.{list_all-append}
-use Rattle.ascii_text.specs.Lines.{newline, pieces, before_first_piece, line_of, lines_of, without_last}
+use Rattle.ascii_text.specs.Lines.{newline, full_lines, before_first_line, line_of, lines_of, without_last}
 use Rattle.ascii_text.specs.WhiteSpace.{is_space, is_blank, without_leading_space, without_trailing_space, trimmed}
 use Rattle.ascii_text.proofs.Offered.{without_trailing_space-without_last, blank-behind, ends-before_blank, ends-before_other, is_blank-without_trailing_space, leads-blank, leads-behind_blank, leads-behind_other, leads-ends, words-at_space, words-ends}
 use Rattle.ascii_text.specs.Words.{words}
@@ -18,15 +18,15 @@ data IsCut : List ℕ → List (List ℕ) → Type 0 where
   LastLine : (line : List ℕ) → IsCut line (line ∷ [])
   Line : (line rest : List ℕ) (more : List (List ℕ)) → IsCut rest more → IsCut ((line ++ newline) ++ rest) ((line ++ newline) ∷ more)
 
-cut-byte : (c : Bool) (b : ℕ) (text : List ℕ) (ps : List (List ℕ)) → (b == 10) ≡ c → IsCut text ps → IsCut (b ∷ text) (cond c (newline ∷ ps) (before_first_piece b ps))
+cut-byte : (c : Bool) (b : ℕ) (text : List ℕ) (ps : List (List ℕ)) → (b == 10) ≡ c → IsCut text ps → IsCut (b ∷ text) (cond c (newline ∷ ps) (before_first_line b ps))
 cut-byte true b text ps e is = let newline_is : b ≡ 10 = search rules in subst (λ x. IsCut (x ∷ text) (newline ∷ ps)) (sym newline_is) (Line [] text ps is)
 cut-byte false b text ps e NoLine = LastLine (b ∷ [])
 cut-byte false b text ps e (LastLine line) = LastLine (b ∷ line)
 cut-byte false b text ps e (Line line rest more is) = Line (b ∷ line) rest more is
 
-pieces-cut : (text : List ℕ) → IsCut text (pieces text)
-pieces-cut [] = NoLine
-pieces-cut (b ∷ text) = cut-byte (b == 10) b text (pieces text) refl (pieces-cut text)
+full_lines-cut : (text : List ℕ) → IsCut text (full_lines text)
+full_lines-cut [] = NoLine
+full_lines-cut (b ∷ text) = cut-byte (b == 10) b text (full_lines text) refl (full_lines-cut text)
 
 -- ---- what is told line by line
 -- the words of a text are those of its lines
@@ -98,9 +98,9 @@ abbrev pub ends_of : List ℕ → List (List ℕ)
 ends_of text = map without_trailing_space (lines_of text)
 
 pub words-told : (text : List ℕ) → words text ≡ flat_map words (ends_of text)
-words-told text = words-cut text (pieces text) (pieces-cut text) ∙ ap (flat_map words) (sym (ends-line_of (pieces text)))
+words-told text = words-cut text (full_lines text) (full_lines-cut text) ∙ ap (flat_map words) (sym (ends-line_of (full_lines text)))
 
 pub trimmed-told : (text : List ℕ) → IsOneLine (has_one (ends_of text)) (first_line (ends_of text)) (trimmed text)
 trimmed-told text =
-    subst (λ ls. IsOneLine (has_one ls) (first_line ls) (trimmed text)) (sym (ends-line_of (pieces text)))
-    (trimmed-cut text (pieces text) (pieces-cut text))
+    subst (λ ls. IsOneLine (has_one ls) (first_line ls) (trimmed text)) (sym (ends-line_of (full_lines text)))
+    (trimmed-cut text (full_lines text) (full_lines-cut text))

@@ -7,12 +7,12 @@ use Rattle.ascii_text.specs.WhiteSpace.{without_trailing_space, trimmed}
 use Rattle.ascii_text.specs.Lines.{line_of}
 use Rattle.dd_file.specs.Words.{ArgumentText}
 use Rattle.dd_file.specs.Laws.{IsSameDirective}
-use Rattle.ascii_text.proofs.Offered.{pieces-first}
+use Rattle.ascii_text.proofs.Offered.{full_lines-first}
 use Rattle.ascii_text.specs.Words.{words}
 use Rattle.conf_change.specs.ChangeList.{changes_in, changes_in_words}
 use Rattle.conf_change.specs.ConfState.{ConfStateLists}
 use Rattle.conf_change.specs.ConfStateLine.{line_in, conf_state_in}
-use Rattle.conf_change.proofs.Offered.{StandsForConfState-from_some}
+use Rattle.conf_change.proofs.Offered.{DenotesConfState-from_some}
 use Rattle.conf_session.specs.SessionState.{SessionState}
 use Rattle.conf_session.specs.Reply.{Reply}
 use Rattle.conf_session.specs.Input.{Input, changes_read, no_change_read, conf_state_read, nothing_read, read_input}
@@ -29,7 +29,7 @@ no-conf_state : (text : List ℕ) → list_all is_line_byte (trimmed text) ≡ f
 no-conf_state text h = at (conf_state_in text) refl where
   at : (found : Option ConfStateLists) → conf_state_in text ≡ found → conf_state_in text ≡ None
   at None e = e
-  at (Some saved) e = let whole = saved-bytes text saved (StandsForConfState-from_some text saved e) in absurd cc
+  at (Some saved) e = let whole = saved-bytes text saved (DenotesConfState-from_some text saved e) in absurd cc
 
 -- three things are asked of an input: the saved configuration that it stands for, its changes, and whether it is empty
 conf_state-same : (input other : List ℕ) → ends_of input ≡ ends_of other → conf_state_in input ≡ conf_state_in other
@@ -43,7 +43,7 @@ changes-same input other same = ap changes_in_words (words-told input ∙ ap (fl
 
 -- bytes have a line
 some-line : (b : ℕ) (bs : List ℕ) → [] ≡ ends_of (b ∷ bs) → ⊥
-some-line b bs none = let first = none ∙ ap (λ ps. map without_trailing_space (map line_of ps)) (pieces-first (b ∷ bs) (omega arith)) in cc
+some-line b bs none = let first = none ∙ ap (λ ps. map without_trailing_space (map line_of ps)) (full_lines-first (b ∷ bs) (omega arith)) in cc
 
 nothing-same : (input other : List ℕ) → ends_of input ≡ ends_of other → nothing_read input ≡ nothing_read other
 nothing-same [] [] same = refl

@@ -4,7 +4,7 @@ use Rattle.std.specs.Prelude.{nat_eq, Option, Some, None, unwrap_or, codes, deci
 use Rattle.std.specs.FinMap as finite
 use Rattle.std.specs.List.{list_all, list_any}
 use Rattle.std.proofs.lemmas.List.{append_assoc}
-use Rattle.quorum_sets.specs.Chart.{bar_text, bar_width, in_five_places, row_text, chart_row, chart_text}
+use Rattle.quorum_sets.specs.Chart.{bar_text, bar_width, in_five_columns, row_text, chart_row, chart_text}
 use Rattle.quorum_sets.specs.Committed.{Acks, greatest_index}
 use Rattle.quorum_sets.specs.declared.voting.VoteResult.{VoteResult}
 use Rattle.quorum_sets.specs.declared.voting.VoteResult.TheVariants.{VotePending, VoteLost, VoteWon}
@@ -40,12 +40,12 @@ bar-tail n (Some index) width = IsTail-from_bytes (replicate width 120) (same-by
 -- the line of an id
 abbrev row_line : ℕ → ℕ → Option ℕ → ℕ → List ℕ
 row_line n id acked width =
-    bar_text n acked width ++ codes " " ++ in_five_places (unwrap_or acked 0) ++ codes "    (id=" ++ decimal id ++ codes ")"
+    bar_text n acked width ++ codes " " ++ in_five_columns (unwrap_or acked 0) ++ codes "    (id=" ++ decimal id ++ codes ")"
 
 row-told : (n id : ℕ) (acked : Option ℕ) (width : ℕ) → is_told_line (row_line n id acked width) ≡ true
 row-told n id acked width =
     let index = unwrap_or acked 0 in
-    let five : IsTail (in_five_places index) = spaces _ ▹ IsTail-number index in
+    let five : IsTail (in_five_columns index) = spaces _ ▹ IsTail-number index in
     IsLine-told (leads (bar-tail n acked width ▹ IsTail-from_bytes (codes " ") refl ▹ five) (IsLine-from_mark (codes "    (id=") refl refl) ▸ IsTail-number id ▸ IsTail-from_bytes (codes ")") refl)
 
 abbrev row_of : List ℕ → Acks → ℕ → List ℕ
@@ -57,7 +57,7 @@ rows-told ids acks (id ∷ some) = and-both _ _ (row-told (length ids) id (finit
 
 row-whole : (n id : ℕ) (acked : Option ℕ) (width : ℕ) → row_text n id acked width ≡ line (row_line n id acked width)
 row-whole n id acked width =
-    sym (append_assoc (bar_text n acked width ++ codes " " ++ in_five_places (unwrap_or acked 0) ++ codes "    (id=" ++ decimal id) (codes ")") newline)
+    sym (append_assoc (bar_text n acked width ++ codes " " ++ in_five_columns (unwrap_or acked 0) ++ codes "    (id=" ++ decimal id) (codes ")") newline)
 
 rows-whole : (ids : List ℕ) (acks : Acks) (some : List ℕ) → flat_map (chart_row ids acks) some ≡ text_of (map (row_of ids acks) some)
 rows-whole ids acks [] = refl

@@ -15,10 +15,10 @@ use Rattle.ascii_text.specs.Lines.{text_of}
 use Rattle.dd_file.specs.Script.{is_dashes}
 use Rattle.conf_change.specs.Configuration.{Configuration, is_joint}
 use Rattle.conf_change.specs.ConfState.{ConfStateLists}
-use Rattle.ascii_text.specs.Number.{SpellsNumber}
+use Rattle.ascii_text.specs.Number.{ParsesToNumber}
 use Rattle.conf_change.specs.TrackerState.{TrackerState}
 use Rattle.conf_change.specs.Text.{where_there, spaced_numbers, set_text, config_text, progress_text, refused_text}
-use Rattle.conf_change.specs.ConfStateLine.{truth_text, line_text, conf_state_text, SpellsNumbers, StandsForConfState}
+use Rattle.conf_change.specs.ConfStateLine.{truth_text, line_text, conf_state_text, ParsesToNumbers, DenotesConfState}
 use Rattle.conf_change.specs.declared.progress.Progress.{Progress}
 use Rattle.conf_change.specs.declared.refused.Refused.{Refused}
 use Rattle.conf_change.specs.declared.refused.Refused.TheVariants.{AlreadyJoint, ZeroVoterJoint, NotJoint, SimpleInJoint, RemovedAllVoters, MoreThanOneVoter, NoMemory}
@@ -240,18 +240,18 @@ digits-bytes : (spelled : List ℕ) → AllDigits 10 spelled → IsBytes spelled
 digits-bytes [] h = refl
 digits-bytes (b ∷ bs) h = and-both _ _ (byte-from_zero b (digit_at (b ∷ bs) 0 h (omega arith)).0) (digits-bytes bs h.1)
 
-joined-bytes : (pieces : List (List ℕ)) (ns : List ℕ) → AllZip SpellsNumber pieces ns → IsBytes (join_with_byte 32 pieces)
+joined-bytes : (pieces : List (List ℕ)) (ns : List ℕ) → AllZip ParsesToNumber pieces ns → IsBytes (join_with_byte 32 pieces)
 joined-bytes [] ns h = refl
 joined-bytes (piece ∷ pieces) [] h = absurd h
 joined-bytes (piece ∷ []) (n ∷ ns) h = digits-bytes piece h.0.numeral.1
 joined-bytes (piece ∷ next ∷ pieces) (n ∷ ns) h =
     all-append is_line_byte piece (32 ∷ join_with_byte 32 (next ∷ pieces)) (digits-bytes piece h.0.numeral.1) (joined-bytes (next ∷ pieces) ns h.1)
 
-spelled-tail : (text ns : List ℕ) → SpellsNumbers text ns → IsTail text
-spelled-tail text ns h = IsTail-from_bytes text (ap (list_all is_line_byte) h.spaced ∙ joined-bytes h.pieces ns h.spelled)
+spelled-tail : (text ns : List ℕ) → ParsesToNumbers text ns → IsTail text
+spelled-tail text ns h = IsTail-from_bytes text (ap (list_all is_line_byte) h.spaced ∙ joined-bytes h.tokens ns h.spelled)
 
 -- the text of a saved configuration is one line
-pub saved-bytes : (text : List ℕ) (saved : ConfStateLists) → StandsForConfState text saved → list_all is_line_byte (trimmed text) ≡ true
+pub saved-bytes : (text : List ℕ) (saved : ConfStateLists) → DenotesConfState text saved → list_all is_line_byte (trimmed text) ≡ true
 saved-bytes text saved h =
     let whole : IsLine (line_text h.voters h.voters_outgoing h.learners h.learners_next saved.auto_leave) = saved-line _ _ _ _ saved.auto_leave
     (spelled-tail _ _ h.spells_voters) (spelled-tail _ _ h.spells_voters_outgoing) (spelled-tail _ _ h.spells_learners) (spelled-tail _ _ h.spells_learners_next) in

@@ -5,7 +5,7 @@ use Rattle.std.specs.List.{list_all, list_any, ends_with}
 use Rattle.std.specs.Cmp.Lexicographic.{pointwise}
 use Rattle.std.proofs.lemmas.List.{append-nil}
 use Rattle.std.proofs.lemmas.Bool.Decides.{nat_tests}
-use Rattle.ascii_text.specs.Lines.{newline, pieces, line_of, text_of, without_last, before_first_piece}
+use Rattle.ascii_text.specs.Lines.{newline, full_lines, line_of, text_of, without_last, before_first_line}
 use Rattle.ascii_text.specs.WhiteSpace.{is_blank}
 use Rattle.dd_file.specs.Script.{is_dashes}
 use Rattle.dd_file.specs.Rewritten.{is_output_line}
@@ -18,15 +18,15 @@ no true e = cc
 no false e = refl
 
 -- ---- the pieces of such a text
-pieces-line : (bytes rest : List ℕ) → list_all is_line_byte bytes ≡ true → pieces (line bytes ++ rest) ≡ line bytes ∷ pieces rest
-pieces-line [] rest h = refl
-pieces-line (b ∷ bytes) rest h =
-    ap (λ t. cond t (newline ∷ pieces (line bytes ++ rest)) (before_first_piece b (pieces (line bytes ++ rest)))) (no _ (and-first _ _ (and-first _ _ h)))
-    ∙ ap (before_first_piece b) (pieces-line bytes rest (and-second _ _ h))
+full_lines-line : (bytes rest : List ℕ) → list_all is_line_byte bytes ≡ true → full_lines (line bytes ++ rest) ≡ line bytes ∷ full_lines rest
+full_lines-line [] rest h = refl
+full_lines-line (b ∷ bytes) rest h =
+    ap (λ t. cond t (newline ∷ full_lines (line bytes ++ rest)) (before_first_line b (full_lines (line bytes ++ rest)))) (no _ (and-first _ _ (and-first _ _ h)))
+    ∙ ap (before_first_line b) (full_lines-line bytes rest (and-second _ _ h))
 
-pieces-lines : (lines : List (List ℕ)) → list_all is_told_line lines ≡ true → pieces (text_of lines) ≡ map line lines
-pieces-lines [] h = refl
-pieces-lines (bytes ∷ lines) h = pieces-line bytes (text_of lines) (told-bytes bytes (and-first _ _ h)) ∙ ap (λ ps. line bytes ∷ ps) (pieces-lines lines (and-second _ _ h))
+full_lines-lines : (lines : List (List ℕ)) → list_all is_told_line lines ≡ true → full_lines (text_of lines) ≡ map line lines
+full_lines-lines [] h = refl
+full_lines-lines (bytes ∷ lines) h = full_lines-line bytes (text_of lines) (told-bytes bytes (and-first _ _ h)) ∙ ap (λ ps. line bytes ∷ ps) (full_lines-lines lines (and-second _ _ h))
 
 without_newline : (bytes : List ℕ) → without_last 10 (line bytes) ≡ bytes
 without_newline [] = refl
@@ -107,7 +107,7 @@ or-right false b e = e
 pub told-stands : (text : List ℕ) → IsTold text → CanStand text
 told-stands text t =
     let ends : ends_with nat_eq text newline ≡ true = ap (λ x. ends_with nat_eq x newline) t.whole ∙ text-ends t.lines t.some t.told in
-    let cut : pieces text ≡ map line t.lines = ap pieces t.whole ∙ pieces-lines t.lines t.told in
+    let cut : full_lines text ≡ map line t.lines = ap full_lines t.whole ∙ full_lines-lines t.lines t.told in
     record {
       output = and-both _ _ (or-right _ _ ends) (ap (list_all (λ piece. is_output_line (without_last 10 piece))) cut ∙ output-lines t.lines t.told);
       ended = ends;

@@ -1,6 +1,6 @@
 -- What the modes for scripts write of each item.
 use Rattle.std.specs.Prelude.{ℕ, Bool, false, not, List, [], ◌∷◌, ◌++◌, flat_map, count_by, codes, decimal, bytes_eq, if◌then◌else◌}
-use Rattle.ascii_text.specs.Lines.{pieces, without_last}
+use Rattle.ascii_text.specs.Lines.{full_lines, without_last}
 use Rattle.dd_file.specs.DirectiveText.{DirectiveText}
 use Rattle.dd_file.specs.Rewritten.{Entry, entry, entry_text, is_directive}
 use Rattle.dd_file.specs.declared.item.Item.{Item}
@@ -42,7 +42,7 @@ differs entry = expects_other entry.found entry.item
 
 -- each line of a text behind a sign
 abbrev pub marked : List ℕ → List ℕ → List ℕ
-marked sign text = flat_map (λ piece. line (sign ++ without_last 10 piece)) (pieces text)
+marked sign text = flat_map (λ full_line. line (sign ++ without_last 10 full_line)) (full_lines text)
 
 -- a directive's line number and command, what it expects and what was found
 abbrev pub difference_text : List ℕ → DirectiveText → List ℕ

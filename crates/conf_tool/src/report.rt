@@ -6,7 +6,7 @@ ghost use Rattle.conf_tool.specs.Reports.{marked, difference_text, counts_line};
 
 use crate::status::Status;
 use ascii_text::append::append_number;
-use ascii_text::lines::{is_whole, next_piece};
+use ascii_text::lines::{is_whole, next_full_line};
 use dd_file::item::Directive;
 use quorum_sets::NoMemory;
 
@@ -94,20 +94,20 @@ fn append_marked(text: &mut Vec<u8>, sign: u8, bytes: &[u8]) -> Result<(), NoMem
     ensures { OnOk result (text.new.items ≡ text.old.items ++ marked (sign ∷ 32 ∷ []) bytes.now) }
 {
     let mut rest = bytes;
-    while let Some((piece, behind)) = next_piece(rest) {
+    while let Some((full_line, behind)) = next_full_line(rest) {
         text.extend_from_slice(&[sign, b' '])?;
-        append_line(text, piece)?;
+        append_line(text, full_line)?;
         rest = behind;
     }
     Ok(())
 }
 
 // Appends a piece as a line: with its newline, or with one where it has none.
-fn append_line(text: &mut Vec<u8>, piece: &[u8]) -> Result<(), NoMemory>
-    ensures { OnOk result (text.new.items ≡ text.old.items ++ (without_last 10 piece.now ++ newline)) }
+fn append_line(text: &mut Vec<u8>, full_line: &[u8]) -> Result<(), NoMemory>
+    ensures { OnOk result (text.new.items ≡ text.old.items ++ (without_last 10 full_line.now ++ newline)) }
 {
-    text.extend_from_slice(piece)?;
-    if !is_whole(piece) {
+    text.extend_from_slice(full_line)?;
+    if !is_whole(full_line) {
         text.push(b'\n')?;
     }
     Ok(())

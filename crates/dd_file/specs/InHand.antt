@@ -1,7 +1,7 @@
 -- What the bytes that are held say without a read.
 use Rattle.std.specs.Prelude.{◌≡◌, ◌≤◌, ◌+◌, ℕ, Bool, false, List, length, drop, map, filter, Option, Some, None, Result}
 use Rattle.std.specs.List.{list_any}
-use Rattle.ascii_text.specs.Lines.{pieces, line_of, is_whole}
+use Rattle.ascii_text.specs.Lines.{full_lines, line_of, is_whole}
 use Rattle.dd_file.specs.Place.{Place, longest_input}
 use Rattle.dd_file.specs.Script.{Front, first_of}
 use Rattle.dd_file.specs.Reading.{Next}
@@ -24,11 +24,11 @@ passed state lines bytes = record state {
 
 -- the lines of some bytes that have their newline
 abbrev pub whole_lines : List ℕ → List (List ℕ)
-whole_lines bytes = map line_of (filter is_whole (pieces bytes))
+whole_lines bytes = map line_of (filter is_whole (full_lines bytes))
 
 -- a line is in hand where a newline is
 abbrev pub is_line_in_hand : Place → List ℕ → Bool
-is_line_in_hand place held = list_any is_whole (pieces held)
+is_line_in_hand place held = list_any is_whole (full_lines held)
 
 -- it ends in its last line, so that no line behind could change it
 abbrev pub is_ended_front : Option Front → Bool

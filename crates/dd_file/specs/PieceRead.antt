@@ -13,21 +13,21 @@ pub record PartRead (held rest : List ℕ) (before after : Option (List ℕ)) (p
   pub given : List ℕ
   pub told : Consumes before after given
   pub whole : held ++ given ≡ part ++ rest
-  pub piece : first_len part ≡ length part
+  pub full_line : first_len part ≡ length part
 
 -- A line was read up to its newline, or up to the end of the input, within the limit.
-pub record PieceRead (old new : ReaderState) (before after : Option (List ℕ)) (piece : List ℕ) : Type 0 where
-  pub part : PartRead old.held new.held before after piece
+pub record PieceRead (old new : ReaderState) (before after : Option (List ℕ)) (full_line : List ℕ) : Type 0 where
+  pub part : PartRead old.held new.held before after full_line
   pub ahead : length new.held ≤ longest_lookahead
   pub counted : new.place.lines ≤ longest_input
-  pub fits : old.place.bytes + length piece ≤ longest_input
-  pub done : (is_whole piece ≡ true) ⊎ ((new.is_ended ≡ true) × (new.held ≡ []))
+  pub fits : old.place.bytes + length full_line ≤ longest_input
+  pub done : (is_whole full_line ≡ true) ⊎ ((new.is_ended ≡ true) × (new.held ≡ []))
 
 -- A part of a line was read that passes the limit.
 pub record LongRead (old new : ReaderState) (before after : Option (List ℕ)) (line : ℕ) : Type 0 where
-  pub piece : List ℕ
-  pub part : PartRead old.held new.held before after piece
-  pub passes : longest_input < old.place.bytes + length piece
+  pub full_line : List ℕ
+  pub part : PartRead old.held new.held before after full_line
+  pub passes : longest_input < old.place.bytes + length full_line
   pub number : line ≡ old.place.lines + 1
 
 -- why a line was not read

@@ -2,7 +2,7 @@
 use Rattle.std.specs.Prelude.{ℕ, ◌+◌, ◌-◌, zero, suc, Bool, true, false, not, ◌&&◌, List, [], ◌∷◌, nat_lt, length, take, drop, map, filter, Option, Some, None, Result, Ok, Err, if◌then◌else◌}
 use Rattle.std.specs.List.{concat}
 use Rattle.dd_file.specs.Place.{Place, start, longest_input}
-use Rattle.ascii_text.specs.Lines.{pieces, line_of, is_whole}
+use Rattle.ascii_text.specs.Lines.{full_lines, line_of, is_whole}
 use Rattle.dd_file.specs.Script.{Front, first_of}
 use Rattle.dd_file.specs.declared.item.Item.{Item}
 use Rattle.dd_file.specs.declared.fault.FileFault.{FileFault}
@@ -21,12 +21,12 @@ is_too_long limit place bytes = nat_lt limit (place.bytes + length bytes)
 -- the pieces that are looked at: all of them, or the whole ones within the limit
 abbrev pub pieces_within : ℕ → Place → List ℕ → List (List ℕ)
 pieces_within limit place bytes =
-    if is_too_long limit place bytes then filter is_whole (pieces (take (limit - place.bytes) bytes)) else pieces bytes
+    if is_too_long limit place bytes then filter is_whole (full_lines (take (limit - place.bytes) bytes)) else full_lines bytes
 
 -- something that has the first count pieces of the bytes
 abbrev pub found_in : {A : Type 0} → ℕ → A → Place → List ℕ → Next A
 found_in count found place bytes =
-    let taken = length (concat (take count (pieces bytes))) in
+    let taken = length (concat (take count (full_lines bytes))) in
     Found found (record { lines = place.lines + count; bytes = place.bytes + taken }) (drop taken bytes)
 
 -- nothing is left, or the limit is passed
@@ -53,7 +53,7 @@ next_item limit place bytes =
 -- the first of some pieces as a line
 abbrev pub from_pieces : Bool → List (List ℕ) → Place → List ℕ → Next (List ℕ)
 from_pieces too_long [] place bytes = at_end too_long place
-from_pieces too_long (piece ∷ more) place bytes = found_in 1 (line_of piece) place bytes
+from_pieces too_long (full_line ∷ more) place bytes = found_in 1 (line_of full_line) place bytes
 
 -- the next line of the bytes from this place on
 abbrev pub next_line : ℕ → Place → List ℕ → Next (List ℕ)

@@ -1,7 +1,7 @@
 -- A script as it is written, with what was found in the place of what was expected.
 use Rattle.std.specs.Prelude.{ℕ, Bool, true, false, not, ◌&&◌, ◌||◌, List, [], ◌∷◌, ◌++◌, ◌==◌, nat_eq, length, flat_map, if◌then◌else◌, codes}
 use Rattle.std.specs.List.{list_all, list_any, ends_with}
-use Rattle.ascii_text.specs.Lines.{newline, pieces, lines_of, text_of, without_last}
+use Rattle.ascii_text.specs.Lines.{newline, full_lines, lines_of, text_of, without_last}
 use Rattle.ascii_text.specs.WhiteSpace.{is_blank}
 use Rattle.dd_file.specs.Script.{is_dashes}
 use Rattle.dd_file.specs.declared.item.Item.{Item}
@@ -51,7 +51,7 @@ is_output_line line = not (is_dashes line || ends_with nat_eq line (13 ∷ []))
 
 -- A text that can be written as an output: whole lines, none of four dashes and none that ends in a carriage return.
 abbrev pub is_output : List ℕ → Bool
-is_output text = (length text == 0 || ends_with nat_eq text newline) && list_all (λ piece. is_output_line (without_last 10 piece)) (pieces text)
+is_output text = (length text == 0 || ends_with nat_eq text newline) && list_all (λ full_line. is_output_line (without_last 10 full_line)) (full_lines text)
 
 -- an item with the output that was found, which only a directive has
 abbrev pub entry_text : Item → List ℕ → List ℕ

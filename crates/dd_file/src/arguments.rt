@@ -5,7 +5,7 @@ ghost use Rattle.dd_file.specs.ArgumentValues.{says_argument};
 ghost use Rattle.dd_file.specs.WordParts.{is_plain_byte, ends_word, word_front};
 ghost use Rattle.dd_file.specs.Words.{is_key_byte, word_len, values_of, argument_of};
 
-use ascii_text::cut::far_place_of;
+use ascii_text::position::far_position_of;
 use ascii_text::white_space::is_space;
 
 /// Whether a key may have the byte: ASCII letters, digits and `-_/,.`.
@@ -54,7 +54,7 @@ fn listed_len(inside: &[u8]) -> Option<usize>
     ensures { MatchOption result (is_some (values_of (word_front (40 ∷ inside.now))) ≡ false)
         (λ len. (len + 1 ≡ word_len false (40 ∷ inside.now)) × (is_some (values_of (word_front (40 ∷ inside.now))) ≡ true)) }
 {
-    let place = far_place_of(inside, b')');
+    let place = far_position_of(inside, b')');
     if place == inside.len() {
         return None;
     }

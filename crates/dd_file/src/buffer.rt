@@ -6,7 +6,7 @@ ghost use Rattle.ascii_text.specs.Lines.{first_len};
 
 use crate::device::Source;
 use crate::fault::DeviceFault;
-use ascii_text::lines::piece_len;
+use ascii_text::lines::first_line_len;
 use std::alloc::{AllocError, Global};
 use std::marker::Model;
 
@@ -83,7 +83,7 @@ impl Buffer {
         ensures rest { self.new ≡ (if is_ok result then drop (first_len self.old) self.old else self.old) }
     {
         let held = &self.bytes[self.start..self.end];
-        let count = piece_len(held);
+        let count = first_line_len(held);
         line.extend_from_slice(&held[..count])?;
         self.start += count;
         Ok(())

@@ -12,7 +12,7 @@ use crate::buffer::Buffer;
 use crate::device::Source;
 use crate::fault::FileFault;
 use crate::line::Line;
-use ascii_text::lines::{is_whole, line_of, piece_len, without_end};
+use ascii_text::lines::{is_whole, line_of, first_line_len, without_end};
 use std::alloc::Global;
 use std::marker::Model;
 
@@ -76,7 +76,7 @@ impl Lines {
             return Ok(None);
         }
         match self.read_piece(reader) {
-            Ok(piece) => Ok(self.take_line(piece)),
+            Ok(full_line) => Ok(self.take_line(full_line)),
             Err(fault) => {
                 self.fault = Some(fault);
                 Err(fault)
@@ -94,12 +94,12 @@ impl Lines {
             return None;
         }
         let held = self.held();
-        let len = piece_len(held);
-        let piece = &held[..len];
-        if !is_whole(piece) {
+        let len = first_line_len(held);
+        let full_line = &held[..len];
+        if !is_whole(full_line) {
             return None;
         }
-        match Vec::from_slice(self.alloc, line_of(piece)) {
+        match Vec::from_slice(self.alloc, line_of(full_line)) {
             Ok(bytes) => {
                 self.pass(1, len);
                 Some(Ok(Some(Line::new(bytes))))
@@ -166,21 +166,21 @@ impl Lines {
         requires unended { self.old.is_ended ≡ false }
         ensures place { self.new.place ≡ self.old.place }
         ensures faultless { self.new.fault ≡ None }
-        ensures piece { IfOk result (λ piece. PieceRead self.old self.new (R.remaining reader.old) (R.remaining reader.new) piece.items) }
+        ensures full_line { IfOk result (λ full_line. PieceRead self.old self.new (R.remaining reader.old) (R.remaining reader.new) full_line.items) }
         ensures fault { IfErr result (PieceFault self.old self.new (R.remaining reader.old) (R.remaining reader.new)) }
         ensures moves { MovesOn R.remaining self.old self.new reader.old reader.new }
         ensures read { R.has_failed reader.new ≡ (R.has_failed reader.old || is_read_fault result) }
     {
-        let mut piece = Vec::new(self.alloc);
+        let mut full_line = Vec::new(self.alloc);
         loop {
             self.buffer
-                .move_piece(&mut piece)
+                .move_piece(&mut full_line)
                 .map_err(|_| FileFault::NoMemory)?;
-            if piece.len() > LONGEST_INPUT - self.bytes {
+            if full_line.len() > LONGEST_INPUT - self.bytes {
                 return Err(FileFault::InputTooLong(self.lines + 1));
             }
-            if self.is_ended || is_whole(piece.as_slice()) {
-                return Ok(piece);
+            if self.is_ended || is_whole(full_line.as_slice()) {
+                return Ok(full_line);
             }
             self.buffer.fill(reader).map_err(|_| FileFault::Read)?;
             self.is_ended = self.buffer.is_empty();
@@ -188,21 +188,21 @@ impl Lines {
     }
 
     /// Counts the piece that was read, and answers its line.
-    fn take_line(&mut self, mut piece: Vec<u8>) -> Option<Line>
-        requires { self.old.place.bytes + vec_len piece ≤ longest_input }
+    fn take_line(&mut self, mut full_line: Vec<u8>) -> Option<Line>
+        requires { self.old.place.bytes + vec_len full_line ≤ longest_input }
         ensures { MatchOption result
-            ((piece.items ≡ []) × (self.new ≡ self.old))
-            (λ line. (line ≡ line_of piece.items) × (0 < length piece.items) × (self.old.place.lines + 1 ≤ longest_input)
-            × (self.new ≡ record self.old { place = record { lines = self.old.place.lines + 1; bytes = self.old.place.bytes + length piece.items } })) }
+            ((full_line.items ≡ []) × (self.new ≡ self.old))
+            (λ line. (line ≡ line_of full_line.items) × (0 < length full_line.items) × (self.old.place.lines + 1 ≤ longest_input)
+            × (self.new ≡ record self.old { place = record { lines = self.old.place.lines + 1; bytes = self.old.place.bytes + length full_line.items } })) }
     {
-        if piece.is_empty() {
+        if full_line.is_empty() {
             return None;
         }
         self.lines += 1;
-        self.bytes += piece.len();
-        drop_end(&mut piece, b'\n');
-        drop_end(&mut piece, b'\r');
-        Some(Line::new(piece))
+        self.bytes += full_line.len();
+        drop_end(&mut full_line, b'\n');
+        drop_end(&mut full_line, b'\r');
+        Some(Line::new(full_line))
     }
 }
 

@@ -12,7 +12,7 @@ use crate::fault::FileFault;
 use crate::item::Item;
 use crate::lines::Lines;
 use crate::raw_lines::RawLines;
-use ascii_text::lines::{is_whole, line_of, piece_len};
+use ascii_text::lines::{is_whole, line_of, first_line_len};
 use std::alloc::Global;
 use std::marker::Model;
 
@@ -165,14 +165,14 @@ fn held_item<R: Source>(
     let mut taken = 0;
     'held: loop {
         let rest = &lines.held()[taken..];
-        let len = piece_len(rest);
-        let piece = &rest[..len];
-        if !is_whole(piece) {
+        let len = first_line_len(rest);
+        let full_line = &rest[..len];
+        if !is_whole(full_line) {
             return None;
         }
         count += 1;
         taken += len;
-        match draft.add(line_of(piece)) {
+        match draft.add(line_of(full_line)) {
             Ok(true) => {
                 lines.pass(count, taken);
                 return Some(draft.finish());

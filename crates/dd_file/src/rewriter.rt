@@ -11,7 +11,7 @@ use crate::fault::WriteFault;
 use crate::item::Item;
 use crate::stage::Stage;
 use crate::writing::write_all;
-use ascii_text::lines::{next_piece, without_end};
+use ascii_text::lines::{next_full_line, without_end};
 use ascii_text::white_space::is_blank;
 use std::marker::Model;
 
@@ -78,8 +78,8 @@ fn needs_double(text: &[u8]) -> bool
     ensures { result ≡ has_blank_line text.now }
 {
     let mut rest = text;
-    while let Some((piece, behind)) = next_piece(rest) {
-        if is_blank(piece) {
+    while let Some((full_line, behind)) = next_full_line(rest) {
+        if is_blank(full_line) {
             return true;
         }
         rest = behind;

@@ -1,6 +1,6 @@
 //! The values of an argument, one after another.
 
-use ascii_text::cut::place_of;
+use ascii_text::position::position_of;
 use ascii_text::white_space::{is_blank, trimmed};
 use std::marker::Model;
 
@@ -72,7 +72,7 @@ impl<'a> Values<'a> {
                 Some(self.rest)
             }
             Left::Listed => {
-                let (value, behind) = self.rest.split_at(place_of(self.rest, b','));
+                let (value, behind) = self.rest.split_at(position_of(self.rest, b','));
                 match behind.split_first() {
                     Some((_, rest)) => self.rest = rest,
                     None => self.left = Left::Nothing,

@@ -1,6 +1,6 @@
 -- How a set is kept: a rising list, or a tree.
 
-pub mod RisingList
-pub mod Places
+pub mod AscendingList
+pub mod Positions
 pub mod Tree
 pub mod MapEntries

@@ -1,6 +1,6 @@
 pub mod Offered
 mod IdSets
 mod KeptSets
-mod ListPlaces
+mod ListPositions
 mod Quorums
 mod WorkedExamples

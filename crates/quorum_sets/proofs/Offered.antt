@@ -4,7 +4,7 @@ pub use Rattle.quorum_sets.proofs.IdSets.Difference.{difference_count-with_id, d
 pub use Rattle.quorum_sets.proofs.IdSets.Members.{ascending-ids_of, ascending-is_sorted, ascending-no_ids, has-ascending, has-ids_of, has-ids_where, has-no_ids, has-same_ids, has-with_id, has-without_id, lookup-from_entries}
 pub use Rattle.quorum_sets.proofs.IdSets.WrittenOut.{written_out}
 pub use Rattle.quorum_sets.proofs.KeptSets.MapEntries.{from_entries-inserted}
-pub use Rattle.quorum_sets.proofs.KeptSets.RisingList.{ascending-is_rising, rising-insert, rising-push, rising-remove, rising-sorted, sorted-rising}
-pub use Rattle.quorum_sets.proofs.ListPlaces.{slice_get-not_past, slice_get-split, take-one_more}
+pub use Rattle.quorum_sets.proofs.KeptSets.AscendingList.{ascending-is_ascending, ascends-insert, ascends-push, ascends-remove, ascends-sorted, sorted-ascends}
+pub use Rattle.quorum_sets.proofs.ListPositions.{slice_get-not_past, slice_get-split, take-one_more}
 pub use Rattle.quorum_sets.proofs.Quorums.Overlap.{CommittedMeetsWon-from_neighbours, CommittedMeetsWon-from_neighbours_back, QuorumsMeet-from_neighbours, QuorumsMeet-from_neighbours_back}
 pub use Rattle.quorum_sets.proofs.Quorums.Tolerance.{Endures-from_counts, counted-all, counts-from_Endures, is_quorum-without}

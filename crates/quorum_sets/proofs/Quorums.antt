@@ -1,7 +1,7 @@
 -- Majorities: what they have reached, what they vote, and that they meet.
 
 pub mod Counts
-pub mod MajorityPlace
+pub mod MajorityPosition
 pub mod CommittedIndex
 pub mod ChartBars
 pub mod VoteResults

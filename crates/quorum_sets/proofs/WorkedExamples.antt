@@ -71,14 +71,14 @@ committed_five = simp of_maps refl
 -- the same by counting
 counted_five : IsCommitted three by_two 5
 counted_five = record {
-  of_nobody = λ empty. (let no : false ≡ true = simp of_maps at empty in cc);
+  of_empty = λ empty. (let no : false ≡ true = simp of_maps at empty in cc);
   reached = λ some. simp of_maps refl;
   not_passed = λ some. simp of_maps refl;
 }
 
 counted_by_nobody : IsCommitted nobody by_two (2 ^ 64 - 1)
 counted_by_nobody = record {
-  of_nobody = λ empty. refl;
+  of_empty = λ empty. refl;
   reached = λ some. (let no : true ≡ false = simp of_maps at some in cc);
   not_passed = λ some. (let no : true ≡ false = simp of_maps at some in cc);
 }

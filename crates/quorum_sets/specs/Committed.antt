@@ -9,15 +9,15 @@ use Rattle.quorum_sets.specs.Voters.{Voters}
 abbrev pub Acks : Type 0
 Acks = finite.FinMap nat_cmp ℕ
 
--- the index that the id acknowledged; 0 where it is unknown
+-- the index that the id acknowledged, 0 if it is unknown
 abbrev pub acked_index : Acks → ℕ → ℕ
 acked_index acks id = unwrap_or (finite.get acks id) 0
 
--- those of the ids of a set, in ascending order of the ids
+-- the acknowledged indexes of the ids of a set, in ascending order of the ids
 abbrev pub acked_indexes : Ids → Acks → List ℕ
 acked_indexes ids acks = map (acked_index acks) (ascending ids)
 
--- the greatest index; it is what the empty set commits
+-- the greatest index, which the empty set commits
 abbrev pub greatest_index : ℕ
 greatest_index = 2 ^ 64 - 1
 
@@ -31,7 +31,7 @@ is_passed ids acks k = on_most (λ id. nat_lt k (acked_index acks id)) ids
 
 -- k is the committed index: more than half have acknowledged at least k, and not more than half have acknowledged more
 pub record IsCommitted (ids : Ids) (acks : Acks) (k : ℕ) : Type 0 where
-  pub of_nobody : IsTrue (is_empty ids) → k ≡ greatest_index
+  pub of_empty : IsTrue (is_empty ids) → k ≡ greatest_index
   pub reached : is_empty ids ≡ false → IsTrue (is_reached ids acks k)
   pub not_passed : is_empty ids ≡ false → is_passed ids acks k ≡ false
 
@@ -40,7 +40,7 @@ abbrev pub committed_index : Ids → Acks → ℕ
 committed_index ids acks =
     if is_empty ids then greatest_index else fold max 0 (filter (is_reached ids acks) (acked_indexes ids acks))
 
--- k is the smaller of what the two sets have committed
+-- k is the smaller of the committed indexes of the two sets
 pub record IsJointCommitted (voters : Voters) (acks : Acks) (k : ℕ) : Type 0 where
   pub of_incoming : ℕ
   pub of_outgoing : ℕ

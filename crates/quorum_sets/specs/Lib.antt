@@ -1,5 +1,5 @@
 pub mod Ids
-pub mod Rising
+pub mod AscendingLists
 pub mod Voters
 pub mod Counting
 pub mod Committed

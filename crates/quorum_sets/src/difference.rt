@@ -2,11 +2,11 @@
 ghost use Rattle.std.specs.Prelude.{◌≡◌, ◌-◌, ◌^◌, ◌≤◌, min};
 ghost use Rattle.quorum_sets.specs.Ids.{has, size, count_of, difference_count};
 
-use crate::looking::has_next;
+use crate::lookup::has_next;
 use crate::member_set::MemberSet;
 
-/// How many ids are in just one of the sets, or the greatest `usize` where that is less. It is
-/// `symdiff` of etcd's package `confchange`.
+/// How many ids are in exactly one of the sets, saturating at the greatest `usize` (`symdiff` of etcd's package
+/// `confchange`).
 pub fn symdiff<S: MemberSet>(a: &S, b: &S) -> usize
     ensures { result ≡ min (difference_count (S.ids a.now) (S.ids b.now)) (2 ^ 64 - 1) }
 {
@@ -14,17 +14,17 @@ pub fn symdiff<S: MemberSet>(a: &S, b: &S) -> usize
     (a.len() - common).saturating_add(b.len() - common)
 }
 
-// How many ids are in both sets: one walk over both, in rising order.
+// How many ids are in both sets.
 fn common_count<S: MemberSet>(a: &S, b: &S) -> usize
     ensures count { result ≡ count_of (has (S.ids b.now)) (S.ids a.now) }
     ensures within { result ≤ size (S.ids a.now) }
     ensures within_other { result ≤ size (S.ids b.now) }
 {
     let mut count = 0;
-    let mut other_place = 0;
-    for place in 0..a.len() {
-        if let Some(id) = a.at(place) {
-            if has_next(b, &mut other_place, id) {
+    let mut other_position = 0;
+    for position in 0..a.len() {
+        if let Some(id) = a.at(position) {
+            if has_next(b, &mut other_position, id) {
                 count += 1;
             }
         }

@@ -1,8 +1,8 @@
-//! A set of ids as a sorted list, which lies in the value while it is short.
+//! A set of ids as a sorted list.
 ghost use Rattle.std.specs.Prelude.{◌≡◌, ◌<◌, ◌≤◌, true, not, length, insert, remove, IfOk, OnOk, OnErr, IsOk, MatchResult};
 ghost use Rattle.quorum_sets.specs.Ids.{no_ids, has, with_id, size, ids_of};
 ghost use Rattle.smallvec.specs.SmallVec.{small_vec_len, HasRoomFor};
-ghost use Rattle.quorum_sets.specs.Rising.{IsRising, StandsAt, GoesTo};
+ghost use Rattle.quorum_sets.specs.AscendingLists.{IsAscending, IsAtPosition, IsInsertionPoint};
 
 use crate::member_set::MemberSet;
 use ascii_text::NoMemory;
@@ -10,7 +10,7 @@ use smallvec::SmallVec;
 use std::alloc::Global;
 use std::marker::Model;
 
-/// A set of ids over a sorted list. Up to 8 ids take no memory. `at` and `len` take constant time, and `contains` a binary
+/// A set of ids as a sorted list. Up to 8 ids take no heap memory. `at` and `len` take constant time, and `contains` a binary
 /// search.
 #[derive(Drop)]
 pub struct InlineIds {
@@ -21,7 +21,7 @@ impl Model for InlineIds {
     ghost use Rattle.std.specs.Coded.{coded_ℕ};
     ghost use Rattle.std.specs.FinSet as set;
     ghost use Rattle.quorum_sets.specs.Ids.{Ids, ids_of};
-    ghost use Rattle.quorum_sets.specs.Rising.{IsIdList};
+    ghost use Rattle.quorum_sets.specs.AscendingLists.{IsIdList};
 
     ghost Value = { Ids };
 
@@ -47,8 +47,8 @@ impl MemberSet for InlineIds {
         ensures few { length list.now ≤ 8 → IsOk result }
     {
         let mut own = SmallVec::from_slice(alloc, list)?;
-        if !is_rising(list) {
-            make_rising(&mut own);
+        if !is_ascending(list) {
+            make_ascending(&mut own);
         }
         Ok(InlineIds { list: own })
     }
@@ -71,7 +71,6 @@ impl MemberSet for InlineIds {
         ensures few { size other.now ≤ 8 → IsOk result }
     {
         self.list.clear();
-        // To copy nothing takes time too.
         if !other.list.is_empty() {
             self.list.extend_from_slice(other.list.as_slice())?;
         }
@@ -84,49 +83,49 @@ impl MemberSet for InlineIds {
         ensures err { OnErr result (self.new ≡ self.old) }
         ensures few { size self.old < 8 → IsOk result }
     {
-        let Err(place) = place_of(self.list.as_slice(), id) else {
+        let Err(position) = position_of(self.list.as_slice(), id) else {
             return Ok(false);
         };
-        self.list.insert(place, id)?;
+        self.list.insert(position, id)?;
         Ok(true)
     }
 
     fn remove(&mut self, id: u64) -> bool {
-        let Ok(place) = place_of(self.list.as_slice(), id) else {
+        let Ok(position) = position_of(self.list.as_slice(), id) else {
             return false;
         };
-        self.list.remove(place);
+        self.list.remove(position);
         true
     }
 
     fn contains(&self, id: u64) -> bool {
-        place_of(self.list.as_slice(), id).is_ok()
+        position_of(self.list.as_slice(), id).is_ok()
     }
 
     fn len(&self) -> usize {
         self.list.len()
     }
 
-    fn at(&self, place: usize) -> Option<u64> {
-        self.list.as_slice().get(place).copied()
+    fn at(&self, position: usize) -> Option<u64> {
+        self.list.as_slice().get(position).copied()
     }
 }
 
-// Whether each id is below the next.
-fn is_rising(list: &[u64]) -> bool
-    ensures { result ≡ true → IsRising list.now }
+// Whether the list is strictly ascending.
+fn is_ascending(list: &[u64]) -> bool
+    ensures { result ≡ true → IsAscending list.now }
 {
-    for place in 1..list.len() {
-        if list[place - 1] >= list[place] {
+    for position in 1..list.len() {
+        if list[position - 1] >= list[position] {
             return false;
         }
     }
     true
 }
 
-// Puts the ids in rising order, each once.
-fn make_rising(list: &mut SmallVec<u64, 8>)
-    ensures rising { IsRising list.new.items }
+// Sorts the ids and removes repeats.
+fn make_ascending(list: &mut SmallVec<u64, 8>)
+    ensures ascends { IsAscending list.new.items }
     ensures same { ids_of list.new.items ≡ ids_of list.old.items }
     ensures capacity { list.new.capacity ≡ list.old.capacity }
 {
@@ -134,10 +133,10 @@ fn make_rising(list: &mut SmallVec<u64, 8>)
     list.dedup();
 }
 
-// The index of the id in a rising list, or else the index where it is to be inserted.
-fn place_of(list: &[u64], id: u64) -> Result<usize, usize>
-    requires { IsRising list.now }
-    ensures { MatchResult result (λ place. StandsAt list.now id place) (λ place. GoesTo list.now id place) }
+// The position of the id in an ascending list, or the one at which it is to be inserted.
+fn position_of(list: &[u64], id: u64) -> Result<usize, usize>
+    requires { IsAscending list.now }
+    ensures { MatchResult result (λ position. IsAtPosition list.now id position) (λ position. IsInsertionPoint list.now id position) }
 {
     list.binary_search(&id)
 }

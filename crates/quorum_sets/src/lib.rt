@@ -6,7 +6,7 @@
 //!
 //! ```text
 //! (1 2 3)            1 2 is a quorum, and so is any other pair
-//! (2 3 4)&&(1 2 3)   2 3 is a quorum, and so is 1 2 4; 1 4 is none, since it is a majority of neither set
+//! (2 3 4)&&(1 2 3)   2 3 is a quorum, and so is 1 2 4; 1 4 is not, since it is a majority of neither set
 //! ```
 //!
 //! Both decisions of Raft count to a quorum. The committed index is the greatest one that a quorum has acknowledged, and a
@@ -26,7 +26,7 @@ mod difference;
 mod inline_ids;
 mod joining;
 pub mod laws;
-mod looking;
+mod lookup;
 mod majority;
 mod member_set;
 mod overlap;
@@ -42,7 +42,7 @@ pub use commit::{committed, joint_committed};
 pub use difference::symdiff;
 pub use inline_ids::InlineIds;
 pub use joining::union;
-pub use looking::has_next;
+pub use lookup::has_next;
 pub use majority::{is_quorum, quorum};
 pub use member_set::MemberSet;
 pub use overlap::common_member;

@@ -9,7 +9,7 @@ use std::alloc::Global;
 use std::collections::BTreeSet;
 use std::marker::Model;
 
-/// A set of ids over a `BTreeSet`. Its `at` walks the tree up to the place.
+/// A set of ids over a `BTreeSet`. Its `at` takes linear time.
 #[derive(Drop)]
 pub struct TreeIds {
     tree: BTreeSet<u64>,
@@ -77,15 +77,15 @@ impl MemberSet for TreeIds {
         self.tree.len()
     }
 
-    fn at(&self, place: usize) -> Option<u64> {
-        key_at(&self.tree, place)
+    fn at(&self, position: usize) -> Option<u64> {
+        key_at(&self.tree, position)
     }
 }
 
-// The key at a place, in ascending order.
-fn key_at(tree: &BTreeSet<u64>, place: usize) -> Option<u64>
-    ensures key { result ≡ slice_get tree.now.keys place }
+// The key at a position, in ascending order.
+fn key_at(tree: &BTreeSet<u64>, position: usize) -> Option<u64>
+    ensures key { result ≡ slice_get tree.now.keys position }
     ensures ordered { IsOrdered nat_cmp tree.now }
 {
-    tree.iter().copied().nth(place)
+    tree.iter().copied().nth(position)
 }

@@ -8,7 +8,7 @@ use Rattle.std.proofs.lemmas.List.{take_more}
 use Rattle.std.proofs.lemmas.List.Folds.{list_any-append}
 use Rattle.std.specs.Cmp.{nat_eq_equiv}
 use Rattle.quorum_sets.specs.Ids.{Ids, has, is_empty}
-use Rattle.quorum_sets.specs.Rising.{IsRising}
+use Rattle.quorum_sets.specs.AscendingLists.{IsAscending}
 use Rattle.conf_change.specs.Configuration.{Configuration, is_member, is_joint}
 use Rattle.conf_change.specs.Change.{is_update, is_removal, is_incoming_after, is_learner_after, result_of, removes}
 use Rattle.conf_change.specs.Seat.{membership_in}
@@ -245,13 +245,13 @@ DueOf next_index c members = IsDue next_index c (finite.from_entries {R = nat_cm
 
 -- what is made of the first changes, whatever the floor
 pub record MadeSoFar (next_index : ℕ) (start : Configuration) (first : List (ℕ × Progress)) (changes : List Change) (c : Configuration) (members : List (ℕ × Progress)) : Type 0 where
-  pub rising : IsRising (map (λ m. m.0) members)
+  pub ascends : IsAscending (map (λ m. m.0) members)
   pub so_far : (floor : Floor) → AppliedSoFar next_index changes (tracker_at floor start first) (tracker_at floor c members)
 
-pub MadeSoFar-none : (next_index : ℕ) (c : Configuration) (members : List (ℕ × Progress)) → IsRising (map (λ m. m.0) members) → DueOf next_index c members
+pub MadeSoFar-none : (next_index : ℕ) (c : Configuration) (members : List (ℕ × Progress)) → IsAscending (map (λ m. m.0) members) → DueOf next_index c members
     → MadeSoFar next_index c members [] c members
-MadeSoFar-none next_index c members rising due = record {
-  rising = rising;
+MadeSoFar-none next_index c members ascends due = record {
+  ascends = ascends;
   so_far = λ floor. applied_none next_index (tracker_at floor c members) due;
 }
 
@@ -259,12 +259,12 @@ MadeSoFar-none next_index c members rising due = record {
 pub MadeSoFar-one_more : (next_index : ℕ) (start : Configuration) (first : List (ℕ × Progress)) (changes : List Change) (k : ℕ) (d : Change)
     (now after : Configuration) (members members' : List (ℕ × Progress))
     → DueOf next_index start first → k < length changes → MadeSoFar next_index start first (take k changes) now members
-    → after ≡ result_of now (get_or changes k d ∷ []) → IsRising (map (λ m. m.0) members')
+    → after ≡ result_of now (get_or changes k d ∷ []) → IsAscending (map (λ m. m.0) members')
     → Follows next_index (get_or changes k d).id after (finite.from_entries {R = nat_cmp} members) (finite.from_entries {R = nat_cmp} members')
     → MadeSoFar next_index start first (take (k + 1) changes) after members'
-MadeSoFar-one_more next_index start first changes k d now after members members' due within made_so_far is rising follows =
+MadeSoFar-one_more next_index start first changes k d now after members members' due within made_so_far is ascends follows =
     rw (take_more changes k d within) (record {
-      rising = rising;
+      ascends = ascends;
       so_far = λ floor.
           applied_more next_index (take k changes) (get_or changes k d) (tracker_at floor start first) (tracker_at floor now members) (tracker_at floor after members')
           due.nobody (made_so_far.so_far floor) is refl follows;

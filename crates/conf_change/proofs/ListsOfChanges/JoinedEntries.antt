@@ -5,8 +5,8 @@ use Rattle.std.specs.List.Sorted.{IsNonDecreasingBy}
 use Rattle.std.proofs.lemmas.Bool.{cases_lt, eq-eqb, ne_eqb}
 use Rattle.std.proofs.lemmas.List.{take_more, length-append, map-append, length-map, get_or_append_left, get_or_at}
 use Rattle.std.proofs.lemmas.List.Folds.{list_any-append}
-use Rattle.quorum_sets.specs.Rising.{IsRising}
-use Rattle.quorum_sets.proofs.Offered.{rising-push}
+use Rattle.quorum_sets.specs.AscendingLists.{IsAscending}
+use Rattle.quorum_sets.proofs.Offered.{ascends-push}
 use Rattle.conf_change.specs.LastWords.{silent, own_word, later_of, and_later, last_said, removal_said, has_entry, IsEntryAdded, Joins, ListsLastWords}
 use Rattle.conf_change.specs.declared.change.Change.{Change}
 use Rattle.conf_change.specs.declared.progress.Progress.{Progress}
@@ -86,9 +86,9 @@ up_to-push xs y z up le k within =
       | inr last ↦ (let e = get_or_at xs y [] 0 k (omega arith) in rw e le)
     ]
 
-says_as : (before now after : List LastWord) (word : LastWord) → Joins before now → SaysMore now word after → IsRising (ids after) → Joins (before ++ word ∷ []) after
-says_as before now after word joins more rising = record {
-  rising = rising;
+says_as : (before now after : List LastWord) (word : LastWord) → Joins before now → SaysMore now word after → IsAscending (ids after) → Joins (before ++ word ∷ []) after
+says_as before now after word joins more ascends = record {
+  ascends = ascends;
   last = λ q. more.last q ∙ last_said-append now (word ∷ []) q ∙ ap (λ o. later_of o (last_said (word ∷ []) q)) (joins.last q) ∙ sym (last_said-append before (word ∷ []) q);
   removal = λ q.
       let p = λ (w : LastWord). (w.id == q) && w.removes in
@@ -99,16 +99,16 @@ says_as before now after word joins more rising = record {
 }
 
 -- the last of the entries is the greatest, so one that is apart from it is above all
-above_all : (front : List LastWord) (last word : LastWord) → IsRising (ids (front ++ last ∷ [])) → AllUpTo (ids (front ++ last ∷ [])) word.id → last.id ≢ word.id
+above_all : (front : List LastWord) (last word : LastWord) → IsAscending (ids (front ++ last ∷ [])) → AllUpTo (ids (front ++ last ∷ [])) word.id → last.id ≢ word.id
     → (k : ℕ) → k < length (ids (front ++ last ∷ [])) → get_or (ids (front ++ last ∷ [])) k 0 < word.id
-above_all front last word rising up apart k within =
+above_all front last word ascends up apart k within =
     let n = length (ids front) in
     let long : length (ids (front ++ last ∷ [])) ≡ n + 1 = ap length (ids-push front last) ∙ length-append (ids front) (last.id ∷ []) in
     let at_end : get_or (ids (front ++ last ∷ [])) n 0 ≡ last.id = ap (λ xs. get_or xs n 0) (ids-push front last) ∙ get_or_at (ids front) last.id [] 0 n refl in
     let last_le = up n (omega arith) in
     let last_lt : last.id < word.id = omega (arith, apart) in
     elim (cases_lt k n) [
-      | inl before ↦ (let lt = rising k n before (omega arith) in omega arith)
+      | inl before ↦ (let lt = ascends k n before (omega arith) in omega arith)
       | inr end ↦ (let here : k ≡ n = omega arith in rw here (omega arith))
     ]
 
@@ -118,10 +118,10 @@ ids-at [] j d within = absurd (omega arith)
 ids-at (w ∷ ws) zero d within = refl
 ids-at (w ∷ ws) (suc j) d within = ids-at ws j d (omega arith)
 
-more_from : (each now after : List LastWord) (k : ℕ) (d : LastWord) → k < length each → JoinedSoFar each k now → SaysMore now (get_or each k d) after → IsRising (ids after)
+more_from : (each now after : List LastWord) (k : ℕ) (d : LastWord) → k < length each → JoinedSoFar each k now → SaysMore now (get_or each k d) after → IsAscending (ids after)
     → ((j : ℕ) → k + 1 ≤ j → j < length each → AllUpTo (ids after) (get_or (ids each) j 0)) → JoinedSoFar each (k + 1) after
-more_from each now after k d within so_far more rising up = record {
-  joins = rw (take_more each k d within) (says_as (take k each) now after (get_or each k d) so_far.joins more rising);
+more_from each now after k d within so_far more ascends up = record {
+  joins = rw (take_more each k d within) (says_as (take k each) now after (get_or each k d) so_far.joins more ascends);
   up_to = up;
 }
 
@@ -134,10 +134,10 @@ pushed each now after k d up within so_far is above =
     let w = get_or each k d in
     let same : ids after ≡ ids now ++ w.id ∷ [] = ap ids is ∙ ids-push now w in
     more_from each now after k d within so_far (pushed_says now after w is)
-    (subst IsRising (sym same) (rising-push (ids now) w.id so_far.joins.rising above))
+    (subst IsAscending (sym same) (ascends-push (ids now) w.id so_far.joins.ascends above))
     (λ j le inside.
     let here = ids-at each j d inside in
-    let rises = up k j d (omega arith) inside in
+    let ascends = up k j d (omega arith) inside in
     subst (λ xs. AllUpTo xs (get_or (ids each) j 0)) (sym same) (up_to-push (ids now) w.id (get_or (ids each) j 0) (so_far.up_to j (omega arith) inside) (omega arith)))
 
 pub JoinedSoFar-one_more : (each now after : List LastWord) (k : ℕ) (d : LastWord) → IsNonDecreasingBy (λ w. w.id) each → k < length each
@@ -150,13 +150,13 @@ JoinedSoFar-one_more each now after k d up within so_far added =
           let says : SaysMore now w after = (let P : List LastWord → List LastWord → Type 0 = λ a b. SaysMore a w b in
           subst (λ a. P a after) (sym here.2) (subst (P (here.0 ++ here.1 ∷ [])) (sym here.4) (joined_says here.0 here.1 w here.3))) in
           more_from each now after k d within so_far says
-          (subst IsRising (sym same) so_far.joins.rising)
+          (subst IsAscending (sym same) so_far.joins.ascends)
           (λ j le inside. subst (λ xs. AllUpTo xs (get_or (ids each) j 0)) (sym same) (so_far.up_to j (omega arith) inside)))
       | inr (inl here) ↦
           pushed each now after k d up within so_far here.4
           (let P : List LastWord → Type 0 = λ ws. (i : ℕ) → i < length (ids ws) → get_or (ids ws) i 0 < w.id in
           subst P (sym here.2)
-          (above_all here.0 here.1 w (subst (λ ws. IsRising (ids ws)) here.2 so_far.joins.rising)
+          (above_all here.0 here.1 w (subst (λ ws. IsAscending (ids ws)) here.2 so_far.joins.ascends)
           (subst (λ ws. AllUpTo (ids ws) w.id) here.2 (subst (AllUpTo (ids now)) (ids-at each k d within) (so_far.up_to k (omega arith) within))) here.3))
       | inr (inr here) ↦
           pushed each now after k d up within so_far (here.1 ∙ ap (λ ws. ws ++ w ∷ []) (sym here.0))
@@ -182,18 +182,18 @@ unsaid_removal (w ∷ ws) id apart =
     let other : (w.id == id) ≡ false = ne_eqb w.id id (λ e. apart 0 (omega arith) (sym e)) in
     ap (λ b. (b && w.removes) || removal_said ws id) other ∙ unsaid_removal ws id (λ k within e. apart (suc k) (omega arith) e)
 
-above_first : (w : LastWord) (ws : List LastWord) → IsRising (ids (w ∷ ws)) → IsApart ws w.id
+above_first : (w : LastWord) (ws : List LastWord) → IsAscending (ids (w ∷ ws)) → IsApart ws w.id
 above_first w ws up k within e = let lt = up 0 (suc k) (omega arith) (omega arith) in omega arith
 
-rest_rises : (w : LastWord) (ws : List LastWord) → IsRising (ids (w ∷ ws)) → IsRising (ids ws)
+rest_rises : (w : LastWord) (ws : List LastWord) → IsAscending (ids (w ∷ ws)) → IsAscending (ids ws)
 rest_rises w ws up i j lt within = up (suc i) (suc j) (omega arith) (omega arith)
 
-first_apart : (w : LastWord) (ws : List LastWord) (k : ℕ) (d : LastWord) → IsRising (ids (w ∷ ws)) → k < length ws → w.id < (get_or ws k d).id
+first_apart : (w : LastWord) (ws : List LastWord) (k : ℕ) (d : LastWord) → IsAscending (ids (w ∷ ws)) → k < length ws → w.id < (get_or ws k d).id
 first_apart w ws k d up within =
     let long : length (ids ws) ≡ length ws = length-map ws (λ v. v.id) in
     subst (λ n. w.id < n) (ids-at ws k d within) (up 0 (suc k) (omega arith) (omega arith))
 
-own_last : (ws : List LastWord) → IsRising (ids ws) → (k : ℕ) (d : LastWord) → k < length ws → last_said ws (get_or ws k d).id ≡ (get_or ws k d).last
+own_last : (ws : List LastWord) → IsAscending (ids ws) → (k : ℕ) (d : LastWord) → k < length ws → last_said ws (get_or ws k d).id ≡ (get_or ws k d).last
 own_last [] up k d within = absurd (omega arith)
 own_last (w ∷ ws) up zero d within =
     (λ i. later_of (cond (eq-eqb w.id w.id refl i) w.last None) (unsaid_last ws w.id (above_first w ws up) i))
@@ -204,7 +204,7 @@ own_last (w ∷ ws) up (suc k) d within =
     ap (λ b. later_of (cond b w.last None) (last_said ws (get_or ws k d).id)) other
     ∙ later-none (last_said ws (get_or ws k d).id) ∙ own_last ws (rest_rises w ws up) k d inside
 
-own_removal : (ws : List LastWord) → IsRising (ids ws) → (k : ℕ) (d : LastWord) → k < length ws → removal_said ws (get_or ws k d).id ≡ (get_or ws k d).removes
+own_removal : (ws : List LastWord) → IsAscending (ids ws) → (k : ℕ) (d : LastWord) → k < length ws → removal_said ws (get_or ws k d).id ≡ (get_or ws k d).removes
 own_removal [] up k d within = absurd (omega arith)
 own_removal (w ∷ ws) up zero d within =
     (λ i. (eq-eqb w.id w.id refl i && w.removes) || unsaid_removal ws w.id (above_first w ws up) i) ∙ or_none w.removes
@@ -221,10 +221,10 @@ own_removal (w ∷ ws) up (suc k) d within =
 pub ListsLastWords-from_Joins : (members : List (ℕ × Progress)) (changes : List Change) (each words : List LastWord) → each ≡ map (λ m. silent m.0) members ++ map own_word changes
     → Joins each words → ListsLastWords (map (λ m. m.0) members) changes words
 ListsLastWords-from_Joins members changes each words is joins = record {
-  rising = joins.rising;
+  ascends = joins.ascends;
   says = λ k d within. record {
-    last = sym (own_last words joins.rising k d within) ∙ joins.last _ ∙ ap (λ ws. last_said ws (get_or words k d).id) is ∙ last_said-each members changes _;
-    removal = sym (own_removal words joins.rising k d within) ∙ joins.removal _ ∙ ap (λ ws. removal_said ws (get_or words k d).id) is ∙ removal-each members changes _;
+    last = sym (own_last words joins.ascends k d within) ∙ joins.last _ ∙ ap (λ ws. last_said ws (get_or words k d).id) is ∙ last_said-each members changes _;
+    removal = sym (own_removal words joins.ascends k d within) ∙ joins.removal _ ∙ ap (λ ws. removal_said ws (get_or words k d).id) is ∙ removal-each members changes _;
   };
   entries = λ q. joins.entries q ∙ ap (λ ws. has_entry ws q) is ∙ entry-each members changes q;
 }

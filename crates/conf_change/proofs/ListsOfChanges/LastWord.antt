@@ -139,7 +139,7 @@ last_said-stable xs ys stable id =
 
 pub joins-sorted : (xs ys words : List LastWord) → IsPermutation xs ys → IsStableByKey (λ w. w.id) nat_cmp xs ys → Joins ys words → Joins xs words
 joins-sorted xs ys words moved stable joins = record {
-  rising = joins.rising;
+  ascends = joins.ascends;
   last = λ q. joins.last q ∙ last_said-stable xs ys stable q;
   removal = λ q. joins.removal q ∙ sym (list_any-IsPermutation (λ word. (word.id == q) && word.removes) xs ys moved);
   entries = λ q. joins.entries q ∙ sym (list_any-IsPermutation (λ word. q == word.id) xs ys moved);

@@ -8,7 +8,7 @@ use Rattle.std.proofs.lemmas.Bool.{or_cases, or_left, or_right, and_parts}
 use Rattle.std.proofs.lemmas.List.{take_more, take_all, flat_map_more, length-map}
 use Rattle.std.proofs.lemmas.List.Folds.{list_any-append}
 use Rattle.quorum_sets.specs.Ids.{Ids, no_ids, has, with_id, ids_where}
-use Rattle.quorum_sets.specs.Rising.{IsRising}
+use Rattle.quorum_sets.specs.AscendingLists.{IsAscending}
 use Rattle.quorum_sets.proofs.Offered.{has-no_ids, has-with_id, has-ids_where, has-same_ids}
 use Rattle.conf_change.specs.Configuration.{is_member}
 use Rattle.conf_change.specs.Change.{last_word, is_incoming_after, is_learner_after, is_next_after, result_of}
@@ -24,7 +24,7 @@ use Rattle.conf_change.specs.declared.last_words.LastWord.{LastWord}
 use Rattle.conf_change.specs.declared.progress.Progress.{Progress}
 use Rattle.conf_change.specs.declared.seat.Seat.{Seat}
 use Rattle.conf_change.proofs.ListsOfChanges.JoinedEntries.{ids, ids-at}
-use Rattle.conf_change.proofs.MemberProgress.Picked.{picked, get-picked, keys-get, rising-picked_ids}
+use Rattle.conf_change.proofs.MemberProgress.Picked.{picked, get-picked, keys-get, ascends-picked_ids}
 use Rattle.conf_change.proofs.ListsOfChanges.ResultOfEach.{has-incoming_after, has-learners_after, has-next_after, configuration-by_members, last_word-is_named}
 use Rattle.conf_change.proofs.Configurations.Validity.{ValidByMember-from_is_valid}
 
@@ -209,10 +209,10 @@ walked-applies next_index before floor outgoing auto_leave es xs words k incomin
           ∙ sym (λ i. entry_of next_index (in_is q i || has outgoing q || learner_is q i) (learner_is q i) (progress_left t xs q));
     }
 
-pub walked-rises : (next_index : ℕ) (t : TrackerState) (xs : List Change) (words : List LastWord) (k : ℕ) (incoming learners next : Ids) (members : List (ℕ × Progress))
-    → IsRising (ids words) → length words ≤ k → WalkedSoFar next_index t xs (take k (ids words)) incoming learners next members → IsRising (map (λ m. m.0) members)
-walked-rises next_index t xs words k incoming learners next members up past so_far =
+pub walked-ascends : (next_index : ℕ) (t : TrackerState) (xs : List Change) (words : List LastWord) (k : ℕ) (incoming learners next : Ids) (members : List (ℕ × Progress))
+    → IsAscending (ids words) → length words ≤ k → WalkedSoFar next_index t xs (take k (ids words)) incoming learners next members → IsAscending (map (λ m. m.0) members)
+walked-ascends next_index t xs words k incoming learners next members up past so_far =
     let long : length (ids words) ≡ length words = length-map words (λ v. v.id) in
     let all = so_far.members_are ∙ ap (picked (λ q. q) (entry_then next_index t xs)) (take_all k (ids words) (subst (λ z. z ≤ k) (sym long) past)) in
-    let Rises : List (ℕ × Progress) → Type 0 = λ ms. IsRising (map (λ m. m.0) ms) in
-    subst Rises (sym all) (rising-picked_ids (entry_then next_index t xs) (ids words) up)
+    let Rises : List (ℕ × Progress) → Type 0 = λ ms. IsAscending (map (λ m. m.0) ms) in
+    subst Rises (sym all) (ascends-picked_ids (entry_then next_index t xs) (ids words) up)

@@ -15,8 +15,8 @@ use Rattle.std.proofs.lemmas.Option.{slice_get_past, slice_get-get_or, slice_get
 use Rattle.std.proofs.lemmas.List.{length-map, get_or_default, map-set, set-get_or}
 use Rattle.std.proofs.lemmas.List.Folds.{list_any_none}
 use Rattle.std.proofs.lemmas.List.Sorted.{IsNonDecreasingBy-from_default}
-use Rattle.quorum_sets.specs.Rising.{IsRising, StandsAt, GoesTo}
-use Rattle.quorum_sets.proofs.Offered.{rising-insert, rising-remove}
+use Rattle.quorum_sets.specs.AscendingLists.{IsAscending, IsAtPosition, IsInsertionPoint}
+use Rattle.quorum_sets.proofs.Offered.{ascends-insert, ascends-remove}
 use Rattle.conf_change.specs.Progress.{with_mark}
 use Rattle.conf_change.specs.declared.progress.Progress.{Progress}
 use Rattle.conf_change.proofs.MemberProgress.Picked.{keys-get}
@@ -77,7 +77,7 @@ keys_at [] i = refl
 keys_at (e ∷ es) zero = refl
 keys_at (e ∷ es) (suc i) = keys_at es i
 
-find_at : (es : Members) (id i : ℕ) → IsRising (map (λ m. m.0) es) → i < length es → (get_or es i no_member).0 ≡ id → find nat_cmp id es ≡ Some (get_or es i no_member).1
+find_at : (es : Members) (id i : ℕ) → IsAscending (map (λ m. m.0) es) → i < length es → (get_or es i no_member).0 ≡ id → find nat_cmp id es ≡ Some (get_or es i no_member).1
 find_at [] id i up within same = absurd (omega arith)
 find_at (e ∷ es) id zero up within same = ap (λ b. cond b (Some e.1) (find nat_cmp id es)) (unsigned_tied id e.0 ∙ eq-eqb id e.0 (sym same))
 find_at (e ∷ es) id (suc i) up within same =
@@ -88,7 +88,7 @@ find_at (e ∷ es) id (suc i) up within same =
     ap (λ b. cond b (Some e.1) (find nat_cmp id es)) (unsigned_tied id e.0 ∙ other)
     ∙ find_at es id i (λ a b lt inside. up (suc a) (suc b) (omega arith) (omega arith)) (omega arith) same
 
-keys_rise : (es : Members) → IsRising (map (λ m. m.0) es) → (i j : ℕ) → i ≤ j → j < length es → (get_or es i no_member).0 ≤ (get_or es j no_member).0
+keys_rise : (es : Members) → IsAscending (map (λ m. m.0) es) → (i j : ℕ) → i ≤ j → j < length es → (get_or es i no_member).0 ≤ (get_or es j no_member).0
 keys_rise es up i j le within =
     let long : length (map (λ (m : ℕ × Progress). m.0) es) ≡ length es = length-map es (λ (m : ℕ × Progress). m.0) in
     let first = keys_at es i in
@@ -99,14 +99,14 @@ keys_rise es up i j le within =
       | inr (inr gt) ↦ absurd (omega arith)
     ]
 
-comparisons_rise : (es : Members) (id : ℕ) → IsRising (map (λ m. m.0) es) → IsNonDecreasingBy (λ m. ordering_index (nat_cmp m.0 id)) es
+comparisons_rise : (es : Members) (id : ℕ) → IsAscending (map (λ m. m.0) es) → IsNonDecreasingBy (λ m. ordering_index (nat_cmp m.0 id)) es
 comparisons_rise es id up =
     IsNonDecreasingBy-from_default (λ m. ordering_index (nat_cmp m.0 id)) es no_member (λ i j le within. ranks_rise _ _ id (keys_rise es up i j le within))
   where
     ranks_rise : (a b x : ℕ) → a ≤ b → ordering_index (nat_cmp a x) ≤ ordering_index (nat_cmp b x)
     ranks_rise a b x le = grind (arith, nat_tests)
 
-pub get-seen : (es : Members) (id i : ℕ) (p : Progress) → IsRising (map (λ m. m.0) es) → slice_get es i ≡ Some (id, p) → Some p ≡ finite.get (finite.from_entries {R = nat_cmp} es) id
+pub get-seen : (es : Members) (id i : ℕ) (p : Progress) → IsAscending (map (λ m. m.0) es) → slice_get es i ≡ Some (id, p) → Some p ≡ finite.get (finite.from_entries {R = nat_cmp} es) id
 get-seen es id i p up here =
     let at = get_or_from_slice_get es i (id, p) no_member here in
     ap (λ m. Some m.1) (sym at) ∙ sym (finite.get-from_entries nat_cmp_total es id ∙ find_at es id i up (slice_get_within es i (id, p) here) (ap (λ m. m.0) at))
@@ -121,7 +121,7 @@ both_not true true p v o apart = absurd (apart refl refl)
 both_not true false p v o apart = refl
 both_not false b p v o apart = refl
 
-find-set : (es : Members) (i x : ℕ) (p : Progress) (q : ℕ) → IsRising (map (λ m. m.0) es) → i < length es → (get_or es i no_member).0 ≡ x
+find-set : (es : Members) (i x : ℕ) (p : Progress) (q : ℕ) → IsAscending (map (λ m. m.0) es) → i < length es → (get_or es i no_member).0 ≡ x
     → find nat_cmp q (set es i (x, p)) ≡ cond (q == x) (Some p) (find nat_cmp q es)
 find-set [] i x p q up within same = absurd (omega arith)
 find-set (e ∷ es) zero x p q up within same =
@@ -152,8 +152,8 @@ keys es = map (λ m. m.0) es
 length-keys : (es : Members) → length (keys es) ≡ length es
 length-keys es = length-map es (λ (m : ℕ × Progress). m.0)
 
-pub search-in_entries : (es : Members) (id : ℕ) (r : Result ℕ ℕ) → IsRising (keys es) → IsSearchInRange r (length es) → IsBinarySearchResult (λ m. nat_cmp m.0 id) es r
-    → MatchResult r (StandsAt (keys es) id) (GoesTo (keys es) id)
+pub search-in_entries : (es : Members) (id : ℕ) (r : Result ℕ ℕ) → IsAscending (keys es) → IsSearchInRange r (length es) → IsBinarySearchResult (λ m. nat_cmp m.0 id) es r
+    → MatchResult r (IsAtPosition (keys es) id) (IsInsertionPoint (keys es) id)
 search-in_entries es id (Ok i) up within found = let long = length-keys es in record { within = omega arith; there = keys_at es i ∙ key_found es id i found }
 search-in_entries es id (Err i) up within parted =
     let point = parted (comparisons_rise es id up) in
@@ -170,7 +170,7 @@ search-in_entries es id (Err i) up within parted =
           omega arith;
     }
 
-standing : (es : Members) (id i : ℕ) → IsRising (keys es) → StandsAt (keys es) id i → find nat_cmp id es ≡ Some (get_or es i no_member).1
+standing : (es : Members) (id i : ℕ) → IsAscending (keys es) → IsAtPosition (keys es) id i → find nat_cmp id es ≡ Some (get_or es i no_member).1
 standing es id i up at = let long = length-keys es in let within = at.within in find_at es id i up (omega arith) (sym (keys_at es i) ∙ at.there)
 
 absent : (es : Members) (id : ℕ) → ((k : ℕ) → k < length (keys es) → id ≡ get_or (keys es) k 0 → ⊥) → None ≡ find nat_cmp id es
@@ -178,29 +178,29 @@ absent es id apart =
     none_some _ (sym (ap is_some (finite.get-from_entries nat_cmp_total es id)) ∙ keys-get es id ∙ list_any_none (λ x. id == x) (keys es) (λ k d within.
     ap (λ x. id == x) (get_or_default (keys es) k d 0 within) ∙ ne_eqb id _ (apart k within)))
 
-apart_from : (es : Members) (id i : ℕ) → GoesTo (keys es) id i → (k : ℕ) → k < length (keys es) → id ≡ get_or (keys es) k 0 → ⊥
+apart_from : (es : Members) (id i : ℕ) → IsInsertionPoint (keys es) id i → (k : ℕ) → k < length (keys es) → id ≡ get_or (keys es) k 0 → ⊥
 apart_from es id i goes k within same =
     elim (cases_lt k i) [
       | inl before ↦ (let less = goes.below k before in omega arith)
       | inr behind ↦ (let more = goes.above k behind within in omega arith)
     ]
 
-pub get-standing : (es : Members) (id i : ℕ) (d : ℕ × Progress) → IsRising (keys es) → StandsAt (keys es) id i
+pub get-standing : (es : Members) (id i : ℕ) (d : ℕ × Progress) → IsAscending (keys es) → IsAtPosition (keys es) id i
     → Some (get_or es i d).1 ≡ finite.get (finite.from_entries {R = nat_cmp} es) id
 get-standing es id i d up at =
     let long = length-keys es in
     let within = at.within in
     ap (λ m. Some m.1) (get_or_default es i d no_member (omega arith)) ∙ sym (finite.get-from_entries nat_cmp_total es id ∙ standing es id i up at)
 
-pub get-missing : (es : Members) (id i : ℕ) → GoesTo (keys es) id i → None ≡ finite.get (finite.from_entries {R = nat_cmp} es) id
+pub get-missing : (es : Members) (id i : ℕ) → IsInsertionPoint (keys es) id i → None ≡ finite.get (finite.from_entries {R = nat_cmp} es) id
 get-missing es id i goes = absent es id (apart_from es id i goes) ∙ sym (finite.get-from_entries nat_cmp_total es id)
 
 -- ---- a member whose progress is set
-pub keys-set : (es : Members) (id i : ℕ) (p : Progress) → StandsAt (keys es) id i → keys (set es i (id, p)) ≡ keys es
+pub keys-set : (es : Members) (id i : ℕ) (p : Progress) → IsAtPosition (keys es) id i → keys (set es i (id, p)) ≡ keys es
 keys-set es id i p at =
     map-set (λ (m : ℕ × Progress). m.0) es i (id, p) ∙ ap (set (keys es) i) (sym at.there) ∙ set-get_or (keys es) i 0
 
-pub get-set : (es : Members) (id i : ℕ) (p : Progress) → IsRising (keys es) → StandsAt (keys es) id i
+pub get-set : (es : Members) (id i : ℕ) (p : Progress) → IsAscending (keys es) → IsAtPosition (keys es) id i
     → (q : ℕ) → finite.get (finite.from_entries {R = nat_cmp} (set es i (id, p))) q ≡ cond (q == id) (Some p) (finite.get (finite.from_entries {R = nat_cmp} es) q)
 get-set es id i p up at q =
     let long = length-keys es in
@@ -209,7 +209,7 @@ get-set es id i p up at q =
     ∙ find-set es i id p q up (omega arith) (sym (keys_at es i) ∙ at.there)
     ∙ ap (λ o. cond (q == id) (Some p) o) (sym (finite.get-from_entries nat_cmp_total es q))
 
-pub get-marked : (es : Members) (id i : ℕ) (learner : Bool) (d : ℕ × Progress) → IsRising (keys es) → StandsAt (keys es) id i
+pub get-marked : (es : Members) (id i : ℕ) (learner : Bool) (d : ℕ × Progress) → IsAscending (keys es) → IsAtPosition (keys es) id i
     → (q : ℕ) → finite.get (finite.from_entries {R = nat_cmp} (set es i (id, with_mark learner (get_or es i d).1))) q
     ≡ cond (q == id) (option_map (with_mark learner) (finite.get (finite.from_entries {R = nat_cmp} es) id)) (finite.get (finite.from_entries {R = nat_cmp} es) q)
 get-marked es id i learner d up at q =
@@ -217,7 +217,7 @@ get-marked es id i learner d up at q =
     ∙ ap (λ o. cond (q == id) (option_map (with_mark learner) o) (finite.get (finite.from_entries {R = nat_cmp} es) q)) (get-standing es id i d up at)
 
 -- what a member keeps that stands in the list
-pub with_mark-standing : (es : Members) (id i : ℕ) (learner : Bool) (fresh : Progress) → IsRising (keys es) → StandsAt (keys es) id i
+pub with_mark-standing : (es : Members) (id i : ℕ) (learner : Bool) (fresh : Progress) → IsAscending (keys es) → IsAtPosition (keys es) id i
     → option_map (with_mark learner) (finite.get (finite.from_entries {R = nat_cmp} es) id) ≡ Some (with_mark learner (unwrap_or (finite.get (finite.from_entries {R = nat_cmp} es) id) fresh))
 with_mark-standing es id i learner fresh up at = rw (sym (get-standing es id i no_member up at)) refl
 
@@ -227,8 +227,8 @@ keys-insert es zero m = refl
 keys-insert [] (suc i) m = refl
 keys-insert (e ∷ es) (suc i) m = ap (λ ks. e.0 ∷ ks) (keys-insert es i m)
 
-pub rising-put : (es : Members) (id i : ℕ) (p : Progress) → IsRising (keys es) → GoesTo (keys es) id i → IsRising (keys (insert es i (id, p)))
-rising-put es id i p up goes = let Rises : List ℕ → Type 0 = IsRising in subst Rises (sym (keys-insert es i (id, p))) (rising-insert (keys es) i id up goes)
+pub ascends-put : (es : Members) (id i : ℕ) (p : Progress) → IsAscending (keys es) → IsInsertionPoint (keys es) id i → IsAscending (keys (insert es i (id, p)))
+ascends-put es id i p up goes = let Rises : List ℕ → Type 0 = IsAscending in subst Rises (sym (keys-insert es i (id, p))) (ascends-insert (keys es) i id up goes)
 
 find-insert : (es : Members) (i x : ℕ) (p : Progress) (q : ℕ) → i ≤ length es → ((k : ℕ) → k < i → get_or (keys es) k 0 < x)
     → find nat_cmp q (insert es i (x, p)) ≡ cond (q == x) (Some p) (find nat_cmp q es)
@@ -241,7 +241,7 @@ find-insert (e ∷ es) (suc i) x p q within below =
     ∙ both_not (q == e.0) (q == x) p e.1 (find nat_cmp q es) (λ one other. (let a : q ≡ e.0 = eqb-true q e.0 one in let b : q ≡ x = eqb-true q x other in omega arith))
     ∙ ap (λ b. cond (q == x) (Some p) (cond b (Some e.1) (find nat_cmp q es))) (sym (unsigned_tied q e.0))
 
-pub get-put : (es : Members) (id i : ℕ) (fresh : Progress) (learner : Bool) → GoesTo (keys es) id i
+pub get-put : (es : Members) (id i : ℕ) (fresh : Progress) (learner : Bool) → IsInsertionPoint (keys es) id i
     → (q : ℕ) → finite.get (finite.from_entries {R = nat_cmp} (insert es i (id, with_mark learner fresh))) q
     ≡ cond (q == id) (Some (with_mark learner (unwrap_or (finite.get (finite.from_entries {R = nat_cmp} es) id) fresh))) (finite.get (finite.from_entries {R = nat_cmp} es) q)
 get-put es id i fresh learner goes q =
@@ -259,10 +259,10 @@ keys-remove [] (suc i) = refl
 keys-remove (e ∷ es) zero = refl
 keys-remove (e ∷ es) (suc i) = ap (λ ks. e.0 ∷ ks) (keys-remove es i)
 
-pub rising-taken : (es : Members) (id i : ℕ) → IsRising (keys es) → StandsAt (keys es) id i → IsRising (keys (remove es i))
-rising-taken es id i up at = let Rises : List ℕ → Type 0 = IsRising in subst Rises (sym (keys-remove es i)) (rising-remove (keys es) i up at.within)
+pub ascends-taken : (es : Members) (id i : ℕ) → IsAscending (keys es) → IsAtPosition (keys es) id i → IsAscending (keys (remove es i))
+ascends-taken es id i up at = let Rises : List ℕ → Type 0 = IsAscending in subst Rises (sym (keys-remove es i)) (ascends-remove (keys es) i up at.within)
 
-none_behind : (e : ℕ × Progress) (es : Members) → IsRising (keys (e ∷ es)) → None ≡ find nat_cmp e.0 es
+none_behind : (e : ℕ × Progress) (es : Members) → IsAscending (keys (e ∷ es)) → None ≡ find nat_cmp e.0 es
 none_behind e es up = absent es e.0 (λ k within same. (let above = up 0 (suc k) (omega arith) (omega arith) in absurd (omega arith)))
 
 first_taken : (b : Bool) (p : Progress) (o : Option Progress) → (b ≡ true → o ≡ None) → o ≡ cond b None (cond b (Some p) o)
@@ -274,7 +274,7 @@ other_taken true true p o apart = absurd (apart refl refl)
 other_taken true false p o apart = refl
 other_taken false b p o apart = refl
 
-find-remove : (es : Members) (i x q : ℕ) → IsRising (keys es) → i < length es → get_or (keys es) i 0 ≡ x → find nat_cmp q (remove es i) ≡ cond (q == x) None (find nat_cmp q es)
+find-remove : (es : Members) (i x q : ℕ) → IsAscending (keys es) → i < length es → get_or (keys es) i 0 ≡ x → find nat_cmp q (remove es i) ≡ cond (q == x) None (find nat_cmp q es)
 find-remove [] i x q up within same = absurd (omega arith)
 find-remove (e ∷ es) zero x q up within same =
     first_taken (q == x) e.1 (find nat_cmp q es) (λ here. ap (λ n. find nat_cmp n es) (eqb-true q x here ∙ sym same) ∙ sym (none_behind e es up))
@@ -287,7 +287,7 @@ find-remove (e ∷ es) (suc i) x q up within same =
     ∙ other_taken (q == e.0) (q == x) e.1 (find nat_cmp q es) (λ one other. (let a : q ≡ e.0 = eqb-true q e.0 one in let b : q ≡ x = eqb-true q x other in omega arith))
     ∙ ap (λ b. cond (q == x) None (cond b (Some e.1) (find nat_cmp q es))) (sym (unsigned_tied q e.0))
 
-pub get-taken : (es : Members) (id i : ℕ) → IsRising (keys es) → StandsAt (keys es) id i
+pub get-taken : (es : Members) (id i : ℕ) → IsAscending (keys es) → IsAtPosition (keys es) id i
     → (q : ℕ) → finite.get (finite.from_entries {R = nat_cmp} (remove es i)) q ≡ cond (q == id) None (finite.get (finite.from_entries {R = nat_cmp} es) q)
 get-taken es id i up at q =
     let long = length-keys es in
@@ -299,7 +299,7 @@ other_absent : (f : ℕ → Option Progress) (id q : ℕ) (b : Bool) → (q == i
 other_absent f id q true same none = ap f (eqb-true q id same) ∙ sym none
 other_absent f id q false same none = refl
 
-pub get-absent : (es : Members) (id i : ℕ) → GoesTo (keys es) id i
+pub get-absent : (es : Members) (id i : ℕ) → IsInsertionPoint (keys es) id i
     → (q : ℕ) → finite.get (finite.from_entries {R = nat_cmp} es) q ≡ cond (q == id) None (finite.get (finite.from_entries {R = nat_cmp} es) q)
 get-absent es id i goes q =
     other_absent (finite.get (finite.from_entries {R = nat_cmp} es)) id q (q == id) refl (get-missing es id i goes)

@@ -9,8 +9,8 @@ use Rattle.std.specs.FinMap.{find}
 use Rattle.std.specs.List.{list_any, flat_map, AllByRecursion}
 use Rattle.std.specs.List.Sorted.{IsStrictlySortedBy}
 use Rattle.std.proofs.lemmas.List.{map-id}
-use Rattle.quorum_sets.specs.Rising.{IsRising}
-use Rattle.quorum_sets.proofs.Offered.{rising-sorted, sorted-rising}
+use Rattle.quorum_sets.specs.AscendingLists.{IsAscending}
+use Rattle.quorum_sets.proofs.Offered.{ascends-sorted, sorted-ascends}
 use Rattle.conf_change.specs.TrackerEdits.{entries_of, progress_kept}
 use Rattle.conf_change.specs.declared.progress.Progress.{Progress}
 
@@ -39,11 +39,11 @@ sorted-picked key entry [] h = tt
 sorted-picked key entry (x ∷ xs) h =
     kept_sorted (key x) (entry x) (picked key entry xs) (all_above (λ y. nat_cmp (key x) y ≡ Less) key entry xs h.0) (sorted-picked key entry xs h.1)
 
-pub rising-picked : {X : Type 0} (key : X → ℕ) (entry : X → Option Progress) (xs : List X) → IsRising (map key xs) → IsRising (map (λ m. m.0) (picked key entry xs))
-rising-picked key entry xs up = sorted-rising _ (sorted-picked key entry xs (rising-sorted _ up))
+pub ascends-picked : {X : Type 0} (key : X → ℕ) (entry : X → Option Progress) (xs : List X) → IsAscending (map key xs) → IsAscending (map (λ m. m.0) (picked key entry xs))
+ascends-picked key entry xs up = sorted-ascends _ (sorted-picked key entry xs (ascends-sorted _ up))
 
-pub rising-picked_ids : (entry : ℕ → Option Progress) (xs : List ℕ) → IsRising xs → IsRising (map (λ m. m.0) (picked (λ q. q) entry xs))
-rising-picked_ids entry xs up = rising-picked (λ q. q) entry xs (subst IsRising (sym (map-id xs)) up)
+pub ascends-picked_ids : (entry : ℕ → Option Progress) (xs : List ℕ) → IsAscending xs → IsAscending (map (λ m. m.0) (picked (λ q. q) entry xs))
+ascends-picked_ids entry xs up = ascends-picked (λ q. q) entry xs (subst IsAscending (sym (map-id xs)) up)
 
 -- ---- what each id has
 abbrev or_rest : Option Progress → Option Progress → Option Progress

@@ -11,8 +11,8 @@ use Rattle.std.proofs.lemmas.List.{length-append, get_or_append_left, get_or_at,
 use Rattle.std.proofs.lemmas.List.Folds.{Any-from_list_any, list_any_at, list_any_none, list_any-append}
 use Rattle.std.proofs.lemmas.Option.{slice_get_within, get_or_from_slice_get, slice_get-get_or}
 use Rattle.quorum_sets.specs.Ids.{Ids, has, ascending, size}
-use Rattle.quorum_sets.specs.Rising.{IsRising}
-use Rattle.quorum_sets.proofs.Offered.{has-ascending, ascending-is_rising, rising-push}
+use Rattle.quorum_sets.specs.AscendingLists.{IsAscending}
+use Rattle.quorum_sets.proofs.Offered.{has-ascending, ascending-is_ascending, ascends-push}
 use Rattle.conf_change.specs.Configuration.{Configuration}
 use Rattle.conf_change.specs.MemberWalk.{IsLeast, IsLeastFrom, Passes}
 use Rattle.conf_change.specs.Progress.{IsFreshOf, all_fresh, fresh_progress}
@@ -48,7 +48,7 @@ passes-there ids id place here =
     record {
       kept = omega arith;
       passed = λ k behind before within. let e : k ≡ place = omega arith in rw e is;
-      ahead = λ k behind within. let lt = ascending-is_rising ids place k (omega arith) within in omega arith;
+      ahead = λ k behind within. let lt = ascending-is_ascending ids place k (omega arith) within in omega arith;
     }
 
 pub passes-apart : (ids : Ids) (id place : ℕ) → IsLeastFrom ids place id → ((x : ℕ) → slice_get (ascending ids) place ≡ Some x → x ≢ id) → Passes ids id place place
@@ -60,7 +60,7 @@ passes-apart ids id place least differs = record {
       let le = least place (omega arith) inside in
       let other = differs (get_or (ascending ids) place 0) (slice_get-get_or (ascending ids) place 0 inside) in
       elim (cases_lt place k) [
-        | inl before ↦ (let lt = ascending-is_rising ids place k before within in omega arith)
+        | inl before ↦ (let lt = ascending-is_ascending ids place k before within in omega arith)
         | inr there ↦ (let e : k ≡ place = omega arith in rw e (omega arith))
       ];
 }
@@ -148,7 +148,7 @@ IsLeastFrom-behind ids place id below k behind within =
     let same : id ≡ found.0 = cc (found.1) in
     let le = found.2 in
     elim (cases_lt place k) [
-      | inl before ↦ (let lt = ascending-is_rising ids place k before within in omega arith)
+      | inl before ↦ (let lt = ascending-is_ascending ids place k before within in omega arith)
       | inr there ↦ (let e : k ≡ place = omega arith in rw e (omega arith))
     ]
 
@@ -172,7 +172,7 @@ moves ids x place next here passes =
 
 -- ---- one more id
 pub record Walked (next_index : ℕ) (a b c : Ids) (i j k : ℕ) (entries : List (ℕ × Progress)) : Type 0 where
-  pub rising : IsRising (map (λ m. m.0) entries)
+  pub ascends : IsAscending (map (λ m. m.0) entries)
   pub fresh : entries ≡ map (λ id. (id, fresh_progress next_index (has c id))) (map (λ m. m.0) entries)
   pub members : (q : ℕ) → list_any (λ x. q == x) (map (λ m. m.0) entries) ≡ true → (has a q || has b q || has c q) ≡ true
   pub first : IsBehind (map (λ m. m.0) entries) a i
@@ -181,7 +181,7 @@ pub record Walked (next_index : ℕ) (a b c : Ids) (i j k : ℕ) (entries : List
 
 pub walked-begin : (next_index : ℕ) (a b c : Ids) → Walked next_index a b c 0 0 0 []
 walked-begin next_index a b c = record {
-  rising = λ i j lt within. absurd (omega arith);
+  ascends = λ i j lt within. absurd (omega arith);
   fresh = refl;
   members = λ q no. absurd cc;
   first = behind-begin a;
@@ -253,7 +253,7 @@ walked-more next_index a b c i j k i' j' k' x there entries after w head pass_a 
     let mark = has-marked (keys entries) c x k k' there w.third below pass_c here stays in
     let Behind : Ids → ℕ → List ℕ → Type 0 = λ ids place done. IsBehind done ids place in
     record {
-      rising = subst IsRising (sym now) (rising-push (keys entries) x w.rising below);
+      ascends = subst IsAscending (sym now) (ascends-push (keys entries) x w.ascends below);
       fresh = is ∙ (λ n. w.fresh n ++ (x, fresh_progress next_index (mark n)) ∷ []) ∙ sym (ap (map of) now ∙ map-append of (keys entries) (x ∷ []));
       members = λ q yes. member_more a b c (keys entries) x w.members (one_of a b c i j k x head) q (sym (list_any-append (λ y. q == y) (keys entries) (x ∷ [])) ∙ sym (ap (list_any (λ y. q == y)) now) ∙ yes);
       first = subst (Behind a i') (sym now) (behind-more (keys entries) a x i i' w.first pass_a);
@@ -280,7 +280,7 @@ size-walk_falls a b c i j k i' j' k' x head pass_a pass_b pass_c =
 pub walked-all : (next_index : ℕ) (a b c : Ids) (i j k : ℕ) (entries : List (ℕ × Progress)) → Walked next_index a b c i j k entries
     → size a ≤ i → size b ≤ j → size c ≤ k → IsFreshOf next_index a b c entries
 walked-all next_index a b c i j k entries w past_a past_b past_c = record {
-  rising = w.rising;
+  ascends = w.ascends;
   members = λ q. both_ways q (list_any (λ x. q == x) (map (λ m. m.0) entries)) (has a q) (has b q) (has c q) refl refl refl refl;
   fresh = w.fresh;
 } where

@@ -29,8 +29,8 @@ pub others-of_member : (ids : Ids) (id : ℕ) → has ids id ≡ true → nat_lt
 others-of_member ids id here =
     more_than 1 (size ids) ∙ ap (λ n. not (nat_eq n 0)) (sym (size-without_id ids id ∙ ap (λ b. cond b (size ids - 1) (size ids)) here))
 
-pub others-of_nobody : (ids : Ids) (id : ℕ) → has ids id ≡ false → nat_lt 0 (size ids) ≡ not (is_empty (without_id ids id))
-others-of_nobody ids id none =
+pub others-of_empty : (ids : Ids) (id : ℕ) → has ids id ≡ false → nat_lt 0 (size ids) ≡ not (is_empty (without_id ids id))
+others-of_empty ids id none =
     more_than 0 (size ids) ∙ ap (λ n. not (nat_eq n 0)) (omega arith ∙ sym (size-without_id ids id ∙ ap (λ b. cond b (size ids - 1) (size ids)) none))
 
 -- ---- the voters after one change

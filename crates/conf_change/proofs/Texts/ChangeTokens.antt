@@ -2,12 +2,12 @@
 use Rattle.std.proofs.Common.{◌≡◌, ◌≢◌, ℕ, suc, ◌<◌, List, [], ◌∷◌, ◌++◌, length, Option, Some, None, Result, Ok, Err, refl, ap, ◌∙◌, arith}
 use Rattle.std.specs.List.{AllZip}
 use Rattle.std.proofs.lemmas.Bool.Decides.{nat_tests}
-use Rattle.ascii_text.specs.Number.{SpellsNumber, number_in}
-use Rattle.conf_change.specs.ChangeList.{letter_of, Spells, BadToken, unknown_token, unknown_input, bad_number, token_of, HasReason, IsFirstBad, kind_in, change_in, changes_in_words}
+use Rattle.ascii_text.specs.Number.{ParsesToNumber, number_in}
+use Rattle.conf_change.specs.ChangeList.{letter_of, ParsesTo, BadToken, unknown_token, unknown_input, bad_number, token_of, HasReason, IsFirstBad, kind_in, change_in, changes_in_words}
 use Rattle.conf_change.specs.declared.change.Change.{Change}
 use Rattle.conf_change.specs.declared.change.Kind.{Kind}
 use Rattle.conf_change.specs.declared.change.Kind.TheVariants.{Voter, Learner, Remove, Update}
-use Rattle.ascii_text.proofs.Offered.{number_in-ok, SpellsNumber-from_some, number_in-none}
+use Rattle.ascii_text.proofs.Offered.{number_in-ok, ParsesToNumber-from_some, number_in-none}
 
 -- changes that were read, before what the rest stands for
 abbrev pub onto : List Change → Result (List Change) BadToken → Result (List Change) BadToken
@@ -33,17 +33,17 @@ kind_in-none byte none =
 change_in-some : (letter digit id : ℕ) (rest : List ℕ) (kind : Kind) → kind_in letter ≡ Some kind → number_in (digit ∷ rest) ≡ Some id → change_in (letter ∷ digit ∷ rest) ≡ Ok (record { kind = kind; id = id })
 change_in-some letter digit id rest kind is_kind is_number = rw (is_kind, is_number) refl
 
-change_in-ok : (token : List ℕ) (change : Change) → Spells token change → change_in token ≡ Ok change
+change_in-ok : (token : List ℕ) (change : Change) → ParsesTo token change → change_in token ≡ Ok change
 change_in-ok token change h = go h.number h.letter_first h.id_behind where
-  go : (number : List ℕ) → token ≡ letter_of change.kind ∷ number → SpellsNumber number change.id → change_in token ≡ Ok change
+  go : (number : List ℕ) → token ≡ letter_of change.kind ∷ number → ParsesToNumber number change.id → change_in token ≡ Ok change
   go [] is spelled = absurd (omega (arith, spelled.numeral.0))
   go (digit ∷ rest) is spelled = ap change_in is ∙ change_in-some (letter_of change.kind) digit change.id rest change.kind (kind_in-letter_of change.kind) (number_in-ok (digit ∷ rest) change.id spelled)
 
-Spells-from_ok : (token : List ℕ) (change : Change) → change_in token ≡ Ok change → Spells token change
-Spells-from_ok [] change e = absurd cc
-Spells-from_ok (letter ∷ []) change e = absurd cc
-Spells-from_ok (letter ∷ digit ∷ rest) change e = go (kind_in letter) (number_in (digit ∷ rest)) refl refl where
-  go : (k : Option Kind) (n : Option ℕ) → kind_in letter ≡ k → number_in (digit ∷ rest) ≡ n → Spells (letter ∷ digit ∷ rest) change
+ParsesTo-from_ok : (token : List ℕ) (change : Change) → change_in token ≡ Ok change → ParsesTo token change
+ParsesTo-from_ok [] change e = absurd cc
+ParsesTo-from_ok (letter ∷ []) change e = absurd cc
+ParsesTo-from_ok (letter ∷ digit ∷ rest) change e = go (kind_in letter) (number_in (digit ∷ rest)) refl refl where
+  go : (k : Option Kind) (n : Option ℕ) → kind_in letter ≡ k → number_in (digit ∷ rest) ≡ n → ParsesTo (letter ∷ digit ∷ rest) change
   go None n is_kind is_number = let f = rw is_kind at e in absurd cc
   go (Some kind) None is_kind is_number = let f = rw (is_kind, is_number) at e in absurd cc
   go (Some kind) (Some id) is_kind is_number =
@@ -52,10 +52,10 @@ Spells-from_ok (letter ∷ digit ∷ rest) change e = go (kind_in letter) (numbe
       rw same (record {
         number = digit ∷ rest;
         letter_first = ap (λ first. first ∷ digit ∷ rest) (letter_from_kind letter kind is_kind);
-        id_behind = SpellsNumber-from_some (digit ∷ rest) id is_number;
+        id_behind = ParsesToNumber-from_some (digit ∷ rest) id is_number;
       })
 
-not_spelled : (number : List ℕ) → number_in number ≡ None → (id : ℕ) → ¬ (SpellsNumber number id)
+not_spelled : (number : List ℕ) → number_in number ≡ None → (id : ℕ) → ¬ (ParsesToNumber number id)
 not_spelled number none id h = let some = number_in-ok number id h in cc
 
 not_letter : (byte : ℕ) → kind_in byte ≡ None → (kind : Kind) → byte ≢ letter_of kind
@@ -88,28 +88,28 @@ change_in-err (unknown_input []) reason = absurd (omega (arith, reason.0))
 change_in-err (unknown_input (letter ∷ [])) reason = absurd (omega (arith, reason.0))
 change_in-err (unknown_input (letter ∷ digit ∷ rest)) reason = rw (kind_in-none letter reason.1) refl
 change_in-err (bad_number token) reason = go reason.1 reason.2 reason.3 reason.4 where
-  go : (rest : List ℕ) → 1 < length token → token ≡ letter_of reason.0 ∷ rest → ((id : ℕ) → ¬ (SpellsNumber rest id)) → change_in token ≡ Err (bad_number token)
+  go : (rest : List ℕ) → 1 < length token → token ≡ letter_of reason.0 ∷ rest → ((id : ℕ) → ¬ (ParsesToNumber rest id)) → change_in token ≡ Err (bad_number token)
   go [] long is none = absurd (omega (arith, ap length is))
   go (digit ∷ rest) long is none = rw is (rw (kind_in-letter_of reason.0, number_in-none (digit ∷ rest) none) refl)
 
 -- the words of a text, one after another
-pub changes_in_words-ok : (tokens : List (List ℕ)) (changes : List Change) → AllZip Spells tokens changes → changes_in_words tokens ≡ Ok changes
+pub changes_in_words-ok : (tokens : List (List ℕ)) (changes : List Change) → AllZip ParsesTo tokens changes → changes_in_words tokens ≡ Ok changes
 changes_in_words-ok [] [] h = refl
 changes_in_words-ok [] (change ∷ changes) h = absurd h
 changes_in_words-ok (token ∷ tokens) [] h = absurd h
 changes_in_words-ok (token ∷ tokens) (change ∷ changes) h = rw (change_in-ok token change h.0, changes_in_words-ok tokens changes h.1) refl
 
-pub AllZip-from_ok : (tokens : List (List ℕ)) (changes : List Change) → changes_in_words tokens ≡ Ok changes → AllZip Spells tokens changes
+pub AllZip-from_ok : (tokens : List (List ℕ)) (changes : List Change) → changes_in_words tokens ≡ Ok changes → AllZip ParsesTo tokens changes
 AllZip-from_ok [] [] e = tt
 AllZip-from_ok [] (change ∷ changes) e = absurd cc
 AllZip-from_ok (token ∷ tokens) all e = go (change_in token) (changes_in_words tokens) refl refl (AllZip-from_ok tokens) where
-  go : (first : Result Change BadToken) (more : Result (List Change) BadToken) → change_in token ≡ first → changes_in_words tokens ≡ more → ((changes : List Change) → changes_in_words tokens ≡ Ok changes → AllZip Spells tokens changes) → AllZip Spells (token ∷ tokens) all
+  go : (first : Result Change BadToken) (more : Result (List Change) BadToken) → change_in token ≡ first → changes_in_words tokens ≡ more → ((changes : List Change) → changes_in_words tokens ≡ Ok changes → AllZip ParsesTo tokens changes) → AllZip ParsesTo (token ∷ tokens) all
   go (Err bad) more is_first is_more later = let f = rw is_first at e in absurd cc
   go (Ok change) (Err bad) is_first is_more later = let f = rw (is_first, is_more) at e in absurd cc
   go (Ok change) (Ok changes) is_first is_more later =
       let f = rw (is_first, is_more) at e in
       let same : all ≡ change ∷ changes = cc in
-      rw same (Spells-from_ok token change is_first, later changes is_more)
+      rw same (ParsesTo-from_ok token change is_first, later changes is_more)
 
 pub IsFirstBad-from_err : (tokens : List (List ℕ)) (bad : BadToken) → changes_in_words tokens ≡ Err bad → IsFirstBad tokens bad
 IsFirstBad-from_err [] bad e = absurd cc
@@ -130,17 +130,17 @@ IsFirstBad-from_err (token ∷ tokens) bad e = go (change_in token) (changes_in_
         after = later.after;
         changes = change ∷ later.changes;
         place = ap (λ ts. token ∷ ts) later.place;
-        spelled = (Spells-from_ok token change is_first, later.spelled);
+        spelled = (ParsesTo-from_ok token change is_first, later.spelled);
         reason = later.reason;
       }
 
-pub changes_in_words-err : (before : List (List ℕ)) (changes : List Change) (bad : BadToken) (after : List (List ℕ)) → AllZip Spells before changes → HasReason bad → changes_in_words (before ++ token_of bad ∷ after) ≡ Err bad
+pub changes_in_words-err : (before : List (List ℕ)) (changes : List Change) (bad : BadToken) (after : List (List ℕ)) → AllZip ParsesTo before changes → HasReason bad → changes_in_words (before ++ token_of bad ∷ after) ≡ Err bad
 changes_in_words-err [] changes bad after spelled reason = rw (change_in-err bad reason) refl
 changes_in_words-err (token ∷ before) [] bad after spelled reason = absurd spelled
 changes_in_words-err (token ∷ before) (change ∷ changes) bad after spelled reason =
     rw (change_in-ok token change spelled.0, changes_in_words-err before changes bad after spelled.1 reason) refl
 
-pub length-spelled : (tokens : List (List ℕ)) (changes : List Change) → AllZip Spells tokens changes → length changes ≡ length tokens
+pub length-spelled : (tokens : List (List ℕ)) (changes : List Change) → AllZip ParsesTo tokens changes → length changes ≡ length tokens
 length-spelled [] [] h = refl
 length-spelled [] (change ∷ changes) h = absurd h
 length-spelled (token ∷ tokens) [] h = absurd h

@@ -13,89 +13,89 @@ use Rattle.std.proofs.lemmas.Fmt.{decimal_is_IsNumeral}
 use Rattle.std.proofs.lemmas.Str.Parse.{digit_at}
 use Rattle.std.proofs.lemmas.Slice.Eq.{bytes_eq-Decides}
 use Rattle.ascii_text.specs.WhiteSpace.{trimmed, without_leading_space}
-use Rattle.ascii_text.specs.Number.{SpellsNumber, number_in}
+use Rattle.ascii_text.specs.Number.{ParsesToNumber, number_in}
 use Rattle.conf_change.specs.Text.{spaced_numbers}
 use Rattle.conf_change.specs.ConfState.{ConfStateLists}
-use Rattle.conf_change.specs.ConfStateLine.{truth_text, line_text, conf_state_text, SpellsNumbers, StandsForConfState, after_prefix, numbers_in_pieces, is_space_byte, numbers_in, is_close, field_in, auto_leave_in, conf_state_in}
-use Rattle.ascii_text.proofs.Offered.{without_trailing_space-other, number_in-ok, SpellsNumber-from_some}
+use Rattle.conf_change.specs.ConfStateLine.{truth_text, line_text, conf_state_text, ParsesToNumbers, DenotesConfState, after_prefix, numbers_in_tokens, is_space_byte, numbers_in, is_close, field_in, auto_leave_in, conf_state_in}
+use Rattle.ascii_text.proofs.Offered.{without_trailing_space-other, number_in-ok, ParsesToNumber-from_some}
 
 -- a byte that is no digit stands in no number
 no_byte : (digits : List ℕ) (byte : ℕ) → AllDigits 10 digits → ((b : ℕ) → 48 ≤ b → b ≤ 57 → b ≢ byte) → All (λ b. eqb b byte ≡ false) digits
 no_byte digits byte h differs = All-from_get_or (λ b. eqb b byte ≡ false) digits 0 (λ i within. let range = digit_at digits i h within in ne_eqb (get_or digits i 0) byte (differs (get_or digits i 0) range.0 range.1))
 
-no_space : (piece : List ℕ) (number : ℕ) → SpellsNumber piece number → All (λ b. is_space_byte b ≡ false) piece
-no_space piece number h = no_byte piece 32 h.numeral.1 (λ b low high same. omega arith)
+no_space : (token : List ℕ) (number : ℕ) → ParsesToNumber token number → All (λ b. is_space_byte b ≡ false) token
+no_space token number h = no_byte token 32 h.numeral.1 (λ b low high same. omega arith)
 
-no_close : (piece : List ℕ) (number : ℕ) → SpellsNumber piece number → All (λ b. is_close b ≡ false) piece
-no_close piece number h = no_byte piece 93 h.numeral.1 (λ b low high same. omega arith)
+no_close : (token : List ℕ) (number : ℕ) → ParsesToNumber token number → All (λ b. is_close b ≡ false) token
+no_close token number h = no_byte token 93 h.numeral.1 (λ b low high same. omega arith)
 
-no_close-join : (pieces : List (List ℕ)) (numbers : List ℕ) → AllZip SpellsNumber pieces numbers → All (λ b. is_close b ≡ false) (join_with_byte 32 pieces)
+no_close-join : (tokens : List (List ℕ)) (numbers : List ℕ) → AllZip ParsesToNumber tokens numbers → All (λ b. is_close b ≡ false) (join_with_byte 32 tokens)
 no_close-join [] numbers h = All-nil (λ b. is_close b ≡ false)
-no_close-join (piece ∷ pieces) [] h = absurd h
-no_close-join (piece ∷ []) (number ∷ numbers) h = no_close piece number h.0
-no_close-join (piece ∷ next ∷ pieces) (number ∷ numbers) h =
-    All-append (λ b. is_close b ≡ false) piece (32 ∷ join_with_byte 32 (next ∷ pieces)) (no_close piece number h.0)
-    (All-cons (λ b. is_close b ≡ false) 32 (join_with_byte 32 (next ∷ pieces)) refl (no_close-join (next ∷ pieces) numbers h.1))
+no_close-join (token ∷ tokens) [] h = absurd h
+no_close-join (token ∷ []) (number ∷ numbers) h = no_close token number h.0
+no_close-join (token ∷ next ∷ tokens) (number ∷ numbers) h =
+    All-append (λ b. is_close b ≡ false) token (32 ∷ join_with_byte 32 (next ∷ tokens)) (no_close token number h.0)
+    (All-cons (λ b. is_close b ≡ false) 32 (join_with_byte 32 (next ∷ tokens)) refl (no_close-join (next ∷ tokens) numbers h.1))
 
 -- ---- numbers with one space between
-slice_split-join : (piece : List ℕ) (pieces : List (List ℕ)) (numbers : List ℕ) → AllZip SpellsNumber (piece ∷ pieces) numbers → slice_split is_space_byte (join_with_byte 32 (piece ∷ pieces)) ≡ piece ∷ pieces
-slice_split-join piece pieces [] h = absurd h
-slice_split-join piece [] (number ∷ numbers) h = slice_split_none is_space_byte piece (no_space piece number h.0)
-slice_split-join piece (next ∷ pieces) (number ∷ numbers) h =
-    slice_split_at is_space_byte piece 32 (join_with_byte 32 (next ∷ pieces)) (no_space piece number h.0) refl ∙ ap (λ ps. piece ∷ ps) (slice_split-join next pieces numbers h.1)
+slice_split-join : (token : List ℕ) (tokens : List (List ℕ)) (numbers : List ℕ) → AllZip ParsesToNumber (token ∷ tokens) numbers → slice_split is_space_byte (join_with_byte 32 (token ∷ tokens)) ≡ token ∷ tokens
+slice_split-join token tokens [] h = absurd h
+slice_split-join token [] (number ∷ numbers) h = slice_split_none is_space_byte token (no_space token number h.0)
+slice_split-join token (next ∷ tokens) (number ∷ numbers) h =
+    slice_split_at is_space_byte token 32 (join_with_byte 32 (next ∷ tokens)) (no_space token number h.0) refl ∙ ap (λ ps. token ∷ ps) (slice_split-join next tokens numbers h.1)
 
-length-join : (piece : List ℕ) (pieces : List (List ℕ)) → 0 < length piece → 0 < length (join_with_byte 32 (piece ∷ pieces))
-length-join piece [] some = some
-length-join piece (next ∷ pieces) some = omega (arith, length-append piece (32 ∷ join_with_byte 32 (next ∷ pieces)))
+length-join : (token : List ℕ) (tokens : List (List ℕ)) → 0 < length token → 0 < length (join_with_byte 32 (token ∷ tokens))
+length-join token [] some = some
+length-join token (next ∷ tokens) some = omega (arith, length-append token (32 ∷ join_with_byte 32 (next ∷ tokens)))
 
-numbers_in_pieces-ok : (pieces : List (List ℕ)) (numbers : List ℕ) → AllZip SpellsNumber pieces numbers → numbers_in_pieces pieces ≡ Some numbers
-numbers_in_pieces-ok [] [] h = refl
-numbers_in_pieces-ok [] (number ∷ numbers) h = absurd h
-numbers_in_pieces-ok (piece ∷ pieces) [] h = absurd h
-numbers_in_pieces-ok (piece ∷ pieces) (number ∷ numbers) h = rw (number_in-ok piece number h.0, numbers_in_pieces-ok pieces numbers h.1) refl
+numbers_in_tokens-ok : (tokens : List (List ℕ)) (numbers : List ℕ) → AllZip ParsesToNumber tokens numbers → numbers_in_tokens tokens ≡ Some numbers
+numbers_in_tokens-ok [] [] h = refl
+numbers_in_tokens-ok [] (number ∷ numbers) h = absurd h
+numbers_in_tokens-ok (token ∷ tokens) [] h = absurd h
+numbers_in_tokens-ok (token ∷ tokens) (number ∷ numbers) h = rw (number_in-ok token number h.0, numbers_in_tokens-ok tokens numbers h.1) refl
 
-AllZip-from_some : (pieces : List (List ℕ)) (numbers : List ℕ) → numbers_in_pieces pieces ≡ Some numbers → AllZip SpellsNumber pieces numbers
+AllZip-from_some : (tokens : List (List ℕ)) (numbers : List ℕ) → numbers_in_tokens tokens ≡ Some numbers → AllZip ParsesToNumber tokens numbers
 AllZip-from_some [] [] e = tt
 AllZip-from_some [] (number ∷ numbers) e = absurd cc
-AllZip-from_some (piece ∷ pieces) all e = go (number_in piece) (numbers_in_pieces pieces) refl refl (AllZip-from_some pieces) where
-  go : (first : Option ℕ) (more : Option (List ℕ)) → number_in piece ≡ first → numbers_in_pieces pieces ≡ more → ((numbers : List ℕ) → numbers_in_pieces pieces ≡ Some numbers → AllZip SpellsNumber pieces numbers) → AllZip SpellsNumber (piece ∷ pieces) all
+AllZip-from_some (token ∷ tokens) all e = go (number_in token) (numbers_in_tokens tokens) refl refl (AllZip-from_some tokens) where
+  go : (first : Option ℕ) (more : Option (List ℕ)) → number_in token ≡ first → numbers_in_tokens tokens ≡ more → ((numbers : List ℕ) → numbers_in_tokens tokens ≡ Some numbers → AllZip ParsesToNumber tokens numbers) → AllZip ParsesToNumber (token ∷ tokens) all
   go None more is_first is_more later = let f = rw is_first at e in absurd cc
   go (Some number) None is_first is_more later = let f = rw (is_first, is_more) at e in absurd cc
   go (Some number) (Some numbers) is_first is_more later =
       let f = rw (is_first, is_more) at e in
       let same : all ≡ number ∷ numbers = cc in
-      rw same (SpellsNumber-from_some piece number is_first, later numbers is_more)
+      rw same (ParsesToNumber-from_some token number is_first, later numbers is_more)
 
-numbers_in-not_empty : (text : List ℕ) → 0 < length text → numbers_in text ≡ numbers_in_pieces (slice_split is_space_byte text)
+numbers_in-not_empty : (text : List ℕ) → 0 < length text → numbers_in text ≡ numbers_in_tokens (slice_split is_space_byte text)
 numbers_in-not_empty text some = rw (lt-ltb 0 (length text) some) refl
 
-numbers_in-ok : (text : List ℕ) (numbers : List ℕ) → SpellsNumbers text numbers → numbers_in text ≡ Some numbers
-numbers_in-ok text numbers h = go h.pieces numbers h.spaced h.spelled where
-  go : (pieces : List (List ℕ)) (numbers : List ℕ) → text ≡ join_with_byte 32 pieces → AllZip SpellsNumber pieces numbers → numbers_in text ≡ Some numbers
+numbers_in-ok : (text : List ℕ) (numbers : List ℕ) → ParsesToNumbers text numbers → numbers_in text ≡ Some numbers
+numbers_in-ok text numbers h = go h.tokens numbers h.spaced h.spelled where
+  go : (tokens : List (List ℕ)) (numbers : List ℕ) → text ≡ join_with_byte 32 tokens → AllZip ParsesToNumber tokens numbers → numbers_in text ≡ Some numbers
   go [] [] is spelled = ap numbers_in is
   go [] (number ∷ numbers) is spelled = absurd spelled
-  go (piece ∷ pieces) [] is spelled = absurd spelled
-  go (piece ∷ pieces) (number ∷ numbers) is spelled =
-      ap numbers_in is ∙ numbers_in-not_empty (join_with_byte 32 (piece ∷ pieces)) (length-join piece pieces spelled.0.numeral.0)
-      ∙ ap numbers_in_pieces (slice_split-join piece pieces (number ∷ numbers) spelled) ∙ numbers_in_pieces-ok (piece ∷ pieces) (number ∷ numbers) spelled
+  go (token ∷ tokens) [] is spelled = absurd spelled
+  go (token ∷ tokens) (number ∷ numbers) is spelled =
+      ap numbers_in is ∙ numbers_in-not_empty (join_with_byte 32 (token ∷ tokens)) (length-join token tokens spelled.0.numeral.0)
+      ∙ ap numbers_in_tokens (slice_split-join token tokens (number ∷ numbers) spelled) ∙ numbers_in_tokens-ok (token ∷ tokens) (number ∷ numbers) spelled
 
-SpellsNumbers-from_some : (text : List ℕ) (numbers : List ℕ) → numbers_in text ≡ Some numbers → SpellsNumbers text numbers
-SpellsNumbers-from_some [] numbers e = let same : numbers ≡ [] = cc in rw same (record { pieces = []; spaced = refl; spelled = tt })
-SpellsNumbers-from_some (b ∷ bs) numbers e = record {
-  pieces = slice_split is_space_byte (b ∷ bs);
+ParsesToNumbers-from_some : (text : List ℕ) (numbers : List ℕ) → numbers_in text ≡ Some numbers → ParsesToNumbers text numbers
+ParsesToNumbers-from_some [] numbers e = let same : numbers ≡ [] = cc in rw same (record { tokens = []; spaced = refl; spelled = tt })
+ParsesToNumbers-from_some (b ∷ bs) numbers e = record {
+  tokens = slice_split is_space_byte (b ∷ bs);
   spaced = sym (join_with_byte-slice_split 32 (b ∷ bs));
   spelled = AllZip-from_some (slice_split is_space_byte (b ∷ bs)) numbers (sym (numbers_in-not_empty (b ∷ bs) (omega arith)) ∙ e);
 }
 
-spelled-decimal : (numbers : List ℕ) → All (λ n. n < 2 ^ 64) numbers → AllZip SpellsNumber (map decimal numbers) numbers
+spelled-decimal : (numbers : List ℕ) → All (λ n. n < 2 ^ 64) numbers → AllZip ParsesToNumber (map decimal numbers) numbers
 spelled-decimal [] h = tt
 spelled-decimal (n ∷ ns) h =
     let small = All-head (λ m. m < 2 ^ 64) n ns h in
     let printed = decimal_is_IsNumeral n small in
     (record { numeral = printed.0; value = printed.1; in_range = small }, spelled-decimal ns (All-tail (λ m. m < 2 ^ 64) n ns h))
 
-pub SpellsNumbers-spaced : (numbers : List ℕ) → All (λ n. n < 2 ^ 64) numbers → SpellsNumbers (spaced_numbers numbers) numbers
-SpellsNumbers-spaced numbers h = record { pieces = map decimal numbers; spaced = refl; spelled = spelled-decimal numbers h }
+pub ParsesToNumbers-spaced : (numbers : List ℕ) → All (λ n. n < 2 ^ 64) numbers → ParsesToNumbers (spaced_numbers numbers) numbers
+ParsesToNumbers-spaced numbers h = record { tokens = map decimal numbers; spaced = refl; spelled = spelled-decimal numbers h }
 
 -- ---- one field
 after_prefix-append : (prefix body : List ℕ) → after_prefix prefix (prefix ++ body) ≡ Some body
@@ -115,9 +115,9 @@ position_or_len-close inside rest none =
     (λ k within. ap is_close (get_or_append_left inside (93 ∷ rest) 0 k within) ∙ none k 0 within)
     (λ _. ap is_close (get_or_at inside 93 rest 0 (length inside) refl))
 
-field_in-ok : (prefix inside rest : List ℕ) (numbers : List ℕ) → SpellsNumbers inside numbers → field_in prefix (prefix ++ (inside ++ 93 ∷ rest)) ≡ Some (numbers, 93 ∷ rest)
+field_in-ok : (prefix inside rest : List ℕ) (numbers : List ℕ) → ParsesToNumbers inside numbers → field_in prefix (prefix ++ (inside ++ 93 ∷ rest)) ≡ Some (numbers, 93 ∷ rest)
 field_in-ok prefix inside rest numbers h =
-    let none : All (λ b. is_close b ≡ false) inside = rw h.spaced (no_close-join h.pieces numbers h.spelled) in
+    let none : All (λ b. is_close b ≡ false) inside = rw h.spaced (no_close-join h.tokens numbers h.spelled) in
     rw (after_prefix-append prefix (inside ++ 93 ∷ rest))
     (rw (position_or_len-close inside rest none, take_at inside (93 ∷ rest) (length inside) refl, drop_at inside (93 ∷ rest) (length inside) refl, numbers_in-ok inside numbers h) refl)
 
@@ -136,7 +136,7 @@ some_injective x y e = cc
 record Field (prefix text numbers rest : List ℕ) : Type 0 where
   inside : List ℕ
   whole : text ≡ prefix ++ (inside ++ rest)
-  spelled : SpellsNumbers inside numbers
+  spelled : ParsesToNumbers inside numbers
 
 Field-from_some : (prefix text numbers rest : List ℕ) → field_in prefix text ≡ Some (numbers, rest) → Field prefix text numbers rest
 Field-from_some prefix text numbers rest e =
@@ -150,7 +150,7 @@ Field-from_some prefix text numbers rest e =
     record {
       inside = take (n body) body;
       whole = append-after_prefix prefix text body front.1 ∙ ap (λ b. prefix ++ b) (sym (take-append-drop (n body) body) ∙ ap (λ r. take (n body) body ++ r) same_rest);
-      spelled = SpellsNumbers-from_some (take (n body) body) numbers (read.1 ∙ ap (λ ns. Some ns) same_numbers);
+      spelled = ParsesToNumbers-from_some (take (n body) body) numbers (read.1 ∙ ap (λ ns. Some ns) same_numbers);
     }
 
 -- ---- the flag
@@ -174,7 +174,7 @@ line_of a b c d flag =
 line_text-parts : (a b c d : List ℕ) (flag : Bool) → line_text a b c d flag ≡ line_of a b c d flag
 line_text-parts a b c d flag = simp append_assoc
 
-pub conf_state_in-ok : (text : List ℕ) (saved : ConfStateLists) → StandsForConfState text saved → conf_state_in text ≡ Some saved
+pub conf_state_in-ok : (text : List ℕ) (saved : ConfStateLists) → DenotesConfState text saved → conf_state_in text ≡ Some saved
 conf_state_in-ok text saved h =
     rw (h.line ∙ line_text-parts h.voters h.voters_outgoing h.learners h.learners_next saved.auto_leave)
     (rw (field_in-ok (codes "Voters:[") h.voters _ saved.voters h.spells_voters)
@@ -188,8 +188,8 @@ joined : (text a after_a b after_b c after_c d after_d : List ℕ) (flag : Bool)
     → after_c ≡ codes "] LearnersNext:[" ++ (d ++ after_d) → after_d ≡ codes "] AutoLeave:" ++ truth_text flag → text ≡ line_text a b c d flag
 joined text a after_a b after_b c after_c d after_d flag is_text is_a is_b is_c is_d = is_text ∙ rw (is_a, is_b, is_c, is_d) (sym (line_text-parts a b c d flag))
 
-pub StandsForConfState-from_some : (text : List ℕ) (saved : ConfStateLists) → conf_state_in text ≡ Some saved → StandsForConfState text saved
-StandsForConfState-from_some text saved e =
+pub DenotesConfState-from_some : (text : List ℕ) (saved : ConfStateLists) → conf_state_in text ≡ Some saved → DenotesConfState text saved
+DenotesConfState-from_some text saved e =
     let first = some_from_then (field_in (codes "Voters:[") (trimmed text)) _ saved e in
     let second = some_from_then (field_in (codes "] VotersOutgoing:[") first.0.1) _ saved first.2 in
     let third = some_from_then (field_in (codes "] Learners:[") second.0.1) _ saved second.2 in
@@ -201,7 +201,7 @@ StandsForConfState-from_some text saved e =
     let learners_next = Field-from_some (codes "] LearnersNext:[") third.0.1 fourth.0.0 fourth.0.1 fourth.1 in
     let flag = text-flag_in fourth.0.1 last.0 last.1 in
     let lists : ConfStateLists = record { voters = first.0.0; voters_outgoing = second.0.0; learners = third.0.0; learners_next = fourth.0.0; auto_leave = last.0 } in
-    let stands : StandsForConfState text lists = record {
+    let stands : DenotesConfState text lists = record {
       voters = voters.inside;
       voters_outgoing = voters_outgoing.inside;
       learners = learners.inside;
@@ -212,7 +212,7 @@ StandsForConfState-from_some text saved e =
       spells_learners = learners.spelled;
       spells_learners_next = learners_next.spelled;
     } in
-    subst (StandsForConfState text) (some_injective lists saved last.2) stands
+    subst (DenotesConfState text) (some_injective lists saved last.2) stands
 
 -- ---- the printed line
 trimmed-from_first : (text more front : List ℕ) → text ≡ 86 ∷ more → text ≡ front ++ 101 ∷ [] → trimmed text ≡ text
@@ -229,9 +229,9 @@ trimmed-line_text a b c d true =
 trimmed-line_text a b c d false =
     trimmed-from_first (line_text a b c d false) _ (line_start a b c d ++ codes "fals") (line_text-parts a b c d false) (sym (append_assoc (line_start a b c d) (codes "fals") (101 ∷ [])))
 
-pub StandsForConfState-printed : (saved : ConfStateLists) → SpellsNumbers (spaced_numbers saved.voters) saved.voters → SpellsNumbers (spaced_numbers saved.voters_outgoing) saved.voters_outgoing → SpellsNumbers (spaced_numbers saved.learners) saved.learners → SpellsNumbers (spaced_numbers saved.learners_next) saved.learners_next
-    → StandsForConfState (conf_state_text saved) saved
-StandsForConfState-printed saved voters voters_outgoing learners learners_next = record {
+pub DenotesConfState-printed : (saved : ConfStateLists) → ParsesToNumbers (spaced_numbers saved.voters) saved.voters → ParsesToNumbers (spaced_numbers saved.voters_outgoing) saved.voters_outgoing → ParsesToNumbers (spaced_numbers saved.learners) saved.learners → ParsesToNumbers (spaced_numbers saved.learners_next) saved.learners_next
+    → DenotesConfState (conf_state_text saved) saved
+DenotesConfState-printed saved voters voters_outgoing learners learners_next = record {
   voters = spaced_numbers saved.voters;
   voters_outgoing = spaced_numbers saved.voters_outgoing;
   learners = spaced_numbers saved.learners;
@@ -262,18 +262,18 @@ onto_numbers done (Some more) = Some (done ++ more)
 onto_numbers done None = None
 
 -- ---- the first piece
-pub slice_split-last : (text piece behind : List ℕ) (n : ℕ) → n ≡ position_or_len is_space_byte text → piece ≡ take n text → behind ≡ drop n text → length behind ≡ 0 → slice_split is_space_byte text ≡ piece ∷ []
-slice_split-last text piece behind n n_is piece_is behind_is none =
+pub slice_split-last : (text token behind : List ℕ) (n : ℕ) → n ≡ position_or_len is_space_byte text → token ≡ take n text → behind ≡ drop n text → length behind ≡ 0 → slice_split is_space_byte text ≡ token ∷ []
+slice_split-last text token behind n n_is piece_is behind_is none =
     let past : length text ≤ n = omega (arith, ap length behind_is, length-drop n text) in
     slice_split_none is_space_byte text (λ k d h. fails_before_first is_space_byte text k d (omega arith)) ∙ rw (piece_is, take_all n text past) refl
 
-pub slice_split-more : (text piece behind : List ℕ) (n : ℕ) → n ≡ position_or_len is_space_byte text → piece ≡ take n text → behind ≡ drop n text → 0 < length behind → slice_split is_space_byte text ≡ piece ∷ slice_split is_space_byte (drop 1 behind)
-slice_split-more text piece behind n n_is piece_is behind_is some =
+pub slice_split-more : (text token behind : List ℕ) (n : ℕ) → n ≡ position_or_len is_space_byte text → token ≡ take n text → behind ≡ drop n text → 0 < length behind → slice_split is_space_byte text ≡ token ∷ slice_split is_space_byte (drop 1 behind)
+slice_split-more text token behind n n_is piece_is behind_is some =
     let within : n < length text = omega (arith, ap length behind_is, length-drop n text) in
     let next : drop 1 behind ≡ drop (n + 1) text = ap (drop 1) behind_is ∙ drop-drop 1 n text in
     rw (piece_is, next, n_is) (slice_split_first is_space_byte text 0 (omega arith))
 
-pub StandsForConfState-none : (text : List ℕ) (saved : ConfStateLists) → conf_state_in text ≡ None → StandsForConfState text saved → ⊥
-StandsForConfState-none text saved none h = let some = conf_state_in-ok text saved h in cc
+pub DenotesConfState-none : (text : List ℕ) (saved : ConfStateLists) → conf_state_in text ≡ None → DenotesConfState text saved → ⊥
+DenotesConfState-none text saved none h = let some = conf_state_in-ok text saved h in cc
 
-pub ruleset line_laws = (conf_state_in-ok, StandsForConfState-from_some)
+pub ruleset line_laws = (conf_state_in-ok, DenotesConfState-from_some)

@@ -13,7 +13,7 @@ use Rattle.std.proofs.lemmas.List.Splits.{slice_split_none, slice_split_at}
 use Rattle.std.proofs.lemmas.Str.Parse.{digit_at}
 use Rattle.ascii_text.specs.WhiteSpace.{is_space}
 use Rattle.ascii_text.specs.Words.{words}
-use Rattle.conf_change.specs.ChangeList.{letter_of, Spells, StandsFor}
+use Rattle.conf_change.specs.ChangeList.{letter_of, ParsesTo, Denotes}
 use Rattle.conf_change.specs.declared.change.Change.{Change}
 use Rattle.conf_change.specs.declared.change.Kind.{Kind}
 use Rattle.conf_change.specs.declared.change.Kind.TheVariants.{Voter, Learner, Remove, Update}
@@ -101,8 +101,8 @@ commands_are_words (EnterJoint false changes) =
     (All-cons IsWord (flag_word false) [] (IsWord-written (flag_word false) (omega arith) refl) (All-nil IsWord))
 commands_are_words LeaveJoint = All-cons IsWord (codes "leave-joint") [] (IsWord-written (codes "leave-joint") (omega arith) refl) (All-nil IsWord)
 
-Spells-printed : (change : Change) → change.id < 2 ^ 64 → Spells (change_text change) change
-Spells-printed change small =
+ParsesTo-printed : (change : Change) → change.id < 2 ^ 64 → ParsesTo (change_text change) change
+ParsesTo-printed change small =
     let printed = decimal_is_IsNumeral change.id small in
     record { number = decimal change.id; letter_first = refl; id_behind = record { numeral = printed.0; value = printed.1; in_range = small } }
 
@@ -112,15 +112,15 @@ changes_are_words (change ∷ changes) h =
     All-cons IsWord (change_text change) (map change_text changes) (IsWord-change change (All-head (λ c. c.id < 2 ^ 64) change changes h))
     (changes_are_words changes (All-tail (λ c. c.id < 2 ^ 64) change changes h))
 
-spelled-printed : (changes : List Change) → All (λ change. change.id < 2 ^ 64) changes → AllZip Spells (map change_text changes) changes
+spelled-printed : (changes : List Change) → All (λ change. change.id < 2 ^ 64) changes → AllZip ParsesTo (map change_text changes) changes
 spelled-printed [] h = tt
 spelled-printed (change ∷ changes) h =
-    (Spells-printed change (All-head (λ c. c.id < 2 ^ 64) change changes h), spelled-printed changes (All-tail (λ c. c.id < 2 ^ 64) change changes h))
+    (ParsesTo-printed change (All-head (λ c. c.id < 2 ^ 64) change changes h), spelled-printed changes (All-tail (λ c. c.id < 2 ^ 64) change changes h))
 
 -- so are read the changes of a step
-pub StandsFor-printed : (changes : List Change) → All (λ change. change.id < 2 ^ 64) changes → StandsFor (join_with_byte 32 (map change_text changes)) changes
-StandsFor-printed [] h = tt
-StandsFor-printed (change ∷ changes) h =
+pub Denotes-printed : (changes : List Change) → All (λ change. change.id < 2 ^ 64) changes → Denotes (join_with_byte 32 (map change_text changes)) changes
+Denotes-printed [] h = tt
+Denotes-printed (change ∷ changes) h =
     rw (words-join (change_text change) (map change_text changes) (changes_are_words (change ∷ changes) h)) (spelled-printed (change ∷ changes) h)
 
 -- the words of a line are its command and its changes

@@ -5,7 +5,7 @@ use Rattle.std.specs.List.{All, AllZip}
 use Rattle.std.proofs.lemmas.List.Elements.{All-nil, All-cons}
 use Rattle.std.proofs.lemmas.Slice.Eq.{bytes_eq-Decides}
 use Rattle.ascii_text.specs.Words.{words}
-use Rattle.conf_change.specs.ChangeList.{Spells, BadToken, changes_in_words}
+use Rattle.conf_change.specs.ChangeList.{ParsesTo, BadToken, changes_in_words}
 use Rattle.conf_change.specs.declared.change.Change.{Change}
 use Rattle.conf_change.specs.declared.step.Step.{Step}
 use Rattle.conf_change.specs.declared.step.Step.TheVariants.{Simple, EnterJoint, LeaveJoint}
@@ -15,7 +15,7 @@ use Rattle.conf_plan.specs.PlanSteps.{HasWordIds}
 use Rattle.conf_plan.specs.PlanText.{flag_word, command_words, IsLineOf}
 use Rattle.conf_plan.specs.PlanCode.{list_in, flag_in, enter_with, enter_in, leave_in, step_in}
 
-step_in-words : (step : Step) (tokens : List (List ℕ)) → AllZip Spells tokens (changes_of step) → step_in (command_words step ++ tokens) ≡ Some step
+step_in-words : (step : Step) (tokens : List (List ℕ)) → AllZip ParsesTo tokens (changes_of step) → step_in (command_words step ++ tokens) ≡ Some step
 step_in-words (Simple changes) tokens h = rw (changes_in_words-ok tokens changes h) refl
 step_in-words (EnterJoint true changes) tokens h = rw (changes_in_words-ok tokens changes h) refl
 step_in-words (EnterJoint false changes) tokens h = rw (changes_in_words-ok tokens changes h) refl
@@ -30,7 +30,7 @@ step_in-some line step h = ap step_in h.line_words ∙ step_in-words step h.toke
 record IsMade (make : List Change → Step) (tokens : List (List ℕ)) (step : Step) : Type 0 where
   changes : List Change
   made : step ≡ make changes
-  spelled : AllZip Spells tokens changes
+  spelled : AllZip ParsesTo tokens changes
 
 IsMade-from_some : (make : List Change → Step) (tokens : List (List ℕ)) (step : Step) → option_map make (list_in tokens) ≡ Some step → IsMade make tokens step
 IsMade-from_some make tokens step e = go (changes_in_words tokens) refl where
@@ -49,7 +49,7 @@ flag_word-from_some word flag e = go (bytes_eq word (flag_word true)) (bytes_eq 
 record IsWordsOf (tokens : List (List ℕ)) (step : Step) : Type 0 where
   changes : List (List ℕ)
   are : tokens ≡ command_words step ++ changes
-  spelled : AllZip Spells changes (changes_of step)
+  spelled : AllZip ParsesTo changes (changes_of step)
 
 with_flag : (flag : List ℕ) (tokens : List (List ℕ)) (step : Step) → enter_with (flag_in flag) tokens ≡ Some step → IsWordsOf (codes "enter-joint" ∷ flag ∷ tokens) step
 with_flag flag tokens step e = go (flag_in flag) refl where
@@ -103,7 +103,7 @@ step_in-none line none =
     ] refl
 
 -- ---- ids that were spelled are numbers of 64 bits
-word_ids-spelled : (tokens : List (List ℕ)) (changes : List Change) → AllZip Spells tokens changes → All (λ change. change.id < 2 ^ 64) changes
+word_ids-spelled : (tokens : List (List ℕ)) (changes : List Change) → AllZip ParsesTo tokens changes → All (λ change. change.id < 2 ^ 64) changes
 word_ids-spelled [] [] h = All-nil (λ change. change.id < 2 ^ 64)
 word_ids-spelled [] (change ∷ changes) h = absurd h
 word_ids-spelled (token ∷ tokens) [] h = absurd h

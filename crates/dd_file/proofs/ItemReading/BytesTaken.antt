@@ -4,7 +4,7 @@ use Rattle.std.specs.Prelude.{filter, Option, Some, None, Result, Ok, Err}
 use Rattle.std.specs.List.{concat, list_all, list_any}
 use Rattle.std.proofs.lemmas.List.{length-append, length-drop}
 use Rattle.ascii_text.specs.WhiteSpace.{is_blank}
-use Rattle.ascii_text.specs.Lines.{first_len, pieces, line_of, is_whole}
+use Rattle.ascii_text.specs.Lines.{first_len, full_lines, line_of, is_whole}
 use Rattle.dd_file.specs.Words.{CommandText, command_of}
 use Rattle.dd_file.specs.Script.{Front, front, first_of, head_of, joined, is_continued, is_comment, is_separator, begins_with_dashes, before_pair, has_pair, directive, after_pair, in_double, in_single, body, at_command, at_head}
 use Rattle.dd_file.specs.Parts.{up_to, behind}
@@ -13,7 +13,7 @@ use Rattle.dd_file.specs.Reading.{Next, Over, Found, Faulty, next_line, next_ite
 use Rattle.dd_file.specs.InOrder.{TakesBytes}
 use Rattle.dd_file.specs.declared.item.Item.{Item}
 use Rattle.dd_file.specs.declared.fault.FileFault.{FileFault}
-use Rattle.ascii_text.proofs.Offered.{pieces-first, first_len-some, length-first}
+use Rattle.ascii_text.proofs.Offered.{full_lines-first, first_len-some, length-first}
 
 -- a choice of two fronts
 choice : (k : ℕ) (c : Bool) (a b : Front) → k ≤ a.count → k ≤ b.count → k ≤ (cond c a b).count
@@ -69,13 +69,13 @@ has-line n (line ∷ lines) =
     has-line_at (is_comment line) (is_blank line) _ _ _ (omega arith) (omega arith) (omega (arith, some, count))
 
 -- so many pieces, at least one, have a byte
-pieces-some : (count : ℕ) (bytes : List ℕ) → 0 < count → 0 < length bytes → 0 < length (concat (take count (pieces bytes)))
-pieces-some zero bytes some has = absurd (omega (arith, some))
-pieces-some (suc count) bytes some has =
+full_lines-some : (count : ℕ) (bytes : List ℕ) → 0 < count → 0 < length bytes → 0 < length (concat (take count (full_lines bytes)))
+full_lines-some zero bytes some has = absurd (omega (arith, some))
+full_lines-some (suc count) bytes some has =
     let first = first_len-some bytes has in
     let len = length-first bytes in
-    let parts = length-append (take (first_len bytes) bytes) (concat (take count (pieces (drop (first_len bytes) bytes)))) in
-    rw (pieces-first bytes has) (omega (arith, first, len, parts))
+    let parts = length-append (take (first_len bytes) bytes) (concat (take count (full_lines (drop (first_len bytes) bytes)))) in
+    rw (full_lines-first bytes has) (omega (arith, first, len, parts))
 
 drop-shorter : (taken : ℕ) (bytes : List ℕ) → 0 < taken → 0 < length bytes → length (drop taken bytes) < length bytes
 drop-shorter taken bytes some has = simp length-drop (omega (arith, some, has))
@@ -98,7 +98,7 @@ some-leaves place behind bytes left item (Faulty fault) h e = cc
 -- no bytes have no pieces
 pub none-within : (limit : ℕ) (place : Place) → pieces_within limit place [] ≡ []
 none-within limit place = at (is_too_long limit place []) (limit - place.bytes) where
-  at : (c : Bool) (k : ℕ) → cond c (filter is_whole (pieces (take k []))) [] ≡ []
+  at : (c : Bool) (k : ℕ) → cond c (filter is_whole (full_lines (take k []))) [] ≡ []
   at true zero = refl
   at true (suc k) = refl
   at false k = refl
@@ -108,14 +108,14 @@ line-leaves limit place [] = rw (none-within limit place) (at_end-leaves (List �
 line-leaves limit place (b ∷ bytes) = at (pieces_within limit place (b ∷ bytes)) where
   at : (ps : List (List ℕ)) → Leaves (b ∷ bytes) (from_pieces (is_too_long limit place (b ∷ bytes)) ps place (b ∷ bytes))
   at [] = at_end-leaves (List ℕ) (is_too_long limit place (b ∷ bytes)) place (b ∷ bytes)
-  at (piece ∷ ps) = drop-shorter _ (b ∷ bytes) (pieces-some 1 (b ∷ bytes) (omega arith) (omega arith)) (omega arith)
+  at (full_line ∷ ps) = drop-shorter _ (b ∷ bytes) (full_lines-some 1 (b ∷ bytes) (omega arith) (omega arith)) (omega arith)
 
 front-leaves : (too_long : Bool) (found : Option Front) (place : Place) (bytes : List ℕ) → HasLine found → 0 < length bytes → Leaves bytes (from_front too_long found place bytes)
 front-leaves too_long None place bytes some has = at_end-leaves Item too_long place bytes
 front-leaves too_long (Some front) place bytes some has = at (too_long && not front.is_ended) front.found where
   at : (c : Bool) (found : Result Item FileFault) → Leaves bytes (cond c (at_end true place) (with_count front.count found place bytes))
   at true found = tt
-  at false (Ok item) = drop-shorter _ bytes (pieces-some front.count bytes some has) has
+  at false (Ok item) = drop-shorter _ bytes (full_lines-some front.count bytes some has) has
   at false (Err fault) = tt
 
 item-leaves : (limit : ℕ) (place : Place) (bytes : List ℕ) → Leaves bytes (next_item limit place bytes)

@@ -4,7 +4,7 @@ use Rattle.std.specs.Prelude.{filter, Option, Some, None, Result, Ok, IfErr}
 use Rattle.std.specs.List.{list_any}
 use Rattle.std.proofs.lemmas.List.{append-nil, take-append-drop, drop-drop, length-drop}
 use Rattle.std.specs.Io.KnownBytes.{Consumes}
-use Rattle.ascii_text.specs.Lines.{first_len, pieces, line_of, is_whole}
+use Rattle.ascii_text.specs.Lines.{first_len, full_lines, line_of, is_whole}
 use Rattle.dd_file.specs.Place.{longest_input}
 use Rattle.dd_file.specs.Script.{Front, first_of}
 use Rattle.dd_file.specs.Reading.{next_line, next_item}
@@ -14,9 +14,9 @@ use Rattle.dd_file.specs.InHand.{CanTell, passed, whole_lines, is_line_in_hand, 
 use Rattle.dd_file.specs.Draft.{DraftText, AddsIn, front_of, front_in, is_done, found_of, IsDraftFault, blank_draft}
 use Rattle.dd_file.specs.declared.item.Item.{Item}
 use Rattle.dd_file.specs.declared.fault.FileFault.{FileFault}
-use Rattle.ascii_text.proofs.Offered.{pieces-first, first_len-bound, first_len-some, first_len-take, length-first, unfinished-rest}
+use Rattle.ascii_text.proofs.Offered.{full_lines-first, first_len-bound, first_len-some, first_len-take, length-first, unfinished-rest}
 use Rattle.dd_file.proofs.ScriptGrammar.CallAfterCall.{given-none}
-use Rattle.dd_file.proofs.LineReading.PieceGiven.{piece-reads}
+use Rattle.dd_file.proofs.LineReading.PieceGiven.{full_line-reads}
 use Rattle.dd_file.proofs.ItemReading.NoMoreLine.{Ends, draft-ends}
 use Rattle.dd_file.proofs.ItemReading.UntilDone.{ReadingItem, reading-none, reading-more, done-reads, or-false}
 
@@ -29,8 +29,8 @@ keeps None = tt
 keeps (Some bytes) = refl
 
 -- the first piece, told by its length
-pub same-piece : (bytes held : List ℕ) (len : ℕ) → bytes ≡ held → len ≡ first_len bytes → take len bytes ≡ take (first_len held) held
-same-piece bytes held len is count = ap (λ n. take n bytes) count ∙ ap (λ b. take (first_len b) b) is
+pub same-full_line : (bytes held : List ℕ) (len : ℕ) → bytes ≡ held → len ≡ first_len bytes → take len bytes ≡ take (first_len held) held
+same-full_line bytes held len is count = ap (λ n. take n bytes) count ∙ ap (λ b. take (first_len b) b) is
 
 -- a piece with its newline has a byte
 pub whole-some : (held : List ℕ) → is_whole (take (first_len held) held) ≡ true → 0 < first_len held
@@ -44,19 +44,19 @@ pub held-line : {R V : Type 0} (remaining : R → Option (List ℕ)) (has_failed
 held-line remaining has_failed view old reader line can within whole is =
     let held = old.held in
     let k = first_len held in
-    let piece = take k held in
+    let full_line = take k held in
     let mid : ReaderState = record old { held = drop k held } in
     let still = (given-none remaining (next_line longest_input) old reader).moves in
-    let len : length piece ≡ k = length-first held in
+    let len : length full_line ≡ k = length-first held in
     let bound = first_len-bound held in
     let some = whole-some held whole in
     let limit = can.limit in
     let counted = within.counted in
     let ahead = within.ahead in
-    piece-reads remaining has_failed view old mid (passed old 1 k) reader reader piece (Some line) can.faultless can.unended
+    full_line-reads remaining has_failed view old mid (passed old 1 k) reader reader full_line (Some line) can.faultless can.unended
     (record { taken = still.taken; met = still.met; stays = still.stays }) refl can.faultless
     (record {
-      part = record { given = []; told = keeps (remaining reader); whole = append-nil held ∙ sym (take-append-drop k held); piece = first_len-take held ∙ sym len };
+      part = record { given = []; told = keeps (remaining reader); whole = append-nil held ∙ sym (take-append-drop k held); full_line = first_len-take held ∙ sym len };
       ahead = simp length-drop (omega (arith, ahead));
       counted = omega (arith, limit, counted);
       fits = omega (arith, limit, len, bound);
@@ -66,17 +66,17 @@ held-line remaining has_failed view old reader line can within whole is =
     (is, omega (arith, len, some), omega (arith, limit, counted, bound, some), ap (λ n. record mid { place = record { lines = old.place.lines + 1; bytes = old.place.bytes + n } }) (sym len))
 
 -- no newline is held
-no-whole : (held : List ℕ) → is_whole (take (first_len held) held) ≡ false → filter is_whole (pieces held) ≡ []
+no-whole : (held : List ℕ) → is_whole (take (first_len held) held) ≡ false → filter is_whole (full_lines held) ≡ []
 no-whole [] h = refl
 no-whole (b ∷ bytes) h =
     let held = b ∷ bytes in
     let none : drop (first_len held) held ≡ [] = unfinished-rest [] held h in
-    ap (filter is_whole) (pieces-first held (omega arith)) ∙ rw h (ap (λ r. filter is_whole (pieces r)) none)
+    ap (filter is_whole) (full_lines-first held (omega arith)) ∙ rw h (ap (λ r. filter is_whole (full_lines r)) none)
 
 -- the first of the whole pieces, and the others
-one-whole : (held : List ℕ) → is_whole (take (first_len held) held) ≡ true → filter is_whole (pieces held) ≡ take (first_len held) held ∷ filter is_whole (pieces (drop (first_len held) held))
+one-whole : (held : List ℕ) → is_whole (take (first_len held) held) ≡ true → filter is_whole (full_lines held) ≡ take (first_len held) held ∷ filter is_whole (full_lines (drop (first_len held) held))
 one-whole [] h = cc
-one-whole (b ∷ bytes) h = ap (filter is_whole) (pieces-first (b ∷ bytes) (omega arith)) ∙ rw h refl
+one-whole (b ∷ bytes) h = ap (filter is_whole) (full_lines-first (b ∷ bytes) (omega arith)) ∙ rw h refl
 
 -- The lines so far of what is held are the item's.
 pub record HeldSoFar {R : Type 0} (remaining : R → Option (List ℕ)) (old : ReaderState) (reader : R) (draft : DraftText) (count taken : ℕ) : Type 0 where
@@ -178,4 +178,4 @@ held-no_line old unfinished = at old.held unfinished where
   at [] h = refl
   at (b ∷ bytes) h =
       let none : drop (first_len (b ∷ bytes)) (b ∷ bytes) ≡ [] = unfinished-rest [] (b ∷ bytes) h in
-      ap (list_any is_whole) (pieces-first (b ∷ bytes) (omega arith) ∙ ap (λ r. take (first_len (b ∷ bytes)) (b ∷ bytes) ∷ pieces r) none) ∙ rw h refl
+      ap (list_any is_whole) (full_lines-first (b ∷ bytes) (omega arith) ∙ ap (λ r. take (first_len (b ∷ bytes)) (b ∷ bytes) ∷ full_lines r) none) ∙ rw h refl

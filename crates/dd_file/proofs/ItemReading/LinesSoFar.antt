@@ -2,7 +2,7 @@
 use Rattle.std.proofs.Common.{◌≡◌, ℕ, ◌+◌, Bool, true, false, not, ◌&&◌, List, [], ◌++◌, length, drop, take, map, refl, sym, ◌∙◌, ap, subst, inl, inr}
 use Rattle.std.specs.Prelude.{◌⊎◌, Option, Some, None, is_some, Result, Ok, Err}
 use Rattle.std.specs.List.{concat}
-use Rattle.ascii_text.specs.Lines.{pieces, line_of}
+use Rattle.ascii_text.specs.Lines.{full_lines, line_of}
 use Rattle.dd_file.specs.Place.{Place}
 use Rattle.dd_file.specs.Script.{Front, front, first_of}
 use Rattle.dd_file.specs.Reading.{Next, Over, Found, Faulty, next_item, next_line, from_front, with_count, is_too_long, pieces_within}
@@ -34,7 +34,7 @@ counted : (limit : ℕ) (place now : Place) (bytes rest : List ℕ) (lines : Lis
     ((item : Item) → found ≡ Ok item → k ≡ length lines) → with_count k found place bytes ≡ as_next (found_in_front found) now rest
 counted limit place now bytes rest lines k (Err fault) on all = refl
 counted limit place now bytes rest lines k (Ok item) on all =
-    let taken : ℕ → ℕ = λ n. length (concat (take n (pieces bytes))) in
+    let taken : ℕ → ℕ = λ n. length (concat (take n (full_lines bytes))) in
     let at : ℕ → Next Item = λ n. Found item (record { lines = place.lines + n; bytes = place.bytes + taken n }) (drop (taken n) bytes) in
     ap at (all item refl) ∙ ap (λ n. Found item (record { lines = n; bytes = place.bytes + taken (length lines) }) (drop (taken (length lines)) bytes)) (sym on.count)
     ∙ ap (λ n. Found item (record { lines = now.lines; bytes = n }) (drop (taken (length lines)) bytes)) (sym on.passed) ∙ ap (Found item now) (sym on.left)

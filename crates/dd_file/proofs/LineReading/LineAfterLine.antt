@@ -3,12 +3,12 @@ use Rattle.std.proofs.Common.{◌≡◌, ℕ, suc, ◌+◌, ◌-◌, ◌≤◌, 
 use Rattle.std.specs.Prelude.{◌==◌, ◌⊎◌, filter, nat_lt}
 use Rattle.std.specs.List.{concat}
 use Rattle.std.proofs.lemmas.List.{append-nil, drop-drop, drop-take, take-append-drop, take-append-le, length-append, length-drop, length-take}
-use Rattle.ascii_text.specs.Lines.{first_len, pieces, line_of, is_whole}
+use Rattle.ascii_text.specs.Lines.{first_len, full_lines, line_of, is_whole}
 use Rattle.dd_file.specs.Place.{Place}
 use Rattle.dd_file.specs.Reading.{Next, Over, Found, Faulty, next_line, from_pieces, found_in, at_end, is_too_long, pieces_within}
 use Rattle.dd_file.specs.InOrder.{ReadsTo}
 use Rattle.dd_file.specs.declared.fault.FileFault.{FileFault}
-use Rattle.ascii_text.proofs.Offered.{pieces-first, first_len-bound, length-first, unfinished-rest}
+use Rattle.ascii_text.proofs.Offered.{full_lines-first, first_len-bound, length-first, unfinished-rest}
 use Rattle.dd_file.proofs.ItemReading.BytesTaken.{none-within}
 
 -- a first piece that is whole stays the first, whatever follows
@@ -27,7 +27,7 @@ first_len-whole (b ∷ bytes) more h = whole-step (b == 10) b bytes more refl (f
 
 -- the whole pieces of a front part: none, or the first piece and the whole ones of the rest
 long-at : (c : Bool) (k : ℕ) (bytes : List ℕ) → is_whole (take (first_len (take k bytes)) (take k bytes)) ≡ c →
-    (filter is_whole (pieces (take k bytes)) ≡ []) ⊎ (filter is_whole (pieces (take k bytes)) ≡ take (first_len bytes) bytes ∷ filter is_whole (pieces (take (k - first_len bytes) (drop (first_len bytes) bytes))))
+    (filter is_whole (full_lines (take k bytes)) ≡ []) ⊎ (filter is_whole (full_lines (take k bytes)) ≡ take (first_len bytes) bytes ∷ filter is_whole (full_lines (take (k - first_len bytes) (drop (first_len bytes) bytes))))
 long-at true k bytes whole =
     let t = take k bytes in
     let f = first_len t in
@@ -39,15 +39,15 @@ long-at true k bytes whole =
     let sum : k ≡ f + (k - f) = omega (arith, fits) in
     let first : take f t ≡ take f bytes = sym (ap (take f) (sym (take-append-drop k bytes)) ∙ take-append-le f t (drop k bytes) bound) in
     let rest : drop f t ≡ take (k - f) (drop f bytes) = ap (λ n. drop f (take n bytes)) sum ∙ drop-take f (k - f) bytes in
-    inr (ap (filter is_whole) (pieces-first t some) ∙ rw whole (ap (λ x. x ∷ filter is_whole (pieces (drop f t))) first ∙ ap (λ r. take f bytes ∷ filter is_whole (pieces r)) rest)
-    ∙ ap (λ n. take n bytes ∷ filter is_whole (pieces (take (k - n) (drop n bytes)))) (sym same)) where
+    inr (ap (filter is_whole) (full_lines-first t some) ∙ rw whole (ap (λ x. x ∷ filter is_whole (full_lines (drop f t))) first ∙ ap (λ r. take f bytes ∷ filter is_whole (full_lines r)) rest)
+    ∙ ap (λ n. take n bytes ∷ filter is_whole (full_lines (take (k - n) (drop n bytes)))) (sym same)) where
       whole-some : (xs : List ℕ) → is_whole (take (first_len xs) xs) ≡ true → 0 < length xs
       whole-some [] h = cc
       whole-some (x ∷ xs) h = omega arith
 long-at false k bytes open_end = inl (none (take k bytes) open_end) where
-  none : (xs : List ℕ) → is_whole (take (first_len xs) xs) ≡ false → filter is_whole (pieces xs) ≡ []
+  none : (xs : List ℕ) → is_whole (take (first_len xs) xs) ≡ false → filter is_whole (full_lines xs) ≡ []
   none [] h = refl
-  none (x ∷ xs) h = ap (filter is_whole) (pieces-first (x ∷ xs) (omega arith)) ∙ rw h (ap (λ r. filter is_whole (pieces r)) (unfinished-rest [] (x ∷ xs) h))
+  none (x ∷ xs) h = ap (filter is_whole) (full_lines-first (x ∷ xs) (omega arith)) ∙ rw h (ap (λ r. filter is_whole (full_lines r)) (unfinished-rest [] (x ∷ xs) h))
 
 -- the place behind the first piece
 abbrev behind_first : Place → List ℕ → Place
@@ -69,33 +69,33 @@ within-first limit place bytes some = at (is_too_long limit place bytes) (is_too
   left = omega arith
 
   at : (c d : Bool) → c ≡ d →
-      (cond c (filter is_whole (pieces (take (limit - place.bytes) bytes))) (pieces bytes) ≡ [])
-      ⊎ (cond c (filter is_whole (pieces (take (limit - place.bytes) bytes))) (pieces bytes) ≡ take (first_len bytes) bytes ∷ cond d (filter is_whole (pieces (take (limit - (place.bytes + first_len bytes)) rest))) (pieces rest))
+      (cond c (filter is_whole (full_lines (take (limit - place.bytes) bytes))) (full_lines bytes) ≡ [])
+      ⊎ (cond c (filter is_whole (full_lines (take (limit - place.bytes) bytes))) (full_lines bytes) ≡ take (first_len bytes) bytes ∷ cond d (filter is_whole (full_lines (take (limit - (place.bytes + first_len bytes)) rest))) (full_lines rest))
   at true true e = elim (long-at (is_whole (take (first_len (take (limit - place.bytes) bytes)) (take (limit - place.bytes) bytes))) (limit - place.bytes) bytes refl) [
     | inl none ↦ inl none
-    | inr first ↦ inr (first ∙ ap (λ n. take (first_len bytes) bytes ∷ filter is_whole (pieces (take n rest))) left)
+    | inr first ↦ inr (first ∙ ap (λ n. take (first_len bytes) bytes ∷ filter is_whole (full_lines (take n rest))) left)
   ]
   at true false e = cc
   at false true e = cc
-  at false false e = inr (pieces-first bytes some)
+  at false false e = inr (full_lines-first bytes some)
 
 -- The lines were read from a place and bytes to a later place and the rest.
 pub record LinesOn (limit : ℕ) (place : Place) (bytes : List ℕ) (lines : List (List ℕ)) (now : Place) (rest : List ℕ) : Type 0 where
   pub within : map line_of (pieces_within limit place bytes) ≡ lines ++ map line_of (pieces_within limit now rest)
   pub long : is_too_long limit place bytes ≡ is_too_long limit now rest
   pub count : now.lines ≡ place.lines + length lines
-  pub passed : now.bytes ≡ place.bytes + length (concat (take (length lines) (pieces bytes)))
-  pub left : rest ≡ drop (length (concat (take (length lines) (pieces bytes)))) bytes
+  pub passed : now.bytes ≡ place.bytes + length (concat (take (length lines) (full_lines bytes)))
+  pub left : rest ≡ drop (length (concat (take (length lines) (full_lines bytes)))) bytes
 
 -- One line was read.
 record StepOn (limit : ℕ) (place : Place) (bytes line : List ℕ) (now : Place) (rest : List ℕ) : Type 0 where
-  pub piece : List ℕ
+  pub full_line : List ℕ
   pub within : map line_of (pieces_within limit place bytes) ≡ line ∷ map line_of (pieces_within limit now rest)
   pub long : is_too_long limit place bytes ≡ is_too_long limit now rest
   pub count : now.lines ≡ place.lines + 1
-  pub cut : pieces bytes ≡ piece ∷ pieces rest
-  pub passed : now.bytes ≡ place.bytes + length piece
-  pub left : rest ≡ drop (length piece) bytes
+  pub cut : full_lines bytes ≡ full_line ∷ full_lines rest
+  pub passed : now.bytes ≡ place.bytes + length full_line
+  pub left : rest ≡ drop (length full_line) bytes
 
 no-end : {A : Type 0} {P : Type 0} (too_long : Bool) (place now : Place) (item : A) (rest : List ℕ) → at_end too_long place ≡ Found item now rest → P
 no-end true place now item rest e = cc
@@ -107,29 +107,29 @@ step-on limit place (b ∷ bytes) line now rest e = at (within-first limit place
   from : List (List ℕ) → Next (List ℕ)
   from ps = from_pieces (is_too_long limit place (b ∷ bytes)) ps place (b ∷ bytes)
 
-  piece : List ℕ
-  piece = take (first_len (b ∷ bytes)) (b ∷ bytes)
+  full_line : List ℕ
+  full_line = take (first_len (b ∷ bytes)) (b ∷ bytes)
 
-  one : length (concat (take 1 (pieces (b ∷ bytes)))) ≡ first_len (b ∷ bytes)
-  one = ap (λ ps. length (concat (take 1 ps))) (pieces-first (b ∷ bytes) (omega arith)) ∙ ap length (append-nil (take (first_len (b ∷ bytes)) (b ∷ bytes))) ∙ length-first (b ∷ bytes)
+  one : length (concat (take 1 (full_lines (b ∷ bytes)))) ≡ first_len (b ∷ bytes)
+  one = ap (λ ps. length (concat (take 1 ps))) (full_lines-first (b ∷ bytes) (omega arith)) ∙ ap length (append-nil (take (first_len (b ∷ bytes)) (b ∷ bytes))) ∙ length-first (b ∷ bytes)
 
   at : (pieces_within limit place (b ∷ bytes) ≡ []) ⊎ (pieces_within limit place (b ∷ bytes) ≡ take (first_len (b ∷ bytes)) (b ∷ bytes) ∷ pieces_within limit (behind_first place (b ∷ bytes)) (drop (first_len (b ∷ bytes)) (b ∷ bytes))) →
       StepOn limit place (b ∷ bytes) line now rest
   at (inl none) = no-end (is_too_long limit place (b ∷ bytes)) place now line rest (ap from (sym none) ∙ e)
   at (inr first) =
-      let found : found_in 1 (line_of piece) place (b ∷ bytes) ≡ Found line now rest = ap from (sym first) ∙ e in
-      let taken : ℕ → Next (List ℕ) = λ n. Found (line_of piece) (record { lines = place.lines + 1; bytes = place.bytes + n }) (drop n (b ∷ bytes)) in
-      let is : Found (line_of piece) (behind_first place (b ∷ bytes)) (drop (first_len (b ∷ bytes)) (b ∷ bytes)) ≡ Found line now rest = ap taken (sym one) ∙ found in
-      let same-line : line_of piece ≡ line = cc in
+      let found : found_in 1 (line_of full_line) place (b ∷ bytes) ≡ Found line now rest = ap from (sym first) ∙ e in
+      let taken : ℕ → Next (List ℕ) = λ n. Found (line_of full_line) (record { lines = place.lines + 1; bytes = place.bytes + n }) (drop n (b ∷ bytes)) in
+      let is : Found (line_of full_line) (behind_first place (b ∷ bytes)) (drop (first_len (b ∷ bytes)) (b ∷ bytes)) ≡ Found line now rest = ap taken (sym one) ∙ found in
+      let same-line : line_of full_line ≡ line = cc in
       let same-place : behind_first place (b ∷ bytes) ≡ now = cc in
       let same-rest : drop (first_len (b ∷ bytes)) (b ∷ bytes) ≡ rest = cc in
       record {
-        piece = piece;
+        full_line = full_line;
         within = ap (map line_of) first ∙ ap (λ l. l ∷ map line_of (pieces_within limit (behind_first place (b ∷ bytes)) (drop (first_len (b ∷ bytes)) (b ∷ bytes)))) same-line
             ∙ ap (λ (p : Place). line ∷ map line_of (pieces_within limit p (drop (first_len (b ∷ bytes)) (b ∷ bytes)))) same-place ∙ ap (λ r. line ∷ map line_of (pieces_within limit now r)) same-rest;
         long = long-same limit place (b ∷ bytes) ∙ ap (λ (p : Place). is_too_long limit p (drop (first_len (b ∷ bytes)) (b ∷ bytes))) same-place ∙ ap (is_too_long limit now) same-rest;
         count = ap (λ (p : Place). p.lines) (sym same-place);
-        cut = pieces-first (b ∷ bytes) (omega arith) ∙ ap (λ r. piece ∷ pieces r) same-rest;
+        cut = full_lines-first (b ∷ bytes) (omega arith) ∙ ap (λ r. full_line ∷ full_lines r) same-rest;
         passed = ap (λ (p : Place). p.bytes) (sym same-place) ∙ ap (λ n. place.bytes + n) (sym (length-first (b ∷ bytes)));
         left = sym same-rest ∙ ap (λ n. drop n (b ∷ bytes)) (sym (length-first (b ∷ bytes)));
       }
@@ -137,9 +137,9 @@ step-on limit place (b ∷ bytes) line now rest e = at (within-first limit place
 lines-cons : (limit : ℕ) (place mid now : Place) (bytes between rest line : List ℕ) (lines : List (List ℕ)) → StepOn limit place bytes line mid between → LinesOn limit mid between lines now rest →
     LinesOn limit place bytes (line ∷ lines) now rest
 lines-cons limit place mid now bytes between rest line lines first more =
-    let behind = concat (take (length lines) (pieces between)) in
-    let total : length (concat (take (suc (length lines)) (pieces bytes))) ≡ length first.piece + length behind =
-    ap (λ ps. length (concat (take (suc (length lines)) ps))) first.cut ∙ length-append first.piece behind in
+    let behind = concat (take (length lines) (full_lines between)) in
+    let total : length (concat (take (suc (length lines)) (full_lines bytes))) ≡ length first.full_line + length behind =
+    ap (λ ps. length (concat (take (suc (length lines)) ps))) first.cut ∙ length-append first.full_line behind in
     let count = first.count in
     let more-count = more.count in
     let passed = first.passed in
@@ -149,7 +149,7 @@ lines-cons limit place mid now bytes between rest line lines first more =
       long = first.long ∙ more.long;
       count = omega (arith, count, more-count);
       passed = omega (arith, passed, more-passed, total);
-      left = more.left ∙ ap (drop (length behind)) first.left ∙ drop-drop (length behind) (length first.piece) bytes ∙ ap (λ n. drop n bytes) (sym total);
+      left = more.left ∙ ap (drop (length behind)) first.left ∙ drop-drop (length behind) (length first.full_line) bytes ∙ ap (λ n. drop n bytes) (sym total);
     }
 
 pub reads-on : (limit : ℕ) (lines : List (List ℕ)) (place : Place) (bytes : List ℕ) (now : Place) (rest : List ℕ) → ReadsTo (next_line limit) place bytes lines now rest → LinesOn limit place bytes lines now rest
@@ -167,7 +167,7 @@ reads-on limit (line ∷ lines) place bytes now rest read =
 end-at : (too_long : Bool) (ps : List (List ℕ)) (place : Place) (bytes : List ℕ) → from_pieces too_long ps place bytes ≡ Over → (ps ≡ []) × (too_long ≡ false)
 end-at true [] place bytes e = cc
 end-at false [] place bytes e = (refl, refl)
-end-at too_long (piece ∷ ps) place bytes e = cc
+end-at too_long (full_line ∷ ps) place bytes e = cc
 
 pub line-over : (limit : ℕ) (place : Place) (bytes : List ℕ) → next_line limit place bytes ≡ Over → (map line_of (pieces_within limit place bytes) ≡ []) × (is_too_long limit place bytes ≡ false)
 line-over limit place bytes e = let parts = end-at (is_too_long limit place bytes) (pieces_within limit place bytes) place bytes e in (ap (map line_of) parts.0, parts.1)
@@ -175,17 +175,17 @@ line-over limit place bytes e = let parts = end-at (is_too_long limit place byte
 long-end_at : (too_long : Bool) (ps : List (List ℕ)) (place : Place) (bytes : List ℕ) (fault : FileFault) → from_pieces too_long ps place bytes ≡ Faulty fault → (ps ≡ []) × (too_long ≡ true)
 long-end_at true [] place bytes fault e = (refl, refl)
 long-end_at false [] place bytes fault e = cc
-long-end_at too_long (piece ∷ ps) place bytes fault e = cc
+long-end_at too_long (full_line ∷ ps) place bytes fault e = cc
 
 pub line-long : (limit : ℕ) (place : Place) (bytes : List ℕ) (fault : FileFault) → next_line limit place bytes ≡ Faulty fault → (map line_of (pieces_within limit place bytes) ≡ []) × (is_too_long limit place bytes ≡ true)
 line-long limit place bytes fault e = let parts = long-end_at (is_too_long limit place bytes) (pieces_within limit place bytes) place bytes fault e in (ap (map line_of) parts.0, parts.1)
 
 -- so no byte is left
-no-pieces : (bytes : List ℕ) → pieces bytes ≡ [] → bytes ≡ []
-no-pieces [] e = refl
-no-pieces (b ∷ bytes) e = let first = pieces-first (b ∷ bytes) (omega arith) in let bad : take (first_len (b ∷ bytes)) (b ∷ bytes) ∷ pieces (drop (first_len (b ∷ bytes)) (b ∷ bytes)) ≡ [] = sym first ∙ e in cc
+no-full_lines : (bytes : List ℕ) → full_lines bytes ≡ [] → bytes ≡ []
+no-full_lines [] e = refl
+no-full_lines (b ∷ bytes) e = let first = full_lines-first (b ∷ bytes) (omega arith) in let bad : take (first_len (b ∷ bytes)) (b ∷ bytes) ∷ full_lines (drop (first_len (b ∷ bytes)) (b ∷ bytes)) ≡ [] = sym first ∙ e in cc
 
 pub line-over_bytes : (limit : ℕ) (place : Place) (bytes : List ℕ) → next_line limit place bytes ≡ Over → bytes ≡ []
 line-over_bytes limit place bytes e =
     let parts = end-at (is_too_long limit place bytes) (pieces_within limit place bytes) place bytes e in
-    no-pieces bytes (sym (ap (λ c. cond c (filter is_whole (pieces (take (limit - place.bytes) bytes))) (pieces bytes)) parts.1) ∙ parts.0)
+    no-full_lines bytes (sym (ap (λ c. cond c (filter is_whole (full_lines (take (limit - place.bytes) bytes))) (full_lines bytes)) parts.1) ∙ parts.0)

@@ -8,15 +8,15 @@ use Rattle.dd_file.specs.PieceRead.{PartRead}
 use Rattle.ascii_text.proofs.Offered.{first_len-append, first_len-bound, first_len-take, length-first}
 
 -- the first piece of what is held, behind a part without newline
-pub part-moved : (held rest behind : List ℕ) (before after : Option (List ℕ)) (part piece : List ℕ) → PartRead held rest before after part → is_whole part ≡ false →
-    piece ≡ part ++ take (first_len rest) rest → behind ≡ drop (first_len rest) rest → PartRead held behind before after piece
-part-moved held rest behind before after part piece read unfinished is left =
+pub part-moved : (held rest behind : List ℕ) (before after : Option (List ℕ)) (part full_line : List ℕ) → PartRead held rest before after part → is_whole part ≡ false →
+    full_line ≡ part ++ take (first_len rest) rest → behind ≡ drop (first_len rest) rest → PartRead held behind before after full_line
+part-moved held rest behind before after part full_line read unfinished is left =
     let k = first_len rest in
     record {
       given = read.given;
       told = read.told;
-      whole = read.whole ∙ ap (λ t. part ++ t) (sym (take-append-drop k rest)) ∙ sym (append_assoc part (take k rest) (drop k rest)) ∙ ap (λ t. t ++ drop k rest) (sym is) ∙ ap (λ t. piece ++ t) (sym left);
-      piece = ap first_len is ∙ first_len-append part (take k rest) read.piece unfinished ∙ ap (λ n. length part + n) (first_len-take rest ∙ sym (length-first rest)) ∙ sym (length-append part (take k rest)) ∙ ap length (sym is);
+      whole = read.whole ∙ ap (λ t. part ++ t) (sym (take-append-drop k rest)) ∙ sym (append_assoc part (take k rest) (drop k rest)) ∙ ap (λ t. t ++ drop k rest) (sym is) ∙ ap (λ t. full_line ++ t) (sym left);
+      full_line = ap first_len is ∙ first_len-append part (take k rest) read.full_line unfinished ∙ ap (λ n. length part + n) (first_len-take rest ∙ sym (length-first rest)) ∙ sym (length-append part (take k rest)) ∙ ap length (sym is);
     }
 
 -- what is consumed in two steps
@@ -33,7 +33,7 @@ part-filled held rest bytes before mid after part read none more = record {
   given = read.given ++ bytes;
   told = consumes-append before mid after read.given bytes read.told more;
   whole = sym (append_assoc held read.given bytes) ∙ ap (λ t. t ++ bytes) (read.whole ∙ ap (λ t. part ++ t) none ∙ append-nil part);
-  piece = read.piece;
+  full_line = read.full_line;
 }
 
 -- bytes of no length
@@ -46,9 +46,9 @@ some-bytes [] h = cc
 some-bytes (b ∷ bytes) h = omega arith
 
 -- how long the part is when all that was held was moved behind it
-pub length-moved : (part rest piece behind : List ℕ) → piece ≡ part ++ take (first_len rest) rest → behind ≡ drop (first_len rest) rest → behind ≡ [] →
-    length piece ≡ length part + length rest
-length-moved part rest piece behind is left none =
+pub length-moved : (part rest full_line behind : List ℕ) → full_line ≡ part ++ take (first_len rest) rest → behind ≡ drop (first_len rest) rest → behind ≡ [] →
+    length full_line ≡ length part + length rest
+length-moved part rest full_line behind is left none =
     let bound = first_len-bound rest in
     let all : length (drop (first_len rest) rest) ≡ 0 = ap length (sym left ∙ none) in
     let first = length-first rest in

@@ -28,35 +28,35 @@ none-behind old new before after input more open_end met agrees ended = at (met 
   at (inl was) = let bad : true ≡ false = sym was ∙ open_end in cc
   at (inr none) = agrees.last none
 
-found-line : (old mid : ReaderState) (before after : Option (List ℕ)) (piece input more : List ℕ) → old.is_ended ≡ false → PieceRead old mid before after piece →
-    (mid.is_ended ≡ true → (old.is_ended ≡ true) ⊎ IsAtEnd after) → Agrees old before after input more → 0 < length piece →
-    next_line longest_input old.place input ≡ Found (line_of piece) (record { lines = old.place.lines + 1; bytes = old.place.bytes + length piece }) (mid.held ++ more)
-found-line old mid (Some before) (Some after) piece input more open_end read met agrees some =
-    ap (next_line longest_input old.place) (part-input old mid.held before after input more piece read.part agrees)
-    ∙ next_line-found longest_input old.place piece (mid.held ++ more) read.part.piece read.fits some (at read.done) where
-      at : (is_whole piece ≡ true) ⊎ ((mid.is_ended ≡ true) × (mid.held ≡ [])) → (is_whole piece ≡ true) ⊎ (mid.held ++ more ≡ [])
+found-line : (old mid : ReaderState) (before after : Option (List ℕ)) (full_line input more : List ℕ) → old.is_ended ≡ false → PieceRead old mid before after full_line →
+    (mid.is_ended ≡ true → (old.is_ended ≡ true) ⊎ IsAtEnd after) → Agrees old before after input more → 0 < length full_line →
+    next_line longest_input old.place input ≡ Found (line_of full_line) (record { lines = old.place.lines + 1; bytes = old.place.bytes + length full_line }) (mid.held ++ more)
+found-line old mid (Some before) (Some after) full_line input more open_end read met agrees some =
+    ap (next_line longest_input old.place) (part-input old mid.held before after input more full_line read.part agrees)
+    ∙ next_line-found longest_input old.place full_line (mid.held ++ more) read.part.full_line read.fits some (at read.done) where
+      at : (is_whole full_line ≡ true) ⊎ ((mid.is_ended ≡ true) × (mid.held ≡ [])) → (is_whole full_line ≡ true) ⊎ (mid.held ++ more ≡ [])
       at (inl whole) = inl whole
       at (inr end) = inr (ap (λ t. t ++ more) end.1 ∙ none-behind old mid before after input more open_end met agrees end.0)
-found-line old mid (Some before) None piece input more open_end read met agrees some = absurd agrees
-found-line old mid None after piece input more open_end read met agrees some = absurd agrees
+found-line old mid (Some before) None full_line input more open_end read met agrees some = absurd agrees
+found-line old mid None after full_line input more open_end read met agrees some = absurd agrees
 
-over-line : (old mid : ReaderState) (before after : Option (List ℕ)) (piece input more : List ℕ) → old.is_ended ≡ false → PieceRead old mid before after piece →
-    (mid.is_ended ≡ true → (old.is_ended ≡ true) ⊎ IsAtEnd after) → Agrees old before after input more → piece ≡ [] →
+over-line : (old mid : ReaderState) (before after : Option (List ℕ)) (full_line input more : List ℕ) → old.is_ended ≡ false → PieceRead old mid before after full_line →
+    (mid.is_ended ≡ true → (old.is_ended ≡ true) ⊎ IsAtEnd after) → Agrees old before after input more → full_line ≡ [] →
     next_line longest_input old.place input ≡ Over
-over-line old mid (Some before) (Some after) piece input more open_end read met agrees none =
-    ap (next_line longest_input old.place) (part-input old mid.held before after input more piece read.part agrees ∙ ap (λ t. t ++ (mid.held ++ more)) none ∙ at read.done)
+over-line old mid (Some before) (Some after) full_line input more open_end read met agrees none =
+    ap (next_line longest_input old.place) (part-input old mid.held before after input more full_line read.part agrees ∙ ap (λ t. t ++ (mid.held ++ more)) none ∙ at read.done)
     ∙ next_line-over longest_input old.place (let h = read.fits in omega (arith, h)) where
-      at : (is_whole piece ≡ true) ⊎ ((mid.is_ended ≡ true) × (mid.held ≡ [])) → mid.held ++ more ≡ []
+      at : (is_whole full_line ≡ true) ⊎ ((mid.is_ended ≡ true) × (mid.held ≡ [])) → mid.held ++ more ≡ []
       at (inl whole) = let bad : false ≡ true = ap is_whole (sym none) ∙ whole in cc
       at (inr end) = ap (λ t. t ++ more) end.1 ∙ none-behind old mid before after input more open_end met agrees end.0
-over-line old mid (Some before) None piece input more open_end read met agrees none = absurd agrees
-over-line old mid None after piece input more open_end read met agrees none = absurd agrees
+over-line old mid (Some before) None full_line input more open_end read met agrees none = absurd agrees
+over-line old mid None after full_line input more open_end read met agrees none = absurd agrees
 
 long-line : (old new : ReaderState) (before after : Option (List ℕ)) (line : ℕ) (input more : List ℕ) → old.place.bytes ≤ longest_input → LongRead old new before after line →
     Agrees old before after input more → next_line longest_input old.place input ≡ Faulty (InputTooLong line)
 long-line old new (Some before) (Some after) line input more fits read agrees =
-    ap (next_line longest_input old.place) (part-input old new.held before after input more read.piece read.part agrees)
-    ∙ next_line-long longest_input old.place read.piece (new.held ++ more) read.part.piece fits read.passes ∙ ap (λ n. Faulty (InputTooLong n)) (sym read.number)
+    ap (next_line longest_input old.place) (part-input old new.held before after input more read.full_line read.part agrees)
+    ∙ next_line-long longest_input old.place read.full_line (new.held ++ more) read.part.full_line fits read.passes ∙ ap (λ n. Faulty (InputTooLong n)) (sym read.number)
 long-line old new (Some before) None line input more fits read agrees = absurd agrees
 long-line old new None after line input more fits read agrees = absurd agrees
 
@@ -65,11 +65,11 @@ not-over : {P : Type 0} (state : ReaderState) → state.is_ended ≡ false → I
 not-over state open_end over = let bad : true ≡ false = sym over.ended ∙ open_end in cc
 
 -- nothing was left
-over-reads : {R V : Type 0} (remaining : R → Option (List ℕ)) (has_failed : R → Bool) (view : V → List ℕ) (old mid : ReaderState) (before after : R) (piece : List ℕ) →
-    old.fault ≡ None → old.is_ended ≡ false → MovesOn remaining old mid before after → mid.place ≡ old.place → mid.fault ≡ None → PieceRead old mid (remaining before) (remaining after) piece →
-    has_failed after ≡ (has_failed before || false) → piece ≡ [] → ReadsOn remaining has_failed view (next_line longest_input) IsLineFault old mid before after (Ok None)
-over-reads remaining has_failed view old mid before after piece faultless unended moves place mid-faultless read sound none = record {
-  answers = λ _ input more agrees. inr (over-line old mid (remaining before) (remaining after) piece input more unended read moves.met agrees none);
+over-reads : {R V : Type 0} (remaining : R → Option (List ℕ)) (has_failed : R → Bool) (view : V → List ℕ) (old mid : ReaderState) (before after : R) (full_line : List ℕ) →
+    old.fault ≡ None → old.is_ended ≡ false → MovesOn remaining old mid before after → mid.place ≡ old.place → mid.fault ≡ None → PieceRead old mid (remaining before) (remaining after) full_line →
+    has_failed after ≡ (has_failed before || false) → full_line ≡ [] → ReadsOn remaining has_failed view (next_line longest_input) IsLineFault old mid before after (Ok None)
+over-reads remaining has_failed view old mid before after full_line faultless unended moves place mid-faultless read sound none = record {
+  answers = λ _ input more agrees. inr (over-line old mid (remaining before) (remaining after) full_line input more unended read moves.met agrees none);
   moves = moves;
   forward = tt;
   counted = read.counted;
@@ -82,19 +82,19 @@ over-reads remaining has_failed view old mid before after piece faultless unende
   kind = λ _. tt;
   read = λ _. sound;
 } where
-  at : (is_whole piece ≡ true) ⊎ ((mid.is_ended ≡ true) × (mid.held ≡ [])) → (mid.is_ended ≡ true) × (mid.held ≡ [])
+  at : (is_whole full_line ≡ true) ⊎ ((mid.is_ended ≡ true) × (mid.held ≡ [])) → (mid.is_ended ≡ true) × (mid.held ≡ [])
   at (inl whole) = let bad : false ≡ true = ap is_whole (sym none) ∙ whole in cc
   at (inr end) = end
 
 -- a line was found
-found-reads : {R V : Type 0} (remaining : R → Option (List ℕ)) (has_failed : R → Bool) (view : V → List ℕ) (old mid : ReaderState) (before after : R) (piece : List ℕ) (line : V) →
-    old.fault ≡ None → old.is_ended ≡ false → MovesOn remaining old mid before after → mid.place ≡ old.place → mid.fault ≡ None → PieceRead old mid (remaining before) (remaining after) piece →
-    has_failed after ≡ (has_failed before || false) → view line ≡ line_of piece → 0 < length piece → mid.place.lines + 1 ≤ longest_input →
-    ReadsOn remaining has_failed view (next_line longest_input) IsLineFault old (record mid { place = record { lines = mid.place.lines + 1; bytes = mid.place.bytes + length piece } }) before after (Ok (Some line))
-found-reads remaining has_failed view old mid before after piece line faultless unended moves place mid-faultless read sound is some counted = record {
-  answers = λ _ input more agrees. inr (found-line old mid (remaining before) (remaining after) piece input more unended read moves.met agrees some
-      ∙ ap (λ l. Found l (record { lines = old.place.lines + 1; bytes = old.place.bytes + length piece }) (mid.held ++ more)) (sym is)
-      ∙ ap (λ (p : Place). Found (view line) (record { lines = p.lines + 1; bytes = p.bytes + length piece }) (mid.held ++ more)) (sym place));
+found-reads : {R V : Type 0} (remaining : R → Option (List ℕ)) (has_failed : R → Bool) (view : V → List ℕ) (old mid : ReaderState) (before after : R) (full_line : List ℕ) (line : V) →
+    old.fault ≡ None → old.is_ended ≡ false → MovesOn remaining old mid before after → mid.place ≡ old.place → mid.fault ≡ None → PieceRead old mid (remaining before) (remaining after) full_line →
+    has_failed after ≡ (has_failed before || false) → view line ≡ line_of full_line → 0 < length full_line → mid.place.lines + 1 ≤ longest_input →
+    ReadsOn remaining has_failed view (next_line longest_input) IsLineFault old (record mid { place = record { lines = mid.place.lines + 1; bytes = mid.place.bytes + length full_line } }) before after (Ok (Some line))
+found-reads remaining has_failed view old mid before after full_line line faultless unended moves place mid-faultless read sound is some counted = record {
+  answers = λ _ input more agrees. inr (found-line old mid (remaining before) (remaining after) full_line input more unended read moves.met agrees some
+      ∙ ap (λ l. Found l (record { lines = old.place.lines + 1; bytes = old.place.bytes + length full_line }) (mid.held ++ more)) (sym is)
+      ∙ ap (λ (p : Place). Found (view line) (record { lines = p.lines + 1; bytes = p.bytes + length full_line }) (mid.held ++ more)) (sym place));
   moves = record { taken = moves.taken; met = moves.met; stays = moves.stays };
   forward = subst (λ (p : Place). old.place.lines < p.lines + 1) (sym place) (omega arith);
   counted = counted;
@@ -109,15 +109,15 @@ found-reads remaining has_failed view old mid before after piece line faultless 
 }
 
 -- what a piece gives
-pub piece-reads : {R V : Type 0} (remaining : R → Option (List ℕ)) (has_failed : R → Bool) (view : V → List ℕ) (old mid new : ReaderState) (before after : R) (piece : List ℕ) (found : Option V) →
-    old.fault ≡ None → old.is_ended ≡ false → MovesOn remaining old mid before after → mid.place ≡ old.place → mid.fault ≡ None → PieceRead old mid (remaining before) (remaining after) piece →
+pub full_line-reads : {R V : Type 0} (remaining : R → Option (List ℕ)) (has_failed : R → Bool) (view : V → List ℕ) (old mid new : ReaderState) (before after : R) (full_line : List ℕ) (found : Option V) →
+    old.fault ≡ None → old.is_ended ≡ false → MovesOn remaining old mid before after → mid.place ≡ old.place → mid.fault ≡ None → PieceRead old mid (remaining before) (remaining after) full_line →
     has_failed after ≡ (has_failed before || false) →
-    MatchOption found ((piece ≡ []) × (new ≡ mid)) (λ line. (view line ≡ line_of piece) × (0 < length piece) × (mid.place.lines + 1 ≤ longest_input) × (new ≡ record mid { place = record { lines = mid.place.lines + 1; bytes = mid.place.bytes + length piece } })) →
+    MatchOption found ((full_line ≡ []) × (new ≡ mid)) (λ line. (view line ≡ line_of full_line) × (0 < length full_line) × (mid.place.lines + 1 ≤ longest_input) × (new ≡ record mid { place = record { lines = mid.place.lines + 1; bytes = mid.place.bytes + length full_line } })) →
     ReadsOn remaining has_failed view (next_line longest_input) IsLineFault old new before after (Ok found)
-piece-reads remaining has_failed view old mid new before after piece None faultless unended moves place mid-faultless read sound taken =
-    rw (taken.1) (over-reads remaining has_failed view old mid before after piece faultless unended moves place mid-faultless read sound taken.0)
-piece-reads remaining has_failed view old mid new before after piece (Some line) faultless unended moves place mid-faultless read sound taken =
-    rw (taken.3) (found-reads remaining has_failed view old mid before after piece line faultless unended moves place mid-faultless read sound taken.0 taken.1 taken.2)
+full_line-reads remaining has_failed view old mid new before after full_line None faultless unended moves place mid-faultless read sound taken =
+    rw (taken.1) (over-reads remaining has_failed view old mid before after full_line faultless unended moves place mid-faultless read sound taken.0)
+full_line-reads remaining has_failed view old mid new before after full_line (Some line) faultless unended moves place mid-faultless read sound taken =
+    rw (taken.3) (found-reads remaining has_failed view old mid before after full_line line faultless unended moves place mid-faultless read sound taken.0 taken.1 taken.2)
 
 -- why no piece was read
 faulty-line : {V : Type 0} (view : V → List ℕ) (old mid new : ReaderState) (before after : Option (List ℕ)) (fault : FileFault) → old.place.bytes ≤ longest_input → PieceFault old mid before after fault →

@@ -17,7 +17,7 @@ use Rattle.dd_file.specs.declared.item.Item.{Item}
 use Rattle.dd_file.specs.declared.item.Item.TheVariants.{Comment, Blank, Directive}
 use Rattle.ascii_text.proofs.Offered.{list-by_last}
 use Rattle.dd_file.proofs.TextLines.LastNewlines.{double_end-pushed}
-use Rattle.dd_file.proofs.TextLines.CutAgain.{and-parts, lines-lines, pieces-text_of, text_of-append, output-lines}
+use Rattle.dd_file.proofs.TextLines.CutAgain.{and-parts, lines-lines, full_lines-text_of, text_of-append, output-lines}
 use Rattle.dd_file.proofs.ScriptGrammar.FoundInLines.{dashes_line}
 use Rattle.dd_file.proofs.ScriptGrammar.LinesOfItem.{IsHead, ReadItem, ReadComment, ReadBlank, ReadBlankHead, ReadDirective, given-read}
 use Rattle.dd_file.proofs.ScriptGrammar.AllItems.{items_of, items_of-first, script_of-lines}
@@ -56,7 +56,7 @@ entry-lines item found output (ReadDirective n command line rest input expected 
 -- the lines of such a text, and then those of what follows it
 lines-append : (text more : List ℕ) → HasLines text → lines_of (text ++ more) ≡ lines_of text ++ lines_of more
 lines-append text more has =
-    ap (λ t. lines_of (t ++ more)) has.1 ∙ lines-lines has.0 more has.2 ∙ sym (ap (λ t. lines_of t ++ lines_of more) has.1 ∙ ap (λ ps. map line_of ps ++ lines_of more) (pieces-text_of has.0 has.2))
+    ap (λ t. lines_of (t ++ more)) has.1 ∙ lines-lines has.0 more has.2 ∙ sym (ap (λ t. lines_of t ++ lines_of more) has.1 ∙ ap (λ ps. map line_of ps ++ lines_of more) (full_lines-text_of has.0 has.2))
 
 -- an entry that is read again first, and others behind it
 read-first : (m : ℕ) (lines more : List (List ℕ)) (is_ended : Bool) (e : Entry) (entries : List Entry) (again : Item) → first_of m (lines ++ more) ≡ Some (front (Ok again) (length lines) is_ended) →

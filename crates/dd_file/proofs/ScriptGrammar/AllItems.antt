@@ -3,14 +3,14 @@ use Rattle.std.proofs.Common.{◌≡◌, ℕ, zero, suc, ◌+◌, ◌≤◌, Boo
 use Rattle.std.specs.Prelude.{◌==◌, Option, Some, None, option_map, Result, Ok, Err}
 use Rattle.std.specs.List.{concat}
 use Rattle.std.proofs.lemmas.List.{drop-drop, drop-map, length-map}
-use Rattle.ascii_text.specs.Lines.{newline, first_len, pieces, before_first_piece, line_of, lines_of}
+use Rattle.ascii_text.specs.Lines.{newline, first_len, full_lines, before_first_line, line_of, lines_of}
 use Rattle.dd_file.specs.Script.{Front, front, first_of}
 use Rattle.dd_file.specs.Place.{Place, start, longest_input}
 use Rattle.dd_file.specs.Reading.{Script, with_first, followed, first_items, next_item, script_of, is_too_long, from_front}
 use Rattle.dd_file.specs.Laws.{moved_fault}
 use Rattle.dd_file.specs.declared.item.Item.{Item}
 use Rattle.dd_file.specs.declared.fault.FileFault.{FileFault}
-use Rattle.ascii_text.proofs.Offered.{pieces-first, first_len-bound}
+use Rattle.ascii_text.proofs.Offered.{full_lines-first, first_len-bound}
 use Rattle.dd_file.proofs.ScriptGrammar.FrontLength.{first_of-fits, first_of-moved, moved_item, moved_front}
 
 abbrev pub no_items : Script Item
@@ -88,40 +88,40 @@ items_at-moved (suc fuel) k n lines = ap (from_first (items_at fuel) (k + n) lin
   at (Some f) ih = found f.count f.found ih
 
 -- the first pieces, and those behind them
-pieces-drop : (count : ℕ) (bytes : List ℕ) → pieces (drop (length (concat (take count (pieces bytes)))) bytes) ≡ drop count (pieces bytes)
-pieces-drop zero bytes = refl
-pieces-drop (suc count) [] = refl
-pieces-drop (suc count) (b ∷ bytes) =
+full_lines-drop : (count : ℕ) (bytes : List ℕ) → full_lines (drop (length (concat (take count (full_lines bytes)))) bytes) ≡ drop count (full_lines bytes)
+full_lines-drop zero bytes = refl
+full_lines-drop (suc count) [] = refl
+full_lines-drop (suc count) (b ∷ bytes) =
     let whole = b ∷ bytes in
     let first = first_len whole in
-    let cut = pieces-first whole (omega arith) in
+    let cut = full_lines-first whole (omega arith) in
     let rest = drop first whole in
-    let taken = concat (take count (pieces rest)) in
+    let taken = concat (take count (full_lines rest)) in
     let bound = first_len-bound whole in
     let len : length (take first whole ++ taken) ≡ first + length taken = rw (length-append (take first whole) taken) (let front = length-take-le first whole bound in omega (arith, front)) in
-    ap (λ (ps : List (List ℕ)). pieces (drop (length (concat (take (suc count) ps))) whole)) cut
-    ∙ ap (λ (k : ℕ). pieces (drop k whole)) len ∙ ap pieces (sym (drop-drop (length taken) first whole)) ∙ pieces-drop count rest ∙ sym (ap (drop (suc count)) cut)
+    ap (λ (ps : List (List ℕ)). full_lines (drop (length (concat (take (suc count) ps))) whole)) cut
+    ∙ ap (λ (k : ℕ). full_lines (drop k whole)) len ∙ ap full_lines (sym (drop-drop (length taken) first whole)) ∙ full_lines-drop count rest ∙ sym (ap (drop (suc count)) cut)
 
-concat-pieces : (count : ℕ) (bytes : List ℕ) → length (concat (take count (pieces bytes))) ≤ length bytes
-concat-pieces zero bytes = omega arith
-concat-pieces (suc count) [] = omega arith
-concat-pieces (suc count) (b ∷ bytes) =
+concat-full_lines : (count : ℕ) (bytes : List ℕ) → length (concat (take count (full_lines bytes))) ≤ length bytes
+concat-full_lines zero bytes = omega arith
+concat-full_lines (suc count) [] = omega arith
+concat-full_lines (suc count) (b ∷ bytes) =
     let whole = b ∷ bytes in
     let first = first_len whole in
-    let cut = pieces-first whole (omega arith) in
+    let cut = full_lines-first whole (omega arith) in
     let rest = drop first whole in
-    let taken = concat (take count (pieces rest)) in
+    let taken = concat (take count (full_lines rest)) in
     let bound = first_len-bound whole in
     let front = length-take-le first whole bound in
     let len = length-append (take first whole) taken in
-    let more = concat-pieces count rest in
+    let more = concat-full_lines count rest in
     let left = length-drop first whole in
     rw cut (omega (arith, front, len, more, left, bound))
 
-pieces-length : (bytes : List ℕ) → length (pieces bytes) ≤ length bytes
-pieces-length [] = omega arith
-pieces-length (b ∷ bytes) = at (b == 10) (pieces bytes) (pieces-length bytes) where
-  at : (c : Bool) (ps : List (List ℕ)) → length ps ≤ length bytes → length (cond c (newline ∷ ps) (before_first_piece b ps)) ≤ length (b ∷ bytes)
+full_lines-length : (bytes : List ℕ) → length (full_lines bytes) ≤ length bytes
+full_lines-length [] = omega arith
+full_lines-length (b ∷ bytes) = at (b == 10) (full_lines bytes) (full_lines-length bytes) where
+  at : (c : Bool) (ps : List (List ℕ)) → length ps ≤ length bytes → length (cond c (newline ∷ ps) (before_first_line b ps)) ≤ length (b ∷ bytes)
   at true ps h = omega (arith, h)
   at false [] h = omega arith
   at false (p ∷ ps) h = omega (arith, h)
@@ -135,13 +135,13 @@ first_items-lines (suc fuel) place bytes fits =
       found : (count : ℕ) (ended : Bool) (found : Result Item FileFault) → ((place : Place) (bytes : List ℕ) → place.bytes + length bytes ≤ longest_input → first_items (next_item longest_input) fuel place bytes ≡ items_at fuel (place.lines + 1) (lines_of bytes)) →
           followed (first_items (next_item longest_input) fuel) (from_front false (Some (front found count ended)) place bytes) ≡ from_found (items_at fuel) (place.lines + 1) (lines_of bytes) count found
       found count ended (Ok item) ih =
-          let taken = length (concat (take count (pieces bytes))) in
-          let bound = concat-pieces count bytes in
+          let taken = length (concat (take count (full_lines bytes))) in
+          let bound = concat-full_lines count bytes in
           let left = length-drop taken bytes in
           let sum : place.lines + count + 1 ≡ place.lines + 1 + count = omega arith in
           ap (with_first item) (ih (record { lines = place.lines + count; bytes = place.bytes + taken }) (drop taken bytes) (omega (arith, fits, bound, left))
           ∙ ap (λ (m : ℕ). items_at fuel m (lines_of (drop taken bytes))) sum
-          ∙ ap (λ (ls : List (List ℕ)). items_at fuel (place.lines + 1 + count) ls) (ap (map line_of) (pieces-drop count bytes) ∙ sym (drop-map line_of count (pieces bytes))))
+          ∙ ap (λ (ls : List (List ℕ)). items_at fuel (place.lines + 1 + count) ls) (ap (map line_of) (full_lines-drop count bytes) ∙ sym (drop-map line_of count (full_lines bytes))))
       found count ended (Err fault) ih = refl
 
       at : (f : Option Front) → ((place : Place) (bytes : List ℕ) → place.bytes + length bytes ≤ longest_input → first_items (next_item longest_input) fuel place bytes ≡ items_at fuel (place.lines + 1) (lines_of bytes)) →
@@ -151,6 +151,6 @@ first_items-lines (suc fuel) place bytes fits =
 
 pub script_of-lines : (input : List ℕ) → length input ≤ longest_input → script_of input ≡ items_of 1 (lines_of input)
 script_of-lines input fits =
-    let few = pieces-length input in
-    let count = length-map (pieces input) line_of in
+    let few = full_lines-length input in
+    let count = length-map (full_lines input) line_of in
     first_items-lines (length input + 1) start input (omega (arith, fits)) ∙ items_at-enough (length input + 1) (length (lines_of input)) 1 (lines_of input) (omega (arith, few, count)) (omega arith)

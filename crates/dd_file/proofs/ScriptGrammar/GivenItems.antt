@@ -2,7 +2,7 @@
 use Rattle.std.proofs.Common.{◌≡◌, ℕ, zero, suc, Bool, true, false, not, cond, ◌&&◌, ◌+◌, ◌-◌, List, [], ◌∷◌, length, take, map, refl, ◌∙◌, ap}
 use Rattle.std.specs.Prelude.{◌==◌, Option, Some, None, Result, Ok, Err, filter}
 use Rattle.std.specs.List.{list_all}
-use Rattle.ascii_text.specs.Lines.{newline, pieces, before_first_piece, without_last, line_of, is_whole}
+use Rattle.ascii_text.specs.Lines.{newline, full_lines, before_first_line, without_last, line_of, is_whole}
 use Rattle.dd_file.specs.Script.{Front, front, first_of}
 use Rattle.dd_file.specs.Place.{Place, start, longest_input}
 use Rattle.dd_file.specs.Reading.{followed, first_items, at_end, with_count, from_front, next_item, script_of, is_too_long, pieces_within}
@@ -14,35 +14,35 @@ use Rattle.dd_file.proofs.ScriptGrammar.FoundInLines.{all-filter, all-without_la
 
 -- a piece has no newline but at its end
 abbrev is_piece : List ℕ → Bool
-is_piece piece = is_line (without_last 10 piece)
+is_piece full_line = is_line (without_last 10 full_line)
 
-pieces-are : (bytes : List ℕ) → list_all is_piece (pieces bytes) ≡ true
-pieces-are [] = refl
-pieces-are (b ∷ bytes) = at (b == 10) refl (pieces bytes) (pieces-are bytes) where
-  more : (b == 10) ≡ false → (piece : List ℕ) → is_piece piece ≡ true → is_piece (b ∷ piece) ≡ true
+full_lines-are : (bytes : List ℕ) → list_all is_piece (full_lines bytes) ≡ true
+full_lines-are [] = refl
+full_lines-are (b ∷ bytes) = at (b == 10) refl (full_lines bytes) (full_lines-are bytes) where
+  more : (b == 10) ≡ false → (full_line : List ℕ) → is_piece full_line ≡ true → is_piece (b ∷ full_line) ≡ true
   more e [] h = rw (e, e) refl
-  more e (x ∷ piece) h = rw e h
+  more e (x ∷ full_line) h = rw e h
 
-  at : (c : Bool) → (b == 10) ≡ c → (ps : List (List ℕ)) → list_all is_piece ps ≡ true → list_all is_piece (cond c (newline ∷ ps) (before_first_piece b ps)) ≡ true
+  at : (c : Bool) → (b == 10) ≡ c → (ps : List (List ℕ)) → list_all is_piece ps ≡ true → list_all is_piece (cond c (newline ∷ ps) (before_first_line b ps)) ≡ true
   at true e ps h = h
   at false e [] h = ap (λ c. c && true) (more e [] refl)
-  at false e (piece ∷ ps) h = let k = and-parts (is_piece piece) (list_all is_piece ps) h in ap (λ c. c && list_all is_piece ps) (more e piece k.0) ∙ k.1
+  at false e (full_line ∷ ps) h = let k = and-parts (is_piece full_line) (list_all is_piece ps) h in ap (λ c. c && list_all is_piece ps) (more e full_line k.0) ∙ k.1
 
 -- the lines of some pieces have no newline
 lines-are : (ps : List (List ℕ)) → list_all is_piece ps ≡ true → list_all is_line (map line_of ps) ≡ true
 lines-are [] h = refl
-lines-are (piece ∷ ps) h =
-    let k = and-parts (is_piece piece) (list_all is_piece ps) h in
-    ap (λ c. c && list_all is_line (map line_of ps)) (all-without_last (λ b. not (b == 10)) 13 (without_last 10 piece) k.0) ∙ lines-are ps k.1
+lines-are (full_line ∷ ps) h =
+    let k = and-parts (is_piece full_line) (list_all is_piece ps) h in
+    ap (λ c. c && list_all is_line (map line_of ps)) (all-without_last (λ b. not (b == 10)) 13 (without_last 10 full_line) k.0) ∙ lines-are ps k.1
 
 pieces_within-are : (limit : ℕ) (place : Place) (bytes : List ℕ) → list_all is_line (map line_of (pieces_within limit place bytes)) ≡ true
 pieces_within-are limit place bytes = at (is_too_long limit place bytes) where
   cut : List ℕ
   cut = take (limit - place.bytes) bytes
 
-  at : (c : Bool) → list_all is_line (map line_of (cond c (filter is_whole (pieces cut)) (pieces bytes))) ≡ true
-  at true = lines-are (filter is_whole (pieces cut)) (all-filter is_piece is_whole (pieces cut) (pieces-are cut))
-  at false = lines-are (pieces bytes) (pieces-are bytes)
+  at : (c : Bool) → list_all is_line (map line_of (cond c (filter is_whole (full_lines cut)) (full_lines bytes))) ≡ true
+  at true = lines-are (filter is_whole (full_lines cut)) (all-filter is_piece is_whole (full_lines cut) (full_lines-are cut))
+  at false = lines-are (full_lines bytes) (full_lines-are bytes)
 
 -- at most so many items
 first_items-given : (limit fuel : ℕ) (place : Place) (bytes : List ℕ) → AreGiven (first_items (next_item limit) fuel place bytes).items

@@ -5,7 +5,7 @@ use Rattle.std.specs.List.{list_all}
 use Rattle.std.proofs.Math.Seq.{drop-append-add}
 use Rattle.std.proofs.lemmas.List.{append_assoc, append-nil, map-append, drop-append-le, nil_from_length}
 use Rattle.std.proofs.lemmas.List.Folds.{list_all-append}
-use Rattle.ascii_text.specs.Lines.{newline, pieces, before_first_piece, line_of, lines_of, text_of, without_last}
+use Rattle.ascii_text.specs.Lines.{newline, full_lines, before_first_line, line_of, lines_of, text_of, without_last}
 use Rattle.dd_file.specs.Script.{front, first_of}
 use Rattle.dd_file.specs.Place.{longest_input}
 use Rattle.dd_file.specs.Reading.{Script, script_of, with_first}
@@ -43,16 +43,16 @@ cut_of [] = record { lines = []; last = []; is = refl; are_lines = refl; is_last
 cut_of (b ∷ text) = cut-byte (b == 10) b text refl (cut_of text)
 
 -- a last line without its newline
-pieces-last : (b : ℕ) (line : List ℕ) → is_line (b ∷ line) ≡ true → pieces (b ∷ line) ≡ (b ∷ line) ∷ []
-pieces-last b [] h = at (b == 10) h where
+full_lines-last : (b : ℕ) (line : List ℕ) → is_line (b ∷ line) ≡ true → full_lines (b ∷ line) ≡ (b ∷ line) ∷ []
+full_lines-last b [] h = at (b == 10) h where
   at : (c : Bool) → (not c && true) ≡ true → cond c (newline ∷ []) ((b ∷ []) ∷ []) ≡ (b ∷ []) ∷ []
   at true k = cc
   at false k = refl
-pieces-last b (x ∷ line) h = at (b == 10) h (pieces-last x line) where
-  at : (c : Bool) → (not c && is_line (x ∷ line)) ≡ true → (is_line (x ∷ line) ≡ true → pieces (x ∷ line) ≡ (x ∷ line) ∷ []) →
-      cond c (newline ∷ pieces (x ∷ line)) (before_first_piece b (pieces (x ∷ line))) ≡ (b ∷ x ∷ line) ∷ []
+full_lines-last b (x ∷ line) h = at (b == 10) h (full_lines-last x line) where
+  at : (c : Bool) → (not c && is_line (x ∷ line)) ≡ true → (is_line (x ∷ line) ≡ true → full_lines (x ∷ line) ≡ (x ∷ line) ∷ []) →
+      cond c (newline ∷ full_lines (x ∷ line)) (before_first_line b (full_lines (x ∷ line))) ≡ (b ∷ x ∷ line) ∷ []
   at true k ih = cc
-  at false k ih = ap (before_first_piece b) (ih k)
+  at false k ih = ap (before_first_line b) (ih k)
 
 line_of-last : (b : ℕ) (line : List ℕ) → is_line (b ∷ line) ≡ true → line_of (b ∷ line) ≡ line_of ((b ∷ line) ++ newline)
 line_of-last b line h = ap without_return (none b line h ∙ sym (without_last-push 10 10 (b ∷ line))) where
@@ -92,7 +92,7 @@ followed_by script = at (cut_of script).last (cut_of script).is (cut_of script).
   at (b ∷ last) is h =
       let ls = (cut_of script).lines in
       let own : lines_of script ≡ ended ls ++ line_of ((b ∷ last) ++ newline) ∷ [] =
-      ap lines_of is ∙ lines-lines ls (b ∷ last) (cut_of script).are_lines ∙ ap (λ ps. ended ls ++ map line_of ps) (pieces-last b last h) ∙ ap (λ l. ended ls ++ l ∷ []) (line_of-last b last h) in
+      ap lines_of is ∙ lines-lines ls (b ∷ last) (cut_of script).are_lines ∙ ap (λ ps. ended ls ++ map line_of ps) (full_lines-last b last h) ∙ ap (λ l. ended ls ++ l ∷ []) (line_of-last b last h) in
       record { more = []; is_more = inl refl; lines = λ text. whole (b ∷ last) is h text ∙ sym (ap (λ t. t ++ [] ∷ lines_of text) own ∙ append_assoc (ended ls) (line_of ((b ∷ last) ++ newline) ∷ []) ([] ∷ lines_of text)) }
 
 -- the directives of one script and then of another, and the fault of the other

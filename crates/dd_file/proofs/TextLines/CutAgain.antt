@@ -3,7 +3,7 @@ use Rattle.std.proofs.Common.{◌≡◌, ℕ, Bool, true, false, not, cond, ◌&
 use Rattle.std.specs.Prelude.{◌==◌, nat_eq}
 use Rattle.std.specs.List.{list_all, list_any, ends_with}
 use Rattle.std.proofs.lemmas.List.{append_assoc, append-nil, map-append}
-use Rattle.ascii_text.specs.Lines.{newline, pieces, before_first_piece, line_of, lines_of, text_of, without_last}
+use Rattle.ascii_text.specs.Lines.{newline, full_lines, before_first_line, line_of, lines_of, text_of, without_last}
 use Rattle.ascii_text.specs.WhiteSpace.{is_blank}
 use Rattle.dd_file.specs.Script.{is_dashes}
 use Rattle.dd_file.specs.Laws.{is_line}
@@ -18,36 +18,36 @@ and-parts true b h = (refl, h)
 and-parts false b h = cc
 
 -- a line with its newline is a piece
-pub pieces-line : (line rest : List ℕ) → is_line line ≡ true → pieces ((line ++ newline) ++ rest) ≡ (line ++ newline) ∷ pieces rest
-pieces-line [] rest h = refl
-pieces-line (b ∷ line) rest h = at (b == 10) (pieces-line line rest) h where
-  at : (c : Bool) → (is_line line ≡ true → pieces ((line ++ newline) ++ rest) ≡ (line ++ newline) ∷ pieces rest) → (not c && is_line line) ≡ true →
-      cond c (newline ∷ pieces ((line ++ newline) ++ rest)) (before_first_piece b (pieces ((line ++ newline) ++ rest))) ≡ (b ∷ line ++ newline) ∷ pieces rest
+pub full_lines-line : (line rest : List ℕ) → is_line line ≡ true → full_lines ((line ++ newline) ++ rest) ≡ (line ++ newline) ∷ full_lines rest
+full_lines-line [] rest h = refl
+full_lines-line (b ∷ line) rest h = at (b == 10) (full_lines-line line rest) h where
+  at : (c : Bool) → (is_line line ≡ true → full_lines ((line ++ newline) ++ rest) ≡ (line ++ newline) ∷ full_lines rest) → (not c && is_line line) ≡ true →
+      cond c (newline ∷ full_lines ((line ++ newline) ++ rest)) (before_first_line b (full_lines ((line ++ newline) ++ rest))) ≡ (b ∷ line ++ newline) ∷ full_lines rest
   at true ih k = cc
-  at false ih k = ap (before_first_piece b) (ih k)
+  at false ih k = ap (before_first_line b) (ih k)
 
 -- lines that are written, and what follows them
-pieces-lines : (lines : List (List ℕ)) (rest : List ℕ) → list_all is_line lines ≡ true → pieces (text_of lines ++ rest) ≡ map (λ line. line ++ newline) lines ++ pieces rest
-pieces-lines [] rest h = refl
-pieces-lines (line ∷ lines) rest h = let k = and-parts (is_line line) (list_all is_line lines) h in
-    ap pieces (append_assoc (line ++ newline) (text_of lines) rest) ∙ pieces-line line (text_of lines ++ rest) k.0 ∙ ap (λ ps. (line ++ newline) ∷ ps) (pieces-lines lines rest k.1)
+full_lines-lines : (lines : List (List ℕ)) (rest : List ℕ) → list_all is_line lines ≡ true → full_lines (text_of lines ++ rest) ≡ map (λ line. line ++ newline) lines ++ full_lines rest
+full_lines-lines [] rest h = refl
+full_lines-lines (line ∷ lines) rest h = let k = and-parts (is_line line) (list_all is_line lines) h in
+    ap full_lines (append_assoc (line ++ newline) (text_of lines) rest) ∙ full_lines-line line (text_of lines ++ rest) k.0 ∙ ap (λ ps. (line ++ newline) ∷ ps) (full_lines-lines lines rest k.1)
 
 -- the lines of those pieces
 abbrev pub ended : List (List ℕ) → List (List ℕ)
 ended lines = map line_of (map (λ line. line ++ newline) lines)
 
 pub lines-lines : (lines : List (List ℕ)) (rest : List ℕ) → list_all is_line lines ≡ true → lines_of (text_of lines ++ rest) ≡ ended lines ++ lines_of rest
-lines-lines lines rest h = ap (map line_of) (pieces-lines lines rest h) ∙ map-append line_of (map (λ line. line ++ newline) lines) (pieces rest)
+lines-lines lines rest h = ap (map line_of) (full_lines-lines lines rest h) ∙ map-append line_of (map (λ line. line ++ newline) lines) (full_lines rest)
 
-pub pieces-text_of : (lines : List (List ℕ)) → list_all is_line lines ≡ true → pieces (text_of lines) ≡ map (λ line. line ++ newline) lines
-pieces-text_of lines h = ap pieces (sym (append-nil (text_of lines))) ∙ pieces-lines lines [] h ∙ append-nil (map (λ line. line ++ newline) lines)
+pub full_lines-text_of : (lines : List (List ℕ)) → list_all is_line lines ≡ true → full_lines (text_of lines) ≡ map (λ line. line ++ newline) lines
+full_lines-text_of lines h = ap full_lines (sym (append-nil (text_of lines))) ∙ full_lines-lines lines [] h ∙ append-nil (map (λ line. line ++ newline) lines)
 
 without_last-newline : (line : List ℕ) → without_last 10 (line ++ newline) ≡ line
 without_last-newline line = without_last-push 10 10 line
 
 -- lines that are written are those lines again, but for a carriage return at each end
 pub lines_of-text_of : (lines : List (List ℕ)) → list_all is_line lines ≡ true → lines_of (text_of lines) ≡ without_returns lines
-lines_of-text_of lines h = ap (map line_of) (pieces-text_of lines h) ∙ each lines where
+lines_of-text_of lines h = ap (map line_of) (full_lines-text_of lines h) ∙ each lines where
   each : (ls : List (List ℕ)) → map line_of (map (λ line. line ++ newline) ls) ≡ without_returns ls
   each [] = refl
   each (line ∷ ls) = ap (λ t. without_last 13 t ∷ map line_of (map (λ l. l ++ newline) ls)) (without_last-newline line) ∙ ap (λ ts. without_return line ∷ ts) (each ls)
@@ -74,11 +74,11 @@ pub record IsOutputOf (lines : List (List ℕ)) (found : List ℕ) : Type 0 wher
   pub are_lines : list_all is_line lines ≡ true
   pub are_output : list_all is_output_line lines ≡ true
 
-output-pieces : (lines : List (List ℕ)) → list_all is_line lines ≡ true → list_all (λ piece. is_output_line (without_last 10 piece)) (pieces (text_of lines)) ≡ true → list_all is_output_line lines ≡ true
-output-pieces lines h k = sym (ap (list_all (λ piece. is_output_line (without_last 10 piece))) (pieces-text_of lines h) ∙ each lines) ∙ k where
-  each : (ls : List (List ℕ)) → list_all (λ piece. is_output_line (without_last 10 piece)) (map (λ line. line ++ newline) ls) ≡ list_all is_output_line ls
+output-full_lines : (lines : List (List ℕ)) → list_all is_line lines ≡ true → list_all (λ full_line. is_output_line (without_last 10 full_line)) (full_lines (text_of lines)) ≡ true → list_all is_output_line lines ≡ true
+output-full_lines lines h k = sym (ap (list_all (λ full_line. is_output_line (without_last 10 full_line))) (full_lines-text_of lines h) ∙ each lines) ∙ k where
+  each : (ls : List (List ℕ)) → list_all (λ full_line. is_output_line (without_last 10 full_line)) (map (λ line. line ++ newline) ls) ≡ list_all is_output_line ls
   each [] = refl
-  each (line ∷ ls) = ap (λ t. is_output_line t && list_all (λ piece. is_output_line (without_last 10 piece)) (map (λ l. l ++ newline) ls)) (without_last-newline line) ∙ ap (λ b. is_output_line line && b) (each ls)
+  each (line ∷ ls) = ap (λ t. is_output_line t && list_all (λ full_line. is_output_line (without_last 10 full_line)) (map (λ l. l ++ newline) ls)) (without_last-newline line) ∙ ap (λ b. is_output_line line && b) (each ls)
 
 pub output-lines : (found : List ℕ) → is_output found ≡ true → (lines : List (List ℕ)) × IsOutputOf lines found
 output-lines found h = elim (list-by_last found) [
@@ -94,7 +94,7 @@ output-lines found h = elim (list-by_last found) [
         record {
           text = text;
           are_lines = ls.3;
-          are_output = output-pieces (ls.0 ∷ ls.1) ls.3 (subst (λ t. list_all (λ piece. is_output_line (without_last 10 piece)) (pieces t) ≡ true) text k.1);
+          are_output = output-full_lines (ls.0 ∷ ls.1) ls.3 (subst (λ t. list_all (λ full_line. is_output_line (without_last 10 full_line)) (full_lines t) ≡ true) text k.1);
         },
       )
 ] where

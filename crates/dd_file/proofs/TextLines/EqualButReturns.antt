@@ -2,7 +2,7 @@
 use Rattle.std.proofs.Common.{◌≡◌, ℕ, Bool, true, false, cond, ◌&&◌, List, [], ◌∷◌, ◌++◌, map, refl, sym, ◌∙◌, ap, rules}
 use Rattle.std.specs.Prelude.{◌==◌}
 use Rattle.std.proofs.lemmas.List.{append_assoc}
-use Rattle.ascii_text.specs.Lines.{newline, pieces, before_first_piece, line_of, lines_of, text_of, without_last}
+use Rattle.ascii_text.specs.Lines.{newline, full_lines, before_first_line, line_of, lines_of, text_of, without_last}
 use Rattle.ascii_text.specs.WhiteSpace.{is_space, is_blank, without_leading_space, without_trailing_space, trimmed}
 use Rattle.dd_file.specs.Laws.{SameButEnds}
 use Rattle.dd_file.proofs.TextLines.CarriageReturns.{without_return, without_returns}
@@ -50,26 +50,26 @@ trimmed-same s t same = without_leading_space-same _ _ (without_trailing_space-s
 
 -- what a piece ends as, behind some bytes
 abbrev ended : List ℕ → List ℕ → List ℕ
-ended before piece = without_trailing_space (without_last 10 (before ++ piece))
+ended before full_line = without_trailing_space (without_last 10 (before ++ full_line))
 
 -- pieces that are the same but for what ends them
 data SamePieces : List (List ℕ) → List (List ℕ) → Type 0 where
   NoPiece : SamePieces [] []
   Piece : (p q : List ℕ) (ps qs : List (List ℕ)) → ((before : List ℕ) → ended before p ≡ ended before q) → SamePieces ps qs → SamePieces (p ∷ ps) (q ∷ qs)
 
-before_first-same : (b : ℕ) (ps qs : List (List ℕ)) → SamePieces ps qs → SamePieces (before_first_piece b ps) (before_first_piece b qs)
+before_first-same : (b : ℕ) (ps qs : List (List ℕ)) → SamePieces ps qs → SamePieces (before_first_line b ps) (before_first_line b qs)
 before_first-same b ps qs NoPiece = Piece (b ∷ []) (b ∷ []) [] [] (λ before. refl) NoPiece
 before_first-same b ps qs (Piece p q ps' qs' h same) = Piece (b ∷ p) (b ∷ q) ps' qs' more same where
   more : (before : List ℕ) → ended before (b ∷ p) ≡ ended before (b ∷ q)
   more before = ap (λ t. without_trailing_space (without_last 10 t)) (sym (append_assoc before (b ∷ []) p)) ∙ h (before ++ b ∷ []) ∙ ap (λ t. without_trailing_space (without_last 10 t)) (append_assoc before (b ∷ []) q)
 
-pieces-same : (s t : List ℕ) → SameText s t → SamePieces (pieces s) (pieces t)
-pieces-same s t Empty = NoPiece
-pieces-same s t (Byte b s' t' same) = at (b == 10) (pieces-same s' t' same) where
-  at : (c : Bool) → SamePieces (pieces s') (pieces t') → SamePieces (cond c (newline ∷ pieces s') (before_first_piece b (pieces s'))) (cond c (newline ∷ pieces t') (before_first_piece b (pieces t')))
+full_lines-same : (s t : List ℕ) → SameText s t → SamePieces (full_lines s) (full_lines t)
+full_lines-same s t Empty = NoPiece
+full_lines-same s t (Byte b s' t' same) = at (b == 10) (full_lines-same s' t' same) where
+  at : (c : Bool) → SamePieces (full_lines s') (full_lines t') → SamePieces (cond c (newline ∷ full_lines s') (before_first_line b (full_lines s'))) (cond c (newline ∷ full_lines t') (before_first_line b (full_lines t')))
   at true ih = Piece newline newline _ _ (λ before. refl) ih
   at false ih = before_first-same b _ _ ih
-pieces-same s t (Return s' t' same) = Piece newline (13 ∷ newline) _ _ return (pieces-same s' t' same) where
+full_lines-same s t (Return s' t' same) = Piece newline (13 ∷ newline) _ _ return (full_lines-same s' t' same) where
   return : (before : List ℕ) → ended before newline ≡ ended before (13 ∷ newline)
   return before = ap without_trailing_space (without_last-push 10 10 before)
       ∙ sym (ap without_trailing_space (ap (without_last 10) (sym (append_assoc before (13 ∷ []) newline)) ∙ without_last-push 10 10 (before ++ 13 ∷ []))
@@ -96,4 +96,4 @@ text_of-same (line ∷ lines) = line-same line _ _ (text_of-same lines)
 
 -- the input of a directive that is written and read again
 pub input-again : (lines : List (List ℕ)) → SameButEnds (lines_of (trimmed (text_of (without_returns lines)))) (lines_of (trimmed (text_of lines)))
-input-again lines = lines-same _ _ (pieces-same _ _ (trimmed-same _ _ (text_of-same lines)))
+input-again lines = lines-same _ _ (full_lines-same _ _ (trimmed-same _ _ (text_of-same lines)))

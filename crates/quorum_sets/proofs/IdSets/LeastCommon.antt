@@ -14,33 +14,33 @@ use Rattle.quorum_sets.proofs.IdSets.Members.{has-ascending, ascending-is_sorted
 
 -- the id at a place
 abbrev pub id_at : Ids → ℕ → ℕ
-id_at s place = get_or (ascending s) place 0
+id_at s position = get_or (ascending s) position 0
 
 -- an id of a set stands at a place
 pub record HasPlace (s : Ids) (id : ℕ) : Type 0 where
-  pub place : ℕ
-  pub within : place < length (ascending s)
-  pub here : id_at s place ≡ id
+  pub position : ℕ
+  pub within : position < length (ascending s)
+  pub here : id_at s position ≡ id
 
 has_place : (s : Ids) (id : ℕ) → has s id ≡ true → HasPlace s id
 has_place s id among =
     let found = Any-from_list_any (λ x. id == x) (ascending s) (sym (has-ascending s id) ∙ among) in
     record {
-      place = found.0;
+      position = found.0;
       within = found.2;
       here = get_or_default (ascending s) found.0 0 found.1 found.2 ∙ found.3 ∙ sym (eqb-true id found.1 found.4);
     }
 
-has-id_at : (s : Ids) (place : ℕ) → place < length (ascending s) → has s (id_at s place) ≡ true
-has-id_at s place within =
-    has-ascending s (id_at s place) ∙ list_any_at (λ x. id_at s place == x) (ascending s) place 0 within (eq-eqb _ _ refl)
+has-id_at : (s : Ids) (position : ℕ) → position < length (ascending s) → has s (id_at s position) ≡ true
+has-id_at s position within =
+    has-ascending s (id_at s position) ∙ list_any_at (λ x. id_at s position == x) (ascending s) position 0 within (eq-eqb _ _ refl)
 
-rising : (s : Ids) (i j : ℕ) → i ≤ j → j < length (ascending s) → id_at s i ≤ id_at s j
-rising s i j before within = non_decreasing_from_sorted (ascending s) (ascending-is_sorted s) i j 0 before within
+ascends : (s : Ids) (i j : ℕ) → i ≤ j → j < length (ascending s) → id_at s i ≤ id_at s j
+ascends s i j before within = non_decreasing_from_sorted (ascending s) (ascending-is_sorted s) i j 0 before within
 
 -- the other set has no id from before the place
 abbrev pub NoneBefore : Ids → Ids → ℕ → Type 0
-NoneBefore s other place = (k : ℕ) → k < place → has other (id_at s k) ≡ false
+NoneBefore s other position = (k : ℕ) → k < position → has other (id_at s k) ≡ false
 
 -- an id that is less than the other set's next one is not in that set
 pub none_before-more : (a b : Ids) (i j : ℕ) → NoneBefore a b i → NoneBefore b a j → i < length (ascending a) → j < length (ascending b) → id_at a i < id_at b j → NoneBefore a b (i + 1)
@@ -48,9 +48,9 @@ none_before-more a b i j none_a none_b in_a in_b less k before = elim (cases_lt 
   | inl earlier ↦ none_a k earlier
   | inr late ↦ (let e : k ≡ i = omega arith in rw e (false_from_ne_true (has b (id_at a i)) (λ among.
       let stands = has_place b (id_at a i) among in
-      elim (cases_lt stands.place j) [
-        | inl passed ↦ both_ways (has a (id_at b stands.place)) (none_b stands.place passed) (ap (has a) stands.here ∙ has-id_at a i in_a)
-        | inr ahead ↦ (let low = rising b j stands.place ahead stands.within in absurd (omega (arith, stands.here)))
+      elim (cases_lt stands.position j) [
+        | inl passed ↦ both_ways (has a (id_at b stands.position)) (none_b stands.position passed) (ap (has a) stands.here ∙ has-id_at a i in_a)
+        | inr ahead ↦ (let low = ascends b j stands.position ahead stands.within in absurd (omega (arith, stands.here)))
       ])))
 ]
 
@@ -59,9 +59,9 @@ least_common-found a b i j none in_a in_b same = record {
   common = record { in_first = has-id_at a i in_a; in_second = ap (has b) same ∙ has-id_at b j in_b };
   least = λ other shared.
       let stands = has_place a other shared.in_first in
-      elim (cases_lt stands.place i) [
-        | inl passed ↦ absurd (both_ways (has b (id_at a stands.place)) (none stands.place passed) (ap (has b) stands.here ∙ shared.in_second))
-        | inr ahead ↦ (let low = rising a i stands.place ahead stands.within in omega (arith, stands.here))
+      elim (cases_lt stands.position i) [
+        | inl passed ↦ absurd (both_ways (has b (id_at a stands.position)) (none stands.position passed) (ap (has b) stands.here ∙ shared.in_second))
+        | inr ahead ↦ (let low = ascends a i stands.position ahead stands.within in omega (arith, stands.here))
       ];
 }
 
@@ -69,14 +69,14 @@ least_common-found a b i j none in_a in_b same = record {
 pub IsCommon-none : (a b : Ids) (i : ℕ) → NoneBefore a b i → length (ascending a) ≤ i → (id : ℕ) → IsCommon a b id → ⊥
 IsCommon-none a b i none past id shared =
     let stands = has_place a id shared.in_first in
-    both_ways (has b (id_at a stands.place)) (none stands.place (omega (arith, stands.within))) (ap (has b) stands.here ∙ shared.in_second)
+    both_ways (has b (id_at a stands.position)) (none stands.position (omega (arith, stands.within))) (ap (has b) stands.here ∙ shared.in_second)
 
 pub IsCommon-sym : (a b : Ids) (id : ℕ) → IsCommon a b id → IsCommon b a id
 IsCommon-sym a b id shared = record { in_first = shared.in_second; in_second = shared.in_first }
 
 -- ---- what stands at a place
-pub at-id_at : (s : Ids) (place : ℕ) (found : Option ℕ) → found ≡ slice_get (ascending s) place → place < length (ascending s) → found ≡ Some (id_at s place)
-at-id_at s place found is within = is ∙ slice_get-get_or (ascending s) place 0 within
+pub at-id_at : (s : Ids) (position : ℕ) (found : Option ℕ) → found ≡ slice_get (ascending s) position → position < length (ascending s) → found ≡ Some (id_at s position)
+at-id_at s position found is within = is ∙ slice_get-get_or (ascending s) position 0 within
 
 less_by_test : (less same : Bool) → is_lt (cond less Less (cond same Equal Greater)) ≡ less
 less_by_test true same = refl

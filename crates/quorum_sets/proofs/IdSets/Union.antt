@@ -9,9 +9,9 @@ use Rattle.std.proofs.lemmas.List.{append-nil, drop_all, take_all}
 use Rattle.std.proofs.lemmas.List.Folds.{list_any-append}
 use Rattle.std.proofs.lemmas.List.Kept.{IsStrictlySortedBy-dedup}
 use Rattle.quorum_sets.specs.Ids.{Ids, has, ascending, ids_of, union}
-use Rattle.quorum_sets.specs.Rising.{IsRising}
+use Rattle.quorum_sets.specs.AscendingLists.{IsAscending}
 use Rattle.quorum_sets.proofs.IdSets.Members.{has-ids_of, has-ascending, ascending-ids_of, ids_of-permuted, has-same_ids}
-use Rattle.quorum_sets.proofs.KeptSets.RisingList.{sorted-rising}
+use Rattle.quorum_sets.proofs.KeptSets.AscendingList.{sorted-ascends}
 
 pub has-union : (a b : Ids) (q : ℕ) → has (union a b) q ≡ (has a q || has b q)
 has-union a b q =
@@ -39,11 +39,11 @@ refill-whole xs ws e =
     ap (take (length xs)) (ap (λ rest. ws ++ rest) (drop_all (length ws) xs (omega (arith, e))) ∙ append-nil ws) ∙ take_all (length xs) ws (omega (arith, e))
 
 -- ---- a sorted list with each id once
-ascends-dedup : (xs : List ℕ) → IsSorted nat_cmp xs → IsStrictlySortedBy nat_cmp (dedup (λ x y. x == y) xs)
-ascends-dedup xs sorted = IsStrictlySortedBy-dedup nat_cmp_total (λ x y. sym (unsigned_tied x y)) xs sorted
+strictly_sorted-dedup : (xs : List ℕ) → IsSorted nat_cmp xs → IsStrictlySortedBy nat_cmp (dedup (λ x y. x == y) xs)
+strictly_sorted-dedup xs sorted = IsStrictlySortedBy-dedup nat_cmp_total (λ x y. sym (unsigned_tied x y)) xs sorted
 
-pub rising-dedup : (xs : List ℕ) → IsSorted nat_cmp xs → IsRising (dedup (λ x y. x == y) xs)
-rising-dedup xs sorted = sorted-rising _ (ascends-dedup xs sorted)
+pub ascends-dedup : (xs : List ℕ) → IsSorted nat_cmp xs → IsAscending (dedup (λ x y. x == y) xs)
+ascends-dedup xs sorted = sorted-ascends _ (strictly_sorted-dedup xs sorted)
 
 pub ids_of-dedup : (xs : List ℕ) → ids_of (dedup (λ x y. x == y) xs) ≡ ids_of xs
 ids_of-dedup xs = has-same_ids _ _ (λ q. has-ids_of (dedup (λ x y. x == y) xs) q ∙ any-dedup q xs ∙ sym (has-ids_of xs q))

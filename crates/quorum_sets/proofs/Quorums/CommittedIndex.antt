@@ -122,7 +122,7 @@ IsCommitted-committed_index ids acks =
     let top : ℕ = fold max 0 (filter (is_reached ids acks) xs) in
     let top_is : is_empty ids ≡ false → top ≡ committed_index ids acks = λ somebody. sym (cond-false (is_empty ids) greatest_index top somebody) in
     record {
-      of_nobody = λ nobody. cond-true _ _ _ nobody;
+      of_empty = λ nobody. cond-true _ _ _ nobody;
       reached = λ somebody. ap (is_reached ids acks) (sym (top_is somebody)) ∙ fold_max_filter-passes (is_reached ids acks) 0 xs (zero_is_reached ids acks somebody);
       not_passed = λ somebody.
           ap (is_passed ids acks) (sym (top_is somebody)) ∙ is_passed-acked ids acks top
@@ -137,7 +137,7 @@ passed_below ids acks j k below reached =
 
 pub IsCommitted-alone : (ids : Ids) (acks : Acks) (j k : ℕ) → IsCommitted ids acks j → IsCommitted ids acks k → j ≡ k
 IsCommitted-alone ids acks j k first second = elim (cases_Bool (is_empty ids)) [
-  | inl nobody ↦ first.of_nobody nobody ∙ sym (second.of_nobody nobody)
+  | inl nobody ↦ first.of_empty nobody ∙ sym (second.of_empty nobody)
   | inr somebody ↦ elim (cases_order j k) [
     | inl same ↦ same
     | inr (inl below) ↦ absurd (both_ways _ (first.not_passed somebody) (passed_below ids acks j k below (second.reached somebody)))
@@ -150,7 +150,7 @@ pub IsCommitted-from_indexes : (ids : Ids) (acks : Acks) (k : ℕ) (xs : List �
 IsCommitted-from_indexes ids acks k xs e of_none reached not_passed =
     let same : length xs ≡ size ids = ap length e ∙ length-acked_indexes ids acks in
     record {
-      of_nobody = λ nobody. of_none (same ∙ eqb-true (size ids) 0 nobody);
+      of_empty = λ nobody. of_none (same ∙ eqb-true (size ids) 0 nobody);
       reached = λ somebody. is_reached-acked ids acks k ∙ subst (λ ys. most (nat_le k) ys ≡ true) e (lt-ltb _ _ (reached (let some = eqb-false (size ids) 0 somebody in omega arith)));
       not_passed = λ somebody. is_passed-acked ids acks k ∙ subst (λ ys. most (nat_lt k) ys ≡ false) e (le-ltb _ _ (not_passed (let some = eqb-false (size ids) 0 somebody in omega arith)));
     }

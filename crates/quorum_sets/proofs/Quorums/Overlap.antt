@@ -120,27 +120,27 @@ meet_in_set p q ids first second = elim (or_cases (is_empty ids) (on_most q ids)
 
 neighbours_meet : (before after : Voters) → AreNeighbours before after → (p q : ℕ → Bool) → passes_in before p ≡ true → passes_in after q ≡ true → Shared p q
 neighbours_meet before after (inl differ) p q first second =
-    let of_before = and_parts _ _ first in
-    let of_after = and_parts _ _ second in
-    meet_across p q before.incoming after.incoming differ.one_at_most (most_from_test p before.incoming of_before.0) (most_from_test q after.incoming of_after.0)
+    let quorum_before = and_parts _ _ first in
+    let quorum_after = and_parts _ _ second in
+    meet_across p q before.incoming after.incoming differ.one_at_most (most_from_test p before.incoming quorum_before.0) (most_from_test q after.incoming quorum_after.0)
 neighbours_meet before after (inr (inl joint)) p q first second =
-    let of_before = and_parts _ _ first in
-    let of_after = and_parts _ _ second in
-    meet_in_set p q before.incoming of_before.0 ((λ i. is_empty (sym joint.outgoing i) || on_most q (sym joint.outgoing i)) ∙ of_after.1)
+    let quorum_before = and_parts _ _ first in
+    let quorum_after = and_parts _ _ second in
+    meet_in_set p q before.incoming quorum_before.0 ((λ i. is_empty (sym joint.outgoing i) || on_most q (sym joint.outgoing i)) ∙ quorum_after.1)
 neighbours_meet before after (inr (inr left)) p q first second =
-    let of_before = and_parts _ _ first in
-    let of_after = and_parts _ _ second in
-    meet_in_one p q (ascending before.incoming) (most_from_test p before.incoming of_before.0) (most_from_test q before.incoming (ap (on_most q) (sym left.incoming) ∙ of_after.0))
+    let quorum_before = and_parts _ _ first in
+    let quorum_after = and_parts _ _ second in
+    meet_in_one p q (ascending before.incoming) (most_from_test p before.incoming quorum_before.0) (most_from_test q before.incoming (ap (on_most q) (sym left.incoming) ∙ quorum_after.0))
 
 -- ---- the laws
 pub QuorumsMeet-from_neighbours_back : (before after : Voters) → AreNeighbours before after → QuorumsMeet after before
 QuorumsMeet-from_neighbours_back before after neighbours first second quorums =
-    let found = neighbours_meet before after neighbours (has second) (has first) quorums.of_after quorums.of_before in
+    let found = neighbours_meet before after neighbours (has second) (has first) quorums.quorum_after quorums.quorum_before in
     (found.0, record { in_first = found.2; in_second = found.1 })
 
 pub QuorumsMeet-from_neighbours : (before after : Voters) → AreNeighbours before after → QuorumsMeet before after
 QuorumsMeet-from_neighbours before after neighbours first second quorums =
-    let found = neighbours_meet before after neighbours (has first) (has second) quorums.of_before quorums.of_after in
+    let found = neighbours_meet before after neighbours (has first) (has second) quorums.quorum_before quorums.quorum_after in
     (found.0, record { in_first = found.1; in_second = found.2 })
 
 -- a majority has acknowledged what is committed

@@ -1,6 +1,6 @@
 //! White space, words, lines and numbers in texts.
-use ascii_text::cut::{far_place_of, place_of};
-use ascii_text::lines::{is_whole, line_of, next_piece, piece_len, without_end};
+use ascii_text::position::{far_position_of, position_of};
+use ascii_text::lines::{is_whole, line_of, next_full_line, first_line_len, without_end};
 use ascii_text::number::read_number;
 use ascii_text::white_space::{
     is_blank, is_space, trimmed, without_leading_space, without_trailing_space,
@@ -72,20 +72,20 @@ static PIECES: [(&[u8], usize, Option<(&[u8], &[u8])>); 5] = [
 #[test]
 fn cuts_texts_behind_newlines(rt: HostRuntime) {
     for (place, (text, len, wanted)) in PIECES.iter().enumerate() {
-        assert!(rt; piece_len(*text) == *len, "row {place}");
-        assert!(rt; next_piece(*text) == *wanted, "row {place}");
+        assert!(rt; first_line_len(*text) == *len, "row {place}");
+        assert!(rt; next_full_line(*text) == *wanted, "row {place}");
     }
 }
 
 #[test]
 fn finds_the_place_of_a_byte(rt: HostRuntime) {
-    assert!(rt; place_of(b"a] b]", b']') == 1);
-    assert!(rt; place_of(b"a", b']') == 1);
-    assert!(rt; place_of(b"", b']') == 0);
-    assert!(rt; far_place_of(b"a] b]", b']') == 1);
-    assert!(rt; far_place_of(b"(1, 22, 333, 4444, 55555)", b')') == 24);
-    assert!(rt; far_place_of(b"a", b']') == 1);
-    assert!(rt; far_place_of(b"", b']') == 0);
+    assert!(rt; position_of(b"a] b]", b']') == 1);
+    assert!(rt; position_of(b"a", b']') == 1);
+    assert!(rt; position_of(b"", b']') == 0);
+    assert!(rt; far_position_of(b"a] b]", b']') == 1);
+    assert!(rt; far_position_of(b"(1, 22, 333, 4444, 55555)", b')') == 24);
+    assert!(rt; far_position_of(b"a", b']') == 1);
+    assert!(rt; far_position_of(b"", b']') == 0);
 }
 
 // A piece, its line, and whether it ends in a newline.
@@ -99,9 +99,9 @@ static LINES: [(&[u8], &[u8], bool); 5] = [
 
 #[test]
 fn takes_ends_off_lines(rt: HostRuntime) {
-    for (place, (piece, line, whole)) in LINES.iter().enumerate() {
-        assert!(rt; line_of(*piece) == *line, "row {place}");
-        assert!(rt; is_whole(*piece) == *whole, "row {place}");
+    for (place, (full_line, line, whole)) in LINES.iter().enumerate() {
+        assert!(rt; line_of(*full_line) == *line, "row {place}");
+        assert!(rt; is_whole(*full_line) == *whole, "row {place}");
     }
     assert!(rt; without_end(b"a\\\\", b'\\') == b"a\\".as_slice());
     assert!(rt; without_end(b"a", b'\\') == b"a".as_slice());

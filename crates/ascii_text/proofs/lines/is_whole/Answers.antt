@@ -1,6 +1,6 @@
 use Rattle.std.proofs.Common.{sym, ap, ◌∙◌}
 use Rattle.ascii_text.specs.Lines.{is_whole}
-use Rattle.ascii_text.proofs.Pieces.{is_whole-append}
+use Rattle.ascii_text.proofs.FullLines.{is_whole-append}
 use Rattle.ascii_text.proofs.lines.is_whole.Goals as goal
 
 pub returns-in-Some : goal.returns-in-Some

@@ -1,7 +1,7 @@
 use Rattle.std.proofs.Common.{◌<◌, ◌^◌, arith}
 use Rattle.std.proofs.lemmas.Grind.{common_steps}
 use Rattle.std.proofs.lemmas.List.Elements.{All-from_get_or}
-use Rattle.conf_change.proofs.Texts.ConfStateLine.{SpellsNumbers-spaced}
+use Rattle.conf_change.proofs.Texts.ConfStateLine.{ParsesToNumbers-spaced}
 use Rattle.ascii_text.proofs.Offered.{Extends-append}
 use Rattle.conf_change.proofs.Texts.AppendedParts.{spaced_numbers-one_more}
 use Rattle.conf_change.proofs.append.append_numbers.Goals as goal
@@ -15,4 +15,4 @@ loop-place-preserved c = grind (arith, common_steps, spaced_numbers-one_more)
 
 pub returns-clause-spells : goal.returns-clause-spells
 returns-clause-spells c =
-    SpellsNumbers-spaced c.args.numbers.now (All-from_get_or (λ n. n < 2 ^ 64) c.args.numbers.now 0 (λ i within. omega (arith, c.type_inv.numbers i)))
+    ParsesToNumbers-spaced c.args.numbers.now (All-from_get_or (λ n. n < 2 ^ 64) c.args.numbers.now 0 (λ i within. omega (arith, c.type_inv.numbers i)))

@@ -3,8 +3,8 @@ use Rattle.std.specs.Prelude.{OnOk}
 use Rattle.std.proofs.lemmas.Result.{on_ok_weaker}
 use Rattle.conf_change.specs.Text.{spaced_numbers}
 use Rattle.conf_change.specs.ConfState.{ConfStateLists}
-use Rattle.conf_change.specs.ConfStateLine.{SpellsNumbers, StandsForConfState, conf_state_text}
-use Rattle.conf_change.proofs.Texts.ConfStateLine.{conf_state_text-appended, StandsForConfState-printed}
+use Rattle.conf_change.specs.ConfStateLine.{ParsesToNumbers, DenotesConfState, conf_state_text}
+use Rattle.conf_change.proofs.Texts.ConfStateLine.{conf_state_text-appended, DenotesConfState-printed}
 use Rattle.conf_change.proofs.conf_state_line.append_conf_state.Goals as goal
 
 pub returns-clause-ok : goal.returns-clause-ok
@@ -23,10 +23,10 @@ pub returns-clause-stands : goal.returns-clause-stands
 returns-clause-stands c =
     let inside = c.state.inside in
     let saved : ConfStateLists = record { voters = inside.voters.items; voters_outgoing = inside.voters_outgoing.items; learners = inside.learners.items; learners_next = inside.learners_next.items; auto_leave = inside.auto_leave } in
-    let P : ConfStateLists → Type 0 = λ s. OnOk c.append-2.result (StandsForConfState (conf_state_text s) s) in
-    let Q : List ℕ → Type 0 = λ numbers. SpellsNumbers (spaced_numbers numbers) numbers in
+    let P : ConfStateLists → Type 0 = λ s. OnOk c.append-2.result (DenotesConfState (conf_state_text s) s) in
+    let Q : List ℕ → Type 0 = λ numbers. ParsesToNumbers (spaced_numbers numbers) numbers in
     subst P c.state.view_is (on_ok_weaker c.append-2.result
-    (λ _. StandsForConfState-printed saved
+    (λ _. DenotesConfState-printed saved
     (subst Q c.deref.ensures.value c.in_ok-append_field.ensures.spells) (subst Q c.deref-2.ensures.value c.in_ok-append_field-2.ensures.spells)
     (subst Q c.deref-3.ensures.value c.in_ok-append_field-3.ensures.spells) (subst Q c.deref-4.ensures.value c.in_ok-append_field-4.ensures.spells))
     c.append-2.ensures.ok)

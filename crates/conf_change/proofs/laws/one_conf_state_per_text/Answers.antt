@@ -1,9 +1,9 @@
 use Rattle.std.proofs.Common.{sym, ◌∙◌}
-use Rattle.conf_change.proofs.Texts.ConfStateLine.{conf_state_in-ok, StandsForConfState-from_some}
+use Rattle.conf_change.proofs.Texts.ConfStateLine.{conf_state_in-ok, DenotesConfState-from_some}
 use Rattle.conf_change.proofs.laws.one_conf_state_per_text.Goals as goal
 
 pub returns-clause-some : goal.returns-clause-some
-returns-clause-some c = λ text saved. (conf_state_in-ok text saved, StandsForConfState-from_some text saved)
+returns-clause-some c = λ text saved. (conf_state_in-ok text saved, DenotesConfState-from_some text saved)
 
 pub returns-clause-one : goal.returns-clause-one
 returns-clause-one c = λ text a b first second.

@@ -5,4 +5,4 @@ pub returns-clause-keys : goal.returns-clause-keys
 returns-clause-keys c = keys-set c.args.members.now c.args.id c.args.place _ c.requires.stands
 
 pub returns-clause-entries : goal.returns-clause-entries
-returns-clause-entries c = get-marked c.args.members.now c.args.id c.args.place c.args.learner _ c.requires.rising c.requires.stands
+returns-clause-entries c = get-marked c.args.members.now c.args.id c.args.place c.args.learner _ c.requires.ascends c.requires.stands

@@ -2,18 +2,18 @@ use Rattle.std.proofs.Common.{◌≡◌, map, ap, ◌∙◌}
 use Rattle.std.specs.FinMap as finite
 use Rattle.std.specs.Ordering.{nat_cmp}
 use Rattle.std.proofs.lemmas.Result.{IfOk-weaker}
-use Rattle.quorum_sets.specs.Rising.{IsRising}
+use Rattle.quorum_sets.specs.AscendingLists.{IsAscending}
 use Rattle.conf_change.specs.Configuration.{Configuration}
 use Rattle.conf_change.specs.Progress.{IsFreshOf, all_fresh}
 use Rattle.conf_change.proofs.SetWalks.SideBySide.{all_fresh-from_walk}
 use Rattle.conf_change.proofs.restore.fresh_progress.Goals as goal
 
-pub returns-clause-rising : goal.returns-clause-rising
-returns-clause-rising g c =
+pub returns-clause-ascends : goal.returns-clause-ascends
+returns-clause-ascends g c =
     let own = g.S.MemberSet.ids in
     IfOk-weaker c.fresh_of.result
     (λ members. IsFreshOf c.args.next_index (own c.config.inside.incoming) (own c.config.inside.outgoing) (own c.config.inside.learners) members.items)
-    (λ members. IsRising (map (λ m. m.0) members.items)) (λ members is. is.rising) c.fresh_of.ensures
+    (λ members. IsAscending (map (λ m. m.0) members.items)) (λ members is. is.ascends) c.fresh_of.ensures
 
 pub returns-clause-fresh : goal.returns-clause-fresh
 returns-clause-fresh g c =

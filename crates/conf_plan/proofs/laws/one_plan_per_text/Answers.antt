@@ -1,7 +1,7 @@
 use Rattle.std.proofs.Common.{sym, ◌∙◌}
 use Rattle.conf_change.specs.Step.{changes_of}
 use Rattle.conf_plan.proofs.PlanText.PlanFromLines.{plan_in-ok, plan_in-fault, text-plan_or_fault, StandsForPlan-from_ok, HasFault-from_err}
-use Rattle.conf_plan.proofs.PlanText.PrintedPlan.{StandsFor-printed, StandsForPlan-printed}
+use Rattle.conf_plan.proofs.PlanText.PrintedPlan.{Denotes-printed, StandsForPlan-printed}
 use Rattle.conf_plan.proofs.laws.one_plan_per_text.Goals as goal
 
 pub returns-clause-ok : goal.returns-clause-ok
@@ -20,4 +20,4 @@ pub returns-clause-printed : goal.returns-clause-printed
 returns-clause-printed c = StandsForPlan-printed
 
 pub returns-clause-changes : goal.returns-clause-changes
-returns-clause-changes c = λ step. StandsFor-printed (changes_of step)
+returns-clause-changes c = λ step. Denotes-printed (changes_of step)

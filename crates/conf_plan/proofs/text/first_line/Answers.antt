@@ -9,15 +9,15 @@ behind_first bytes = take_all (length bytes - 1) (drop 1 bytes) (omega (arith, l
 
 pub returns-in-empty-clause-last : goal.returns-in-empty-clause-last
 returns-in-empty-clause-last c = λ none.
-    lines_of-last c.args.text.now c.split_at.result.0.now c.split_at.result.1.now c.far_place_of.result c.far_place_of.ensures.place c.split_at.ensures.front c.split_at.ensures.back (omega arith)
+    lines_of-last c.args.text.now c.split_at.result.0.now c.split_at.result.1.now c.far_position_of.result c.far_position_of.ensures.position c.split_at.ensures.front c.split_at.ensures.back (omega arith)
 
 pub returns-in-len1-up-clause-last : goal.returns-in-len1-up-clause-last
 returns-in-len1-up-clause-last c = λ none.
     let behind = c.split_at.result.1.now in
-    lines_of-last c.args.text.now c.split_at.result.0.now behind c.far_place_of.result c.far_place_of.ensures.place c.split_at.ensures.front c.split_at.ensures.back
+    lines_of-last c.args.text.now c.split_at.result.0.now behind c.far_position_of.result c.far_position_of.ensures.position c.split_at.ensures.front c.split_at.ensures.back
     (omega (arith, rw (behind_first behind) at none, length-drop 1 behind))
 
 pub returns-in-len1-up-clause-more : goal.returns-in-len1-up-clause-more
 returns-in-len1-up-clause-more c = λ some.
     let behind = c.split_at.result.1.now in
-    lines_of-more c.args.text.now c.split_at.result.0.now behind _ c.far_place_of.result c.far_place_of.ensures.place c.split_at.ensures.front c.split_at.ensures.back (behind_first behind) some
+    lines_of-more c.args.text.now c.split_at.result.0.now behind _ c.far_position_of.result c.far_position_of.ensures.position c.split_at.ensures.front c.split_at.ensures.back (behind_first behind) some

@@ -5,11 +5,11 @@ use Rattle.conf_tool.proofs.report.append_line.Goals as goal
 pub returns-in_ok-push : goal.returns-in_ok-push
 returns-in_ok-push c =
     let before = c.args.text.now.items in
-    let piece = c.args.piece.now in
-    c.in_ok-push.ensures.items ∙ ap (λ t. t ++ 10 ∷ []) c.in_ok-extend_from_slice.ensures.items ∙ append_assoc before piece (10 ∷ [])
-    ∙ ap (λ t. before ++ (t ++ 10 ∷ [])) (sym (bare-line piece (sym c.is_whole.ensures ∙ c.if-not-is_whole.true)))
+    let full_line = c.args.full_line.now in
+    c.in_ok-push.ensures.items ∙ ap (λ t. t ++ 10 ∷ []) c.in_ok-extend_from_slice.ensures.items ∙ append_assoc before full_line (10 ∷ [])
+    ∙ ap (λ t. before ++ (t ++ 10 ∷ [])) (sym (bare-line full_line (sym c.is_whole.ensures ∙ c.if-not-is_whole.true)))
 
 pub returns-else-not-is_whole : goal.returns-else-not-is_whole
 returns-else-not-is_whole c =
     let before = c.args.text.now.items in
-    c.in_ok-extend_from_slice.ensures.items ∙ ap (λ t. before ++ t) (sym (whole-line c.args.piece.now (sym c.is_whole.ensures ∙ c.if-not-is_whole.false)))
+    c.in_ok-extend_from_slice.ensures.items ∙ ap (λ t. before ++ t) (sym (whole-line c.args.full_line.now (sym c.is_whole.ensures ∙ c.if-not-is_whole.false)))

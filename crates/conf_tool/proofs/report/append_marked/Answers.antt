@@ -4,9 +4,9 @@ use Rattle.conf_tool.specs.Reports.{marked}
 use Rattle.conf_tool.proofs.ModeOutput.MarkedLines.{marked-first}
 use Rattle.conf_tool.proofs.report.append_marked.Goals as goal
 
-pub loop-piece-preserved : goal.loop-piece-preserved
-loop-piece-preserved c =
+pub loop-full_line-preserved : goal.loop-full_line-preserved
+loop-full_line-preserved c =
     let sign = c.args.sign ∷ 32 ∷ [] in
-    let piece = c.in-Some.piece.now in
-    ap (λ t. t ++ marked sign c.in-Some.behind.now) (c.in_ok-append_line.ensures ∙ ap (λ t. t ++ (without_last 10 piece ++ newline)) c.in_ok-extend_from_slice.ensures.items)
-    ∙ marked-first c.loop-piece.text.items sign c.loop-piece.rest.now piece c.in-Some.behind.now c.in-Some.ensures.pieces ∙ c.loop-piece.invariant
+    let full_line = c.in-Some.full_line.now in
+    ap (λ t. t ++ marked sign c.in-Some.behind.now) (c.in_ok-append_line.ensures ∙ ap (λ t. t ++ (without_last 10 full_line ++ newline)) c.in_ok-extend_from_slice.ensures.items)
+    ∙ marked-first c.loop-full_line.text.items sign c.loop-full_line.rest.now full_line c.in-Some.behind.now c.in-Some.ensures.full_lines ∙ c.loop-full_line.invariant

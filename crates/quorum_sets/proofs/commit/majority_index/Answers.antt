@@ -1,11 +1,11 @@
 use Rattle.std.proofs.Common.{arith}
-use Rattle.quorum_sets.proofs.Quorums.MajorityPlace.{majority-place}
+use Rattle.quorum_sets.proofs.Quorums.MajorityPosition.{majority-position}
 use Rattle.quorum_sets.proofs.commit.majority_index.Goals as goal
 
 pub returns-else-n-eq0-clause-reached : goal.returns-else-n-eq0-clause-reached
 returns-else-n-eq0-clause-reached c some =
-    (majority-place _ _ _ c.sort_unstable.ensures.permutation c.sort_unstable.ensures.sorted (omega arith) (omega arith)).0
+    (majority-position _ _ _ c.sort_unstable.ensures.permutation c.sort_unstable.ensures.sorted (omega arith) (omega arith)).0
 
 pub returns-else-n-eq0-clause-not_passed : goal.returns-else-n-eq0-clause-not_passed
 returns-else-n-eq0-clause-not_passed c some =
-    (majority-place _ _ _ c.sort_unstable.ensures.permutation c.sort_unstable.ensures.sorted (omega arith) (omega arith)).1
+    (majority-position _ _ _ c.sort_unstable.ensures.permutation c.sort_unstable.ensures.sorted (omega arith) (omega arith)).1

@@ -3,8 +3,8 @@ use Rattle.std.specs.Prelude.{count_by}
 use Rattle.quorum_sets.specs.Ids.{has, ascending}
 use Rattle.quorum_sets.proofs.difference.common_count.Given as goal
 
-abbrev pub invariant-loop-place : goal.invariant-loop-place
-invariant-loop-place g l = record {
-  counted : l.count ≡ count_by (has (g.S.MemberSet.ids l.b)) (take l.place (ascending (g.S.MemberSet.ids l.a)));
-  small : l.count ≤ l.place;
+abbrev pub invariant-loop-position : goal.invariant-loop-position
+invariant-loop-position g l = record {
+  counted : l.count ≡ count_by (has (g.S.MemberSet.ids l.b)) (take l.position (ascending (g.S.MemberSet.ids l.a)));
+  small : l.count ≤ l.position;
 }

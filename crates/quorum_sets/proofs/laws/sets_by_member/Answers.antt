@@ -9,6 +9,6 @@ returns c = record {
   without_one = has-without_id;
   united = has-union;
   listed = has-ascending;
-  rises = ascending-is_sorted;
+  ascends = ascending-is_sorted;
   equal = has-same_ids;
 }

@@ -8,14 +8,14 @@ use Rattle.quorum_sets.proofs.overlap.common_member.Goals as goal
 
 shared_member : (before after : Voters) (first second : Ids) (answer : Option ℕ) → is_quorum before first ≡ true → is_quorum after second ≡ true
     → IfSome answer (IsLeastCommon first second) → IfNone answer ((id : ℕ) → ¬ IsCommon first second id) → IsSharedMember before after first second answer
-shared_member before after first second None of_before of_after least none = record {
+shared_member before after first second None quorum_before quorum_after least none = record {
   quorums = tt;
   least = tt;
   none = λ quorums. none;
   neighbours = λ neighbours quorums. (let found = QuorumsMeet-from_neighbours before after neighbours first second quorums in absurd (none found.0 found.1));
 }
-shared_member before after first second (Some id) of_before of_after least none = record {
-  quorums = record { of_before = of_before; of_after = of_after };
+shared_member before after first second (Some id) quorum_before quorum_after least none = record {
+  quorums = record { quorum_before = quorum_before; quorum_after = quorum_after };
   least = least;
   none = tt;
   neighbours = λ neighbours quorums. refl;

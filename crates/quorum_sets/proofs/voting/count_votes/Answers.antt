@@ -2,29 +2,29 @@ use Rattle.std.proofs.Common.{◌+◌, true, false, sym, ap, ◌∙◌}
 use Rattle.std.specs.Prelude.{unwrap_or}
 use Rattle.quorum_sets.specs.Ids.{ascending}
 use Rattle.quorum_sets.specs.Votes.{is_yes, may_be_yes}
-use Rattle.quorum_sets.proofs.ListPlaces.{slice_get-not_past}
+use Rattle.quorum_sets.proofs.ListPositions.{slice_get-not_past}
 use Rattle.quorum_sets.proofs.Quorums.Counts.{count_by-answer, count_by-within}
 use Rattle.quorum_sets.proofs.voting.count_votes.Goals as goal
 use Rattle.quorum_sets.proofs.voting.count_votes.Goals.{in-Some, in_default}
 
-pub loop-place-preserved : goal.loop-place-preserved
-loop-place-preserved g c =
+pub loop-position-preserved : goal.loop-position-preserved
+loop-position-preserved g c =
     let votes = g.V.VoteSource.votes c.args.votes.now in
     let ids = ascending (g.S.MemberSet.ids c.args.set.now) in
-    let k = c.loop-place.place in
+    let k = c.loop-position.position in
     elim c.match-at.branch [
       | in-Some w ↦ (
           let id = w.in-Some.id in
           let here = sym w.in-Some.ensures in
           let yes = sym (w.unwrap_or.ensures ∙ ap (λ said. unwrap_or said false) w.voted-said.ensures) in
           let may = sym (w.unwrap_or-in-Some.ensures ∙ ap (λ said. unwrap_or said true) w.voted-said.ensures) in
-          let said = w.said_yes-is ∙ ap (λ one. c.loop-place.said_yes + one) w.from-said_yes.ensures ∙ count_by-answer (is_yes votes) ids k id _ _ here yes c.loop-place.invariant.said in
-          let may_say = w.may_say_yes-is ∙ ap (λ one. c.loop-place.may_say_yes + one) w.from-may_say_yes.ensures ∙ count_by-answer (may_be_yes votes) ids k id _ _ here may c.loop-place.invariant.may_say in
+          let said = w.yes_votes-is ∙ ap (λ one. c.loop-position.yes_votes + one) w.from-yes_votes.ensures ∙ count_by-answer (is_yes votes) ids k id _ _ here yes c.loop-position.invariant.said in
+          let may_say = w.possible_yes_votes-is ∙ ap (λ one. c.loop-position.possible_yes_votes + one) w.from-possible_yes_votes.ensures ∙ count_by-answer (may_be_yes votes) ids k id _ _ here may c.loop-position.invariant.may_say in
           record {
             said = said;
             may_say = may_say;
             said_small = count_by-within (is_yes votes) ids (k + 1) _ said;
             may_say_small = count_by-within (may_be_yes votes) ids (k + 1) _ may_say;
           })
-      | in_default w ↦ slice_get-not_past _ _ _ (sym w.in_default.is ∙ c.at.ensures) c.len-place-end.ensures c.loop-place-test.true
+      | in_default w ↦ slice_get-not_past _ _ _ (sym w.in_default.is ∙ c.at.ensures) c.len-position-end.ensures c.loop-position-test.true
     ]

@@ -5,7 +5,7 @@ use Rattle.std.specs.List.{All}
 use Rattle.conf_change.specs.LastWords.{SaysOf, ListsLastWords}
 use Rattle.conf_change.specs.TrackerEdits.{beginning, Applies}
 use Rattle.conf_change.specs.TrackerState.{TrackerState}
-use Rattle.conf_change.proofs.ListsOfChanges.WordByWord.{walked-none, walked-one_more, walked-rises, walked-applies}
+use Rattle.conf_change.proofs.ListsOfChanges.WordByWord.{walked-none, walked-one_more, walked-ascends, walked-applies}
 use Rattle.conf_change.proofs.tracker.Tracker.after_last_words.Goals as goal
 
 pub loop-word-init : goal.loop-word-init
@@ -28,8 +28,8 @@ loop-word-preserved g c =
 pub begin-requires : goal.begin-requires
 begin-requires g c =
     let lists = subst (ListsLastWords (map (λ m. m.0) c.as_slice.result.now) c.args.changes.now) (sym c.as_slice-word-items.ensures.value) c.in_ok-words.ensures in
-    walked-rises c.args.next_index _ c.args.changes.now c.as_slice-word-items.result.now c.loop-word.word-index _ _ _ c.loop-word.members.items
-    lists.rising c.loop-word-test.false c.loop-word.invariant
+    walked-ascends c.args.next_index _ c.args.changes.now c.as_slice-word-items.result.now c.loop-word.word-index _ _ _ c.loop-word.members.items
+    lists.ascends c.loop-word-test.false c.loop-word.invariant
 
 pub returns : goal.returns
 returns g c =

@@ -3,13 +3,13 @@ use Rattle.std.specs.Prelude.{Some}
 use Rattle.std.specs.Ordering.{nat_cmp}
 use Rattle.std.specs.FinMap as finite
 use Rattle.smallvec.proofs.SmallVecLemmas.{items-with_items}
-use Rattle.quorum_sets.specs.Rising.{IsRising}
+use Rattle.quorum_sets.specs.AscendingLists.{IsAscending}
 use Rattle.conf_change.specs.declared.progress.Progress.{Progress}
 use Rattle.conf_change.proofs.MemberProgress.Acknowledged.{progress-set}
 use Rattle.conf_change.proofs.tracker.Tracker.set_progress.Goals as goal
 
 abbrev Rises : List (ℕ × Progress) → Type 0
-Rises ms = IsRising (map (λ m. m.0) ms)
+Rises ms = IsAscending (map (λ m. m.0) ms)
 
 pub set_progress_of-requires : goal.set_progress_of-requires
 set_progress_of-requires g c = subst Rises (sym c.as_mut_slice.ensures.value) c.self.invariant
@@ -27,4 +27,4 @@ pub invariant_of-self : goal.invariant_of-self
 invariant_of-self g c =
     let items = c.set_progress_of.new.members in
     rw (items-with_items c.self.inside.members items (search rules))
-    (subst IsRising (sym c.set_progress_of.ensures.keys) (subst Rises (sym c.as_mut_slice.ensures.value) c.self.invariant))
+    (subst IsAscending (sym c.set_progress_of.ensures.keys) (subst Rises (sym c.as_mut_slice.ensures.value) c.self.invariant))

@@ -10,22 +10,22 @@ use Rattle.dd_file.proofs.lines.Lines.read_piece.Goals.{then-self-via-then-self,
 
 pub returns-then-len-self-clause-fault : goal.returns-then-len-self-clause-fault
 returns-then-len-self-clause-fault g c =
-    let loop = c.loop-piece.invariant in
-    let held = c.loop-piece.self-inside.buffer in
-    let line : c.move_piece.new.line.items ≡ c.loop-piece.piece.items ++ take (first_len held) held = search rules in
+    let loop = c.loop-full_line.invariant in
+    let held = c.loop-full_line.self-inside.buffer in
+    let line : c.move_piece.new.line.items ≡ c.loop-full_line.full_line.items ++ take (first_len held) held = search rules in
     let rest : c.move_piece.new.self ≡ drop (first_len held) held = search rules in
     record {
-      piece = c.move_piece.new.line.items;
+      full_line = c.move_piece.new.line.items;
       part = part-moved _ _ _ _ _ _ _ loop.part loop.unfinished line rest;
       passes = omega (arith, c.move_piece.new.line.ok.0);
       number = ap (λ n. n + 1) loop.lines;
     }
 
-pub returns-then-self-clause-piece : goal.returns-then-self-clause-piece
-returns-then-self-clause-piece g c =
-    let loop = c.loop-piece.invariant in
-    let held = c.loop-piece.self-inside.buffer in
-    let line : c.move_piece.new.line.items ≡ c.loop-piece.piece.items ++ take (first_len held) held = search rules in
+pub returns-then-self-clause-full_line : goal.returns-then-self-clause-full_line
+returns-then-self-clause-full_line g c =
+    let loop = c.loop-full_line.invariant in
+    let held = c.loop-full_line.self-inside.buffer in
+    let line : c.move_piece.new.line.items ≡ c.loop-full_line.full_line.items ++ take (first_len held) held = search rules in
     let rest : c.move_piece.new.self ≡ drop (first_len held) held = search rules in
     record {
       part = part-moved _ _ _ _ _ _ _ loop.part loop.unfinished line rest;
@@ -38,17 +38,17 @@ returns-then-self-clause-piece g c =
       ];
     }
 
-pub loop-piece-preserved : goal.loop-piece-preserved
-loop-piece-preserved g c =
-    let loop = c.loop-piece.invariant in
-    let held = c.loop-piece.self-inside.buffer in
-    let line : c.move_piece.new.line.items ≡ c.loop-piece.piece.items ++ take (first_len held) held = search rules in
+pub loop-full_line-preserved : goal.loop-full_line-preserved
+loop-full_line-preserved g c =
+    let loop = c.loop-full_line.invariant in
+    let held = c.loop-full_line.self-inside.buffer in
+    let line : c.move_piece.new.line.items ≡ c.loop-full_line.full_line.items ++ take (first_len held) held = search rules in
     let rest : c.move_piece.new.self ≡ drop (first_len held) held = search rules in
     let unfinished : is_whole c.move_piece.new.line.items ≡ false = ap is_whole (sym c.as_slice.ensures.value) ∙ sym c.if-is_whole.ensures in
-    let none : c.move_piece.new.self ≡ [] = rest ∙ unfinished-rest c.loop-piece.piece.items held (ap is_whole (sym line) ∙ unfinished) in
+    let none : c.move_piece.new.self ≡ [] = rest ∙ unfinished-rest c.loop-full_line.full_line.items held (ap is_whole (sym line) ∙ unfinished) in
     let moved = part-moved _ _ _ _ _ _ _ loop.part loop.unfinished line rest in
     let remaining = g.R.Source.remaining in
-    let told : Consumes (remaining c.loop-piece.reader) (remaining c.fill.new.reader) c.fill.new.self × (c.fill.new.self ≡ [] → IsAtEnd (remaining c.fill.new.reader)) = search rules in
+    let told : Consumes (remaining c.loop-full_line.reader) (remaining c.fill.new.reader) c.fill.new.self × (c.fill.new.self ≡ [] → IsAtEnd (remaining c.fill.new.reader)) = search rules in
     let empty = λ (ended : c.is_empty-self-inside.result ≡ true). no-bytes c.fill.new.self (sym c.is_empty-self-inside.ensures ∙ ended) in
     record {
       part = part-filled _ _ _ _ _ _ _ moved none told.0;
@@ -61,17 +61,17 @@ loop-piece-preserved g c =
       sound = search rules;
     }
 
-pub loop-piece-smaller : goal.loop-piece-smaller
-loop-piece-smaller g c =
-    let loop = c.loop-piece.invariant in
-    let inside = c.loop-piece.self-inside in
+pub loop-full_line-smaller : goal.loop-full_line-smaller
+loop-full_line-smaller g c =
+    let loop = c.loop-full_line.invariant in
+    let inside = c.loop-full_line.self-inside in
     let held = inside.buffer in
-    let line : c.move_piece.new.line.items ≡ c.loop-piece.piece.items ++ take (first_len held) held = search rules in
+    let line : c.move_piece.new.line.items ≡ c.loop-full_line.full_line.items ++ take (first_len held) held = search rules in
     let rest : c.move_piece.new.self ≡ drop (first_len held) held = search rules in
     let unfinished : is_whole c.move_piece.new.line.items ≡ false = ap is_whole (sym c.as_slice.ensures.value) ∙ sym c.if-is_whole.ensures in
-    let none : c.move_piece.new.self ≡ [] = rest ∙ unfinished-rest c.loop-piece.piece.items held (ap is_whole (sym line) ∙ unfinished) in
-    let all = length-moved c.loop-piece.piece.items held c.move_piece.new.line.items c.move_piece.new.self line rest none in
-    let len : vec_len c.move_piece.new.line ≡ vec_len c.loop-piece.piece + length held = omega (arith, all, c.move_piece.new.line.ok.0, c.loop-piece.piece.ok.0) in
+    let none : c.move_piece.new.self ≡ [] = rest ∙ unfinished-rest c.loop-full_line.full_line.items held (ap is_whole (sym line) ∙ unfinished) in
+    let all = length-moved c.loop-full_line.full_line.items held c.move_piece.new.line.items c.move_piece.new.self line rest none in
+    let len : vec_len c.move_piece.new.line ≡ vec_len c.loop-full_line.full_line + length held = omega (arith, all, c.move_piece.new.line.ok.0, c.loop-full_line.full_line.ok.0) in
     let some = λ (ended : c.is_empty-self-inside.result ≡ false). some-bytes c.fill.new.self (sym c.is_empty-self-inside.ensures ∙ ended) in
-    let fits : inside.bytes + (vec_len c.loop-piece.piece + length held) ≤ longest_input = omega arith in
-    rw len (left-falls inside.is_ended c.is_empty-self-inside.result longest_input inside.bytes (vec_len c.loop-piece.piece) (length held) (length c.fill.new.self) c.if-self.false some fits)
+    let fits : inside.bytes + (vec_len c.loop-full_line.full_line + length held) ≤ longest_input = omega arith in
+    rw len (left-falls inside.is_ended c.is_empty-self-inside.result longest_input inside.bytes (vec_len c.loop-full_line.full_line) (length held) (length c.fill.new.self) c.if-self.false some fits)

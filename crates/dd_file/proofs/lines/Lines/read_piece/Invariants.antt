@@ -8,15 +8,15 @@ use Rattle.dd_file.specs.PieceRead.{PartRead}
 use Rattle.dd_file.proofs.lines.Lines.read_piece.Given as goal
 
 -- a part of the line without its newline was read, and nothing else has changed
-abbrev pub invariant-loop-piece : goal.invariant-loop-piece
-invariant-loop-piece g l =
+abbrev pub invariant-loop-full_line : goal.invariant-loop-full_line
+invariant-loop-full_line g l =
     let remaining = g.R.Source.remaining in
     let has_failed = g.R.Source.has_failed in
     let old = l.fn.self in
     let now = l.self-inside in
     record {
-      part : PartRead old.held now.buffer (remaining l.fn.reader) (remaining l.reader) l.piece.items;
-      unfinished : is_whole l.piece.items ≡ false;
+      part : PartRead old.held now.buffer (remaining l.fn.reader) (remaining l.reader) l.full_line.items;
+      unfinished : is_whole l.full_line.items ≡ false;
       lines : now.lines ≡ old.place.lines;
       bytes : now.bytes ≡ old.place.bytes;
       faultless : now.fault ≡ None;
@@ -26,7 +26,7 @@ invariant-loop-piece g l =
     }
 
 -- the bytes that are left up to the limit, and the end
-abbrev pub decreases-loop-piece : goal.decreases-loop-piece
-decreases-loop-piece g l =
+abbrev pub decreases-loop-full_line : goal.decreases-loop-full_line
+decreases-loop-full_line g l =
     let now = l.self-inside in
-    cond now.is_ended 0 (suc (suc longest_input - (now.bytes + (vec_len l.piece + length now.buffer))))
+    cond now.is_ended 0 (suc (suc longest_input - (now.bytes + (vec_len l.full_line + length now.buffer))))

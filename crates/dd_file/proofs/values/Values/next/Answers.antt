@@ -12,7 +12,7 @@ pub returns-after-split_first : goal.returns-after-split_first
 returns-after-split_first c =
     let rest = c.self.inside.rest.now in
     let was : c.args.self.now ≡ map trimmed (cut_at_commas rest) = sym c.self.view_is ∙ ap (λ left. values_left left rest) c.in-Listed.is in
-    let place : c.place_of.result ≡ position_or_len is_comma rest = c.place_of.ensures.place in
+    let place : c.position_of.result ≡ position_or_len is_comma rest = c.position_of.ensures.position in
     let first : trimmed (take (position_or_len is_comma rest) rest) ≡ c.trimmed.result.now = sym (c.trimmed.ensures ∙ ap trimmed (c.split_at.ensures.front ∙ ap (λ n. take n rest) place)) in
     let cut = sym (c.split_at.ensures.back ∙ ap (λ n. drop n rest) place) in
     elim c.match-split_first.branch [

@@ -4,7 +4,7 @@ use Rattle.std.specs.Option.{option_copied}
 use Rattle.std.specs.Slice.{IsItemAt}
 use Rattle.std.proofs.lemmas.Option.{slice_get_past, slice_get-get_or}
 use Rattle.quorum_sets.specs.Ids.{ascending}
-use Rattle.quorum_sets.proofs.KeptSets.RisingList.{ascending-rising}
+use Rattle.quorum_sets.proofs.KeptSets.AscendingList.{ascending-ascends}
 use Rattle.quorum_sets.proofs.inline_ids.InlineIdsMemberSet.at.Goals as goal
 
 copied_item : (xs : List ℕ) (i : ℕ) (r : Option (Bor ℕ)) → IsItemAt xs i r → option_copied r ≡ slice_get xs i
@@ -13,5 +13,5 @@ copied_item xs i (Some x) item = ap Some (item.3.1 0) ∙ sym (slice_get-get_or 
 
 pub returns : goal.returns
 returns c =
-    c.copied.ensures ∙ copied_item _ c.args.place _ c.get.ensures.lookup
-    ∙ ap (λ ids. slice_get ids c.args.place) (c.as_slice.ensures ∙ sym (ascending-rising _ c.self.invariant.rising) ∙ ap ascending c.self.view_is)
+    c.copied.ensures ∙ copied_item _ c.args.position _ c.get.ensures.lookup
+    ∙ ap (λ ids. slice_get ids c.args.position) (c.as_slice.ensures ∙ sym (ascending-ascends _ c.self.invariant.ascends) ∙ ap ascending c.self.view_is)

@@ -1,7 +1,7 @@
 use Rattle.std.proofs.Common.{◌≡◌, ap, sym, subst, ◌∙◌, true, false, not, arith, length}
 use Rattle.quorum_sets.specs.Ids.{has, with_id, ids_of, size}
-use Rattle.quorum_sets.specs.Rising.{IsRising, GoesTo}
-use Rattle.quorum_sets.proofs.KeptSets.RisingList.{has-stands, has-goes, ids_of-insert, rising-insert, with_id-there, ascending-rising}
+use Rattle.quorum_sets.specs.AscendingLists.{IsAscending, IsInsertionPoint}
+use Rattle.quorum_sets.proofs.KeptSets.AscendingList.{has-stands, has-goes, ids_of-insert, ascends-insert, with_id-there, ascending-ascends}
 use Rattle.quorum_sets.proofs.inline_ids.InlineIdsMemberSet.insert.Goals as goal
 
 -- the set has it already
@@ -18,17 +18,17 @@ returns-in_default-clause-ok c = with_id-there c.args.self.now c.args.id (there 
 
 pub returns-in_err-insert-clause-few : goal.returns-in_err-insert-clause-few
 returns-in_err-insert-clause-few c few =
-    let len = ap length (ascending-rising c.self.inside.list.items c.self.invariant.rising) in
+    let len = ap length (ascending-ascends c.self.inside.list.items c.self.invariant.ascends) in
     let same = ap size c.self.view_is in
     let no : false ≡ true = c.in_err-insert.ensures.succeeds (omega arith) in
     cc
 
-goes : (c : goal.In_ok-insert) → GoesTo c.self.inside.list.items c.args.id c.in-Err.place
-goes c = subst (λ list. GoesTo list c.args.id c.in-Err.place) c.as_slice.ensures c.in-Err.ensures
+goes : (c : goal.In_ok-insert) → IsInsertionPoint c.self.inside.list.items c.args.id c.in-Err.position
+goes c = subst (λ list. IsInsertionPoint list c.args.id c.in-Err.position) c.as_slice.ensures c.in-Err.ensures
 
 pub invariant_of-self-2 : goal.invariant_of-self-2
 invariant_of-self-2 c = record {
-  rising = subst IsRising (sym c.in_ok-insert.ensures.ok) (rising-insert _ _ _ c.self.invariant.rising (goes c));
+  ascends = subst IsAscending (sym c.in_ok-insert.ensures.ok) (ascends-insert _ _ _ c.self.invariant.ascends (goes c));
   room = omega (arith, c.self.invariant.room, c.in_ok-insert.ensures.capacity);
 }
 

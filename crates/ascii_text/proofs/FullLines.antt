@@ -1,0 +1,97 @@
+-- The first piece of a text, and those behind it.
+use Rattle.std.proofs.Common.{◌≡◌, ℕ, suc, ◌+◌, ◌≤◌, ◌<◌, Bool, true, false, cond, List, [], ◌∷◌, ◌++◌, length, take, drop, refl, sym, ◌∙◌, ap, arith, rules}
+use Rattle.std.specs.Prelude.{◌==◌}
+use Rattle.std.proofs.lemmas.List.{append_assoc, length-take}
+use Rattle.ascii_text.specs.Lines.{newline, first_len, full_lines, before_first_line, is_whole}
+
+-- there is one where there are bytes
+pub first_len-positive : (b : ℕ) (bytes : List ℕ) → 0 < first_len (b ∷ bytes)
+first_len-positive b bytes = at (b == 10) where
+  at : (c : Bool) → 0 < cond c 1 (suc (first_len bytes))
+  at true = omega arith
+  at false = omega arith
+
+pub first_len-bound : (bytes : List ℕ) → first_len bytes ≤ length bytes
+first_len-bound [] = omega arith
+first_len-bound (b ∷ bytes) = let h = first_len-bound bytes in at (b == 10) h where
+  at : (c : Bool) → first_len bytes ≤ length bytes → cond c 1 (suc (first_len bytes)) ≤ suc (length bytes)
+  at true h = omega arith
+  at false h = omega (arith, h)
+
+-- whether there is no byte
+abbrev has_none : List ℕ → Bool
+has_none [] = true
+has_none (b ∷ bytes) = false
+
+-- one byte before some pieces
+step : (c : Bool) (b : ℕ) (bytes : List ℕ) → (b == 10) ≡ c →
+    full_lines bytes ≡ cond (has_none bytes) [] (take (first_len bytes) bytes ∷ full_lines (drop (first_len bytes) bytes)) →
+    cond c (newline ∷ full_lines bytes) (before_first_line b (full_lines bytes)) ≡
+    take (cond c 1 (suc (first_len bytes))) (b ∷ bytes) ∷ full_lines (drop (cond c 1 (suc (first_len bytes))) (b ∷ bytes))
+step true b bytes e h = let is : b ≡ 10 = search rules in ap (λ x. (x ∷ []) ∷ full_lines bytes) (sym is)
+step false b [] e h = refl
+step false b (x ∷ xs) e h = ap (before_first_line b) h
+
+-- the pieces of some bytes: none, or the first piece and those of the rest
+pub full_lines-cases : (bytes : List ℕ) → full_lines bytes ≡ cond (has_none bytes) [] (take (first_len bytes) bytes ∷ full_lines (drop (first_len bytes) bytes))
+full_lines-cases [] = refl
+full_lines-cases (b ∷ bytes) = step (b == 10) b bytes refl (full_lines-cases bytes)
+
+-- the first piece, and the pieces of the rest
+pub full_lines-first : (bytes : List ℕ) → 0 < length bytes → full_lines bytes ≡ take (first_len bytes) bytes ∷ full_lines (drop (first_len bytes) bytes)
+full_lines-first [] h = absurd (omega (arith, h))
+full_lines-first (b ∷ bytes) h = full_lines-cases (b ∷ bytes)
+
+pub first_len-some : (bytes : List ℕ) → 0 < length bytes → 0 < first_len bytes
+first_len-some [] h = absurd (omega (arith, h))
+first_len-some (b ∷ bytes) h = first_len-positive b bytes
+
+-- bytes with one more at their end
+pub is_whole-append : (x : ℕ) (xs : List ℕ) → is_whole (xs ++ x ∷ []) ≡ (x == 10)
+is_whole-append x [] = refl
+is_whole-append x (y ∷ []) = refl
+is_whole-append x (y ∷ z ∷ xs) = is_whole-append x (z ∷ xs)
+
+-- one part of a piece, and more behind it
+one-more : (c : Bool) (n : ℕ) → c ≡ false → cond c 1 (suc n) ≡ 1 + n
+one-more true n e = cc
+one-more false n e = omega arith
+
+pub cond-longer : (c : Bool) (n k : ℕ) → cond c 1 (suc n) ≡ suc (suc k) → c ≡ false
+cond-longer true n k e = absurd (omega (arith, e))
+cond-longer false n k e = refl
+
+pub cond-shorter : (c : Bool) (n k : ℕ) → c ≡ false → cond c 1 (suc n) ≡ suc k → n ≡ k
+cond-shorter true n k f e = cc
+cond-shorter false n k f e = omega (arith, e)
+
+pub first_len-append : (xs ys : List ℕ) → first_len xs ≡ length xs → is_whole xs ≡ false → first_len (xs ++ ys) ≡ length xs + first_len ys
+first_len-append [] ys e h = omega arith
+first_len-append (b ∷ []) ys e h = one-more (b == 10) (first_len ys) h
+first_len-append (b ∷ c ∷ xs) ys e h =
+    let other : (b == 10) ≡ false = cond-longer (b == 10) (first_len (c ∷ xs)) (length xs) e in
+    let ih = first_len-append (c ∷ xs) ys (cond-shorter (b == 10) (first_len (c ∷ xs)) (suc (length xs)) other e) h in
+    one-more (b == 10) (first_len (c ∷ xs ++ ys)) other ∙ omega (arith, ih)
+
+-- a first piece is one piece
+first-step : (c : Bool) (b : ℕ) (bytes : List ℕ) → (b == 10) ≡ c → first_len (take (first_len bytes) bytes) ≡ first_len bytes →
+    first_len (take (cond c 1 (suc (first_len bytes))) (b ∷ bytes)) ≡ cond c 1 (suc (first_len bytes))
+first-step true b bytes e ih = rw e refl
+first-step false b bytes e ih = rw e (ap suc ih)
+
+pub first_len-take : (bytes : List ℕ) → first_len (take (first_len bytes) bytes) ≡ first_len bytes
+first_len-take [] = refl
+first_len-take (b ∷ bytes) = first-step (b == 10) b bytes refl (first_len-take bytes)
+
+pub length-first : (bytes : List ℕ) → length (take (first_len bytes) bytes) ≡ first_len bytes
+length-first bytes = let h = first_len-bound bytes in simp length-take (omega (arith, h))
+
+-- bytes that go on without a newline have no byte behind them
+rest-step : (c : Bool) (b : ℕ) (part bytes : List ℕ) → (b == 10) ≡ c → (is_whole ((part ++ b ∷ []) ++ take (first_len bytes) bytes) ≡ false → drop (first_len bytes) bytes ≡ []) →
+    is_whole (part ++ take (cond c 1 (suc (first_len bytes))) (b ∷ bytes)) ≡ false → drop (cond c 1 (suc (first_len bytes))) (b ∷ bytes) ≡ []
+rest-step true b part bytes e ih h = let bad : true ≡ false = sym e ∙ sym (is_whole-append b part) ∙ h in cc
+rest-step false b part bytes e ih h = ih (ap is_whole (append_assoc part (b ∷ []) (take (first_len bytes) bytes)) ∙ h)
+
+pub unfinished-rest : (part rest : List ℕ) → is_whole (part ++ take (first_len rest) rest) ≡ false → drop (first_len rest) rest ≡ []
+unfinished-rest part [] h = refl
+unfinished-rest part (b ∷ bytes) h = rest-step (b == 10) b part bytes refl (unfinished-rest (part ++ b ∷ []) bytes) h

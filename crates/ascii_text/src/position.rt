@@ -1,0 +1,29 @@
+//! The first position of a byte in a text.
+ghost use Rattle.std.specs.Prelude.{◌≡◌, ◌==◌, ◌≤◌, length};
+ghost use Rattle.std.specs.List.{position_or_len};
+
+use memchr::memchr;
+
+/// The position of the first such byte, or the length of the text.
+pub fn position_of(text: &[u8], byte: u8) -> usize
+    ensures position { result ≡ position_or_len (λ b. b == byte) text.now }
+    ensures within { result ≤ length text.now }
+{
+    for (position, other) in text.iter().enumerate() {
+        if *other == byte {
+            return position;
+        }
+    }
+    text.len()
+}
+
+/// As [`position_of`], for a byte that is mostly far off: it is searched for one run of bytes at a time.
+pub fn far_position_of(text: &[u8], byte: u8) -> usize
+    ensures position { result ≡ position_or_len (λ b. b == byte) text.now }
+    ensures within { result ≤ length text.now }
+{
+    match memchr(byte, text) {
+        Some(position) => position,
+        None => text.len(),
+    }
+}

@@ -1,7 +1,0 @@
-use Rattle.quorum_sets.proofs.KeptSets.Places.{has-seen_between}
-use Rattle.quorum_sets.proofs.looking.has_next.Goals as goal
-
-pub returns-then-is_above : goal.returns-then-is_above
-returns-then-is_above g c =
-    has-seen_between (g.S.MemberSet.ids c.args.set.now) c.args.id c.finds.new.place
-    (c.is_above.ensures c.if-is_above.true) (c.finds.ensures.below c.if-finds.false)

@@ -1,0 +1,52 @@
+//! Lookup of ids one after another, in ascending order.
+ghost use Rattle.std.specs.Prelude.{◌≡◌, ℕ, ◌<◌, ◌≤◌, true, false, get_or};
+ghost use Rattle.quorum_sets.specs.Ids.{has, ascending, size};
+
+use crate::member_set::MemberSet;
+
+/// Whether the set has the id. The search begins at `position` and leaves it where it ended, so ascending ids are looked up
+/// in one pass over the set. The position is only a hint: an id below it is found too.
+#[inline(always)]
+pub fn has_next<S: MemberSet>(set: &S, position: &mut usize, id: u64) -> bool
+    ensures { result ≡ has (S.ids set.now) id }
+{
+    if seek(set, position, id) {
+        return true;
+    }
+    if is_above(set, *position, id) {
+        return false;
+    }
+    set.contains(id)
+}
+
+// Advances the position to the first id from there on that is not below this one. Returns whether it is this one.
+#[inline(always)]
+fn seek<S: MemberSet>(set: &S, position: &mut usize, id: u64) -> bool
+    ensures found { result ≡ true → has (S.ids set.now) id ≡ true }
+    ensures below { result ≡ false → (k : ℕ) → position.new ≤ k → k < size (S.ids set.now) → id < get_or (ascending (S.ids set.now)) k 0 }
+{
+    let len = set.len();
+    for at in *position..len {
+        if let Some(found) = set.at(at) {
+            if found >= id {
+                *position = at;
+                return found == id;
+            }
+        }
+    }
+    *position = len;
+    false
+}
+
+// Whether the id is known to be above all ids before the position.
+fn is_above<S: MemberSet>(set: &S, position: usize, id: u64) -> bool
+    ensures { result ≡ true → (k : ℕ) → k < position → get_or (ascending (S.ids set.now)) k 0 < id }
+{
+    if position == 0 {
+        return true;
+    }
+    match set.at(position - 1) {
+        Some(last) => last < id,
+        None => false,
+    }
+}
