@@ -3,7 +3,7 @@ use Rattle.std.proofs.Common.{◌≡◌, ℕ, zero, suc, ◌-◌, ◌≤◌, Boo
 use Rattle.std.specs.Prelude.{◌↔◌, Option, Some, None, unwrap_or, Result, Ok, Err, ⊤, slice_get}
 use Rattle.std.proofs.lemmas.List.{length-append, length-take, length-drop}
 use Rattle.dd_file.specs.DirectiveText.{DirectiveText}
-use Rattle.dd_file.specs.Words.{ArgumentText}
+use Rattle.dd_file.specs.DirectiveLine.{ArgumentText}
 use Rattle.conf_change.specs.Acknowledgement.{ack_answer, changer_with_progress}
 use Rattle.conf_change.specs.ChangerState.{ChangerState}
 use Rattle.conf_change.specs.Changer.{IsSound, Accepts, moved_to, begun_with, new_changer, changer_after}

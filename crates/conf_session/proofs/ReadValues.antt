@@ -7,7 +7,7 @@ use Rattle.std.proofs.lemmas.Bool.Decides.{nat_tests}
 use Rattle.std.proofs.lemmas.List.Folds.{find-append}
 use Rattle.std.proofs.lemmas.Slice.Eq.{bytes_eq-Decides}
 use Rattle.ascii_text.specs.Number.{number_in}
-use Rattle.dd_file.specs.Words.{ArgumentText}
+use Rattle.dd_file.specs.DirectiveLine.{ArgumentText}
 use Rattle.quorum_sets.proofs.Offered.{take-one_more}
 use Rattle.conf_change.specs.declared.transition.Transition.TheVariants.{Auto}
 use Rattle.conf_session.proofs.QuorumValues.{drop-here}

@@ -5,7 +5,7 @@ use Rattle.std.specs.List.{list_all}
 use Rattle.dd_file.specs.DirectiveText.{DirectiveText}
 use Rattle.ascii_text.specs.WhiteSpace.{without_trailing_space, trimmed}
 use Rattle.ascii_text.specs.Lines.{line_of}
-use Rattle.dd_file.specs.Words.{ArgumentText}
+use Rattle.dd_file.specs.DirectiveLine.{ArgumentText}
 use Rattle.dd_file.specs.Laws.{IsSameDirective}
 use Rattle.ascii_text.proofs.Offered.{full_lines-first}
 use Rattle.ascii_text.specs.Words.{words}

@@ -8,7 +8,7 @@ use Rattle.quorum_sets.specs.Committed.{joint_committed_index}
 use Rattle.quorum_sets.specs.Ids.{ascending, union}
 use Rattle.quorum_sets.specs.Votes.{joint_vote_result}
 use Rattle.dd_file.specs.DirectiveText.{DirectiveText}
-use Rattle.dd_file.specs.Words.{ArgumentText, is_key, is_key_byte}
+use Rattle.dd_file.specs.DirectiveLine.{ArgumentText, is_key, is_key_byte}
 use Rattle.conf_change.specs.ChangerState.{ChangerState}
 use Rattle.conf_change.specs.Acknowledgement.{ack_answer}
 use Rattle.conf_change.specs.Configuration.{Configuration}
@@ -39,7 +39,7 @@ use Rattle.conf_session.specs.Values.{Values, values_in, values_read, read_argum
 use Rattle.conf_session.specs.ReplyTexts.{line}
 use Rattle.conf_session.specs.Commands.{row_of, after_step, after_restored, after_planned, after_ack, committed_by, if_read, reply_of, reply_to}
 use Rattle.conf_session.specs.Told.{is_line_byte, is_told_line, IsTold}
-use Rattle.dd_file.specs.Words.{has_keys}
+use Rattle.dd_file.specs.DirectiveLine.{has_keys}
 use Rattle.conf_session.specs.declared.parameter.Parameter.{Parameter}
 use Rattle.conf_session.specs.declared.parameter.Parameter.TheVariants.{AutoLeave, Transition, Steps, Id, Index, Incoming, Outgoing, Indexes, Votes}
 use Rattle.conf_session.specs.declared.input.InputKind.{InputKind}

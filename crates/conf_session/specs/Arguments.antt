@@ -1,7 +1,7 @@
 -- The arguments of a directive, held against those that its command has.
 use Rattle.std.specs.Prelude.{ℕ, Bool, false, not, ◌&&◌, List, [], ◌∷◌, ◌++◌, Option, Some, None, option_map, unwrap_or, if◌then◌else◌, bytes_eq}
 use Rattle.std.specs.List.{list_any, find}
-use Rattle.dd_file.specs.Words.{ArgumentText}
+use Rattle.dd_file.specs.DirectiveLine.{ArgumentText}
 use Rattle.conf_session.specs.Parameter.{key_of, is_required, allows}
 use Rattle.conf_session.specs.declared.parameter.Parameter.{Parameter}
 

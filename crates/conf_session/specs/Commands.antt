@@ -2,7 +2,7 @@
 use Rattle.std.specs.Prelude.{ℕ, List, [], ◌∷◌, Option, Some, None, Result, Ok, Err, if◌then◌else◌, codes, bytes_eq}
 use Rattle.quorum_sets.specs.Committed.{joint_committed_index}
 use Rattle.dd_file.specs.DirectiveText.{DirectiveText}
-use Rattle.dd_file.specs.Words.{ArgumentText}
+use Rattle.dd_file.specs.DirectiveLine.{ArgumentText}
 use Rattle.conf_change.specs.ChangerState.{ChangerState}
 use Rattle.conf_change.specs.Configuration.{Configuration, voters_of}
 use Rattle.conf_change.specs.Changer.{changer_after, begun_with}

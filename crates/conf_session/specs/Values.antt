@@ -1,6 +1,6 @@
 -- What the arguments of a directive are read as.
 use Rattle.std.specs.Prelude.{◌≡◌, ℕ, Bool, false, IsSomeAnd, List, [], ◌++◌, filter_map, Option, Some, None, option_map, option_and_then, unwrap_or, Result, Ok, Err, codes}
-use Rattle.dd_file.specs.Words.{ArgumentText}
+use Rattle.dd_file.specs.DirectiveLine.{ArgumentText}
 use Rattle.conf_change.specs.declared.transition.Transition.{Transition}
 use Rattle.conf_change.specs.declared.transition.Transition.TheVariants.{Auto}
 use Rattle.conf_session.specs.Arguments.{argument_of, parameter_of, bad_argument, missing_argument}

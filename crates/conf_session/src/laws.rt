@@ -1,7 +1,7 @@
 //! Laws of this crate's definitions, each the contract of a function that does nothing.
 ghost use Rattle.std.specs.Prelude.{◌≡◌, ◌-◌, ◌≤◌, ℕ, List, Some, Ok, true, length, slice_get};
 ghost use Rattle.dd_file.specs.DirectiveText.{DirectiveText};
-ghost use Rattle.dd_file.specs.Words.{has_keys};
+ghost use Rattle.dd_file.specs.DirectiveLine.{has_keys};
 ghost use Rattle.conf_change.specs.Configuration.{Configuration, has_voter};
 ghost use Rattle.conf_change.specs.declared.floor.Floor.{Floor};
 ghost use Rattle.conf_change.specs.declared.step.Step.{Step};

@@ -1,6 +1,6 @@
 //! Running a mode, over any reader and writer.
 ghost use Rattle.std.specs.Prelude.{◌≡◌, ◌||◌, true, false};
-ghost use Rattle.dd_file.specs.Device.{LosesFront};
+ghost use Rattle.dd_file.specs.Device.{LosesPrefix};
 ghost use Rattle.dd_file.specs.Gathered.{gathering_writer, NothingWaits};
 ghost use Rattle.conf_tool.specs.Outputs.{output_of};
 ghost use Rattle.conf_tool.specs.Ranges.{IsInRange};
@@ -45,7 +45,7 @@ pub fn run<R: Source, W: Sink>(
 
     // What is written is the output for each input that agrees with what was read, or a front part of it.
     ensures output { Answers (output_of mode options) (R.remaining reader.old) (R.remaining reader.new) (W.contents writer.old) (W.contents writer.new) result }
-    ensures taken { LosesFront (R.remaining reader.old) (R.remaining reader.new) }
+    ensures taken { LosesPrefix (R.remaining reader.old) (R.remaining reader.new) }
 
     // The reader has failed exactly if it had failed before, or `Read` is returned; so it is of the writer and `Write`.
     // Of the other faults and the statuses only the mode's own are returned.
@@ -101,7 +101,7 @@ pub fn run_and_flush<R: Source, W: Sink>(
 
     // After any answer nothing waits, unless the writer has failed.
     ensures flushed { W.has_failed (gathering_writer writer.new) ≡ false → NothingWaits writer.new }
-    ensures taken { LosesFront (R.remaining reader.old) (R.remaining reader.new) }
+    ensures taken { LosesPrefix (R.remaining reader.old) (R.remaining reader.new) }
 
     // A read that failed and want of memory are told before a write that failed.
     ensures read { R.has_failed reader.new ≡ (R.has_failed reader.old || is_read_failure result) }

@@ -5,5 +5,5 @@ pub mod PhaseByPhase
 pub mod NoMoreLine
 pub mod LinesSoFar
 pub mod UntilDone
-pub mod HeldBytes
+pub mod BufferedBytes
 pub mod BytesTaken

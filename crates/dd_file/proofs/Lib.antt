@@ -1,5 +1,5 @@
 pub mod Offered
-mod DirectiveWords
+mod DirectiveTokens
 mod WorkedExamples
 mod Rewriting
 mod TextLines

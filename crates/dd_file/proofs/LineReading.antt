@@ -1,7 +1,7 @@
 -- The next line of an input, from the pieces that are read.
 
-pub mod FirstPiece
-pub mod PartsOfPiece
-pub mod PieceGiven
+pub mod FirstFullLine
+pub mod PartsOfFullLine
+pub mod FullLineGiven
 pub mod LineAfterLine
 pub mod InputEnd

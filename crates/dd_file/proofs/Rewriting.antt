@@ -2,6 +2,6 @@
 
 pub mod KnownBytes
 pub mod PartByPart
-pub mod FoundText
+pub mod OutputText
 pub mod ItemAgain
 pub mod ScriptAgain

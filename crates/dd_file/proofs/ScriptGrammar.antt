@@ -1,8 +1,8 @@
 -- What the grammar of scripts makes of lines: the front that is an item, and all items.
 
-pub mod FrontLength
-pub mod EndedFront
-pub mod OpenFront
+pub mod ItemLength
+pub mod EndedItem
+pub mod OpenItem
 pub mod FoundInLines
 pub mod LinesOfItem
 pub mod GivenItems

@@ -1,7 +1,7 @@
 -- The lines of a text, and what stands at their ends.
 
-pub mod EndPlaces
-pub mod TextBehind
+pub mod EndPositions
+pub mod TextAfter
 pub mod CutAgain
 pub mod LastNewlines
 pub mod BlankLine

@@ -1,5 +1,5 @@
 -- Worked examples.
 
-pub mod Words
+pub mod Tokens
 pub mod Scripts
 pub mod Rewrites

@@ -2,39 +2,39 @@
 use Rattle.std.specs.Prelude.{◌≡◌, ◌<◌, ◌+◌, ◌-◌, ℕ, Bool, true, false, not, ◌&&◌, List, [], ◌∷◌, ◌++◌, length, drop, Option, Some, None, Result, Ok, Err, ⊤, if◌then◌else◌}
 use Rattle.std.specs.List.{list_all, list_any}
 use Rattle.ascii_text.specs.WhiteSpace.{is_blank}
-use Rattle.dd_file.specs.Words.{CommandText, command_of}
-use Rattle.dd_file.specs.Script.{Front, front, first_of, is_comment, is_continued, is_separator, is_dashes, begins_with_dashes, has_pair, directive, after_pair, in_double, in_single, body}
+use Rattle.dd_file.specs.DirectiveLine.{CommandText, command_of}
+use Rattle.dd_file.specs.Script.{FirstItem, first_item, first_of, is_comment, is_continued, is_separator, is_dashes, begins_with_dashes, has_pair, directive, after_pair, in_double, in_single, body}
 use Rattle.dd_file.specs.declared.phase.Phase.{Phase}
-use Rattle.dd_file.specs.declared.phase.Phase.TheVariants.{Begin, CommentLine, BlankLines, Head, NoCommand, Input, Separator, Single, Double, Pair, Complete, AfterPair}
+use Rattle.dd_file.specs.declared.phase.Phase.TheVariants.{Begin, CommentLine, BlankLines, DirectiveLines, NoCommand, Input, Separator, Single, Double, Pair, Complete, AfterPair}
 use Rattle.dd_file.specs.declared.item.Item.{Item}
 use Rattle.dd_file.specs.declared.item.Item.TheVariants.{Comment, Blank}
 use Rattle.dd_file.specs.declared.fault.FileFault.{FileFault}
 use Rattle.dd_file.specs.declared.fault.FileFault.TheVariants.{Read, NoMemory, BadDirective, AfterDouble, UnclosedDouble, InputTooLong}
 
--- The number of its first line, its parts so far, how many lines it has, and what the next line may be. The phase has the
--- command of a directive.
+-- An item so far: the number of its first line, its parts, how many lines it has, and its phase, which has the command of a
+-- directive.
 pub record DraftText : Type 0 where
   pub line : ℕ
-  pub head : List (List ℕ)
+  pub directive_lines : List (List ℕ)
   pub input : List (List ℕ)
   pub expected : List (List ℕ)
   pub count : ℕ
   pub phase : Phase
 
--- no line was read yet
+-- an item without lines yet
 abbrev pub blank_draft : ℕ → DraftText
-blank_draft line = record { line = line; head = []; input = []; expected = []; count = 0; phase = Begin }
+blank_draft line = record { line = line; directive_lines = []; input = []; expected = []; count = 0; phase = Begin }
 
--- the phase after a head, by its command
+-- the phase after directive lines, by their command
 abbrev pub phase_of_command : Option CommandText → Phase
 phase_of_command None = NoCommand
 phase_of_command (Some command) = Input command
 
--- the phase after a head, by its text; white space alone is no directive
-abbrev pub phase_after_head : List ℕ → Phase
-phase_after_head text = if is_blank text then BlankLines else phase_of_command (command_of text)
+-- the phase after directive lines, by their text; white space alone is a blank
+abbrev pub phase_after_directive_line : List ℕ → Phase
+phase_after_directive_line text = if is_blank text then BlankLines else phase_of_command (command_of text)
 
--- one line more, and the phase after it
+-- one more line is counted, and the phase is this
 abbrev pub counted : DraftText → Phase → DraftText
 counted draft phase = record draft { count = draft.count + 1; phase = phase }
 
@@ -43,7 +43,7 @@ abbrev pub is_done : Phase → Bool
 is_done Begin = false
 is_done CommentLine = true
 is_done BlankLines = true
-is_done Head = false
+is_done DirectiveLines = false
 is_done NoCommand = true
 is_done (Input command) = false
 is_done (Separator command) = false
@@ -53,33 +53,33 @@ is_done (Pair command) = false
 is_done (Complete command) = true
 is_done AfterPair = true
 
--- the directive of what was read, or another front where there is a pair or a blank line
-abbrev pub behind_separator : DraftText → List (List ℕ) → CommandText → Front
-behind_separator draft more command =
-    if begins_with_dashes more then in_double draft.line command draft.head draft.input (drop 1 more) else in_single draft.line command draft.head draft.input more
+-- the item after a separator: its expected output is in double dashes if another line of dashes follows
+abbrev pub after_separator : DraftText → List (List ℕ) → CommandText → FirstItem
+after_separator draft more command =
+    if begins_with_dashes more then in_double draft.line command draft.directive_lines draft.input (drop 1 more) else in_single draft.line command draft.directive_lines draft.input more
 
 -- the directive of the parts so far
 abbrev pub drafted : DraftText → CommandText → Item
-drafted draft command = directive draft.line command draft.head draft.input draft.expected
+drafted draft command = directive draft.line command draft.directive_lines draft.input draft.expected
 
--- what the lines so far begin with, if these lines follow
-abbrev pub front_in : Phase → DraftText → List (List ℕ) → Option Front
-front_in Begin draft more = first_of draft.line more
-front_in CommentLine draft more = Some (front (Ok (Comment draft.head)) draft.count true)
-front_in BlankLines draft more = Some (front (Ok (Blank draft.head)) draft.count true)
-front_in Head draft more = first_of draft.line (draft.head ++ more)
-front_in NoCommand draft more = Some (front (Err (BadDirective draft.line)) draft.count true)
-front_in (Input command) draft more = Some (body draft.line command draft.head (draft.input ++ more))
-front_in (Separator command) draft more = Some (behind_separator draft more command)
-front_in (Single command) draft more = Some (in_single draft.line command draft.head draft.input (draft.expected ++ more))
-front_in (Double command) draft more = Some (in_double draft.line command draft.head draft.input (draft.expected ++ more))
-front_in (Pair command) draft more = Some (after_pair draft.line draft.count (drafted draft command) more)
-front_in (Complete command) draft more = Some (front (Ok (drafted draft command)) draft.count true)
-front_in AfterPair draft more = Some (front (Err (AfterDouble (draft.line + (draft.count - 1)))) draft.count true)
+-- the item of the lines so far if these lines follow, by phase
+abbrev pub first_item_in : Phase → DraftText → List (List ℕ) → Option FirstItem
+first_item_in Begin draft more = first_of draft.line more
+first_item_in CommentLine draft more = Some (first_item (Ok (Comment draft.directive_lines)) draft.count true)
+first_item_in BlankLines draft more = Some (first_item (Ok (Blank draft.directive_lines)) draft.count true)
+first_item_in DirectiveLines draft more = first_of draft.line (draft.directive_lines ++ more)
+first_item_in NoCommand draft more = Some (first_item (Err (BadDirective draft.line)) draft.count true)
+first_item_in (Input command) draft more = Some (body draft.line command draft.directive_lines (draft.input ++ more))
+first_item_in (Separator command) draft more = Some (after_separator draft more command)
+first_item_in (Single command) draft more = Some (in_single draft.line command draft.directive_lines draft.input (draft.expected ++ more))
+first_item_in (Double command) draft more = Some (in_double draft.line command draft.directive_lines draft.input (draft.expected ++ more))
+first_item_in (Pair command) draft more = Some (after_pair draft.line draft.count (drafted draft command) more)
+first_item_in (Complete command) draft more = Some (first_item (Ok (drafted draft command)) draft.count true)
+first_item_in AfterPair draft more = Some (first_item (Err (AfterDouble (draft.line + (draft.count - 1)))) draft.count true)
 
--- the same from its own phase on
-abbrev pub front_of : DraftText → List (List ℕ) → Option Front
-front_of draft more = front_in draft.phase draft more
+-- the item of the lines so far if these lines follow
+abbrev pub first_item_of : DraftText → List (List ℕ) → Option FirstItem
+first_item_of draft more = first_item_in draft.phase draft more
 
 -- the first line begins a directive
 abbrev pub begins_directive : List (List ℕ) → Bool
@@ -92,43 +92,43 @@ ends_in_dashes [] = false
 ends_in_dashes (line ∷ []) = is_dashes line
 ends_in_dashes (line ∷ next ∷ lines) = ends_in_dashes (next ∷ lines)
 
--- nothing in the parts so far ends them, and each line is counted
+-- the parts so far fit the phase: nothing in them ends them, and each line is counted
 abbrev pub FitsIn : Phase → DraftText → Type 0
-FitsIn Begin draft = (draft.head ≡ []) × (draft.input ≡ []) × (draft.expected ≡ []) × (draft.count ≡ 0)
+FitsIn Begin draft = (draft.directive_lines ≡ []) × (draft.input ≡ []) × (draft.expected ≡ []) × (draft.count ≡ 0)
 FitsIn CommentLine draft = draft.input ≡ []
 FitsIn BlankLines draft = draft.input ≡ []
-FitsIn Head draft = (begins_directive draft.head ≡ true) × (list_all is_continued draft.head ≡ true) × (draft.input ≡ []) × (draft.expected ≡ []) × (draft.count ≡ length draft.head)
+FitsIn DirectiveLines draft = (begins_directive draft.directive_lines ≡ true) × (list_all is_continued draft.directive_lines ≡ true) × (draft.input ≡ []) × (draft.expected ≡ []) × (draft.count ≡ length draft.directive_lines)
 FitsIn NoCommand draft = ⊤
-FitsIn (Input command) draft = (list_any is_separator draft.input ≡ false) × (draft.expected ≡ []) × (draft.count ≡ length draft.head + length draft.input)
-FitsIn (Separator command) draft = (draft.expected ≡ []) × (draft.count ≡ length draft.head + length draft.input + 1)
-FitsIn (Single command) draft = (list_any is_blank draft.expected ≡ false) × (draft.count ≡ length draft.head + length draft.input + 1 + length draft.expected)
-FitsIn (Double command) draft = (has_pair draft.expected ≡ false) × (draft.count ≡ length draft.head + length draft.input + length draft.expected + 2)
-FitsIn (Pair command) draft = draft.count ≡ length draft.head + length draft.input + length draft.expected + 4
+FitsIn (Input command) draft = (list_any is_separator draft.input ≡ false) × (draft.expected ≡ []) × (draft.count ≡ length draft.directive_lines + length draft.input)
+FitsIn (Separator command) draft = (draft.expected ≡ []) × (draft.count ≡ length draft.directive_lines + length draft.input + 1)
+FitsIn (Single command) draft = (list_any is_blank draft.expected ≡ false) × (draft.count ≡ length draft.directive_lines + length draft.input + 1 + length draft.expected)
+FitsIn (Double command) draft = (has_pair draft.expected ≡ false) × (draft.count ≡ length draft.directive_lines + length draft.input + length draft.expected + 2)
+FitsIn (Pair command) draft = draft.count ≡ length draft.directive_lines + length draft.input + length draft.expected + 4
 FitsIn (Complete command) draft = ⊤
 FitsIn AfterPair draft = 1 < draft.count
 
--- the same of its own phase
+-- the parts so far fit the phase of the draft
 abbrev pub Fits : DraftText → Type 0
 Fits draft = FitsIn draft.phase draft
 
--- One more line was taken in, from this phase on: with it the lines begin with what they began with before.
+-- One more line was added: the item of the lines so far is the same as before if that line followed.
 pub record AddsIn (phase : Phase) (old new : DraftText) (line : List ℕ) : Type 0 where
   pub fits : Fits new
-  pub front : (more : List (List ℕ)) → front_of new more ≡ front_in phase old (line ∷ more)
+  pub first_item : (more : List (List ℕ)) → first_item_of new more ≡ first_item_in phase old (line ∷ more)
   pub count : new.count ≡ old.count + 1
   pub first : new.line ≡ old.line
 
--- what was found, if there is something
-abbrev pub found_in_front : Result Item FileFault → Result (Option Item) FileFault
-found_in_front (Ok item) = Ok (Some item)
-found_in_front (Err fault) = Err fault
+-- the result for an item or its error
+abbrev pub found_in_item : Result Item FileFault → Result (Option Item) FileFault
+found_in_item (Ok item) = Ok (Some item)
+found_in_item (Err fault) = Err fault
 
--- what was found in a front, if there is one
-abbrev pub found_of : Option Front → Result (Option Item) FileFault
+-- the result for the item of some lines, if there is one
+abbrev pub found_of : Option FirstItem → Result (Option Item) FileFault
 found_of None = Ok None
-found_of (Some front) = found_in_front front.found
+found_of (Some item) = found_in_item item.found
 
--- a fault that the lines from number n on may have
+-- an error that an item from line n on may have
 abbrev pub IsDraftFault : ℕ → FileFault → Type 0
 IsDraftFault n Read = ⊥
 IsDraftFault n NoMemory = ⊤
@@ -137,7 +137,7 @@ IsDraftFault n (BadDirective line) = line ≡ n
 IsDraftFault n (AfterDouble line) = n < line
 IsDraftFault n (UnclosedDouble line) = line ≡ n
 
--- the fault of a line as that of the item that begins at number n
+-- an error of a line as that of the item that begins at line n
 abbrev pub at_line : ℕ → FileFault → FileFault
 at_line n Read = Read
 at_line n NoMemory = NoMemory

@@ -1,21 +1,21 @@
 -- Items or lines that are read one after another.
 use Rattle.std.specs.Prelude.{◌≡◌, ℕ, ◌<◌, List, [], ◌∷◌, ◌++◌, length, Option}
-use Rattle.dd_file.specs.Place.{Place}
+use Rattle.dd_file.specs.Position.{Position}
 use Rattle.dd_file.specs.Reading.{Next, Found}
 use Rattle.dd_file.specs.ReaderState.{ReaderState}
 use Rattle.dd_file.specs.Answer.{Agrees, MovesOn}
 
--- the items are the next ones, in order, from a place and bytes to a later place and the bytes from there on
-abbrev pub ReadsTo : {A : Type 0} → (Place → List ℕ → Next A) → Place → List ℕ → List A → Place → List ℕ → Type 0
-ReadsTo next place bytes [] now rest = (now ≡ place) × (rest ≡ bytes)
-ReadsTo next place bytes (item ∷ items) now rest = (behind : Place) × (left : List ℕ) × (next place bytes ≡ Found item behind left) × ReadsTo next behind left items now rest
+-- the items are the next ones, in order, from one position and its bytes to a later one and its bytes
+abbrev pub ReadsTo : {A : Type 0} → (Position → List ℕ → Next A) → Position → List ℕ → List A → Position → List ℕ → Type 0
+ReadsTo next position bytes [] now rest = (now ≡ position) × (rest ≡ bytes)
+ReadsTo next position bytes (item ∷ items) now rest = (suffix : Position) × (left : List ℕ) × (next position bytes ≡ Found item suffix left) × ReadsTo next suffix left items now rest
 
--- each item has a byte at least
-abbrev pub TakesBytes : {A : Type 0} → (Place → List ℕ → Next A) → Type 0
-TakesBytes {A} next = (place behind : Place) (bytes left : List ℕ) (item : A) → next place bytes ≡ Found item behind left → length left < length bytes
+-- each item has at least one byte
+abbrev pub TakesBytes : {A : Type 0} → (Position → List ℕ → Next A) → Type 0
+TakesBytes {A} next = (position suffix : Position) (bytes left : List ℕ) (item : A) → next position bytes ≡ Found item suffix left → length left < length bytes
 
--- The items that calls gave so far, from a state and a reader to those after the calls, are the next ones of each input
--- that agrees with what was read.
-pub record GivenSoFar {R A : Type 0} (remaining : R → Option (List ℕ)) (next : Place → List ℕ → Next A) (old now : ReaderState) (before after : R) (items : List A) : Type 0 where
+-- The items that calls have returned so far, from one state and reader to the ones after the calls, are the next ones of each
+-- input that agrees with what was read.
+pub record GivenSoFar {R A : Type 0} (remaining : R → Option (List ℕ)) (next : Position → List ℕ → Next A) (old now : ReaderState) (before after : R) (items : List A) : Type 0 where
   pub moves : MovesOn remaining old now before after
-  pub read : (input more : List ℕ) → Agrees old (remaining before) (remaining after) input more → ReadsTo next old.place input items now.place (now.held ++ more)
+  pub read : (input more : List ℕ) → Agrees old (remaining before) (remaining after) input more → ReadsTo next old.position input items now.position (now.buffered ++ more)

@@ -1,9 +1,9 @@
 //! The arguments of a directive: a key with values, by a grammar that is own.
 ghost use Rattle.std.specs.Prelude.{◌≡◌, ◌+◌, ◌≤◌, ◌∷◌, true, false, length, drop, is_some, None, IfSome, MatchOption};
 ghost use Rattle.std.specs.List.{prefix_len};
-ghost use Rattle.dd_file.specs.ArgumentValues.{says_argument};
-ghost use Rattle.dd_file.specs.WordParts.{is_plain_byte, ends_word, word_front};
-ghost use Rattle.dd_file.specs.Words.{is_key_byte, word_len, values_of, argument_of};
+ghost use Rattle.dd_file.specs.ArgumentValues.{is_argument};
+ghost use Rattle.dd_file.specs.TokenParts.{is_plain_byte, ends_token, first_token};
+ghost use Rattle.dd_file.specs.DirectiveLine.{is_key_byte, token_len, values_of, argument_of};
 
 use ascii_text::position::far_position_of;
 use ascii_text::white_space::is_space;
@@ -15,15 +15,15 @@ fn is_key_byte(b: u8) -> bool
     b.is_ascii_alphanumeric() || matches!(b, b'-' | b'_' | b'/' | b',' | b'.')
 }
 
-/// How many bytes that a key may have come first.
-pub(crate) fn key_len(word: &[u8]) -> usize
-    ensures len { result ≡ prefix_len is_key_byte word.now }
-    ensures within { result ≤ length word.now }
+/// The length of the longest prefix of key bytes.
+pub(crate) fn key_len(token: &[u8]) -> usize
+    ensures len { result ≡ prefix_len is_key_byte token.now }
+    ensures within { result ≤ length token.now }
 {
-    word.iter().take_while(|b| is_key_byte(**b)).count()
+    token.iter().take_while(|b| is_key_byte(**b)).count()
 }
 
-/// How many bytes that a value without parentheses round it may have come first.
+/// The length of the longest prefix of bytes that a plain value may have.
 fn plain_len(text: &[u8]) -> usize
     ensures len { result ≡ prefix_len is_plain_byte text.now }
     ensures within { result ≤ length text.now }
@@ -31,44 +31,44 @@ fn plain_len(text: &[u8]) -> usize
     text.iter().take_while(|b| is_plain_byte(**b)).count()
 }
 
-/// Whether a value without parentheses round it may have the byte: no white space, and no parenthesis.
+/// Whether a plain value, one without parentheses around it, may have the byte: no white space and no parenthesis.
 fn is_plain_byte(b: u8) -> bool
     ensures { result ≡ is_plain_byte b }
 {
     !(is_space(b) || b == b'(' || b == b')')
 }
 
-/// Whether no more of a word stands at a place of a text: the text ends there, or white space follows.
-pub(crate) fn ends_word(text: &[u8], place: usize) -> bool
-    requires { place ≤ length text.now }
-    ensures { result ≡ ends_word (drop place text.now) }
+/// Whether a token ends at this position: the text ends there, or white space follows.
+pub(crate) fn ends_token(text: &[u8], position: usize) -> bool
+    requires { position ≤ length text.now }
+    ensures { result ≡ ends_token (drop position text.now) }
 {
-    match text.get(place) {
+    match text.get(position) {
         Some(b) => is_space(*b),
         None => true,
     }
 }
 
-/// How long a list in parentheses is, by what stands behind the first one. None where more of its word follows, or none closes it.
+/// The length of a list in parentheses without its opening one. `None` if it is not closed, or its token goes on after it.
 fn listed_len(inside: &[u8]) -> Option<usize>
-    ensures { MatchOption result (is_some (values_of (word_front (40 ∷ inside.now))) ≡ false)
-        (λ len. (len + 1 ≡ word_len false (40 ∷ inside.now)) × (is_some (values_of (word_front (40 ∷ inside.now))) ≡ true)) }
+    ensures { MatchOption result (is_some (values_of (first_token (40 ∷ inside.now))) ≡ false)
+        (λ len. (len + 1 ≡ token_len false (40 ∷ inside.now)) × (is_some (values_of (first_token (40 ∷ inside.now))) ≡ true)) }
 {
-    let place = far_position_of(inside, b')');
-    if place == inside.len() {
+    let position = far_position_of(inside, b')');
+    if position == inside.len() {
         return None;
     }
-    if !ends_word(inside, place + 1) {
+    if !ends_token(inside, position + 1) {
         return None;
     }
-    Some(place + 1)
+    Some(position + 1)
 }
 
-/// How long the values are that a text begins with, as they may stand behind `=`: a list in parentheses, or one plain
-/// value. None where its first word says no values.
+/// The length of the values that a text begins with, as they follow `=`: a list in parentheses, or one plain value.
+/// `None` if the first token is neither.
 fn values_len(text: &[u8]) -> Option<usize>
-    ensures { MatchOption result (is_some (values_of (word_front text.now)) ≡ false)
-        (λ len. (len ≡ word_len false text.now) × (is_some (values_of (word_front text.now)) ≡ true)) }
+    ensures { MatchOption result (is_some (values_of (first_token text.now)) ≡ false)
+        (λ len. (len ≡ token_len false text.now) × (is_some (values_of (first_token text.now)) ≡ true)) }
 {
     let Some((first, inside)) = text.split_first() else {
         return Some(0);
@@ -77,19 +77,18 @@ fn values_len(text: &[u8]) -> Option<usize>
         return Some(listed_len(inside)? + 1);
     }
     let len = plain_len(text);
-    if !ends_word(text, len) {
+    if !ends_token(text, len) {
         return None;
     }
     Some(len)
 }
 
-/// How long the first word of a text is that begins with one, where it says an argument: a key alone, or a key, `=` and
-/// values. So much of the text is the key.
+/// The length of the leading argument, if it is valid: a key alone, or a key, `=` and values. `key_len` is that of its key.
 pub(crate) fn argument_len(text: &[u8], key_len: usize) -> Option<usize>
     requires { key_len ≡ prefix_len is_key_byte text.now }
-    ensures argument { MatchOption result (argument_of (word_front text.now) ≡ None)
-        (λ len. (len ≡ word_len false text.now) × (says_argument (word_front text.now) ≡ true)) }
-    ensures key { IfSome result (λ len. key_len ≡ prefix_len is_key_byte (word_front text.now)) }
+    ensures argument { MatchOption result (argument_of (first_token text.now) ≡ None)
+        (λ len. (len ≡ token_len false text.now) × (is_argument (first_token text.now) ≡ true)) }
+    ensures key { IfSome result (λ len. key_len ≡ prefix_len is_key_byte (first_token text.now)) }
 {
     if key_len == 0 {
         return None;

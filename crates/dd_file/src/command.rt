@@ -1,16 +1,16 @@
 //! The command of a directive with its arguments.
 ghost use Rattle.std.specs.Prelude.{◌≡◌, true, false, IfOk, MatchOption, option_map};
-ghost use Rattle.dd_file.specs.WordParts.{word_front};
-ghost use Rattle.dd_file.specs.Words.{word_len, is_command_name, words_of, arguments_of, command_of};
+ghost use Rattle.dd_file.specs.TokenParts.{first_token};
+ghost use Rattle.dd_file.specs.DirectiveLine.{token_len, is_command_name, tokens_of, arguments_of, command_of};
 
-use crate::arguments::{argument_len, ends_word, key_len};
+use crate::arguments::{argument_len, ends_token, key_len};
 use crate::item::Argument;
-use crate::words::from_word;
+use crate::tokens::from_token;
 use smallvec::SmallVec;
 use std::alloc::{AllocError, Global};
 use std::marker::Model;
 
-/// The name of a command: a short one takes no memory.
+/// The name of a command.
 pub(crate) type Name = SmallVec<u8, 16>;
 
 /// A command and its arguments.
@@ -22,7 +22,7 @@ pub(crate) struct Command {
 
 impl Model for Command {
     ghost use Rattle.std.specs.Prelude.{◌≡◌, true};
-    ghost use Rattle.dd_file.specs.Words.{CommandText, has_keys};
+    ghost use Rattle.dd_file.specs.DirectiveLine.{CommandText, has_keys};
 
     ghost Value = { CommandText };
 
@@ -31,17 +31,16 @@ impl Model for Command {
     ghost invariant = { λ a. has_keys a.arguments.items ≡ true };
 }
 
-/// How long the first word of a text is that begins with one, where it can be a command: a key, and not `subtest`, which
-/// begins no directive.
+/// The length of the leading command name, if it is valid: a key other than `subtest`, which begins no directive.
 fn name_len(text: &[u8]) -> Option<usize>
-    ensures { MatchOption result (is_command_name (word_front text.now) ≡ false)
-        (λ len. (len ≡ word_len false text.now) × (is_command_name (word_front text.now) ≡ true)) }
+    ensures { MatchOption result (is_command_name (first_token text.now) ≡ false)
+        (λ len. (len ≡ token_len false text.now) × (is_command_name (first_token text.now) ≡ true)) }
 {
     let len = key_len(text);
     if len == 0 {
         return None;
     }
-    if !ends_word(text, len) {
+    if !ends_token(text, len) {
         return None;
     }
     if &text[..len] == b"subtest".as_slice() {
@@ -50,36 +49,36 @@ fn name_len(text: &[u8]) -> Option<usize>
     Some(len)
 }
 
-/// What the words of a text say as arguments, if each says one.
+/// Parses the tokens of a text as arguments; `None` if one of them is not an argument.
 fn parse_arguments(alloc: Global, text: &[u8]) -> Result<Option<Vec<Argument>>, AllocError>
-    ensures { IfOk result (λ found. option_map (λ arguments. arguments.items) found ≡ arguments_of (words_of text.now)) }
+    ensures { IfOk result (λ found. option_map (λ arguments. arguments.items) found ≡ arguments_of (tokens_of text.now)) }
 {
     let mut arguments = Vec::new(alloc);
     let mut rest = text;
-    while let Some(begun) = from_word(rest) {
+    while let Some(begun) = from_token(rest) {
         let key_len = key_len(begun);
         let Some(len) = argument_len(begun, key_len) else {
             return Ok(None);
         };
-        let (word, behind) = begun.split_at(len);
-        arguments.push(Argument::new(alloc, word, key_len)?)?;
-        rest = behind;
+        let (token, suffix) = begun.split_at(len);
+        arguments.push(Argument::new(alloc, token, key_len)?)?;
+        rest = suffix;
     }
     Ok(Some(arguments))
 }
 
-/// What a text says as a directive, or nothing where it is none.
+/// Parses a directive line; `None` if it is not valid.
 pub(crate) fn parse_command(alloc: Global, text: &[u8]) -> Result<Option<Command>, AllocError>
     ensures { IfOk result (λ found. found ≡ command_of text.now) }
 {
-    let Some(begun) = from_word(text) else {
+    let Some(begun) = from_token(text) else {
         return Ok(None);
     };
     let Some(len) = name_len(begun) else {
         return Ok(None);
     };
-    let (name, behind) = begun.split_at(len);
-    match parse_arguments(alloc, behind)? {
+    let (name, suffix) = begun.split_at(len);
+    match parse_arguments(alloc, suffix)? {
         Some(arguments) => Ok(Some(Command {
             name: Name::from_slice(alloc, name)?,
             arguments,

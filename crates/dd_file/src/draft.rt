@@ -2,7 +2,7 @@
 ghost use Rattle.std.specs.Prelude.{◌≡◌, ◌<◌, ◌+◌, ◌^◌, [], ◌∷◌, ◌++◌, true, false, length, IfOk, IfErr, OnOk};
 ghost use Rattle.std.specs.List.{list_all};
 ghost use Rattle.dd_file.specs.Script.{is_continued};
-ghost use Rattle.dd_file.specs.Draft.{blank_draft, counted, Fits, FitsIn, AddsIn, phase_after_head, begins_directive, front_of, found_of, is_done, ends_in_dashes, IsDraftFault, at_line};
+ghost use Rattle.dd_file.specs.Draft.{blank_draft, counted, Fits, FitsIn, AddsIn, phase_after_directive_line, begins_directive, first_item_of, found_of, is_done, ends_in_dashes, IsDraftFault, at_line};
 
 use crate::command::{Command, parse_command};
 use crate::fault::FileFault;
@@ -16,15 +16,15 @@ use std::alloc::{AllocError, Global};
 use std::marker::Model;
 use std::mem::replace;
 
-/// The lines of an item so far, by the parts that they belong to. Separators are no part.
+/// The lines of an item so far, by the parts that they belong to. Separators belong to none.
 #[derive(Drop)]
 pub(crate) struct Draft {
     alloc: Global,
     line: usize,
-    /// The lines of the head, and then those of the input.
+    /// The directive lines, and then the lines of the input.
     raw_lines: RawLines,
-    /// How many of them are of the head.
-    heads: usize,
+    /// How many of them are directive lines.
+    directive_line_count: usize,
     expected: RawLines,
     count: usize,
     phase: Phase,
@@ -38,18 +38,18 @@ impl Model for Draft {
 
     ghost view = { λ a. record {
       line = a.line;
-      head = take a.heads a.raw_lines;
-      input = drop a.heads a.raw_lines;
+      directive_lines = take a.directive_line_count a.raw_lines;
+      input = drop a.directive_line_count a.raw_lines;
       expected = a.expected;
       count = a.count;
       phase = a.phase;
     } };
 
-    ghost invariant = { λ a. a.heads ≤ length a.raw_lines };
+    ghost invariant = { λ a. a.directive_line_count ≤ length a.raw_lines };
 }
 
 impl Draft {
-    /// An item that will begin at this line, counted from 1. Its lines are read into the memory of these.
+    /// An item without lines yet, which begins at this line, counted from 1. The memory of `raw_lines` is reused.
     pub(crate) fn new(alloc: Global, line: usize, raw_lines: RawLines) -> Draft
         requires { raw_lines ≡ [] }
         ensures { result ≡ blank_draft line }
@@ -58,7 +58,7 @@ impl Draft {
             alloc,
             line,
             raw_lines,
-            heads: 0,
+            directive_line_count: 0,
             expected: RawLines::new(alloc),
             count: 0,
             phase: Phase::Begin,
@@ -79,7 +79,7 @@ impl Draft {
         Ok(self.phase.is_done())
     }
 
-    /// Keeps a line where it belongs, and returns the phase after it.
+    /// Adds a line to the part that it belongs to, and returns the phase after it.
     fn next_phase(&mut self, phase: Phase, line: &[u8]) -> Result<Phase, AllocError>
         requires fits { FitsIn phase self.old }
         requires open_end { is_done phase ≡ false }
@@ -87,7 +87,7 @@ impl Draft {
     {
         match phase {
             Phase::Begin => self.add_first(line),
-            Phase::Head => self.add_head(line),
+            Phase::DirectiveLines => self.add_directive_line(line),
             Phase::Input(command) => self.add_input(command, line),
             Phase::Separator(command) => self.add_output(command, line),
             Phase::Single(command) => self.add_single(command, line),
@@ -97,17 +97,17 @@ impl Draft {
         }
     }
 
-    /// Keeps a line of the head.
-    fn keep_head(&mut self, line: &[u8]) -> Result<(), AllocError>
+    /// Adds a directive line.
+    fn keep_directive_line(&mut self, line: &[u8]) -> Result<(), AllocError>
         requires { self.old.input ≡ [] }
-        ensures { OnOk result (self.new ≡ record self.old { head = self.old.head ++ line.now ∷ [] }) }
+        ensures { OnOk result (self.new ≡ record self.old { directive_lines = self.old.directive_lines ++ line.now ∷ [] }) }
     {
         self.raw_lines.push(line)?;
-        self.heads = self.raw_lines.count();
+        self.directive_line_count = self.raw_lines.count();
         Ok(())
     }
 
-    /// Keeps a line of the input.
+    /// Adds a line of the input.
     fn keep_input(&mut self, line: &[u8]) -> Result<(), AllocError>
         ensures { OnOk result (self.new ≡ record self.old { input = self.old.input ++ line.now ∷ [] }) }
     {
@@ -119,33 +119,33 @@ impl Draft {
         ensures { IfOk result (λ next. AddsIn Phase.Begin self.old (counted self.new next) line.now) }
     {
         if is_comment(line) {
-            self.keep_head(line)?;
+            self.keep_directive_line(line)?;
             Ok(Phase::CommentLine)
         } else if is_blank(line) {
-            self.keep_head(line)?;
+            self.keep_directive_line(line)?;
             Ok(Phase::BlankLines)
         } else {
-            self.add_head(line)
+            self.add_directive_line(line)
         }
     }
 
-    /// A head is complete with the first line that is not continued.
-    fn add_head(&mut self, line: &[u8]) -> Result<Phase, AllocError>
-        requires begins { begins_directive (self.old.head ++ line.now ∷ []) ≡ true }
-        requires continued { list_all is_continued self.old.head ≡ true }
+    /// The directive lines end with the first one that is not continued.
+    fn add_directive_line(&mut self, line: &[u8]) -> Result<Phase, AllocError>
+        requires begins { begins_directive (self.old.directive_lines ++ line.now ∷ []) ≡ true }
+        requires continued { list_all is_continued self.old.directive_lines ≡ true }
         requires empty { (self.old.input ≡ []) × (self.old.expected ≡ []) }
-        requires counted { self.old.count ≡ length self.old.head }
-        ensures { IfOk result (λ next. AddsIn Phase.Head self.old (counted self.new next) line.now) }
+        requires counted { self.old.count ≡ length self.old.directive_lines }
+        ensures { IfOk result (λ next. AddsIn Phase.DirectiveLines self.old (counted self.new next) line.now) }
     {
-        self.keep_head(line)?;
+        self.keep_directive_line(line)?;
         if is_continued(line) {
-            return Ok(Phase::Head);
+            return Ok(Phase::DirectiveLines);
         }
-        if self.heads == 1 {
-            return phase_after_head(self.alloc, trimmed(line));
+        if self.directive_line_count == 1 {
+            return phase_after_directive_line(self.alloc, trimmed(line));
         }
         let text = joined(self.alloc, &self.raw_lines)?;
-        phase_after_head(self.alloc, text.as_slice())
+        phase_after_directive_line(self.alloc, text.as_slice())
     }
 
     fn add_input(&mut self, command: Command, line: &[u8]) -> Result<Phase, AllocError>
@@ -208,7 +208,7 @@ impl Draft {
         }
     }
 
-    /// A fault of the lines as that of the item.
+    /// An error of the lines as that of the item.
     pub(crate) fn fault_at(&self, fault: FileFault) -> FileFault
         ensures { result ≡ at_line self.now.line fault }
     {
@@ -218,20 +218,19 @@ impl Draft {
         }
     }
 
-    /// The item that the lines so far are where no further line belongs to it, or its fault.
-    // Written out where it is called, so that its parts are moved once.
+    /// The item of the lines so far if no further line comes, or its error.
     #[inline(always)]
     pub(crate) fn finish(self) -> Result<Option<Item>, FileFault>
         requires fits { Fits self }
         requires room { self.line + self.count < 2 ^ 62 }
-        ensures found { result ≡ found_of (front_of self []) }
+        ensures found { result ≡ found_of (first_item_of self []) }
         ensures kind { IfErr result (IsDraftFault self.line) }
     {
         let Draft {
             alloc: _,
             line,
             raw_lines,
-            heads,
+            directive_line_count,
             expected,
             count,
             phase,
@@ -240,7 +239,7 @@ impl Draft {
             Phase::Begin => return Ok(None),
             Phase::CommentLine => return Ok(Some(Item::Comment(raw_lines))),
             Phase::BlankLines => return Ok(Some(Item::Blank(raw_lines))),
-            Phase::Head => return Err(FileFault::BadDirective(line)),
+            Phase::DirectiveLines => return Err(FileFault::BadDirective(line)),
             Phase::NoCommand => return Err(FileFault::BadDirective(line)),
             Phase::Double(_) => return Err(FileFault::UnclosedDouble(line)),
             Phase::AfterPair => return Err(FileFault::AfterDouble(line + (count - 1))),
@@ -251,13 +250,19 @@ impl Draft {
             | Phase::Complete(command) => command,
         };
         let expected = expected.into_text();
-        Ok(Some(Item::Directive(Directive::new(line, command, raw_lines, heads, expected))))
+        Ok(Some(Item::Directive(Directive::new(
+            line,
+            command,
+            raw_lines,
+            directive_line_count,
+            expected,
+        ))))
     }
 }
 
-/// The phase after a head with this text: it has a command, nothing or neither.
-fn phase_after_head(alloc: Global, text: &[u8]) -> Result<Phase, AllocError>
-    ensures { IfOk result (λ phase. phase ≡ phase_after_head text.now) }
+/// The phase after directive lines with this text, which may be blank, have a command, or be invalid.
+fn phase_after_directive_line(alloc: Global, text: &[u8]) -> Result<Phase, AllocError>
+    ensures { IfOk result (λ phase. phase ≡ phase_after_directive_line text.now) }
 {
     if is_blank(text) {
         return Ok(Phase::BlankLines);

@@ -1,9 +1,9 @@
 //! Reading an input line by line.
 ghost use Rattle.std.specs.Prelude.{◌≡◌, ◌≤◌, ◌<◌, ◌+◌, ◌||◌, None, [], true, false, IfOk, IfErr, IsOkUnless, MatchOption, length, vec_len};
-ghost use Rattle.dd_file.specs.Place.{longest_input};
-ghost use Rattle.dd_file.specs.InHand.{HeldReadsOn, is_line_in_hand, CanTell, passed};
+ghost use Rattle.dd_file.specs.Position.{longest_input};
+ghost use Rattle.dd_file.specs.Buffered.{BufferedReadsOn, is_line_buffered, CanReadBuffered, passed};
 ghost use Rattle.ascii_text.specs.Lines.{line_of, without_last};
-ghost use Rattle.dd_file.specs.PieceRead.{PieceRead, PieceFault};
+ghost use Rattle.dd_file.specs.FullLineRead.{FullLineRead, FullLineFault};
 ghost use Rattle.dd_file.specs.Reading.{next_line};
 ghost use Rattle.dd_file.specs.ReaderState.{fresh, IsWithin};
 ghost use Rattle.dd_file.specs.Answer.{ReadsOn, MovesOn, IsLineFault, is_read_fault};
@@ -12,11 +12,11 @@ use crate::buffer::Buffer;
 use crate::device::Source;
 use crate::fault::FileFault;
 use crate::line::Line;
-use ascii_text::lines::{is_whole, line_of, first_line_len, without_end};
+use ascii_text::lines::{first_line_len, is_whole, line_of, without_end};
 use std::alloc::Global;
 use std::marker::Model;
 
-/// The most bytes that an input may have.
+/// The greatest length of an input in bytes.
 const LONGEST_INPUT: usize = 0x3fff_ffff;
 
 /// Reads the lines of an input.
@@ -36,9 +36,9 @@ impl Model for Lines {
     ghost Value = { ReaderState };
 
     ghost view = { λ a. record {
-      held = a.buffer;
+      buffered = a.buffer;
       is_ended = a.is_ended;
-      place = record { lines = a.lines; bytes = a.bytes };
+      position = record { lines = a.lines; bytes = a.bytes };
       fault = a.fault;
     } };
 
@@ -46,7 +46,7 @@ impl Model for Lines {
 }
 
 impl Lines {
-    /// A reader of lines that has read nothing yet.
+    /// A reader at the beginning of its input.
     pub fn new(alloc: Global) -> Result<Lines, FileFault>
         ensures fresh { IfOk result (λ lines. lines ≡ fresh) }
         ensures memory { IsOkUnless result FileFault.NoMemory }
@@ -62,9 +62,9 @@ impl Lines {
         })
     }
 
-    /// The next line, without its newline and one carriage return before it; none at the end and from then on. After
-    /// a fault it answers that fault again: `InputTooLong` for an input of 2^30 bytes or more, `Read` where a read
-    /// failed, or `NoMemory`.
+    /// The next line, without its newline and one carriage return before it; `None` at the end and from then on. The
+    /// errors are `InputTooLong` for an input of 2^30 bytes or more, `Read` if a read failed, and `NoMemory`. An error is
+    /// permanent: later calls return it again.
     pub fn next<R: Source>(&mut self, reader: &mut R) -> Result<Option<Line>, FileFault>
         ensures { ReadsOn R.remaining R.has_failed (λ line. line) (next_line longest_input) IsLineFault self.old self.new reader.old reader.new result }
     {
@@ -75,7 +75,7 @@ impl Lines {
         if self.is_ended {
             return Ok(None);
         }
-        match self.read_piece(reader) {
+        match self.read_line(reader) {
             Ok(full_line) => Ok(self.take_line(full_line)),
             Err(fault) => {
                 self.fault = Some(fault);
@@ -84,18 +84,21 @@ impl Lines {
         }
     }
 
-    /// The next line where its newline is in hand, so that no reader is asked. Nothing is done where what is held does
-    /// not tell: it has no newline, or the end was met or a fault, or the limit may be passed in it (own).
-    pub fn next_held<R: Source>(&mut self, reader: &R) -> Option<Result<Option<Line>, FileFault>>
-        ensures { HeldReadsOn R.remaining R.has_failed (λ line. line) (next_line longest_input) IsLineFault is_line_in_hand self.old self.new reader.now result }
+    /// The next line if it is buffered, so that nothing is read. `None`, and nothing changes, if no newline is buffered, the
+    /// end was reached, an error was returned, or the buffered bytes may exceed the limit (own).
+    pub fn next_buffered<R: Source>(
+        &mut self,
+        reader: &R,
+    ) -> Option<Result<Option<Line>, FileFault>>
+        ensures { BufferedReadsOn R.remaining R.has_failed (λ line. line) (next_line longest_input) IsLineFault is_line_buffered self.old self.new reader.now result }
     {
         let _ = reader;
-        if !self.can_tell() {
+        if !self.can_read_buffered() {
             return None;
         }
-        let held = self.held();
-        let len = first_line_len(held);
-        let full_line = &held[..len];
+        let buffered = self.buffered();
+        let len = first_line_len(buffered);
+        let full_line = &buffered[..len];
         if !is_whole(full_line) {
             return None;
         }
@@ -111,29 +114,29 @@ impl Lines {
         }
     }
 
-    /// Whether what is held is told line by line: there is no fault, the end was not met, and the limit is not passed in it.
-    pub(crate) fn can_tell(&self) -> bool
-        ensures told { result ≡ true → CanTell self.now }
-        ensures untold { CanTell self.now → result ≡ true }
-        ensures within { IsWithin self.now.held self.now.is_ended self.now.place.lines self.now.place.bytes }
+    /// Whether buffered lines may be returned: no error was returned, the end was not reached, and the limit is not exceeded.
+    pub(crate) fn can_read_buffered(&self) -> bool
+        ensures ready { result ≡ true → CanReadBuffered self.now }
+        ensures not_ready { CanReadBuffered self.now → result ≡ true }
+        ensures within { IsWithin self.now.buffered self.now.is_ended self.now.position.lines self.now.position.bytes }
     {
         self.fault.is_none()
             && !self.is_ended
-            && self.buffer.held().len() <= LONGEST_INPUT - self.bytes
+            && self.buffer.buffered().len() <= LONGEST_INPUT - self.bytes
     }
 
-    /// The bytes that are held.
-    pub(crate) fn held(&self) -> &[u8]
-        ensures { result.now ≡ self.now.held }
+    /// The buffered bytes.
+    pub(crate) fn buffered(&self) -> &[u8]
+        ensures { result.now ≡ self.now.buffered }
     {
-        self.buffer.held()
+        self.buffer.buffered()
     }
 
-    /// Gives out so many lines of so many bytes of what is held.
+    /// Counts these lines and bytes as returned, and drops the bytes from the buffer.
     pub(crate) fn pass(&mut self, lines: usize, bytes: usize)
-        requires held { bytes ≤ length self.old.held }
+        requires buffered { bytes ≤ length self.old.buffered }
         requires some { lines ≤ bytes }
-        requires limit { self.old.place.bytes + bytes ≤ longest_input }
+        requires limit { self.old.position.bytes + bytes ≤ longest_input }
         ensures { self.new ≡ passed self.old lines bytes }
     {
         self.buffer.pass(bytes);
@@ -141,40 +144,40 @@ impl Lines {
         self.bytes += bytes;
     }
 
-    /// Whether the end was met, and so everything before it was given out.
+    /// Whether the end was reached and everything before it was returned.
     pub(crate) fn is_over(&self) -> bool
         ensures ended { result ≡ self.now.is_ended }
-        ensures empty { self.now.is_ended ≡ true → self.now.held ≡ [] }
-        ensures limit { self.now.place.bytes ≤ longest_input }
-        ensures counted { self.now.place.lines ≤ longest_input }
+        ensures empty { self.now.is_ended ≡ true → self.now.buffered ≡ [] }
+        ensures limit { self.now.position.bytes ≤ longest_input }
+        ensures counted { self.now.position.lines ≤ longest_input }
     {
         let _ = &self.buffer;
         self.is_ended
     }
 
-    /// How many lines were given out.
+    /// How many lines were returned.
     pub(crate) fn count(&self) -> usize
-        ensures count { result ≡ self.now.place.lines }
-        ensures limit { self.now.place.lines ≤ longest_input }
+        ensures count { result ≡ self.now.position.lines }
+        ensures limit { self.now.position.lines ≤ longest_input }
     {
         self.lines
     }
 
-    /// Reads the bytes of the next line with its newline, or what is left at the end.
-    fn read_piece<R: Source>(&mut self, reader: &mut R) -> Result<Vec<u8>, FileFault>
+    /// Reads the next full line, or what is left at the end.
+    fn read_line<R: Source>(&mut self, reader: &mut R) -> Result<Vec<u8>, FileFault>
         requires faultless { self.old.fault ≡ None }
         requires unended { self.old.is_ended ≡ false }
-        ensures place { self.new.place ≡ self.old.place }
+        ensures position { self.new.position ≡ self.old.position }
         ensures faultless { self.new.fault ≡ None }
-        ensures full_line { IfOk result (λ full_line. PieceRead self.old self.new (R.remaining reader.old) (R.remaining reader.new) full_line.items) }
-        ensures fault { IfErr result (PieceFault self.old self.new (R.remaining reader.old) (R.remaining reader.new)) }
+        ensures full_line { IfOk result (λ full_line. FullLineRead self.old self.new (R.remaining reader.old) (R.remaining reader.new) full_line.items) }
+        ensures fault { IfErr result (FullLineFault self.old self.new (R.remaining reader.old) (R.remaining reader.new)) }
         ensures moves { MovesOn R.remaining self.old self.new reader.old reader.new }
         ensures read { R.has_failed reader.new ≡ (R.has_failed reader.old || is_read_fault result) }
     {
         let mut full_line = Vec::new(self.alloc);
         loop {
             self.buffer
-                .move_piece(&mut full_line)
+                .move_line(&mut full_line)
                 .map_err(|_| FileFault::NoMemory)?;
             if full_line.len() > LONGEST_INPUT - self.bytes {
                 return Err(FileFault::InputTooLong(self.lines + 1));
@@ -187,13 +190,13 @@ impl Lines {
         }
     }
 
-    /// Counts the piece that was read, and answers its line.
+    /// Counts a full line that was read, and returns its line.
     fn take_line(&mut self, mut full_line: Vec<u8>) -> Option<Line>
-        requires { self.old.place.bytes + vec_len full_line ≤ longest_input }
+        requires { self.old.position.bytes + vec_len full_line ≤ longest_input }
         ensures { MatchOption result
             ((full_line.items ≡ []) × (self.new ≡ self.old))
-            (λ line. (line ≡ line_of full_line.items) × (0 < length full_line.items) × (self.old.place.lines + 1 ≤ longest_input)
-            × (self.new ≡ record self.old { place = record { lines = self.old.place.lines + 1; bytes = self.old.place.bytes + length full_line.items } })) }
+            (λ line. (line ≡ line_of full_line.items) × (0 < length full_line.items) × (self.old.position.lines + 1 ≤ longest_input)
+            × (self.new ≡ record self.old { position = record { lines = self.old.position.lines + 1; bytes = self.old.position.bytes + length full_line.items } })) }
     {
         if full_line.is_empty() {
             return None;

@@ -1,9 +1,9 @@
 //! Reading a script item by item.
 ghost use Rattle.std.specs.Prelude.{◌≡◌, [], None, true, false, IfOk, IfSome, IsOkUnless, OnOk};
-ghost use Rattle.dd_file.specs.Place.{longest_input};
+ghost use Rattle.dd_file.specs.Position.{longest_input};
 ghost use Rattle.dd_file.specs.Reading.{next_item};
 ghost use Rattle.dd_file.specs.ReaderState.{fresh, IsWithin};
-ghost use Rattle.dd_file.specs.InHand.{CanTell, HeldReadsOn, is_item_in_hand};
+ghost use Rattle.dd_file.specs.Buffered.{CanReadBuffered, BufferedReadsOn, is_item_buffered};
 ghost use Rattle.dd_file.specs.Answer.{ReadsOn, IsItemFault, fault_of};
 
 use crate::device::Source;
@@ -12,7 +12,7 @@ use crate::fault::FileFault;
 use crate::item::Item;
 use crate::lines::Lines;
 use crate::raw_lines::RawLines;
-use ascii_text::lines::{is_whole, line_of, first_line_len};
+use ascii_text::lines::{first_line_len, is_whole, line_of};
 use std::alloc::Global;
 use std::marker::Model;
 
@@ -22,8 +22,8 @@ pub struct Reader {
     alloc: Global,
     lines: Lines,
     fault: Option<FileFault>,
-    /// No text, in the memory of one that is done with.
-    spare: Vec<u8>,
+    /// An empty buffer, whose memory the raw lines of the next item reuse.
+    text_buffer: Vec<u8>,
 }
 
 impl Model for Reader {
@@ -34,11 +34,11 @@ impl Model for Reader {
 
     ghost view = { λ a. record a.lines { fault = a.fault } };
 
-    ghost invariant = { λ a. (a.fault ≡ None → a.lines.fault ≡ None) × (a.spare.items ≡ []) };
+    ghost invariant = { λ a. (a.fault ≡ None → a.lines.fault ≡ None) × (a.text_buffer.items ≡ []) };
 }
 
 impl Reader {
-    /// A reader of items that has read nothing yet.
+    /// A reader at the beginning of its script.
     pub fn new(alloc: Global) -> Result<Reader, FileFault>
         ensures fresh { IfOk result (λ reading. reading ≡ fresh) }
         ensures memory { IsOkUnless result FileFault.NoMemory }
@@ -47,12 +47,13 @@ impl Reader {
             alloc,
             lines: Lines::new(alloc)?,
             fault: None,
-            spare: Vec::new(alloc),
+            text_buffer: Vec::new(alloc),
         })
     }
 
-    /// The next item; none at the end and from then on. After a fault it answers that fault again: what is wrong with
-    /// the script, `InputTooLong` for an input of 2^30 bytes or more, `Read` where a read failed, or `NoMemory`.
+    /// The next item; `None` at the end and from then on. The errors are those of the script's syntax, `InputTooLong` for an
+    /// input of 2^30 bytes or more, `Read` if a read failed, and `NoMemory`. An error is permanent: later calls return it
+    /// again.
     pub fn next<R: Source>(&mut self, reader: &mut R) -> Result<Option<Item>, FileFault>
         ensures { ReadsOn R.remaining R.has_failed (λ item. item) (next_item longest_input) IsItemFault self.old self.new reader.old reader.new result }
     {
@@ -63,49 +64,51 @@ impl Reader {
         if self.lines.is_over() {
             return Ok(None);
         }
-        let raw_lines = RawLines::over(self.alloc, &mut self.spare);
+        let raw_lines = RawLines::over(self.alloc, &mut self.text_buffer);
         let found = read_item(self.alloc, raw_lines, &mut self.lines, reader);
         self.fault = fault_in(&found);
         found
     }
 
-    /// The next item where all its lines are in hand, so that no reader is asked. Nothing is done where what is held
-    /// does not tell: no item ends in it, or the end was met or a fault, or the limit may be passed in it (own).
-    // Written out where it is called, as what it calls is, so that an item is built where it stays.
+    /// The next item if all its lines are buffered, so that nothing is read. `None`, and nothing changes, if no item ends in
+    /// the buffered bytes, the end was reached, an error was returned, or the buffered bytes may exceed the limit (own).
     #[inline(always)]
-    pub fn next_held<R: Source>(&mut self, reader: &R) -> Option<Result<Option<Item>, FileFault>>
-        ensures { HeldReadsOn R.remaining R.has_failed (λ item. item) (next_item longest_input) IsItemFault is_item_in_hand self.old self.new reader.now result }
+    pub fn next_buffered<R: Source>(
+        &mut self,
+        reader: &R,
+    ) -> Option<Result<Option<Item>, FileFault>>
+        ensures { BufferedReadsOn R.remaining R.has_failed (λ item. item) (next_item longest_input) IsItemFault is_item_buffered self.old self.new reader.now result }
     {
-        if !self.can_tell() {
+        if !self.can_read_buffered() {
             return None;
         }
-        let raw_lines = RawLines::over(self.alloc, &mut self.spare);
-        let answer = held_item(self.alloc, raw_lines, &mut self.lines, reader)?;
+        let raw_lines = RawLines::over(self.alloc, &mut self.text_buffer);
+        let answer = buffered_item(self.alloc, raw_lines, &mut self.lines, reader)?;
         self.fault = fault_in(&answer);
         Some(answer)
     }
 
-    /// Takes back an item that is done with, so that a later one is read into its memory (own).
+    /// Gives back an item that is no longer used. Its memory is reused for a later one (own).
     #[inline(always)]
     pub fn reuse(&mut self, item: Item)
         ensures { self.new ≡ self.old }
     {
         let mut text = item.into_raw_lines().into_text();
         text.clear();
-        self.spare = text;
+        self.text_buffer = text;
     }
 
-    /// Whether what is held is told item by item: there is no fault, the end was not met, and the limit is not passed in it.
-    fn can_tell(&self) -> bool
-        ensures told { result ≡ true → CanTell self.now }
-        ensures untold { CanTell self.now → result ≡ true }
-        ensures within { result ≡ true → IsWithin self.now.held self.now.is_ended self.now.place.lines self.now.place.bytes }
+    /// Whether buffered items may be returned: no error was returned, the end was not reached, and the limit is not exceeded.
+    fn can_read_buffered(&self) -> bool
+        ensures ready { result ≡ true → CanReadBuffered self.now }
+        ensures not_ready { CanReadBuffered self.now → result ≡ true }
+        ensures within { result ≡ true → IsWithin self.now.buffered self.now.is_ended self.now.position.lines self.now.position.bytes }
     {
-        self.fault.is_none() && self.lines.can_tell()
+        self.fault.is_none() && self.lines.can_read_buffered()
     }
 }
 
-/// The fault of an answer, if it is one.
+/// The error of a result, if it is one.
 fn fault_in(found: &Result<Option<Item>, FileFault>) -> Option<FileFault>
     ensures { result ≡ fault_of found.now }
 {
@@ -115,7 +118,7 @@ fn fault_in(found: &Result<Option<Item>, FileFault>) -> Option<FileFault>
     }
 }
 
-/// Reads the lines of one item into the memory of these, and no further.
+/// Reads the lines of one item, and none after them. The memory of `raw_lines` is reused.
 fn read_item<R: Source>(
     alloc: Global,
     raw_lines: RawLines,
@@ -143,28 +146,28 @@ fn read_item<R: Source>(
     }
 }
 
-/// Reads the lines of one item into the memory of these, off what is held, where all of them are there. Else nothing is taken.
+/// The next item if all its lines are buffered; else nothing is consumed. The memory of `raw_lines` is reused.
 #[inline(always)]
-fn held_item<R: Source>(
+fn buffered_item<R: Source>(
     alloc: Global,
     raw_lines: RawLines,
     lines: &mut Lines,
     reader: &R,
 ) -> Option<Result<Option<Item>, FileFault>>
     requires empty { raw_lines ≡ [] }
-    requires tells { CanTell lines.old }
-    requires within { IsWithin lines.old.held lines.old.is_ended lines.old.place.lines lines.old.place.bytes }
-    ensures told { IfSome result (λ answer. ReadsOn R.remaining R.has_failed (λ item. item) (next_item longest_input) IsItemFault lines.old
+    requires can_read { CanReadBuffered lines.old }
+    requires within { IsWithin lines.old.buffered lines.old.is_ended lines.old.position.lines lines.old.position.bytes }
+    ensures read { IfSome result (λ answer. ReadsOn R.remaining R.has_failed (λ item. item) (next_item longest_input) IsItemFault lines.old
         (record lines.new { fault = fault_of answer }) reader.now reader.now answer) }
-    ensures untold { result ≡ None → (lines.new ≡ lines.old) × (is_item_in_hand lines.old.place lines.old.held ≡ false) }
+    ensures unread { result ≡ None → (lines.new ≡ lines.old) × (is_item_buffered lines.old.position lines.old.buffered ≡ false) }
     ensures faultless { lines.new.fault ≡ None }
 {
     let _ = reader;
     let mut draft = Draft::new(alloc, lines.count() + 1, raw_lines);
     let mut count = 0;
     let mut taken = 0;
-    'held: loop {
-        let rest = &lines.held()[taken..];
+    'buffered: loop {
+        let rest = &lines.buffered()[taken..];
         let len = first_line_len(rest);
         let full_line = &rest[..len];
         if !is_whole(full_line) {

@@ -31,7 +31,7 @@ static ITEMS: [(&[u8], &[u8]); 5] = [
 
 // What a reader gives next: what is in hand, or else what it reads.
 fn next_item<R: Source>(reader: &mut Reader, source: &mut R) -> Result<Option<Item>, FileFault> {
-    match reader.next_held(source) {
+    match reader.next_buffered(source) {
         Some(found) => found,
         None => reader.next(source),
     }
@@ -39,7 +39,7 @@ fn next_item<R: Source>(reader: &mut Reader, source: &mut R) -> Result<Option<It
 
 // The same of lines.
 fn next_line<R: Source>(lines: &mut Lines, source: &mut R) -> Result<Option<Line>, FileFault> {
-    match lines.next_held(source) {
+    match lines.next_buffered(source) {
         Some(found) => found,
         None => lines.next(source),
     }
@@ -54,7 +54,7 @@ fn is_written(item: &Item, is_double: bool, wanted: &'static [u8]) -> bool {
         let found = if is_double {
             rewriter.found(&mut writer, b"a\n\n")
         } else {
-            rewriter.found_full_lines(&mut writer, b"a\n")
+            rewriter.found_without_blanks(&mut writer, b"a\n")
         };
         is_kept &= found.is_ok();
     }

@@ -3,8 +3,8 @@ use Rattle.std.proofs.Common.{◌≡◌, ◌≤◌, ℕ, Bool, true, false, List
 use Rattle.std.specs.Prelude.{◌⊎◌, Option, Some, None, Result, Ok, Err}
 use Rattle.std.specs.Io.KnownBytes.{IsAtEnd}
 use Rattle.std.proofs.lemmas.List.{append_assoc, append-nil, append_cancel_right}
-use Rattle.dd_file.specs.Device.{LosesFront}
-use Rattle.dd_file.specs.Place.{Place, start}
+use Rattle.dd_file.specs.Device.{LosesPrefix}
+use Rattle.dd_file.specs.Position.{Position, start}
 use Rattle.dd_file.specs.Reading.{Next, Script, script_from, followed}
 use Rattle.dd_file.specs.ReaderState.{ReaderState, fresh}
 use Rattle.dd_file.specs.Answer.{Agrees, ReadsOn, IsCutShort, next_in_answer}
@@ -13,52 +13,52 @@ use Rattle.dd_file.proofs.Offered.{consumes-append, agrees-in_turn}
 use Rattle.conf_tool.specs.Answered.{script, prepended}
 
 -- known bytes that lose a part at their front
-pub loses-nothing : (now : Option (List ℕ)) → LosesFront now now
+pub loses-nothing : (now : Option (List ℕ)) → LosesPrefix now now
 loses-nothing None = ([], tt)
 loses-nothing (Some bytes) = ([], refl)
 
-pub loses-more : (begin now later : Option (List ℕ)) → LosesFront begin now → LosesFront now later → LosesFront begin later
+pub loses-more : (begin now later : Option (List ℕ)) → LosesPrefix begin now → LosesPrefix now later → LosesPrefix begin later
 loses-more begin now later a b = (a.0 ++ b.0, consumes-append begin now later a.0 b.0 a.1 b.1)
 
 -- nothing was read yet
 begin-input : (begin : Option (List ℕ)) (input more : List ℕ) → Agrees fresh begin begin input more → input ≡ more
 begin-input None input more agrees = absurd agrees
-begin-input (Some bytes) input more agrees = agrees.whole ∙ ap (λ t. ([] ++ t) ++ more) (append_cancel_right agrees.given [] bytes (sym agrees.told))
+begin-input (Some bytes) input more agrees = agrees.whole ∙ ap (λ t. ([] ++ t) ++ more) (append_cancel_right agrees.given [] bytes (sym agrees.consumed))
 
 -- what is read is what comes next, and then the rest
-abbrev pub InTurn : {A : Type 0} → (Place → List ℕ → Next A) → Type 0
-InTurn next = (place : Place) (bytes : List ℕ) → script_from next place bytes ≡ followed (script_from next) (next place bytes)
+abbrev pub InTurn : {A : Type 0} → (Position → List ℕ → Next A) → Type 0
+InTurn next = (place : Position) (bytes : List ℕ) → script_from next place bytes ≡ followed (script_from next) (next place bytes)
 
 -- Each input that agrees with what was read has these parts in front of what is read from there on.
-pub record Reached {A : Type 0} (next : Place → List ℕ → Next A) (begin now : Option (List ℕ)) (state : ReaderState) (parts : List A) : Type 0 where
-  pub taken : LosesFront begin now
+pub record Reached {A : Type 0} (next : Position → List ℕ → Next A) (begin now : Option (List ℕ)) (state : ReaderState) (parts : List A) : Type 0 where
+  pub taken : LosesPrefix begin now
   pub ended : state.is_ended ≡ true → IsAtEnd now
   pub open_end : state.fault ≡ None
-  pub read : (input more : List ℕ) → Agrees fresh begin now input more → script_from next start input ≡ prepended parts (script_from next state.place (state.held ++ more))
+  pub read : (input more : List ℕ) → Agrees fresh begin now input more → script_from next start input ≡ prepended parts (script_from next state.position (state.buffered ++ more))
   -- each part has a line
-  pub few : length parts ≤ state.place.lines
+  pub few : length parts ≤ state.position.lines
 
-pub reached-begin : {A : Type 0} (next : Place → List ℕ → Next A) (begin : Option (List ℕ)) (state : ReaderState) → state ≡ fresh → Reached next begin begin state []
+pub reached-begin : {A : Type 0} (next : Position → List ℕ → Next A) (begin : Option (List ℕ)) (state : ReaderState) → state ≡ fresh → Reached next begin begin state []
 reached-begin next begin state is_fresh = record {
   taken = loses-nothing begin;
   ended = λ yes. let bad : true ≡ false = sym yes ∙ ap (λ s. s.is_ended) is_fresh in cc;
   open_end = ap (λ s. s.fault) is_fresh;
   read = λ input more agrees.
       ap (script_from next start) (begin-input begin input more agrees)
-      ∙ ap (λ (t : ReaderState). prepended [] (script_from next t.place (t.held ++ more))) (sym is_fresh);
+      ∙ ap (λ (t : ReaderState). prepended [] (script_from next t.position (t.buffered ++ more))) (sym is_fresh);
   few = omega arith;
 }
 
 -- an input by what a call of the reader answers
-pub reached-answer : {A R X : Type 0} (next : Place → List ℕ → Next A) (remaining : R → Option (List ℕ)) (has_failed : R → Bool) (view : X → A) (IsFault : Place → FileFault → Type 0)
+pub reached-answer : {A R X : Type 0} (next : Position → List ℕ → Next A) (remaining : R → Option (List ℕ)) (has_failed : R → Bool) (view : X → A) (IsFault : Position → FileFault → Type 0)
     (begin : Option (List ℕ)) (state after : ReaderState) (now later : R) (parts : List A) (result : Result (Option X) FileFault) →
     InTurn next → Reached next begin (remaining now) state parts → ReadsOn remaining has_failed view next IsFault state after now later result → (IsCutShort result → ⊥) →
     (input more : List ℕ) → Agrees fresh begin (remaining later) input more → script_from next start input ≡ prepended parts (followed (script_from next) (next_in_answer view after more result))
 reached-answer next remaining has_failed view IsFault begin state after now later parts result in_turn reached reads uncut input more agrees =
     let turn = agrees-in_turn fresh state begin (remaining now) (remaining later) input more reached.taken reads.moves.taken (λ yes. inr (reached.ended yes)) agrees in
-    let told = whole (reads.answers reached.open_end (state.held ++ turn.behind) more turn.second) in
-    reached.read input turn.behind turn.first
-    ∙ ap (prepended parts) (in_turn state.place (state.held ++ turn.behind) ∙ ap (followed (script_from next)) told) where
+    let told = whole (reads.answers reached.open_end (state.buffered ++ turn.suffix) more turn.second) in
+    reached.read input turn.suffix turn.first
+    ∙ ap (prepended parts) (in_turn state.position (state.buffered ++ turn.suffix) ∙ ap (followed (script_from next)) told) where
       whole : {P : Type 0} → IsCutShort result ⊎ P → P
       whole (inl cut) = absurd (uncut cut)
       whole (inr is) = is
@@ -69,7 +69,7 @@ ok-uncut found (inl e) = cc
 ok-uncut found (inr e) = cc
 
 -- the end of the input
-pub reached-end : {A R X : Type 0} (next : Place → List ℕ → Next A) (remaining : R → Option (List ℕ)) (has_failed : R → Bool) (view : X → A) (IsFault : Place → FileFault → Type 0)
+pub reached-end : {A R X : Type 0} (next : Position → List ℕ → Next A) (remaining : R → Option (List ℕ)) (has_failed : R → Bool) (view : X → A) (IsFault : Position → FileFault → Type 0)
     (begin : Option (List ℕ)) (state after : ReaderState) (now later : R) (parts : List A) →
     InTurn next → Reached next begin (remaining now) state parts → ReadsOn remaining has_failed view next IsFault state after now later (Ok None) →
     (input more : List ℕ) → Agrees fresh begin (remaining later) input more → script_from next start input ≡ script parts None
@@ -78,7 +78,7 @@ reached-end next remaining has_failed view IsFault begin state after now later p
     ∙ ap (λ items. script items None) (append-nil parts)
 
 -- .. and a fault of it
-pub reached-fault : {A R X : Type 0} (next : Place → List ℕ → Next A) (remaining : R → Option (List ℕ)) (has_failed : R → Bool) (view : X → A) (IsFault : Place → FileFault → Type 0)
+pub reached-fault : {A R X : Type 0} (next : Position → List ℕ → Next A) (remaining : R → Option (List ℕ)) (has_failed : R → Bool) (view : X → A) (IsFault : Position → FileFault → Type 0)
     (begin : Option (List ℕ)) (state after : ReaderState) (now later : R) (parts : List A) (fault : FileFault) →
     InTurn next → Reached next begin (remaining now) state parts → ReadsOn remaining has_failed view next IsFault state after now later (Err fault) → (IsCutShort {X = Option X} (Err fault) → ⊥) →
     (input more : List ℕ) → Agrees fresh begin (remaining later) input more → script_from next start input ≡ script parts (Some fault)
@@ -92,12 +92,12 @@ pub record HasPart {A : Type 0} (parts : List A) (part : A) (read : Script A) : 
   pub is : read ≡ script (parts ++ part ∷ rest.items) rest.fault
 
 -- the part that was read
-pub reached-part : {A R X : Type 0} (next : Place → List ℕ → Next A) (remaining : R → Option (List ℕ)) (has_failed : R → Bool) (view : X → A) (IsFault : Place → FileFault → Type 0)
+pub reached-part : {A R X : Type 0} (next : Position → List ℕ → Next A) (remaining : R → Option (List ℕ)) (has_failed : R → Bool) (view : X → A) (IsFault : Position → FileFault → Type 0)
     (begin : Option (List ℕ)) (state after : ReaderState) (now later : R) (parts : List A) (part : X) →
     InTurn next → Reached next begin (remaining now) state parts → ReadsOn remaining has_failed view next IsFault state after now later (Ok (Some part)) →
     (input more : List ℕ) → Agrees fresh begin (remaining later) input more → HasPart parts (view part) (script_from next start input)
 reached-part next remaining has_failed view IsFault begin state after now later parts part in_turn reached reads input more agrees = record {
-  rest = script_from next after.place (after.held ++ more);
+  rest = script_from next after.position (after.buffered ++ more);
   is = reached-answer next remaining has_failed view IsFault begin state after now later parts (Ok (Some part)) in_turn reached reads (ok-uncut (Some part)) input more agrees;
 }
 
@@ -107,7 +107,7 @@ ended-next : {R : Type 0} (remaining : R → Option (List ℕ)) (was_ended : Boo
 ended-next remaining was_ended now later ended same (inl was) = subst (λ r. IsAtEnd (remaining r)) (sym (same was)) (ended was)
 ended-next remaining was_ended now later ended same (inr at_end) = at_end
 
-pub reached-next : {A R X : Type 0} (next : Place → List ℕ → Next A) (remaining : R → Option (List ℕ)) (has_failed : R → Bool) (view : X → A) (IsFault : Place → FileFault → Type 0)
+pub reached-next : {A R X : Type 0} (next : Position → List ℕ → Next A) (remaining : R → Option (List ℕ)) (has_failed : R → Bool) (view : X → A) (IsFault : Position → FileFault → Type 0)
     (begin : Option (List ℕ)) (state after : ReaderState) (now later : R) (parts : List A) (part : X) →
     InTurn next → Reached next begin (remaining now) state parts → ReadsOn remaining has_failed view next IsFault state after now later (Ok (Some part)) →
     Reached next begin (remaining later) after (parts ++ view part ∷ [])
@@ -118,7 +118,7 @@ reached-next next remaining has_failed view IsFault begin state after now later 
   open_end = reads.open_end;
   read = λ input more agrees.
       (reached-part next remaining has_failed view IsFault begin state after now later parts part in_turn reached reads input more agrees).is
-      ∙ ap (λ items. script items (script_from next after.place (after.held ++ more)).fault) (sym (append_assoc parts (view part ∷ []) (script_from next after.place (after.held ++ more)).items));
+      ∙ ap (λ items. script items (script_from next after.position (after.buffered ++ more)).fault) (sym (append_assoc parts (view part ∷ []) (script_from next after.position (after.buffered ++ more)).items));
   few = omega (arith, length-append parts (view part ∷ []), reached.few, reads.forward);
 }
 
@@ -127,8 +127,8 @@ pub record HasFront {A : Type 0} (parts : List A) (read : Script A) : Type 0 whe
   pub rest : Script A
   pub is : read ≡ prepended parts rest
 
-pub reached-front : {A : Type 0} (next : Place → List ℕ → Next A) (begin now later : Option (List ℕ)) (state : ReaderState) (parts : List A) → Reached next begin now state parts → LosesFront now later →
+pub reached-front : {A : Type 0} (next : Position → List ℕ → Next A) (begin now later : Option (List ℕ)) (state : ReaderState) (parts : List A) → Reached next begin now state parts → LosesPrefix now later →
     (input more : List ℕ) → Agrees fresh begin later input more → HasFront parts (script_from next start input)
 reached-front next begin now later state parts reached lost input more agrees =
     let turn = agrees-in_turn fresh state begin now later input more reached.taken lost (λ yes. inr (reached.ended yes)) agrees in
-    record { rest = script_from next state.place (state.held ++ turn.behind); is = reached.read input turn.behind turn.first }
+    record { rest = script_from next state.position (state.buffered ++ turn.suffix); is = reached.read input turn.suffix turn.first }

@@ -5,7 +5,7 @@ use Rattle.std.specs.Io.KnownBytes.{Appends}
 use Rattle.std.proofs.lemmas.List.{append-nil}
 use Rattle.dd_file.specs.Device.{AppendsPart}
 use Rattle.dd_file.specs.Reading.{Script}
-use Rattle.dd_file.specs.Rewritten.{entry_text, kept_text, found_text, is_directive, without_double_end}
+use Rattle.dd_file.specs.Rewritten.{entry_text, kept_text, output_text, is_directive, without_double_end}
 use Rattle.dd_file.specs.RewriterState.{RewriterState, HasWritten, Continues, BreaksOff, Finishes, FinishesPart}
 use Rattle.dd_file.specs.DirectiveText.{DirectiveText}
 use Rattle.dd_file.specs.declared.item.Item.{Item}
@@ -99,5 +99,5 @@ err-by (Ok x) f p = tt
 err-by (Err e) f p = f p
 
 -- of a directive the output is written too
-pub entry_text-directive : (item : Item) (directive : DirectiveText) (found : List ℕ) → item ≡ Directive directive → entry_text item found ≡ kept_text item ++ found_text found
-entry_text-directive item directive found is = ap (λ b. kept_text item ++ cond b (found_text found) []) (ap is_directive is)
+pub entry_text-directive : (item : Item) (directive : DirectiveText) (found : List ℕ) → item ≡ Directive directive → entry_text item found ≡ kept_text item ++ output_text found
+entry_text-directive item directive found is = ap (λ b. kept_text item ++ cond b (output_text found) []) (ap is_directive is)

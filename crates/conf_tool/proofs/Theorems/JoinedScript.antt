@@ -5,7 +5,7 @@ use Rattle.std.specs.List.{list_all, list_any, join_with_byte}
 use Rattle.std.proofs.lemmas.List.{length-append}
 use Rattle.ascii_text.specs.Lines.{newline, lines_of}
 use Rattle.dd_file.specs.DirectiveText.{DirectiveText}
-use Rattle.dd_file.specs.Place.{longest_input}
+use Rattle.dd_file.specs.Position.{longest_input}
 use Rattle.dd_file.specs.Reading.{script_of}
 use Rattle.dd_file.specs.Rewritten.{Entry, rewritten_text}
 use Rattle.dd_file.specs.Script.{is_separator}

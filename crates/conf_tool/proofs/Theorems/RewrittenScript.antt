@@ -4,10 +4,10 @@ use Rattle.std.specs.Prelude.{Ok}
 use Rattle.std.specs.List.{list_all, list_any}
 use Rattle.std.proofs.lemmas.Slice.Eq.{bytes_eq-Decides}
 use Rattle.dd_file.specs.DirectiveText.{DirectiveText}
-use Rattle.dd_file.specs.Words.{has_keys}
+use Rattle.dd_file.specs.DirectiveLine.{has_keys}
 use Rattle.dd_file.specs.Reading.{script_of}
 use Rattle.dd_file.specs.Rewritten.{Entry, entry, is_output, rewritten_text}
-use Rattle.dd_file.specs.Laws.{IsSameItem, AreGiven, AreReadAgain, AreOver, LastIsGone, ReadAgain, ends_in_long_blank, ItemsAreGiven, WrittenScript, ItemsHaveKeys, item_has_keys}
+use Rattle.dd_file.specs.Laws.{IsSameItem, AreGiven, AreReadAgain, AreOver, LastIsRemoved, ReadAgain, ends_in_long_blank, ItemsAreGiven, WrittenScript, ItemsHaveKeys, item_has_keys}
 use Rattle.dd_file.specs.declared.item.Item.{Item}
 use Rattle.dd_file.specs.declared.item.Item.TheVariants.{Comment, Blank, Directive}
 use Rattle.conf_session.specs.SessionState.{SessionState, new_session}
@@ -53,7 +53,7 @@ clean-item session n (Directive directive) again is =
 pub clean-items : (session : SessionState) (items : List Item) (entries : List Entry) (again : List Item) → entries ≡ answered_entries session items → AreReadAgain entries again →
     list_any differs (answered_entries session again) ≡ false
 clean-items session items entries again e AreOver = refl
-clean-items session items entries again e (LastIsGone found) = refl
+clean-items session items entries again e (LastIsRemoved found) = refl
 clean-items session [] entries again e (ReadAgain n item other found more others is read) = cc
 clean-items session (one ∷ items) entries again e (ReadAgain n item other found more others is read) =
     let begins : entry item found ≡ entry one (found_for session one) = cc in

@@ -10,10 +10,10 @@ use Rattle.ascii_text.specs.WhiteSpace.{trimmed, without_trailing_space}
 use Rattle.ascii_text.specs.Words.{words}
 use Rattle.ascii_text.proofs.Offered.{words-at_space, words-ends}
 use Rattle.dd_file.specs.DirectiveText.{DirectiveText}
-use Rattle.dd_file.specs.Laws.{AreReadAgain, AreOver, LastIsGone, ReadAgain, DirectiveIsGiven, IsSameItem, WrittenScript, directives_of}
-use Rattle.dd_file.specs.Place.{longest_input}
+use Rattle.dd_file.specs.Laws.{AreReadAgain, AreOver, LastIsRemoved, ReadAgain, DirectiveIsGiven, IsSameItem, WrittenScript, directives_of}
+use Rattle.dd_file.specs.Position.{longest_input}
 use Rattle.dd_file.specs.Reading.{script_of}
-use Rattle.dd_file.specs.Words.{ArgumentText}
+use Rattle.dd_file.specs.DirectiveLine.{ArgumentText}
 use Rattle.dd_file.specs.Rewritten.{Entry, entry, rewritten_text}
 use Rattle.dd_file.specs.declared.item.Item.{Item}
 use Rattle.dd_file.specs.declared.item.Item.TheVariants.{Comment, Blank, Directive}
@@ -167,8 +167,8 @@ steps-again : (session : SessionState) (steps : List Step) (entries : List Entry
     → TakesSteps session (map directive_for steps) steps → Again session steps again
 steps-again session [] entries again e AreOver taken = record { taken = tt; after = refl }
 steps-again session (step ∷ steps) entries again e AreOver taken = cc
-steps-again session [] entries again e (LastIsGone found) taken = cc
-steps-again session (step ∷ steps) entries again e (LastIsGone found) taken = absurd (true≢false (ap begins_blank e))
+steps-again session [] entries again e (LastIsRemoved found) taken = cc
+steps-again session (step ∷ steps) entries again e (LastIsRemoved found) taken = absurd (true≢false (ap begins_blank e))
 steps-again session [] entries again e (ReadAgain n item other found more others is read) taken = cc
 steps-again session (step ∷ steps) entries again e (ReadAgain n item other found more others is read) taken =
     let directive = directive_for step in
@@ -191,7 +191,7 @@ undo-again session [] again read taken = by _ again refl read
   where
     by : (entries : List Entry) (again : List Item) → entries ≡ answered_entries session (undo_items (Ok [])) → AreReadAgain entries again → Again session [] again
     by entries again e AreOver = cc
-    by entries again e (LastIsGone found) = absurd (true≢false (ap begins_blank e))
+    by entries again e (LastIsRemoved found) = absurd (true≢false (ap begins_blank e))
     by entries again e (ReadAgain n item other found more others is read) =
         let begins : entry item found ≡ entry nothing_to_do [] = cc in
         let ended : more ≡ [] = cc in

@@ -1,8 +1,8 @@
 //! The one loop of all modes: an input is read part by part, and each part is answered before the next is read.
 ghost use Rattle.std.specs.Prelude.{◌≡◌, ◌<◌, ◌^◌, ◌||◌, ℕ, List, [], ◌∷◌, ◌++◌, length, Option, Err, false, is_err, OnOk, OnErr, IfErr, IfOk, IfSome};
 ghost use Rattle.std.specs.Io.KnownBytes.{Keeps};
-ghost use Rattle.dd_file.specs.Device.{AppendsPart, LosesFront};
-ghost use Rattle.dd_file.specs.Place.{Place, start};
+ghost use Rattle.dd_file.specs.Device.{AppendsPart, LosesPrefix};
+ghost use Rattle.dd_file.specs.Position.{Position, start};
 ghost use Rattle.dd_file.specs.Reading.{Script as ScriptOf, script_from};
 ghost use Rattle.dd_file.specs.ReaderState.{fresh};
 ghost use Rattle.dd_file.specs.Answer.{ReadsOn};
@@ -86,10 +86,10 @@ pub(super) fn run_by_part<P: Drop, S: Parts<P> + Drop, M: PartByPart<P> + Drop, 
 ) -> Result<Status, ToolFault>
     requires unread { S.reading parts ≡ fresh }
     requires unwritten { (total : ScriptOf P → Output) × ((held : Option (List ℕ)) → M.HasAnswered mode total [] held held) }
-    requires faults { (place : Place) (fault : ReadFault) → S.IsFault place fault → CanAnswer M.mode (Err (as_tool_fault fault)) }
+    requires faults { (place : Position) (fault : ReadFault) → S.IsFault place fault → CanAnswer M.mode (Err (as_tool_fault fault)) }
     ensures output { (total : ScriptOf P → Output) → ((held : Option (List ℕ)) → M.HasAnswered mode total [] held held) →
         Answers (λ input. total (script_from S.coming start input)) (R.remaining reader.old) (R.remaining reader.new) (W.contents writer.old) (W.contents writer.new) result }
-    ensures taken { LosesFront (R.remaining reader.old) (R.remaining reader.new) }
+    ensures taken { LosesPrefix (R.remaining reader.old) (R.remaining reader.new) }
     ensures read { R.has_failed reader.new ≡ (R.has_failed reader.old || is_read_failure result) }
     ensures write { W.has_failed writer.new ≡ (W.has_failed writer.old || is_write_failure result) }
     ensures kinds { CanAnswer M.mode result }

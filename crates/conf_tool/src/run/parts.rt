@@ -1,10 +1,10 @@
 //! The parts of an input that a mode answers one by one: its lines, or the items of a script.
 ghost use Rattle.std.specs.Prelude.{◌≡◌, ℕ, List, Bool};
-ghost use Rattle.dd_file.specs.Place.{Place};
+ghost use Rattle.dd_file.specs.Position.{Position};
 ghost use Rattle.dd_file.specs.Reading.{Next, script_from, followed};
 ghost use Rattle.dd_file.specs.ReaderState.{ReaderState};
 ghost use Rattle.dd_file.specs.Answer.{ReadsOn};
-ghost use Rattle.dd_file.specs.InHand.{HeldReadsOn};
+ghost use Rattle.dd_file.specs.Buffered.{BufferedReadsOn};
 ghost use Rattle.dd_file.specs.declared.fault.FileFault.{FileFault as ReadFault};
 
 use dd_file::device::{Sink, Source};
@@ -17,20 +17,20 @@ use dd_file::reader::Reader;
 /// Reads the parts of an input.
 pub(super) trait Parts<P> {
     /// The part that comes next of an input, from a place on.
-    ghost coming: { Place → List ℕ → Next P };
+    ghost coming: { Position → List ℕ → Next P };
 
     /// The faults of an input, from a place on.
-    ghost IsFault: { Place → ReadFault → Type 0 };
+    ghost IsFault: { Position → ReadFault → Type 0 };
 
     /// Whether a part is buffered, at a place and of the bytes that are held there.
-    ghost is_buffered: { Place → List ℕ → Bool };
+    ghost is_buffered: { Position → List ℕ → Bool };
 
     /// Where the reading stands.
     ghost reading: { Self → ReaderState };
 
     /// The next part where the whole of it is buffered. No reader is asked.
     fn buffered<R: Source>(&mut self, reader: &R) -> Option<Result<Option<P>, FileFault>>
-        ensures { HeldReadsOn R.remaining R.has_failed (λ part. part) coming IsFault is_buffered (reading self.old) (reading self.new) reader.now result };
+        ensures { BufferedReadsOn R.remaining R.has_failed (λ part. part) coming IsFault is_buffered (reading self.old) (reading self.new) reader.now result };
 
     /// The next part; none at the end. What was answered was flushed, so that nothing waits while a reader is asked.
     fn read<R: Source, W: Sink>(
@@ -46,12 +46,12 @@ pub(super) trait Parts<P> {
         ensures { reading self.new ≡ reading self.old };
 
     /// What is read is what comes next, and then the rest.
-    ghost in_turn: { (place : Place) (bytes : List ℕ) → script_from coming place bytes ≡ followed (script_from coming) (coming place bytes) };
+    ghost in_turn: { (place : Position) (bytes : List ℕ) → script_from coming place bytes ≡ followed (script_from coming) (coming place bytes) };
 }
 
 impl Parts<Line> for Lines {
-    ghost use Rattle.dd_file.specs.Place.{longest_input};
-    ghost use Rattle.dd_file.specs.InHand.{is_line_in_hand};
+    ghost use Rattle.dd_file.specs.Position.{longest_input};
+    ghost use Rattle.dd_file.specs.Buffered.{is_line_buffered};
     ghost use Rattle.dd_file.specs.Reading.{next_line};
     ghost use Rattle.dd_file.specs.Answer.{IsLineFault};
     ghost use Rattle.dd_file.proofs.Offered.{script_from-followed, next_line-takes};
@@ -60,12 +60,12 @@ impl Parts<Line> for Lines {
 
     ghost IsFault = { IsLineFault };
 
-    ghost is_buffered = { is_line_in_hand };
+    ghost is_buffered = { is_line_buffered };
 
     ghost reading = { λ lines. lines };
 
     fn buffered<R: Source>(&mut self, reader: &R) -> Option<Result<Option<Line>, FileFault>> {
-        self.next_held(reader)
+        self.next_buffered(reader)
     }
 
     fn read<R: Source, W: Sink>(
@@ -86,8 +86,8 @@ impl Parts<Line> for Lines {
 }
 
 impl Parts<Item> for Reader {
-    ghost use Rattle.dd_file.specs.Place.{longest_input};
-    ghost use Rattle.dd_file.specs.InHand.{is_item_in_hand};
+    ghost use Rattle.dd_file.specs.Position.{longest_input};
+    ghost use Rattle.dd_file.specs.Buffered.{is_item_buffered};
     ghost use Rattle.dd_file.specs.Reading.{next_item};
     ghost use Rattle.dd_file.specs.Answer.{IsItemFault};
     ghost use Rattle.dd_file.proofs.Offered.{script_from-followed, next_item-takes};
@@ -96,12 +96,12 @@ impl Parts<Item> for Reader {
 
     ghost IsFault = { IsItemFault };
 
-    ghost is_buffered = { is_item_in_hand };
+    ghost is_buffered = { is_item_buffered };
 
     ghost reading = { λ items. items };
 
     fn buffered<R: Source>(&mut self, reader: &R) -> Option<Result<Option<Item>, FileFault>> {
-        self.next_held(reader)
+        self.next_buffered(reader)
     }
 
     fn read<R: Source, W: Sink>(

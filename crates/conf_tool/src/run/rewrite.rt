@@ -59,7 +59,7 @@ fn write_entry<W: Sink>(
 {
     rewriter.keep(writer, item)?;
     match item {
-        Item::Directive(_) => rewriter.found_full_lines(writer, found),
+        Item::Directive(_) => rewriter.found_without_blanks(writer, found),
         _ => Ok(()),
     }
 }

@@ -3,58 +3,58 @@ use Rattle.std.proofs.Common.{◌≡◌, ℕ, ◌+◌, Bool, true, false, not, �
 use Rattle.std.specs.Prelude.{◌⊎◌, Option, Some, None, is_some, Result, Ok, Err}
 use Rattle.std.specs.List.{concat}
 use Rattle.ascii_text.specs.Lines.{full_lines, line_of}
-use Rattle.dd_file.specs.Place.{Place}
-use Rattle.dd_file.specs.Script.{Front, front, first_of}
-use Rattle.dd_file.specs.Reading.{Next, Over, Found, Faulty, next_item, next_line, from_front, with_count, is_too_long, pieces_within}
-use Rattle.dd_file.specs.Draft.{DraftText, Fits, FitsIn, front_of, front_in, is_done, found_of, found_in_front}
+use Rattle.dd_file.specs.Position.{Position}
+use Rattle.dd_file.specs.Script.{FirstItem, first_item, first_of}
+use Rattle.dd_file.specs.Reading.{Next, Over, Found, Faulty, next_item, next_line, from_first_item, with_count, is_too_long, full_lines_within}
+use Rattle.dd_file.specs.Draft.{DraftText, Fits, FitsIn, first_item_of, first_item_in, is_done, found_of, found_in_item}
 use Rattle.dd_file.specs.declared.item.Item.{Item}
 use Rattle.dd_file.specs.declared.phase.Phase.{Phase}
-use Rattle.dd_file.specs.declared.phase.Phase.TheVariants.{Begin, CommentLine, BlankLines, Head, NoCommand, Input, Separator, Single, Double, Pair, Complete, AfterPair}
+use Rattle.dd_file.specs.declared.phase.Phase.TheVariants.{Begin, CommentLine, BlankLines, DirectiveLines, NoCommand, Input, Separator, Single, Double, Pair, Complete, AfterPair}
 use Rattle.dd_file.specs.declared.fault.FileFault.{FileFault}
 use Rattle.dd_file.specs.declared.fault.FileFault.TheVariants.{InputTooLong}
 use Rattle.dd_file.proofs.LineReading.LineAfterLine.{LinesOn, line-over, line-long}
 use Rattle.dd_file.proofs.ItemReading.NoMoreLine.{Ends, draft-ends, done-same, first_of-continued}
 
 -- the answer as what comes next
-abbrev pub as_next : Result (Option Item) FileFault → Place → List ℕ → Next Item
+abbrev pub as_next : Result (Option Item) FileFault → Position → List ℕ → Next Item
 as_next (Ok None) now rest = Over
 as_next (Ok (Some item)) now rest = Found item now rest
 as_next (Err fault) now rest = Faulty fault
 
 -- the front of the lines so far and those behind them decides
-item-at : (limit : ℕ) (place now : Place) (bytes rest : List ℕ) (lines : List (List ℕ)) (draft : DraftText) → LinesOn limit place bytes lines now rest →
-    ((more : List (List ℕ)) → front_of draft more ≡ first_of (place.lines + 1) (lines ++ more)) →
-    next_item limit place bytes ≡ from_front (is_too_long limit now rest) (front_of draft (map line_of (pieces_within limit now rest))) place bytes
-item-at limit place now bytes rest lines draft on front =
-    ap (λ ls. from_front (is_too_long limit place bytes) (first_of (place.lines + 1) ls) place bytes) on.within
-    ∙ ap (λ f. from_front (is_too_long limit place bytes) f place bytes) (sym (front (map line_of (pieces_within limit now rest))))
-    ∙ ap (λ c. from_front c (front_of draft (map line_of (pieces_within limit now rest))) place bytes) on.long
+item-at : (limit : ℕ) (position now : Position) (bytes rest : List ℕ) (lines : List (List ℕ)) (draft : DraftText) → LinesOn limit position bytes lines now rest →
+    ((more : List (List ℕ)) → first_item_of draft more ≡ first_of (position.lines + 1) (lines ++ more)) →
+    next_item limit position bytes ≡ from_first_item (is_too_long limit now rest) (first_item_of draft (map line_of (full_lines_within limit now rest))) position bytes
+item-at limit position now bytes rest lines draft on prefix =
+    ap (λ ls. from_first_item (is_too_long limit position bytes) (first_of (position.lines + 1) ls) position bytes) on.within
+    ∙ ap (λ f. from_first_item (is_too_long limit position bytes) f position bytes) (sym (prefix (map line_of (full_lines_within limit now rest))))
+    ∙ ap (λ c. from_first_item c (first_item_of draft (map line_of (full_lines_within limit now rest))) position bytes) on.long
 
-counted : (limit : ℕ) (place now : Place) (bytes rest : List ℕ) (lines : List (List ℕ)) (k : ℕ) (found : Result Item FileFault) → LinesOn limit place bytes lines now rest →
-    ((item : Item) → found ≡ Ok item → k ≡ length lines) → with_count k found place bytes ≡ as_next (found_in_front found) now rest
-counted limit place now bytes rest lines k (Err fault) on all = refl
-counted limit place now bytes rest lines k (Ok item) on all =
+counted : (limit : ℕ) (position now : Position) (bytes rest : List ℕ) (lines : List (List ℕ)) (k : ℕ) (found : Result Item FileFault) → LinesOn limit position bytes lines now rest →
+    ((item : Item) → found ≡ Ok item → k ≡ length lines) → with_count k found position bytes ≡ as_next (found_in_item found) now rest
+counted limit position now bytes rest lines k (Err fault) on all = refl
+counted limit position now bytes rest lines k (Ok item) on all =
     let taken : ℕ → ℕ = λ n. length (concat (take n (full_lines bytes))) in
-    let at : ℕ → Next Item = λ n. Found item (record { lines = place.lines + n; bytes = place.bytes + taken n }) (drop (taken n) bytes) in
-    ap at (all item refl) ∙ ap (λ n. Found item (record { lines = n; bytes = place.bytes + taken (length lines) }) (drop (taken (length lines)) bytes)) (sym on.count)
+    let at : ℕ → Next Item = λ n. Found item (record { lines = position.lines + n; bytes = position.bytes + taken n }) (drop (taken n) bytes) in
+    ap at (all item refl) ∙ ap (λ n. Found item (record { lines = n; bytes = position.bytes + taken (length lines) }) (drop (taken (length lines)) bytes)) (sym on.count)
     ∙ ap (λ n. Found item (record { lines = now.lines; bytes = n }) (drop (taken (length lines)) bytes)) (sym on.passed) ∙ ap (Found item now) (sym on.left)
 
 -- the item is done
-done-front : (limit : ℕ) (place now : Place) (bytes rest : List ℕ) (lines : List (List ℕ)) (too_long : Bool) (count : ℕ) (found : Option Front) → LinesOn limit place bytes lines now rest →
-    Ends true count found → is_some found ≡ true → count ≡ length lines → from_front too_long found place bytes ≡ as_next (found_of found) now rest
-done-front limit place now bytes rest lines too_long count None on ends some is = cc
-done-front limit place now bytes rest lines too_long count (Some front) on ends some is =
-    rw (open_end too_long front.is_ended ends.ended) (counted limit place now bytes rest lines front.count front.found on (λ item e. ends.all item e ∙ is)) where
+done-prefix : (limit : ℕ) (position now : Position) (bytes rest : List ℕ) (lines : List (List ℕ)) (too_long : Bool) (count : ℕ) (found : Option FirstItem) → LinesOn limit position bytes lines now rest →
+    Ends true count found → is_some found ≡ true → count ≡ length lines → from_first_item too_long found position bytes ≡ as_next (found_of found) now rest
+done-prefix limit position now bytes rest lines too_long count None on ends some is = cc
+done-prefix limit position now bytes rest lines too_long count (Some prefix) on ends some is =
+    rw (open_end too_long prefix.is_ended ends.ended) (counted limit position now bytes rest lines prefix.count prefix.found on (λ item e. ends.all item e ∙ is)) where
       open_end : (c d : Bool) → d ≡ true → (c && not d) ≡ false
       open_end true true e = refl
       open_end true false e = cc
       open_end false d e = refl
 
-pub done-some : (phase : Phase) (draft : DraftText) → FitsIn phase draft → is_done phase ≡ true → is_some (front_in phase draft []) ≡ true
+pub done-some : (phase : Phase) (draft : DraftText) → FitsIn phase draft → is_done phase ≡ true → is_some (first_item_in phase draft []) ≡ true
 done-some Begin draft fits done = cc
 done-some CommentLine draft fits done = refl
 done-some BlankLines draft fits done = refl
-done-some Head draft fits done = cc
+done-some DirectiveLines draft fits done = cc
 done-some NoCommand draft fits done = refl
 done-some (Input command) draft fits done = cc
 done-some (Separator command) draft fits done = cc
@@ -65,54 +65,54 @@ done-some (Complete command) draft fits done = refl
 done-some AfterPair draft fits done = refl
 
 -- a front comes of each line
-pub front_in-begun : (phase : Phase) (draft : DraftText) → FitsIn phase draft → (draft.count ≡ 0) ⊎ (is_some (front_in phase draft []) ≡ true)
-front_in-begun Begin draft fits = inl fits.3
-front_in-begun CommentLine draft fits = inr refl
-front_in-begun BlankLines draft fits = inr refl
-front_in-begun Head draft fits = inr (ap is_some (first_of-continued draft.line draft.head fits.0 fits.1))
-front_in-begun NoCommand draft fits = inr refl
-front_in-begun (Input command) draft fits = inr refl
-front_in-begun (Separator command) draft fits = inr refl
-front_in-begun (Single command) draft fits = inr refl
-front_in-begun (Double command) draft fits = inr refl
-front_in-begun (Pair command) draft fits = inr refl
-front_in-begun (Complete command) draft fits = inr refl
-front_in-begun AfterPair draft fits = inr refl
+pub first_item_in-begun : (phase : Phase) (draft : DraftText) → FitsIn phase draft → (draft.count ≡ 0) ⊎ (is_some (first_item_in phase draft []) ≡ true)
+first_item_in-begun Begin draft fits = inl fits.3
+first_item_in-begun CommentLine draft fits = inr refl
+first_item_in-begun BlankLines draft fits = inr refl
+first_item_in-begun DirectiveLines draft fits = inr (ap is_some (first_of-continued draft.line draft.directive_lines fits.0 fits.1))
+first_item_in-begun NoCommand draft fits = inr refl
+first_item_in-begun (Input command) draft fits = inr refl
+first_item_in-begun (Separator command) draft fits = inr refl
+first_item_in-begun (Single command) draft fits = inr refl
+first_item_in-begun (Double command) draft fits = inr refl
+first_item_in-begun (Pair command) draft fits = inr refl
+first_item_in-begun (Complete command) draft fits = inr refl
+first_item_in-begun AfterPair draft fits = inr refl
 
-pub item-done : (limit : ℕ) (place now : Place) (bytes rest : List ℕ) (lines : List (List ℕ)) (draft : DraftText) → LinesOn limit place bytes lines now rest →
-    ((more : List (List ℕ)) → front_of draft more ≡ first_of (place.lines + 1) (lines ++ more)) → Fits draft → is_done draft.phase ≡ true → draft.count ≡ length lines →
-    next_item limit place bytes ≡ as_next (found_of (front_of draft [])) now rest
-item-done limit place now bytes rest lines draft on front fits done count =
-    item-at limit place now bytes rest lines draft on front
-    ∙ ap (λ f. from_front (is_too_long limit now rest) f place bytes) (done-same draft.phase draft (map line_of (pieces_within limit now rest)) done)
-    ∙ done-front limit place now bytes rest lines (is_too_long limit now rest) draft.count (front_of draft []) on
-    (subst (λ c. Ends c draft.count (front_of draft [])) done (draft-ends draft.phase draft fits)) (done-some draft.phase draft fits done) count
+pub item-done : (limit : ℕ) (position now : Position) (bytes rest : List ℕ) (lines : List (List ℕ)) (draft : DraftText) → LinesOn limit position bytes lines now rest →
+    ((more : List (List ℕ)) → first_item_of draft more ≡ first_of (position.lines + 1) (lines ++ more)) → Fits draft → is_done draft.phase ≡ true → draft.count ≡ length lines →
+    next_item limit position bytes ≡ as_next (found_of (first_item_of draft [])) now rest
+item-done limit position now bytes rest lines draft on prefix fits done count =
+    item-at limit position now bytes rest lines draft on prefix
+    ∙ ap (λ f. from_first_item (is_too_long limit now rest) f position bytes) (done-same draft.phase draft (map line_of (full_lines_within limit now rest)) done)
+    ∙ done-prefix limit position now bytes rest lines (is_too_long limit now rest) draft.count (first_item_of draft []) on
+    (subst (λ c. Ends c draft.count (first_item_of draft [])) done (draft-ends draft.phase draft fits)) (done-some draft.phase draft fits done) count
 
 -- the end of the input
-end-front : (limit : ℕ) (place now : Place) (bytes rest : List ℕ) (lines : List (List ℕ)) (done : Bool) (count : ℕ) (found : Option Front) → LinesOn limit place bytes lines now rest →
-    Ends done count found → count ≡ length lines → from_front false found place bytes ≡ as_next (found_of found) now rest
-end-front limit place now bytes rest lines done count None on ends is = refl
-end-front limit place now bytes rest lines done count (Some front) on ends is = counted limit place now bytes rest lines front.count front.found on (λ item e. ends.all item e ∙ is)
+end-prefix : (limit : ℕ) (position now : Position) (bytes rest : List ℕ) (lines : List (List ℕ)) (done : Bool) (count : ℕ) (found : Option FirstItem) → LinesOn limit position bytes lines now rest →
+    Ends done count found → count ≡ length lines → from_first_item false found position bytes ≡ as_next (found_of found) now rest
+end-prefix limit position now bytes rest lines done count None on ends is = refl
+end-prefix limit position now bytes rest lines done count (Some prefix) on ends is = counted limit position now bytes rest lines prefix.count prefix.found on (λ item e. ends.all item e ∙ is)
 
-pub item-end : (limit : ℕ) (place now : Place) (bytes rest : List ℕ) (lines : List (List ℕ)) (draft : DraftText) → LinesOn limit place bytes lines now rest →
-    ((more : List (List ℕ)) → front_of draft more ≡ first_of (place.lines + 1) (lines ++ more)) → Fits draft → draft.count ≡ length lines → next_line limit now rest ≡ Over →
-    next_item limit place bytes ≡ as_next (found_of (front_of draft [])) now rest
-item-end limit place now bytes rest lines draft on front fits count over =
+pub item-end : (limit : ℕ) (position now : Position) (bytes rest : List ℕ) (lines : List (List ℕ)) (draft : DraftText) → LinesOn limit position bytes lines now rest →
+    ((more : List (List ℕ)) → first_item_of draft more ≡ first_of (position.lines + 1) (lines ++ more)) → Fits draft → draft.count ≡ length lines → next_line limit now rest ≡ Over →
+    next_item limit position bytes ≡ as_next (found_of (first_item_of draft [])) now rest
+item-end limit position now bytes rest lines draft on prefix fits count over =
     let last = line-over limit now rest over in
-    item-at limit place now bytes rest lines draft on front
-    ∙ ap (λ ls. from_front (is_too_long limit now rest) (front_of draft ls) place bytes) last.0 ∙ ap (λ c. from_front c (front_of draft []) place bytes) last.1
-    ∙ end-front limit place now bytes rest lines (is_done draft.phase) draft.count (front_of draft []) on (draft-ends draft.phase draft fits) count
+    item-at limit position now bytes rest lines draft on prefix
+    ∙ ap (λ ls. from_first_item (is_too_long limit now rest) (first_item_of draft ls) position bytes) last.0 ∙ ap (λ c. from_first_item c (first_item_of draft []) position bytes) last.1
+    ∙ end-prefix limit position now bytes rest lines (is_done draft.phase) draft.count (first_item_of draft []) on (draft-ends draft.phase draft fits) count
 
 -- the limit was passed
-long-front : (place : Place) (bytes : List ℕ) (count : ℕ) (found : Option Front) → Ends false count found → from_front true found place bytes ≡ Faulty (InputTooLong (place.lines + 1))
-long-front place bytes count None ends = refl
-long-front place bytes count (Some front) ends = rw (ends.ended) refl
+long-prefix : (position : Position) (bytes : List ℕ) (count : ℕ) (found : Option FirstItem) → Ends false count found → from_first_item true found position bytes ≡ Faulty (InputTooLong (position.lines + 1))
+long-prefix position bytes count None ends = refl
+long-prefix position bytes count (Some prefix) ends = rw (ends.ended) refl
 
-pub item-long : (limit : ℕ) (place now : Place) (bytes rest : List ℕ) (lines : List (List ℕ)) (draft : DraftText) (fault : FileFault) → LinesOn limit place bytes lines now rest →
-    ((more : List (List ℕ)) → front_of draft more ≡ first_of (place.lines + 1) (lines ++ more)) → Fits draft → is_done draft.phase ≡ false → next_line limit now rest ≡ Faulty fault →
-    next_item limit place bytes ≡ Faulty (InputTooLong (place.lines + 1))
-item-long limit place now bytes rest lines draft fault on front fits open_end long =
+pub item-long : (limit : ℕ) (position now : Position) (bytes rest : List ℕ) (lines : List (List ℕ)) (draft : DraftText) (fault : FileFault) → LinesOn limit position bytes lines now rest →
+    ((more : List (List ℕ)) → first_item_of draft more ≡ first_of (position.lines + 1) (lines ++ more)) → Fits draft → is_done draft.phase ≡ false → next_line limit now rest ≡ Faulty fault →
+    next_item limit position bytes ≡ Faulty (InputTooLong (position.lines + 1))
+item-long limit position now bytes rest lines draft fault on prefix fits open_end long =
     let last = line-long limit now rest fault long in
-    item-at limit place now bytes rest lines draft on front
-    ∙ ap (λ ls. from_front (is_too_long limit now rest) (front_of draft ls) place bytes) last.0 ∙ ap (λ c. from_front c (front_of draft []) place bytes) last.1
-    ∙ long-front place bytes draft.count (front_of draft []) (subst (λ c. Ends c draft.count (front_of draft [])) open_end (draft-ends draft.phase draft fits))
+    item-at limit position now bytes rest lines draft on prefix
+    ∙ ap (λ ls. from_first_item (is_too_long limit now rest) (first_item_of draft ls) position bytes) last.0 ∙ ap (λ c. from_first_item c (first_item_of draft []) position bytes) last.1
+    ∙ long-prefix position bytes draft.count (first_item_of draft []) (subst (λ c. Ends c draft.count (first_item_of draft [])) open_end (draft-ends draft.phase draft fits))

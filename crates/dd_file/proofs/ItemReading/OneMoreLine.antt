@@ -5,9 +5,9 @@ use Rattle.std.specs.List.{list_all, list_any}
 use Rattle.std.proofs.lemmas.List.{append_assoc}
 use Rattle.std.proofs.Math.Seq.{drop-append_seam, drop-append-add}
 use Rattle.ascii_text.specs.WhiteSpace.{is_blank}
-use Rattle.dd_file.specs.Parts.{up_to, behind}
-use Rattle.dd_file.specs.Words.{CommandText, command_of}
-use Rattle.dd_file.specs.Script.{front, first_of, head_of, joined, is_continued, is_comment, is_separator, is_dashes, begins_with_dashes, before_pair, has_pair, directive, after_pair, in_double, in_single, body, at_command, at_head}
+use Rattle.dd_file.specs.Parts.{up_to, suffix}
+use Rattle.dd_file.specs.DirectiveLine.{CommandText, command_of}
+use Rattle.dd_file.specs.Script.{first_item, first_of, directive_lines_of, joined, is_continued, is_comment, is_separator, is_dashes, begins_with_dashes, before_pair, has_pair, directive, after_pair, in_double, in_single, body, at_command, at_directive}
 use Rattle.dd_file.specs.Draft.{begins_directive, ends_in_dashes}
 use Rattle.dd_file.specs.declared.item.Item.TheVariants.{Comment, Blank}
 
@@ -32,20 +32,20 @@ up_to-at : {X : Type 0} (test : X → Bool) (xs : List X) (x : X) (ys : List X) 
 up_to-at test [] x ys none h = rw h refl
 up_to-at test (z ∷ xs) x ys none h = let parts = none-step (test z) (list_any test xs) none in rw (parts.0) (ap (λ t. z ∷ t) (up_to-at test xs x ys parts.1 h))
 
-behind-at : {X : Type 0} (test : X → Bool) (xs : List X) (x : X) (ys : List X) → list_any test xs ≡ false → test x ≡ true → behind test (xs ++ x ∷ ys) ≡ ys
-behind-at test [] x ys none h = rw h refl
-behind-at test (z ∷ xs) x ys none h = let parts = none-step (test z) (list_any test xs) none in rw (parts.0) (behind-at test xs x ys parts.1 h)
+suffix-at : {X : Type 0} (test : X → Bool) (xs : List X) (x : X) (ys : List X) → list_any test xs ≡ false → test x ≡ true → suffix test (xs ++ x ∷ ys) ≡ ys
+suffix-at test [] x ys none h = rw h refl
+suffix-at test (z ∷ xs) x ys none h = let parts = none-step (test z) (list_any test xs) none in rw (parts.0) (suffix-at test xs x ys parts.1 h)
 
 -- the separator of an input
-pub body-separator : (n : ℕ) (command : CommandText) (head input : List (List ℕ)) (line : List ℕ) (more : List (List ℕ)) → list_any is_separator input ≡ false → is_separator line ≡ true →
-    body n command head (input ++ line ∷ more) ≡ cond (begins_with_dashes more) (in_double n command head input (drop 1 more)) (in_single n command head input more)
-body-separator n command head input line more none is =
-    rw (any-at is_separator input line more is, up_to-at is_separator input line more none is, behind-at is_separator input line more none is) refl
+pub body-separator : (n : ℕ) (command : CommandText) (directive_lines input : List (List ℕ)) (line : List ℕ) (more : List (List ℕ)) → list_any is_separator input ≡ false → is_separator line ≡ true →
+    body n command directive_lines (input ++ line ∷ more) ≡ cond (begins_with_dashes more) (in_double n command directive_lines input (drop 1 more)) (in_single n command directive_lines input more)
+body-separator n command directive_lines input line more none is =
+    rw (any-at is_separator input line more is, up_to-at is_separator input line more none is, suffix-at is_separator input line more none is) refl
 
 -- the blank line behind an expected output
-pub single-blank : (n : ℕ) (command : CommandText) (head input expected : List (List ℕ)) (line : List ℕ) (more : List (List ℕ)) → list_any is_blank expected ≡ false → is_blank line ≡ true →
-    in_single n command head input (expected ++ line ∷ more) ≡ front (Ok (directive n command head input expected)) (length head + length input + 1 + length expected + 1) true
-single-blank n command head input expected line more none is =
+pub single-blank : (n : ℕ) (command : CommandText) (directive_lines input expected : List (List ℕ)) (line : List ℕ) (more : List (List ℕ)) → list_any is_blank expected ≡ false → is_blank line ≡ true →
+    in_single n command directive_lines input (expected ++ line ∷ more) ≡ first_item (Ok (directive n command directive_lines input expected)) (length directive_lines + length input + 1 + length expected + 1) true
+single-blank n command directive_lines input expected line more none is =
     rw (any-at is_blank expected line more is, up_to-at is_blank expected line more none is) refl
 
 -- the closing pair of dashes
@@ -80,17 +80,17 @@ pair-at (w ∷ v ∷ xs) x y more none hx hy =
 drop-pair : (xs : List (List ℕ)) (x y : List ℕ) (more : List (List ℕ)) → drop (length xs + 2) (xs ++ x ∷ y ∷ more) ≡ more
 drop-pair xs x y more = drop-append-add xs (x ∷ y ∷ more) 2
 
-pub double-pair : (n : ℕ) (command : CommandText) (head input expected : List (List ℕ)) (x y : List ℕ) (more : List (List ℕ)) → has_pair (expected ++ x ∷ []) ≡ false → is_dashes x ≡ true → is_dashes y ≡ true →
-    in_double n command head input ((expected ++ x ∷ []) ++ y ∷ more) ≡ after_pair n (length head + length input + length expected + 4) (directive n command head input expected) more
-double-pair n command head input expected x y more none hx hy =
+pub double-pair : (n : ℕ) (command : CommandText) (directive_lines input expected : List (List ℕ)) (x y : List ℕ) (more : List (List ℕ)) → has_pair (expected ++ x ∷ []) ≡ false → is_dashes x ≡ true → is_dashes y ≡ true →
+    in_double n command directive_lines input ((expected ++ x ∷ []) ++ y ∷ more) ≡ after_pair n (length directive_lines + length input + length expected + 4) (directive n command directive_lines input expected) more
+double-pair n command directive_lines input expected x y more none hx hy =
     let at = pair-at expected x y more none hx hy in
-    ap (in_double n command head input) (append_assoc expected (x ∷ []) (y ∷ more)) ∙ rw (at.0, at.1, drop-pair expected x y more) refl
+    ap (in_double n command directive_lines input) (append_assoc expected (x ∷ []) (y ∷ more)) ∙ rw (at.0, at.1, drop-pair expected x y more) refl
 
 -- a head that is complete
-pub head-complete : (head : List (List ℕ)) (line : List ℕ) (more : List (List ℕ)) → list_all is_continued head ≡ true → is_continued line ≡ false →
-    head_of ((head ++ line ∷ []) ++ more) ≡ head ++ line ∷ []
-head-complete [] line more all last = rw last refl
-head-complete (l ∷ head) line more all last = let parts = all-step (is_continued l) (list_all is_continued head) all in rw (parts.0) (ap (λ t. l ∷ t) (head-complete head line more parts.1 last)) where
+pub directive_lines-complete : (directive_lines : List (List ℕ)) (line : List ℕ) (more : List (List ℕ)) → list_all is_continued directive_lines ≡ true → is_continued line ≡ false →
+    directive_lines_of ((directive_lines ++ line ∷ []) ++ more) ≡ directive_lines ++ line ∷ []
+directive_lines-complete [] line more all last = rw last refl
+directive_lines-complete (l ∷ directive_lines) line more all last = let parts = all-step (is_continued l) (list_all is_continued directive_lines) all in rw (parts.0) (ap (λ t. l ∷ t) (directive_lines-complete directive_lines line more parts.1 last)) where
   all-step : (c r : Bool) → (c && r) ≡ true → (c ≡ true) × (r ≡ true)
   all-step true r h = (refl, h)
   all-step false r h = cc
@@ -100,21 +100,21 @@ not-all test [] x h = rw h refl
 not-all test (y ∷ xs) x h = and-false (test y) (not-all test xs x h)
 
 -- lines that begin with a directive's
-pub first_of-begins : (n : ℕ) (lines more : List (List ℕ)) → begins_directive lines ≡ true → first_of n (lines ++ more) ≡ Some (at_head n (head_of (lines ++ more)) (drop (length (head_of (lines ++ more))) (lines ++ more)))
+pub first_of-begins : (n : ℕ) (lines more : List (List ℕ)) → begins_directive lines ≡ true → first_of n (lines ++ more) ≡ Some (at_directive n (directive_lines_of (lines ++ more)) (drop (length (directive_lines_of (lines ++ more))) (lines ++ more)))
 first_of-begins n [] more h = cc
 first_of-begins n (line ∷ lines) more h = at (is_comment line) (is_blank line) h where
   at : (c d : Bool) → (not c && not d) ≡ true →
-      cond c (Some (front (Ok (Comment (line ∷ []))) 1 true)) (cond d (Some (front (Ok (Blank (line ∷ []))) 1 true)) (Some (at_head n (head_of (line ∷ lines ++ more)) (drop (length (head_of (line ∷ lines ++ more))) (line ∷ lines ++ more)))))
-      ≡ Some (at_head n (head_of (line ∷ lines ++ more)) (drop (length (head_of (line ∷ lines ++ more))) (line ∷ lines ++ more)))
+      cond c (Some (first_item (Ok (Comment (line ∷ []))) 1 true)) (cond d (Some (first_item (Ok (Blank (line ∷ []))) 1 true)) (Some (at_directive n (directive_lines_of (line ∷ lines ++ more)) (drop (length (directive_lines_of (line ∷ lines ++ more))) (line ∷ lines ++ more)))))
+      ≡ Some (at_directive n (directive_lines_of (line ∷ lines ++ more)) (drop (length (directive_lines_of (line ∷ lines ++ more))) (line ∷ lines ++ more)))
   at true d h = cc
   at false true h = cc
   at false false h = refl
 
-pub first_of-head : (n : ℕ) (head : List (List ℕ)) (line : List ℕ) (more : List (List ℕ)) → begins_directive (head ++ line ∷ []) ≡ true → list_all is_continued head ≡ true → is_continued line ≡ false →
-    first_of n ((head ++ line ∷ []) ++ more) ≡ Some (cond (is_blank (joined (head ++ line ∷ []))) (front (Ok (Blank (head ++ line ∷ []))) (length (head ++ line ∷ [])) true)
-    (at_command n (command_of (joined (head ++ line ∷ []))) (head ++ line ∷ []) more))
-first_of-head n head line more starts all last =
-    first_of-begins n (head ++ line ∷ []) more starts
-    ∙ ap (λ h. Some (at_head n h (drop (length h) ((head ++ line ∷ []) ++ more)))) (head-complete head line more all last)
-    ∙ ap (λ r. Some (at_head n (head ++ line ∷ []) r)) (drop-append_seam (head ++ line ∷ []) more)
-    ∙ rw (not-all is_continued head line last) refl
+pub first_of-directive_lines : (n : ℕ) (directive_lines : List (List ℕ)) (line : List ℕ) (more : List (List ℕ)) → begins_directive (directive_lines ++ line ∷ []) ≡ true → list_all is_continued directive_lines ≡ true → is_continued line ≡ false →
+    first_of n ((directive_lines ++ line ∷ []) ++ more) ≡ Some (cond (is_blank (joined (directive_lines ++ line ∷ []))) (first_item (Ok (Blank (directive_lines ++ line ∷ []))) (length (directive_lines ++ line ∷ [])) true)
+    (at_command n (command_of (joined (directive_lines ++ line ∷ []))) (directive_lines ++ line ∷ []) more))
+first_of-directive_lines n directive_lines line more starts all last =
+    first_of-begins n (directive_lines ++ line ∷ []) more starts
+    ∙ ap (λ h. Some (at_directive n h (drop (length h) ((directive_lines ++ line ∷ []) ++ more)))) (directive_lines-complete directive_lines line more all last)
+    ∙ ap (λ r. Some (at_directive n (directive_lines ++ line ∷ []) r)) (drop-append_seam (directive_lines ++ line ∷ []) more)
+    ∙ rw (not-all is_continued directive_lines line last) refl

@@ -5,21 +5,21 @@ use Rattle.std.specs.List.{list_all, list_any}
 use Rattle.std.proofs.lemmas.List.{append_assoc, length-append, take_all, take_more}
 use Rattle.std.proofs.lemmas.Option.{slice_get-get_or}
 use Rattle.ascii_text.specs.WhiteSpace.{is_blank}
-use Rattle.dd_file.specs.Words.{CommandText, command_of}
-use Rattle.dd_file.specs.Script.{front, first_of, joined, is_continued, is_separator, is_dashes, has_pair, in_double, body, directive, after_pair, at_command}
-use Rattle.dd_file.specs.Draft.{DraftText, AddsIn, FitsIn, front_in, counted, drafted, begins_directive, ends_in_dashes, phase_after_head, phase_of_command}
+use Rattle.dd_file.specs.DirectiveLine.{CommandText, command_of}
+use Rattle.dd_file.specs.Script.{first_item, first_of, joined, is_continued, is_separator, is_dashes, has_pair, in_double, body, directive, after_pair, at_command}
+use Rattle.dd_file.specs.Draft.{DraftText, AddsIn, FitsIn, first_item_in, counted, drafted, begins_directive, ends_in_dashes, phase_after_directive_line, phase_of_command}
 use Rattle.dd_file.specs.declared.item.Item.TheVariants.{Blank}
 use Rattle.dd_file.specs.declared.fault.FileFault.TheVariants.{AfterDouble, BadDirective}
 use Rattle.dd_file.specs.declared.phase.Phase.{Phase}
-use Rattle.dd_file.specs.declared.phase.Phase.TheVariants.{Begin, CommentLine, BlankLines, Head, NoCommand, Input, Separator, Single, Double, Pair, Complete, AfterPair}
-use Rattle.dd_file.proofs.ItemReading.OneMoreLine.{body-separator, single-blank, double-pair, has_pair-push, ends_in_dashes-push, first_of-head}
+use Rattle.dd_file.specs.declared.phase.Phase.TheVariants.{Begin, CommentLine, BlankLines, DirectiveLines, NoCommand, Input, Separator, Single, Double, Pair, Complete, AfterPair}
+use Rattle.dd_file.proofs.ItemReading.OneMoreLine.{body-separator, single-blank, double-pair, has_pair-push, ends_in_dashes-push, first_of-directive_lines}
 
 -- what is asked of the parts is not asked of the phase that is noted with them
 pub fits-apart : (phase noted : Phase) (draft : DraftText) → FitsIn phase draft → FitsIn phase (record draft { phase = noted })
 fits-apart Begin noted draft fits = fits
 fits-apart CommentLine noted draft fits = fits
 fits-apart BlankLines noted draft fits = fits
-fits-apart Head noted draft fits = fits
+fits-apart DirectiveLines noted draft fits = fits
 fits-apart NoCommand noted draft fits = fits
 fits-apart (Input command) noted draft fits = fits
 fits-apart (Separator command) noted draft fits = fits
@@ -29,24 +29,24 @@ fits-apart (Pair command) noted draft fits = fits
 fits-apart (Complete command) noted draft fits = fits
 fits-apart AfterPair noted draft fits = fits
 
-front-apart : (phase noted : Phase) (draft : DraftText) (more : List (List ℕ)) → front_in phase (record draft { phase = noted }) more ≡ front_in phase draft more
-front-apart Begin noted draft more = refl
-front-apart CommentLine noted draft more = refl
-front-apart BlankLines noted draft more = refl
-front-apart Head noted draft more = refl
-front-apart NoCommand noted draft more = refl
-front-apart (Input command) noted draft more = refl
-front-apart (Separator command) noted draft more = refl
-front-apart (Single command) noted draft more = refl
-front-apart (Double command) noted draft more = refl
-front-apart (Pair command) noted draft more = refl
-front-apart (Complete command) noted draft more = refl
-front-apart AfterPair noted draft more = refl
+prefix-apart : (phase noted : Phase) (draft : DraftText) (more : List (List ℕ)) → first_item_in phase (record draft { phase = noted }) more ≡ first_item_in phase draft more
+prefix-apart Begin noted draft more = refl
+prefix-apart CommentLine noted draft more = refl
+prefix-apart BlankLines noted draft more = refl
+prefix-apart DirectiveLines noted draft more = refl
+prefix-apart NoCommand noted draft more = refl
+prefix-apart (Input command) noted draft more = refl
+prefix-apart (Separator command) noted draft more = refl
+prefix-apart (Single command) noted draft more = refl
+prefix-apart (Double command) noted draft more = refl
+prefix-apart (Pair command) noted draft more = refl
+prefix-apart (Complete command) noted draft more = refl
+prefix-apart AfterPair noted draft more = refl
 
 pub adds-apart : (phase noted : Phase) (old new : DraftText) (line : List ℕ) → AddsIn phase (record old { phase = noted }) new line → AddsIn phase old new line
 adds-apart phase noted old new line adds = record {
   fits = adds.fits;
-  front = λ more. adds.front more ∙ front-apart phase noted old (line ∷ more);
+  first_item = λ more. adds.first_item more ∙ prefix-apart phase noted old (line ∷ more);
   count = adds.count;
   first = adds.first;
 }
@@ -54,7 +54,7 @@ adds-apart phase noted old new line adds = record {
 pub adds-separator : (command : CommandText) (old new : DraftText) (line : List ℕ) → FitsIn (Input command) old → is_separator line ≡ true → new ≡ counted old (Separator command) → AddsIn (Input command) old new line
 adds-separator command old new line fits is e = rw e (record {
   fits = (fits.1, let h = fits.2 in omega (arith, h));
-  front = λ more. ap Some (sym (body-separator old.line command old.head old.input line more fits.0 is));
+  first_item = λ more. ap Some (sym (body-separator old.line command old.directive_lines old.input line more fits.0 is));
   count = refl;
   first = refl;
 })
@@ -62,7 +62,7 @@ adds-separator command old new line fits is e = rw e (record {
 pub adds-blank : (command : CommandText) (old new : DraftText) (line : List ℕ) → FitsIn (Single command) old → is_blank line ≡ true → new ≡ counted old (Complete command) → AddsIn (Single command) old new line
 adds-blank command old new line fits is e = rw e (record {
   fits = tt;
-  front = λ more. ap Some (ap (λ n. front (Ok (drafted old command)) (n + 1) true) fits.1 ∙ sym (single-blank old.line command old.head old.input old.expected line more fits.0 is));
+  first_item = λ more. ap Some (ap (λ n. first_item (Ok (drafted old command)) (n + 1) true) fits.1 ∙ sym (single-blank old.line command old.directive_lines old.input old.expected line more fits.0 is));
   count = refl;
   first = refl;
 })
@@ -71,16 +71,16 @@ pub adds-pair : (command : CommandText) (old new : DraftText) (expected : List (
     new ≡ counted (record old { expected = expected }) (Pair command) → AddsIn (Double command) old new line
 adds-pair command old new expected x line fits was ends is e = rw e (record {
   fits = count;
-  front = λ more. ap Some (
-      ap (λ n. after_pair old.line n (directive old.line command old.head old.input expected) more) count
-      ∙ sym (ap (λ xs. in_double old.line command old.head old.input (xs ++ line ∷ more)) was ∙ double-pair old.line command old.head old.input expected x line more none hx is));
+  first_item = λ more. ap Some (
+      ap (λ n. after_pair old.line n (directive old.line command old.directive_lines old.input expected) more) count
+      ∙ sym (ap (λ xs. in_double old.line command old.directive_lines old.input (xs ++ line ∷ more)) was ∙ double-pair old.line command old.directive_lines old.input expected x line more none hx is));
   count = refl;
   first = refl;
 }) where
   len : length old.expected ≡ length expected + 1
   len = ap length was ∙ length-append expected (x ∷ [])
 
-  count : old.count + 1 ≡ length old.head + length old.input + length expected + 4
+  count : old.count + 1 ≡ length old.directive_lines + length old.input + length expected + 4
   count = let h = fits.1 in omega (arith, h, len)
 
   none : has_pair (expected ++ x ∷ []) ≡ false
@@ -93,21 +93,21 @@ pub adds-expected : (command : CommandText) (old new : DraftText) (line : List �
     new ≡ counted (record old { expected = old.expected ++ line ∷ [] }) (Double command) → AddsIn (Double command) old new line
 adds-expected command old new line fits other e = rw e (record {
   fits = (has_pair-push old.expected line fits.0 other, let h = fits.1 in let len = length-append old.expected (line ∷ []) in omega (arith, h, len));
-  front = λ more. ap Some (ap (in_double old.line command old.head old.input) (append_assoc old.expected (line ∷ []) more));
+  first_item = λ more. ap Some (ap (in_double old.line command old.directive_lines old.input) (append_assoc old.expected (line ∷ []) more));
   count = refl;
   first = refl;
 })
 
-pub adds-behind : (command : CommandText) (old new : DraftText) (line : List ℕ) (is : Bool) → FitsIn (Pair command) old → is_blank line ≡ is → new ≡ counted old (cond is (Complete command) AfterPair) → AddsIn (Pair command) old new line
-adds-behind command old new line true fits is e = rw e (record {
+pub adds-suffix : (command : CommandText) (old new : DraftText) (line : List ℕ) (is : Bool) → FitsIn (Pair command) old → is_blank line ≡ is → new ≡ counted old (cond is (Complete command) AfterPair) → AddsIn (Pair command) old new line
+adds-suffix command old new line true fits is e = rw e (record {
   fits = tt;
-  front = λ more. sym (rw is refl);
+  first_item = λ more. sym (rw is refl);
   count = refl;
   first = refl;
 })
-adds-behind command old new line false fits is e = rw e (record {
+adds-suffix command old new line false fits is e = rw e (record {
   fits = omega (arith, fits);
-  front = λ more. sym (rw is (ap (λ n. Some (front (Err (AfterDouble (old.line + n))) (old.count + 1) true)) minus));
+  first_item = λ more. sym (rw is (ap (λ n. Some (first_item (Err (AfterDouble (old.line + n))) (old.count + 1) true)) minus));
   count = refl;
   first = refl;
 }) where
@@ -115,44 +115,44 @@ adds-behind command old new line false fits is e = rw e (record {
   minus = omega arith
 
 -- the lines of a head and one more that is not continued
-head-front : (old : DraftText) (line : List ℕ) (more : List (List ℕ)) → begins_directive (old.head ++ line ∷ []) ≡ true → list_all is_continued old.head ≡ true → is_continued line ≡ false →
-    first_of old.line (old.head ++ line ∷ more) ≡ Some (cond (is_blank (joined (old.head ++ line ∷ []))) (front (Ok (Blank (old.head ++ line ∷ []))) (length (old.head ++ line ∷ [])) true)
-    (at_command old.line (command_of (joined (old.head ++ line ∷ []))) (old.head ++ line ∷ []) more))
-head-front old line more starts all last = ap (first_of old.line) (sym (append_assoc old.head (line ∷ []) more)) ∙ first_of-head old.line old.head line more starts all last
+directive_lines-prefix : (old : DraftText) (line : List ℕ) (more : List (List ℕ)) → begins_directive (old.directive_lines ++ line ∷ []) ≡ true → list_all is_continued old.directive_lines ≡ true → is_continued line ≡ false →
+    first_of old.line (old.directive_lines ++ line ∷ more) ≡ Some (cond (is_blank (joined (old.directive_lines ++ line ∷ []))) (first_item (Ok (Blank (old.directive_lines ++ line ∷ []))) (length (old.directive_lines ++ line ∷ [])) true)
+    (at_command old.line (command_of (joined (old.directive_lines ++ line ∷ []))) (old.directive_lines ++ line ∷ []) more))
+directive_lines-prefix old line more starts all last = ap (first_of old.line) (sym (append_assoc old.directive_lines (line ∷ []) more)) ∙ first_of-directive_lines old.line old.directive_lines line more starts all last
 
 -- the last line of a head
-pub adds-last : (old new : DraftText) (line : List ℕ) → begins_directive (old.head ++ line ∷ []) ≡ true → list_all is_continued old.head ≡ true → (old.input ≡ []) × (old.expected ≡ []) → old.count ≡ length old.head →
-    is_continued line ≡ false → new ≡ counted (record old { head = old.head ++ line ∷ [] }) (phase_after_head (joined (old.head ++ line ∷ []))) → AddsIn Head old new line
+pub adds-last : (old new : DraftText) (line : List ℕ) → begins_directive (old.directive_lines ++ line ∷ []) ≡ true → list_all is_continued old.directive_lines ≡ true → (old.input ≡ []) × (old.expected ≡ []) → old.count ≡ length old.directive_lines →
+    is_continued line ≡ false → new ≡ counted (record old { directive_lines = old.directive_lines ++ line ∷ [] }) (phase_after_directive_line (joined (old.directive_lines ++ line ∷ []))) → AddsIn DirectiveLines old new line
 adds-last old new line starts all empty so_far last e = rw e (at (is_blank text) refl (command_of text) refl) where
-  head : List (List ℕ)
-  head = old.head ++ line ∷ []
+  directive_lines : List (List ℕ)
+  directive_lines = old.directive_lines ++ line ∷ []
 
   text : List ℕ
-  text = joined head
+  text = joined directive_lines
 
-  count : old.count + 1 ≡ length head
-  count = let len = length-append old.head (line ∷ []) in omega (arith, so_far, len)
+  count : old.count + 1 ≡ length directive_lines
+  count = let len = length-append old.directive_lines (line ∷ []) in omega (arith, so_far, len)
 
-  front-is : (more : List (List ℕ)) → first_of old.line (old.head ++ line ∷ more) ≡ Some (cond (is_blank text) (front (Ok (Blank head)) (length head) true) (at_command old.line (command_of text) head more))
-  front-is more = head-front old line more starts all last
+  prefix-is : (more : List (List ℕ)) → first_of old.line (old.directive_lines ++ line ∷ more) ≡ Some (cond (is_blank text) (first_item (Ok (Blank directive_lines)) (length directive_lines) true) (at_command old.line (command_of text) directive_lines more))
+  prefix-is more = directive_lines-prefix old line more starts all last
 
   at : (blank : Bool) → is_blank text ≡ blank → (command : Option CommandText) → command_of text ≡ command →
-      AddsIn Head old (counted (record old { head = head }) (cond blank BlankLines (phase_of_command command))) line
+      AddsIn DirectiveLines old (counted (record old { directive_lines = directive_lines }) (cond blank BlankLines (phase_of_command command))) line
   at true is command says = record {
     fits = empty.0;
-    front = λ more. ap (λ n. Some (front (Ok (Blank head)) n true)) count ∙ sym (front-is more ∙ rw is refl);
+    first_item = λ more. ap (λ n. Some (first_item (Ok (Blank directive_lines)) n true)) count ∙ sym (prefix-is more ∙ rw is refl);
     count = refl;
     first = refl;
   }
   at false is None says = record {
     fits = tt;
-    front = λ more. ap (λ n. Some (front (Err (BadDirective old.line)) n true)) count ∙ sym (front-is more ∙ rw (is, says) refl);
+    first_item = λ more. ap (λ n. Some (first_item (Err (BadDirective old.line)) n true)) count ∙ sym (prefix-is more ∙ rw (is, says) refl);
     count = refl;
     first = refl;
   }
   at false is (Some command) says = record {
     fits = (ap (list_any is_separator) (empty.0), empty.1, let none = ap length (empty.0) in omega (arith, count, none));
-    front = λ more. ap (λ i. Some (body old.line command head (i ++ more))) (empty.0) ∙ sym (front-is more ∙ rw (is, says) refl);
+    first_item = λ more. ap (λ i. Some (body old.line command directive_lines (i ++ more))) (empty.0) ∙ sym (prefix-is more ∙ rw (is, says) refl);
     count = refl;
     first = refl;
   }

@@ -4,8 +4,8 @@ use Rattle.std.specs.Prelude.{◌==◌, ◌⊎◌, filter, nat_lt}
 use Rattle.std.specs.List.{concat}
 use Rattle.std.proofs.lemmas.List.{append-nil, drop-drop, drop-take, take-append-drop, take-append-le, length-append, length-drop, length-take}
 use Rattle.ascii_text.specs.Lines.{first_len, full_lines, line_of, is_whole}
-use Rattle.dd_file.specs.Place.{Place}
-use Rattle.dd_file.specs.Reading.{Next, Over, Found, Faulty, next_line, from_pieces, found_in, at_end, is_too_long, pieces_within}
+use Rattle.dd_file.specs.Position.{Position}
+use Rattle.dd_file.specs.Reading.{Next, Over, Found, Faulty, next_line, from_full_lines, found_in, at_end, is_too_long, full_lines_within}
 use Rattle.dd_file.specs.InOrder.{ReadsTo}
 use Rattle.dd_file.specs.declared.fault.FileFault.{FileFault}
 use Rattle.ascii_text.proofs.Offered.{full_lines-first, first_len-bound, length-first, unfinished-rest}
@@ -50,28 +50,28 @@ long-at false k bytes open_end = inl (none (take k bytes) open_end) where
   none (x ∷ xs) h = ap (filter is_whole) (full_lines-first (x ∷ xs) (omega arith)) ∙ rw h (ap (λ r. filter is_whole (full_lines r)) (unfinished-rest [] (x ∷ xs) h))
 
 -- the place behind the first piece
-abbrev behind_first : Place → List ℕ → Place
-behind_first place bytes = record { lines = place.lines + 1; bytes = place.bytes + first_len bytes }
+abbrev behind_first : Position → List ℕ → Position
+behind_first position bytes = record { lines = position.lines + 1; bytes = position.bytes + first_len bytes }
 
-long-same : (limit : ℕ) (place : Place) (bytes : List ℕ) → is_too_long limit place bytes ≡ is_too_long limit (behind_first place bytes) (drop (first_len bytes) bytes)
-long-same limit place bytes =
+long-same : (limit : ℕ) (position : Position) (bytes : List ℕ) → is_too_long limit position bytes ≡ is_too_long limit (behind_first position bytes) (drop (first_len bytes) bytes)
+long-same limit position bytes =
     let bound = first_len-bound bytes in
     let len = length-drop (first_len bytes) bytes in
     ap (nat_lt limit) (omega (arith, bound, len))
 
-within-first : (limit : ℕ) (place : Place) (bytes : List ℕ) → 0 < length bytes →
-    (pieces_within limit place bytes ≡ []) ⊎ (pieces_within limit place bytes ≡ take (first_len bytes) bytes ∷ pieces_within limit (behind_first place bytes) (drop (first_len bytes) bytes))
-within-first limit place bytes some = at (is_too_long limit place bytes) (is_too_long limit (behind_first place bytes) rest) (long-same limit place bytes) where
+within-first : (limit : ℕ) (position : Position) (bytes : List ℕ) → 0 < length bytes →
+    (full_lines_within limit position bytes ≡ []) ⊎ (full_lines_within limit position bytes ≡ take (first_len bytes) bytes ∷ full_lines_within limit (behind_first position bytes) (drop (first_len bytes) bytes))
+within-first limit position bytes some = at (is_too_long limit position bytes) (is_too_long limit (behind_first position bytes) rest) (long-same limit position bytes) where
   rest : List ℕ
   rest = drop (first_len bytes) bytes
 
-  left : limit - place.bytes - first_len bytes ≡ limit - (place.bytes + first_len bytes)
+  left : limit - position.bytes - first_len bytes ≡ limit - (position.bytes + first_len bytes)
   left = omega arith
 
   at : (c d : Bool) → c ≡ d →
-      (cond c (filter is_whole (full_lines (take (limit - place.bytes) bytes))) (full_lines bytes) ≡ [])
-      ⊎ (cond c (filter is_whole (full_lines (take (limit - place.bytes) bytes))) (full_lines bytes) ≡ take (first_len bytes) bytes ∷ cond d (filter is_whole (full_lines (take (limit - (place.bytes + first_len bytes)) rest))) (full_lines rest))
-  at true true e = elim (long-at (is_whole (take (first_len (take (limit - place.bytes) bytes)) (take (limit - place.bytes) bytes))) (limit - place.bytes) bytes refl) [
+      (cond c (filter is_whole (full_lines (take (limit - position.bytes) bytes))) (full_lines bytes) ≡ [])
+      ⊎ (cond c (filter is_whole (full_lines (take (limit - position.bytes) bytes))) (full_lines bytes) ≡ take (first_len bytes) bytes ∷ cond d (filter is_whole (full_lines (take (limit - (position.bytes + first_len bytes)) rest))) (full_lines rest))
+  at true true e = elim (long-at (is_whole (take (first_len (take (limit - position.bytes) bytes)) (take (limit - position.bytes) bytes))) (limit - position.bytes) bytes refl) [
     | inl none ↦ inl none
     | inr first ↦ inr (first ∙ ap (λ n. take (first_len bytes) bytes ∷ filter is_whole (full_lines (take n rest))) left)
   ]
@@ -80,32 +80,32 @@ within-first limit place bytes some = at (is_too_long limit place bytes) (is_too
   at false false e = inr (full_lines-first bytes some)
 
 -- The lines were read from a place and bytes to a later place and the rest.
-pub record LinesOn (limit : ℕ) (place : Place) (bytes : List ℕ) (lines : List (List ℕ)) (now : Place) (rest : List ℕ) : Type 0 where
-  pub within : map line_of (pieces_within limit place bytes) ≡ lines ++ map line_of (pieces_within limit now rest)
-  pub long : is_too_long limit place bytes ≡ is_too_long limit now rest
-  pub count : now.lines ≡ place.lines + length lines
-  pub passed : now.bytes ≡ place.bytes + length (concat (take (length lines) (full_lines bytes)))
+pub record LinesOn (limit : ℕ) (position : Position) (bytes : List ℕ) (lines : List (List ℕ)) (now : Position) (rest : List ℕ) : Type 0 where
+  pub within : map line_of (full_lines_within limit position bytes) ≡ lines ++ map line_of (full_lines_within limit now rest)
+  pub long : is_too_long limit position bytes ≡ is_too_long limit now rest
+  pub count : now.lines ≡ position.lines + length lines
+  pub passed : now.bytes ≡ position.bytes + length (concat (take (length lines) (full_lines bytes)))
   pub left : rest ≡ drop (length (concat (take (length lines) (full_lines bytes)))) bytes
 
 -- One line was read.
-record StepOn (limit : ℕ) (place : Place) (bytes line : List ℕ) (now : Place) (rest : List ℕ) : Type 0 where
+record StepOn (limit : ℕ) (position : Position) (bytes line : List ℕ) (now : Position) (rest : List ℕ) : Type 0 where
   pub full_line : List ℕ
-  pub within : map line_of (pieces_within limit place bytes) ≡ line ∷ map line_of (pieces_within limit now rest)
-  pub long : is_too_long limit place bytes ≡ is_too_long limit now rest
-  pub count : now.lines ≡ place.lines + 1
+  pub within : map line_of (full_lines_within limit position bytes) ≡ line ∷ map line_of (full_lines_within limit now rest)
+  pub long : is_too_long limit position bytes ≡ is_too_long limit now rest
+  pub count : now.lines ≡ position.lines + 1
   pub cut : full_lines bytes ≡ full_line ∷ full_lines rest
-  pub passed : now.bytes ≡ place.bytes + length full_line
+  pub passed : now.bytes ≡ position.bytes + length full_line
   pub left : rest ≡ drop (length full_line) bytes
 
-no-end : {A : Type 0} {P : Type 0} (too_long : Bool) (place now : Place) (item : A) (rest : List ℕ) → at_end too_long place ≡ Found item now rest → P
-no-end true place now item rest e = cc
-no-end false place now item rest e = cc
+no-end : {A : Type 0} {P : Type 0} (too_long : Bool) (position now : Position) (item : A) (rest : List ℕ) → at_end too_long position ≡ Found item now rest → P
+no-end true position now item rest e = cc
+no-end false position now item rest e = cc
 
-step-on : (limit : ℕ) (place : Place) (bytes line : List ℕ) (now : Place) (rest : List ℕ) → next_line limit place bytes ≡ Found line now rest → StepOn limit place bytes line now rest
-step-on limit place [] line now rest e = no-end (is_too_long limit place []) place now line rest (ap (λ ps. from_pieces (is_too_long limit place []) ps place []) (sym (none-within limit place)) ∙ e)
-step-on limit place (b ∷ bytes) line now rest e = at (within-first limit place (b ∷ bytes) (omega arith)) where
+step-on : (limit : ℕ) (position : Position) (bytes line : List ℕ) (now : Position) (rest : List ℕ) → next_line limit position bytes ≡ Found line now rest → StepOn limit position bytes line now rest
+step-on limit position [] line now rest e = no-end (is_too_long limit position []) position now line rest (ap (λ ps. from_full_lines (is_too_long limit position []) ps position []) (sym (none-within limit position)) ∙ e)
+step-on limit position (b ∷ bytes) line now rest e = at (within-first limit position (b ∷ bytes) (omega arith)) where
   from : List (List ℕ) → Next (List ℕ)
-  from ps = from_pieces (is_too_long limit place (b ∷ bytes)) ps place (b ∷ bytes)
+  from ps = from_full_lines (is_too_long limit position (b ∷ bytes)) ps position (b ∷ bytes)
 
   full_line : List ℕ
   full_line = take (first_len (b ∷ bytes)) (b ∷ bytes)
@@ -113,33 +113,33 @@ step-on limit place (b ∷ bytes) line now rest e = at (within-first limit place
   one : length (concat (take 1 (full_lines (b ∷ bytes)))) ≡ first_len (b ∷ bytes)
   one = ap (λ ps. length (concat (take 1 ps))) (full_lines-first (b ∷ bytes) (omega arith)) ∙ ap length (append-nil (take (first_len (b ∷ bytes)) (b ∷ bytes))) ∙ length-first (b ∷ bytes)
 
-  at : (pieces_within limit place (b ∷ bytes) ≡ []) ⊎ (pieces_within limit place (b ∷ bytes) ≡ take (first_len (b ∷ bytes)) (b ∷ bytes) ∷ pieces_within limit (behind_first place (b ∷ bytes)) (drop (first_len (b ∷ bytes)) (b ∷ bytes))) →
-      StepOn limit place (b ∷ bytes) line now rest
-  at (inl none) = no-end (is_too_long limit place (b ∷ bytes)) place now line rest (ap from (sym none) ∙ e)
+  at : (full_lines_within limit position (b ∷ bytes) ≡ []) ⊎ (full_lines_within limit position (b ∷ bytes) ≡ take (first_len (b ∷ bytes)) (b ∷ bytes) ∷ full_lines_within limit (behind_first position (b ∷ bytes)) (drop (first_len (b ∷ bytes)) (b ∷ bytes))) →
+      StepOn limit position (b ∷ bytes) line now rest
+  at (inl none) = no-end (is_too_long limit position (b ∷ bytes)) position now line rest (ap from (sym none) ∙ e)
   at (inr first) =
-      let found : found_in 1 (line_of full_line) place (b ∷ bytes) ≡ Found line now rest = ap from (sym first) ∙ e in
-      let taken : ℕ → Next (List ℕ) = λ n. Found (line_of full_line) (record { lines = place.lines + 1; bytes = place.bytes + n }) (drop n (b ∷ bytes)) in
-      let is : Found (line_of full_line) (behind_first place (b ∷ bytes)) (drop (first_len (b ∷ bytes)) (b ∷ bytes)) ≡ Found line now rest = ap taken (sym one) ∙ found in
+      let found : found_in 1 (line_of full_line) position (b ∷ bytes) ≡ Found line now rest = ap from (sym first) ∙ e in
+      let taken : ℕ → Next (List ℕ) = λ n. Found (line_of full_line) (record { lines = position.lines + 1; bytes = position.bytes + n }) (drop n (b ∷ bytes)) in
+      let is : Found (line_of full_line) (behind_first position (b ∷ bytes)) (drop (first_len (b ∷ bytes)) (b ∷ bytes)) ≡ Found line now rest = ap taken (sym one) ∙ found in
       let same-line : line_of full_line ≡ line = cc in
-      let same-place : behind_first place (b ∷ bytes) ≡ now = cc in
+      let same-position : behind_first position (b ∷ bytes) ≡ now = cc in
       let same-rest : drop (first_len (b ∷ bytes)) (b ∷ bytes) ≡ rest = cc in
       record {
         full_line = full_line;
-        within = ap (map line_of) first ∙ ap (λ l. l ∷ map line_of (pieces_within limit (behind_first place (b ∷ bytes)) (drop (first_len (b ∷ bytes)) (b ∷ bytes)))) same-line
-            ∙ ap (λ (p : Place). line ∷ map line_of (pieces_within limit p (drop (first_len (b ∷ bytes)) (b ∷ bytes)))) same-place ∙ ap (λ r. line ∷ map line_of (pieces_within limit now r)) same-rest;
-        long = long-same limit place (b ∷ bytes) ∙ ap (λ (p : Place). is_too_long limit p (drop (first_len (b ∷ bytes)) (b ∷ bytes))) same-place ∙ ap (is_too_long limit now) same-rest;
-        count = ap (λ (p : Place). p.lines) (sym same-place);
+        within = ap (map line_of) first ∙ ap (λ l. l ∷ map line_of (full_lines_within limit (behind_first position (b ∷ bytes)) (drop (first_len (b ∷ bytes)) (b ∷ bytes)))) same-line
+            ∙ ap (λ (p : Position). line ∷ map line_of (full_lines_within limit p (drop (first_len (b ∷ bytes)) (b ∷ bytes)))) same-position ∙ ap (λ r. line ∷ map line_of (full_lines_within limit now r)) same-rest;
+        long = long-same limit position (b ∷ bytes) ∙ ap (λ (p : Position). is_too_long limit p (drop (first_len (b ∷ bytes)) (b ∷ bytes))) same-position ∙ ap (is_too_long limit now) same-rest;
+        count = ap (λ (p : Position). p.lines) (sym same-position);
         cut = full_lines-first (b ∷ bytes) (omega arith) ∙ ap (λ r. full_line ∷ full_lines r) same-rest;
-        passed = ap (λ (p : Place). p.bytes) (sym same-place) ∙ ap (λ n. place.bytes + n) (sym (length-first (b ∷ bytes)));
+        passed = ap (λ (p : Position). p.bytes) (sym same-position) ∙ ap (λ n. position.bytes + n) (sym (length-first (b ∷ bytes)));
         left = sym same-rest ∙ ap (λ n. drop n (b ∷ bytes)) (sym (length-first (b ∷ bytes)));
       }
 
-lines-cons : (limit : ℕ) (place mid now : Place) (bytes between rest line : List ℕ) (lines : List (List ℕ)) → StepOn limit place bytes line mid between → LinesOn limit mid between lines now rest →
-    LinesOn limit place bytes (line ∷ lines) now rest
-lines-cons limit place mid now bytes between rest line lines first more =
-    let behind = concat (take (length lines) (full_lines between)) in
-    let total : length (concat (take (suc (length lines)) (full_lines bytes))) ≡ length first.full_line + length behind =
-    ap (λ ps. length (concat (take (suc (length lines)) ps))) first.cut ∙ length-append first.full_line behind in
+lines-cons : (limit : ℕ) (position mid now : Position) (bytes between rest line : List ℕ) (lines : List (List ℕ)) → StepOn limit position bytes line mid between → LinesOn limit mid between lines now rest →
+    LinesOn limit position bytes (line ∷ lines) now rest
+lines-cons limit position mid now bytes between rest line lines first more =
+    let suffix = concat (take (length lines) (full_lines between)) in
+    let total : length (concat (take (suc (length lines)) (full_lines bytes))) ≡ length first.full_line + length suffix =
+    ap (λ ps. length (concat (take (suc (length lines)) ps))) first.cut ∙ length-append first.full_line suffix in
     let count = first.count in
     let more-count = more.count in
     let passed = first.passed in
@@ -149,43 +149,43 @@ lines-cons limit place mid now bytes between rest line lines first more =
       long = first.long ∙ more.long;
       count = omega (arith, count, more-count);
       passed = omega (arith, passed, more-passed, total);
-      left = more.left ∙ ap (drop (length behind)) first.left ∙ drop-drop (length behind) (length first.full_line) bytes ∙ ap (λ n. drop n bytes) (sym total);
+      left = more.left ∙ ap (drop (length suffix)) first.left ∙ drop-drop (length suffix) (length first.full_line) bytes ∙ ap (λ n. drop n bytes) (sym total);
     }
 
-pub reads-on : (limit : ℕ) (lines : List (List ℕ)) (place : Place) (bytes : List ℕ) (now : Place) (rest : List ℕ) → ReadsTo (next_line limit) place bytes lines now rest → LinesOn limit place bytes lines now rest
-reads-on limit [] place bytes now rest read = record {
-  within = ap (λ (p : Place). map line_of (pieces_within limit p bytes)) (sym read.0) ∙ ap (λ r. map line_of (pieces_within limit now r)) (sym read.1);
-  long = ap (λ (p : Place). is_too_long limit p bytes) (sym read.0) ∙ ap (is_too_long limit now) (sym read.1);
-  count = ap (λ (p : Place). p.lines) read.0 ∙ sym (add-zero place.lines);
-  passed = ap (λ (p : Place). p.bytes) read.0 ∙ sym (add-zero place.bytes);
+pub reads-on : (limit : ℕ) (lines : List (List ℕ)) (position : Position) (bytes : List ℕ) (now : Position) (rest : List ℕ) → ReadsTo (next_line limit) position bytes lines now rest → LinesOn limit position bytes lines now rest
+reads-on limit [] position bytes now rest read = record {
+  within = ap (λ (p : Position). map line_of (full_lines_within limit p bytes)) (sym read.0) ∙ ap (λ r. map line_of (full_lines_within limit now r)) (sym read.1);
+  long = ap (λ (p : Position). is_too_long limit p bytes) (sym read.0) ∙ ap (is_too_long limit now) (sym read.1);
+  count = ap (λ (p : Position). p.lines) read.0 ∙ sym (add-zero position.lines);
+  passed = ap (λ (p : Position). p.bytes) read.0 ∙ sym (add-zero position.bytes);
   left = read.1;
 }
-reads-on limit (line ∷ lines) place bytes now rest read =
-    lines-cons limit place read.0 now bytes read.1 rest line lines (step-on limit place bytes line read.0 read.1 read.2) (reads-on limit lines read.0 read.1 now rest read.3)
+reads-on limit (line ∷ lines) position bytes now rest read =
+    lines-cons limit position read.0 now bytes read.1 rest line lines (step-on limit position bytes line read.0 read.1 read.2) (reads-on limit lines read.0 read.1 now rest read.3)
 
 -- no line is left
-end-at : (too_long : Bool) (ps : List (List ℕ)) (place : Place) (bytes : List ℕ) → from_pieces too_long ps place bytes ≡ Over → (ps ≡ []) × (too_long ≡ false)
-end-at true [] place bytes e = cc
-end-at false [] place bytes e = (refl, refl)
-end-at too_long (full_line ∷ ps) place bytes e = cc
+end-at : (too_long : Bool) (ps : List (List ℕ)) (position : Position) (bytes : List ℕ) → from_full_lines too_long ps position bytes ≡ Over → (ps ≡ []) × (too_long ≡ false)
+end-at true [] position bytes e = cc
+end-at false [] position bytes e = (refl, refl)
+end-at too_long (full_line ∷ ps) position bytes e = cc
 
-pub line-over : (limit : ℕ) (place : Place) (bytes : List ℕ) → next_line limit place bytes ≡ Over → (map line_of (pieces_within limit place bytes) ≡ []) × (is_too_long limit place bytes ≡ false)
-line-over limit place bytes e = let parts = end-at (is_too_long limit place bytes) (pieces_within limit place bytes) place bytes e in (ap (map line_of) parts.0, parts.1)
+pub line-over : (limit : ℕ) (position : Position) (bytes : List ℕ) → next_line limit position bytes ≡ Over → (map line_of (full_lines_within limit position bytes) ≡ []) × (is_too_long limit position bytes ≡ false)
+line-over limit position bytes e = let parts = end-at (is_too_long limit position bytes) (full_lines_within limit position bytes) position bytes e in (ap (map line_of) parts.0, parts.1)
 
-long-end_at : (too_long : Bool) (ps : List (List ℕ)) (place : Place) (bytes : List ℕ) (fault : FileFault) → from_pieces too_long ps place bytes ≡ Faulty fault → (ps ≡ []) × (too_long ≡ true)
-long-end_at true [] place bytes fault e = (refl, refl)
-long-end_at false [] place bytes fault e = cc
-long-end_at too_long (full_line ∷ ps) place bytes fault e = cc
+long-end_at : (too_long : Bool) (ps : List (List ℕ)) (position : Position) (bytes : List ℕ) (fault : FileFault) → from_full_lines too_long ps position bytes ≡ Faulty fault → (ps ≡ []) × (too_long ≡ true)
+long-end_at true [] position bytes fault e = (refl, refl)
+long-end_at false [] position bytes fault e = cc
+long-end_at too_long (full_line ∷ ps) position bytes fault e = cc
 
-pub line-long : (limit : ℕ) (place : Place) (bytes : List ℕ) (fault : FileFault) → next_line limit place bytes ≡ Faulty fault → (map line_of (pieces_within limit place bytes) ≡ []) × (is_too_long limit place bytes ≡ true)
-line-long limit place bytes fault e = let parts = long-end_at (is_too_long limit place bytes) (pieces_within limit place bytes) place bytes fault e in (ap (map line_of) parts.0, parts.1)
+pub line-long : (limit : ℕ) (position : Position) (bytes : List ℕ) (fault : FileFault) → next_line limit position bytes ≡ Faulty fault → (map line_of (full_lines_within limit position bytes) ≡ []) × (is_too_long limit position bytes ≡ true)
+line-long limit position bytes fault e = let parts = long-end_at (is_too_long limit position bytes) (full_lines_within limit position bytes) position bytes fault e in (ap (map line_of) parts.0, parts.1)
 
 -- so no byte is left
 no-full_lines : (bytes : List ℕ) → full_lines bytes ≡ [] → bytes ≡ []
 no-full_lines [] e = refl
 no-full_lines (b ∷ bytes) e = let first = full_lines-first (b ∷ bytes) (omega arith) in let bad : take (first_len (b ∷ bytes)) (b ∷ bytes) ∷ full_lines (drop (first_len (b ∷ bytes)) (b ∷ bytes)) ≡ [] = sym first ∙ e in cc
 
-pub line-over_bytes : (limit : ℕ) (place : Place) (bytes : List ℕ) → next_line limit place bytes ≡ Over → bytes ≡ []
-line-over_bytes limit place bytes e =
-    let parts = end-at (is_too_long limit place bytes) (pieces_within limit place bytes) place bytes e in
-    no-full_lines bytes (sym (ap (λ c. cond c (filter is_whole (full_lines (take (limit - place.bytes) bytes))) (full_lines bytes)) parts.1) ∙ parts.0)
+pub line-over_bytes : (limit : ℕ) (position : Position) (bytes : List ℕ) → next_line limit position bytes ≡ Over → bytes ≡ []
+line-over_bytes limit position bytes e =
+    let parts = end-at (is_too_long limit position bytes) (full_lines_within limit position bytes) position bytes e in
+    no-full_lines bytes (sym (ap (λ c. cond c (filter is_whole (full_lines (take (limit - position.bytes) bytes))) (full_lines bytes)) parts.1) ∙ parts.0)

@@ -50,20 +50,20 @@ pub rest-whole : (n : ℕ) (bytes : List ℕ) → take (length bytes - n) (drop 
 rest-whole n bytes = take_all _ _ (subst (λ m. m ≤ length bytes - n) (sym (length-drop n bytes)) (omega arith))
 
 -- a front of some bytes, and a front of the rest
-pub front-more : (old mid new : Option (List ℕ)) (n k : ℕ) (bytes : List ℕ) → n ≤ length bytes →
+pub prefix-more : (old mid new : Option (List ℕ)) (n k : ℕ) (bytes : List ℕ) → n ≤ length bytes →
     Appends old mid (take n bytes) → Appends mid new (take k (take (length bytes - n) (drop n bytes))) → Appends old new (take (n + k) bytes)
-front-more old mid new n k bytes le a b =
+prefix-more old mid new n k bytes le a b =
     subst (λ t. Appends old new t) (sym (take-more n k bytes)) (appends-append old mid new _ _ a (subst (λ t. Appends mid new (take k t)) (rest-whole n bytes) b))
 
 -- a front of some bytes is a part of them
-pub front-part : (old new : Option (List ℕ)) (n : ℕ) (bytes : List ℕ) → Appends old new (take n bytes) → AppendsPart old new bytes
-front-part old new n bytes a = subst (λ t. AppendsPart old new t) (take-append-drop n bytes) (part-append old new (take n bytes) (drop n bytes) a)
+pub prefix-part : (old new : Option (List ℕ)) (n : ℕ) (bytes : List ℕ) → Appends old new (take n bytes) → AppendsPart old new bytes
+prefix-part old new n bytes a = subst (λ t. AppendsPart old new t) (take-append-drop n bytes) (part-append old new (take n bytes) (drop n bytes) a)
 
 -- a front of what waits that is passed on is a part of it
 pub gathered-part : (old new : Option (List ℕ)) (n k : ℕ) (bytes block : List ℕ) → bytes ≡ block →
     Appends old new (take k (take (length bytes - n) (drop n bytes))) → AppendsPart old new (drop n block)
 gathered-part old new n k bytes block e a =
-    subst (λ t. AppendsPart old new (drop n t)) e (front-part old new k (drop n bytes) (subst (λ t. Appends old new (take k t)) (rest-whole n bytes) a))
+    subst (λ t. AppendsPart old new (drop n t)) e (prefix-part old new k (drop n bytes) (subst (λ t. Appends old new (take k t)) (rest-whole n bytes) a))
 
 -- a front of what waits that is passed on leaves all bytes so far as they were
 pub gathered-more : (old new : Option (List ℕ)) (n k : ℕ) (bytes block : List ℕ) → bytes ≡ block →

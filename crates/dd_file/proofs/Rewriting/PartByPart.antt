@@ -8,17 +8,17 @@ use Rattle.dd_file.specs.Device.{AppendsPart}
 use Rattle.dd_file.specs.Rewritten.{newlines_at_end, without_double_end}
 use Rattle.dd_file.specs.RewriterState.{HasBegun, HasWritten, Continues, BreaksOff, Finishes, FinishesPart}
 use Rattle.dd_file.proofs.Rewriting.KnownBytes.{appends-append, append-part, part-append, part-part}
-use Rattle.dd_file.proofs.TextLines.LastNewlines.{text-held, text-ended, without_last-front}
+use Rattle.dd_file.proofs.TextLines.LastNewlines.{text-buffered, text-ended, without_last-prefix}
 use Rattle.ascii_text.proofs.Offered.{without_last-append}
 
 -- the newline that is held back behind so many
-abbrev pub held : ℕ → List ℕ
-held newlines = if newlines == 0 then [] else newline
+abbrev pub buffered : ℕ → List ℕ
+buffered newlines = if newlines == 0 then [] else newline
 
 -- a part of the text without its last newline is a part of the script, whatever follows
 pub begun-part : (start now : Option (List ℕ)) (text : List ℕ) → AppendsPart start now (without_last 10 text) → HasBegun start now text
 begun-part start now text part rest =
-    let more = without_last-front text rest in
+    let more = without_last-prefix text rest in
     let end = if newlines_at_end (text ++ rest) == 1 then newline else [] in
     let whole : (without_last 10 text ++ more.0) ++ end ≡ without_double_end (text ++ rest) = ap (λ t. t ++ end) (sym more.1) ∙ text-ended (text ++ rest) in
     subst (λ t. AppendsPart start now t) whole (part-part start now _ end (part-part start now _ more.0 part))
@@ -35,21 +35,21 @@ HasWritten-from_text newlines start now text count gained = record {
 
 -- the text so far and some bytes more
 text-more : (newlines : ℕ) (start now : Option (List ℕ)) (text more : List ℕ) → (length more == 0) ≡ false → HasWritten newlines start now text →
-    without_last 10 text ++ (held newlines ++ without_last 10 more) ≡ without_last 10 (text ++ more)
+    without_last 10 text ++ (buffered newlines ++ without_last 10 more) ≡ without_last 10 (text ++ more)
 text-more newlines start now text [] some is = cc
 text-more newlines start now text (x ∷ more) some is =
-    sym (append_assoc (without_last 10 text) (held newlines) (without_last 10 (x ∷ more)))
-    ∙ ap (λ t. t ++ without_last 10 (x ∷ more)) (ap (λ n. without_last 10 text ++ held n) is.counted ∙ text-held text) ∙ sym (without_last-append 10 text x more)
+    sym (append_assoc (without_last 10 text) (buffered newlines) (without_last 10 (x ∷ more)))
+    ∙ ap (λ t. t ++ without_last 10 (x ∷ more)) (ap (λ n. without_last 10 text ++ buffered n) is.counted ∙ text-buffered text) ∙ sym (without_last-append 10 text x more)
 
 -- bytes are written: what is held back, and then they without a newline at their end
 pub continues-bytes : (newlines count : ℕ) (old new : Option (List ℕ)) (more : List ℕ) → (length more == 0) ≡ false →
-    Appends old new (held newlines ++ without_last 10 more) → ((text : List ℕ) → newlines ≡ newlines_at_end text → count ≡ newlines_at_end (text ++ more)) → Continues newlines count old new more
+    Appends old new (buffered newlines ++ without_last 10 more) → ((text : List ℕ) → newlines ≡ newlines_at_end text → count ≡ newlines_at_end (text ++ more)) → Continues newlines count old new more
 continues-bytes newlines count old new more some bytes counts start text is =
     HasWritten-from_text count start new (text ++ more) (counts text is.counted) (subst (λ t. Appends start new t) (text-more newlines start old text more some is)
     (appends-append start old new _ _ is.gained bytes))
 
 pub breaks-bytes : (newlines : ℕ) (old new : Option (List ℕ)) (more : List ℕ) → (length more == 0) ≡ false →
-    AppendsPart old new (held newlines ++ without_last 10 more) → BreaksOff newlines old new more
+    AppendsPart old new (buffered newlines ++ without_last 10 more) → BreaksOff newlines old new more
 breaks-bytes newlines old new more some part start text is =
     begun-part start new (text ++ more) (subst (λ t. AppendsPart start new t) (text-more newlines start old text more some is) (append-part start old new _ _ is.gained part))
 

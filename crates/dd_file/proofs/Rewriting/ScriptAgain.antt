@@ -7,12 +7,12 @@ use Rattle.std.proofs.lemmas.List.{append_assoc, append-nil}
 use Rattle.std.proofs.lemmas.List.Folds.{list_all-append}
 use Rattle.ascii_text.specs.Lines.{newline, line_of, lines_of, text_of}
 use Rattle.ascii_text.specs.WhiteSpace.{is_blank}
-use Rattle.dd_file.specs.Words.{CommandText, command_of}
-use Rattle.dd_file.specs.Script.{front, first_of, joined, is_comment, is_separator, directive}
-use Rattle.dd_file.specs.Place.{longest_input}
+use Rattle.dd_file.specs.DirectiveLine.{CommandText, command_of}
+use Rattle.dd_file.specs.Script.{first_item, first_of, joined, is_comment, is_separator, directive}
+use Rattle.dd_file.specs.Position.{longest_input}
 use Rattle.dd_file.specs.Reading.{Script, script_of, with_first}
 use Rattle.dd_file.specs.Rewritten.{Entry, entry, entry_text, has_blank_line, is_output, rewritten_text, without_double_end}
-use Rattle.dd_file.specs.Laws.{is_line, AreGiven, IsSameItem, AreReadAgain, AreOver, LastIsGone, ReadAgain, ends_in_long_blank}
+use Rattle.dd_file.specs.Laws.{is_line, AreGiven, IsSameItem, AreReadAgain, AreOver, LastIsRemoved, ReadAgain, ends_in_long_blank}
 use Rattle.dd_file.specs.declared.item.Item.{Item}
 use Rattle.dd_file.specs.declared.item.Item.TheVariants.{Comment, Blank, Directive}
 use Rattle.ascii_text.proofs.Offered.{list-by_last}
@@ -21,7 +21,7 @@ use Rattle.dd_file.proofs.TextLines.CutAgain.{and-parts, lines-lines, full_lines
 use Rattle.dd_file.proofs.ScriptGrammar.FoundInLines.{dashes_line}
 use Rattle.dd_file.proofs.ScriptGrammar.LinesOfItem.{IsHead, ReadItem, ReadComment, ReadBlank, ReadBlankHead, ReadDirective, given-read}
 use Rattle.dd_file.proofs.ScriptGrammar.AllItems.{items_of, items_of-first, script_of-lines}
-use Rattle.dd_file.proofs.Rewriting.ItemAgain.{read-again, directive-again, directive-text, directive_lines, directive_lines-are, output_behind}
+use Rattle.dd_file.proofs.Rewriting.ItemAgain.{read-again, directive-again, directive-text, lines_of_written, lines_of_written-are, output_behind}
 
 -- the entries are read again as the items of this script, which has no fault
 abbrev IsAgain : List Entry → Script Item → Type 0
@@ -48,9 +48,9 @@ entry-lines item found output (ReadBlankHead line rest is are blank) = (line ∷
 entry-lines item found output (ReadDirective n command line rest input expected is says command_is none are) =
     let found_is = output-lines found output in
     let raw = (line ∷ rest) ++ input in (
-      directive_lines true raw (has_blank_line found) found_is.0,
+      lines_of_written true raw (has_blank_line found) found_is.0,
       directive-text raw found_is.0 found found_is.1,
-      directive_lines-are true (has_blank_line found) raw found_is.0 are found_is.1.are_lines,
+      lines_of_written-are true (has_blank_line found) raw found_is.0 are found_is.1.are_lines,
     )
 
 -- the lines of such a text, and then those of what follows it
@@ -59,11 +59,11 @@ lines-append text more has =
     ap (λ t. lines_of (t ++ more)) has.1 ∙ lines-lines has.0 more has.2 ∙ sym (ap (λ t. lines_of t ++ lines_of more) has.1 ∙ ap (λ ps. map line_of ps ++ lines_of more) (full_lines-text_of has.0 has.2))
 
 -- an entry that is read again first, and others behind it
-read-first : (m : ℕ) (lines more : List (List ℕ)) (is_ended : Bool) (e : Entry) (entries : List Entry) (again : Item) → first_of m (lines ++ more) ≡ Some (front (Ok again) (length lines) is_ended) →
+read-first : (m : ℕ) (lines more : List (List ℕ)) (is_ended : Bool) (e : Entry) (entries : List Entry) (again : Item) → first_of m (lines ++ more) ≡ Some (first_item (Ok again) (length lines) is_ended) →
     IsSameItem m e.found e.item again → IsAgain entries (items_of (m + length lines) more) → IsAgain (e ∷ entries) (items_of m (lines ++ more))
 read-first m lines more is_ended e entries again read same rest =
     let whole : items_of m (lines ++ more) ≡ with_first again (items_of (m + length lines) more) =
-    items_of-first m (lines ++ more) (front (Ok again) (length lines) is_ended) again read refl
+    items_of-first m (lines ++ more) (first_item (Ok again) (length lines) is_ended) again read refl
     ∙ ap (λ (t : List (List ℕ)). with_first again (items_of (m + length lines) t)) (drop-append_seam lines more) in
     subst (IsAgain (e ∷ entries)) (sym whole) (rest.0, ReadAgain m e.item again e.found entries _ same rest.1)
 
@@ -135,12 +135,12 @@ blank-left before [] [] found is output are comment blank =
 blank-left before [] (first ∷ lines) found is output are comment blank = (
   [],
   ap (λ t. without_double_end (t ++ newline)) is ∙ empty-dropped [] first lines ∙ sym is ∙ sym (append-nil before),
-  λ m. (refl, LastIsGone found),
+  λ m. (refl, LastIsRemoved found),
 )
 
 -- the lines of a directive are those that are left and an empty one
-behind-blank : (raw : List (List ℕ)) (double : Bool) (lines : List (List ℕ)) → directive_lines true raw double lines ≡ directive_lines false raw double lines ++ [] ∷ []
-behind-blank raw double lines = ap (λ t. raw ++ dashes_line ∷ t) (at double) ∙ sym (append_assoc raw (dashes_line ∷ output_behind false double lines) ([] ∷ [])) where
+suffix-blank : (raw : List (List ℕ)) (double : Bool) (lines : List (List ℕ)) → lines_of_written true raw double lines ≡ lines_of_written false raw double lines ++ [] ∷ []
+suffix-blank raw double lines = ap (λ t. raw ++ dashes_line ∷ t) (at double) ∙ sym (append_assoc raw (dashes_line ∷ output_behind false double lines) ([] ∷ [])) where
   at : (d : Bool) → output_behind true d lines ≡ output_behind false d lines ++ [] ∷ []
   at false = refl
   at true = ap (λ t. dashes_line ∷ t) (sym (append_assoc lines (dashes_line ∷ dashes_line ∷ []) ([] ∷ [])))
@@ -154,13 +154,13 @@ directive-left before n command line rest input expected found output is says co
     let lines = found_is.0 in
     let double = has_blank_line found in
     let raw = (line ∷ rest) ++ input in
-    let left = directive_lines false raw double lines in
+    let left = lines_of_written false raw double lines in
     let e = entry (directive n command (line ∷ rest) input expected) found in
     let whole : texts_of (e ∷ []) ≡ text_of left ++ newline =
-    append-nil (entry_text e.item found) ∙ directive-text raw lines found found_is.1 ∙ ap text_of (behind-blank raw double lines) ∙ text_of-append left ([] ∷ []) in
+    append-nil (entry_text e.item found) ∙ directive-text raw lines found found_is.1 ∙ ap text_of (suffix-blank raw double lines) ∙ text_of-append left ([] ∷ []) in
     let again = λ (m : ℕ). directive-again false n m command line rest input expected [] lines found is says command_is none are found_is.1 in (
       text_of left,
-      ap (λ t. without_double_end (before ++ t)) whole ∙ empty-dropped before line (directive_lines false (rest ++ input) double lines),
+      ap (λ t. without_double_end (before ++ t)) whole ∙ empty-dropped before line (lines_of_written false (rest ++ input) double lines),
       λ m. subst (λ (ls : List (List ℕ)). IsAgain (e ∷ []) (items_of m ls)) (append-nil (lines_of (text_of left)))
           (read-first m (lines_of (text_of left)) [] false e [] (again m).0 (again m).1 (again m).2 (no-entries (m + length (lines_of (text_of left))))),
     )
@@ -170,11 +170,11 @@ last-left : (before : List ℕ) (lines : List (List ℕ)) (item : Item) (found :
 last-left before lines item found is (ReadComment line are comment) output short =
     line-left before line (entry (Comment (line ∷ [])) found) (ReadComment line are comment) output (one-line line) are (λ e. let bad : false ≡ true = ap is_comment (sym e) ∙ comment in cc)
 last-left before lines item found is (ReadBlank line are comment blank) output short = blank-left before line lines found is output are comment blank
-last-left before lines item found is (ReadBlankHead line [] head are blank) output short =
-    line-left before line (entry (Blank (line ∷ [])) found) (ReadBlankHead line [] head are blank) output (one-line line) (and-parts (is_line line) true are).0 (λ e. let bad : true ≡ false = ap is_blank (sym e) ∙ head.blank in cc)
-last-left before lines item found is (ReadBlankHead line (next ∷ rest) head are blank) output short = absurd (search (rules, arith))
-last-left before lines item found is (ReadDirective n command line rest input expected head says command_is none are) output short =
-    directive-left before n command line rest input expected found output head says command_is none are
+last-left before lines item found is (ReadBlankHead line [] directive_lines are blank) output short =
+    line-left before line (entry (Blank (line ∷ [])) found) (ReadBlankHead line [] directive_lines are blank) output (one-line line) (and-parts (is_line line) true are).0 (λ e. let bad : true ≡ false = ap is_blank (sym e) ∙ directive_lines.blank in cc)
+last-left before lines item found is (ReadBlankHead line (next ∷ rest) directive_lines are blank) output short = absurd (search (rules, arith))
+last-left before lines item found is (ReadDirective n command line rest input expected directive_lines says command_is none are) output short =
+    directive-left before n command line rest input expected found output directive_lines says command_is none are
 
 -- the end of a script is told by its last item
 ends-next : (item next : Item) (items : List Item) → ends_in_long_blank (item ∷ next ∷ items) ≡ ends_in_long_blank (next ∷ items)

@@ -4,14 +4,14 @@ use Rattle.std.specs.Prelude.{◌==◌, Option, Some, None, option_map, Result, 
 use Rattle.std.specs.List.{concat}
 use Rattle.std.proofs.lemmas.List.{drop-drop, drop-map, length-map}
 use Rattle.ascii_text.specs.Lines.{newline, first_len, full_lines, before_first_line, line_of, lines_of}
-use Rattle.dd_file.specs.Script.{Front, front, first_of}
-use Rattle.dd_file.specs.Place.{Place, start, longest_input}
-use Rattle.dd_file.specs.Reading.{Script, with_first, followed, first_items, next_item, script_of, is_too_long, from_front}
+use Rattle.dd_file.specs.Script.{FirstItem, first_item, first_of}
+use Rattle.dd_file.specs.Position.{Position, start, longest_input}
+use Rattle.dd_file.specs.Reading.{Script, with_first, followed, first_items, next_item, script_of, is_too_long, from_first_item}
 use Rattle.dd_file.specs.Laws.{moved_fault}
 use Rattle.dd_file.specs.declared.item.Item.{Item}
 use Rattle.dd_file.specs.declared.fault.FileFault.{FileFault}
 use Rattle.ascii_text.proofs.Offered.{full_lines-first, first_len-bound}
-use Rattle.dd_file.proofs.ScriptGrammar.FrontLength.{first_of-fits, first_of-moved, moved_item, moved_front}
+use Rattle.dd_file.proofs.ScriptGrammar.ItemLength.{first_of-fits, first_of-moved, moved_item, moved_front}
 
 abbrev pub no_items : Script Item
 no_items = record { items = []; fault = None }
@@ -21,7 +21,7 @@ abbrev pub from_found : (ℕ → List (List ℕ) → Script Item) → ℕ → Li
 from_found rest n lines count (Ok item) = with_first item (rest (n + count) (drop count lines))
 from_found rest n lines count (Err fault) = record { items = []; fault = Some fault }
 
-abbrev pub from_first : (ℕ → List (List ℕ) → Script Item) → ℕ → List (List ℕ) → Option Front → Script Item
+abbrev pub from_first : (ℕ → List (List ℕ) → Script Item) → ℕ → List (List ℕ) → Option FirstItem → Script Item
 from_first rest n lines None = no_items
 from_first rest n lines (Some f) = from_found rest n lines f.count f.found
 
@@ -35,7 +35,7 @@ abbrev pub items_of : ℕ → List (List ℕ) → Script Item
 items_of n lines = items_at (length lines) n lines
 
 -- the rest of some lines is the same at any fuel that is enough
-from_first-same : (k j n : ℕ) (lines : List (List ℕ)) (f : Option Front) → first_of n lines ≡ f → length lines ≤ suc k → length lines ≤ suc j →
+from_first-same : (k j n : ℕ) (lines : List (List ℕ)) (f : Option FirstItem) → first_of n lines ≡ f → length lines ≤ suc k → length lines ≤ suc j →
     ((m : ℕ) (ls : List (List ℕ)) → length ls ≤ k → length ls ≤ j → items_at k m ls ≡ items_at j m ls) → from_first (items_at k) n lines f ≡ from_first (items_at j) n lines f
 from_first-same k j n lines None e hk hj ih = refl
 from_first-same k j n lines (Some f) e hk hj ih = at f.found where
@@ -58,7 +58,7 @@ items_at-enough (suc k) zero n (line ∷ lines) hk hj = absurd (omega (arith, hj
 items_at-enough (suc k) (suc j) n (line ∷ lines) hk hj = from_first-same k j n (line ∷ lines) (first_of n (line ∷ lines)) refl hk hj (items_at-enough k j)
 
 -- the first item, and those of the lines behind it
-pub items_of-first : (n : ℕ) (lines : List (List ℕ)) (f : Front) (item : Item) → first_of n lines ≡ Some f → f.found ≡ Ok item →
+pub items_of-first : (n : ℕ) (lines : List (List ℕ)) (f : FirstItem) (item : Item) → first_of n lines ≡ Some f → f.found ≡ Ok item →
     items_of n lines ≡ with_first item (items_of (n + f.count) (drop f.count lines))
 items_of-first n [] f item e is = cc
 items_of-first n (line ∷ lines) f item e is =
@@ -76,13 +76,13 @@ pub items_at-moved : (fuel k n : ℕ) (lines : List (List ℕ)) → items_at fue
 items_at-moved zero k n lines = refl
 items_at-moved (suc fuel) k n lines = ap (from_first (items_at fuel) (k + n) lines) (first_of-moved k n lines) ∙ at (first_of n lines) (items_at-moved fuel) where
   found : (count : ℕ) (found : Result Item FileFault) → ((k n : ℕ) (lines : List (List ℕ)) → items_at fuel (k + n) lines ≡ moved_script k (items_at fuel n lines)) →
-      from_found (items_at fuel) (k + n) lines count (moved_front k (front found count true)).found ≡ moved_script k (from_found (items_at fuel) n lines count found)
+      from_found (items_at fuel) (k + n) lines count (moved_front k (first_item found count true)).found ≡ moved_script k (from_found (items_at fuel) n lines count found)
   found count (Ok item) ih =
       let sum : (k + n) + count ≡ k + (n + count) = omega arith in
       ap (with_first (moved_item k item)) (ap (λ (m : ℕ). items_at fuel m (drop count lines)) sum ∙ ih k (n + count) (drop count lines))
   found count (Err fault) ih = refl
 
-  at : (f : Option Front) → ((k n : ℕ) (lines : List (List ℕ)) → items_at fuel (k + n) lines ≡ moved_script k (items_at fuel n lines)) →
+  at : (f : Option FirstItem) → ((k n : ℕ) (lines : List (List ℕ)) → items_at fuel (k + n) lines ≡ moved_script k (items_at fuel n lines)) →
       from_first (items_at fuel) (k + n) lines (option_map (moved_front k) f) ≡ moved_script k (from_first (items_at fuel) n lines f)
   at None ih = refl
   at (Some f) ih = found f.count f.found ih
@@ -98,7 +98,7 @@ full_lines-drop (suc count) (b ∷ bytes) =
     let rest = drop first whole in
     let taken = concat (take count (full_lines rest)) in
     let bound = first_len-bound whole in
-    let len : length (take first whole ++ taken) ≡ first + length taken = rw (length-append (take first whole) taken) (let front = length-take-le first whole bound in omega (arith, front)) in
+    let len : length (take first whole ++ taken) ≡ first + length taken = rw (length-append (take first whole) taken) (let prefix = length-take-le first whole bound in omega (arith, prefix)) in
     ap (λ (ps : List (List ℕ)). full_lines (drop (length (concat (take (suc count) ps))) whole)) cut
     ∙ ap (λ (k : ℕ). full_lines (drop k whole)) len ∙ ap full_lines (sym (drop-drop (length taken) first whole)) ∙ full_lines-drop count rest ∙ sym (ap (drop (suc count)) cut)
 
@@ -112,11 +112,11 @@ concat-full_lines (suc count) (b ∷ bytes) =
     let rest = drop first whole in
     let taken = concat (take count (full_lines rest)) in
     let bound = first_len-bound whole in
-    let front = length-take-le first whole bound in
+    let prefix = length-take-le first whole bound in
     let len = length-append (take first whole) taken in
     let more = concat-full_lines count rest in
     let left = length-drop first whole in
-    rw cut (omega (arith, front, len, more, left, bound))
+    rw cut (omega (arith, prefix, len, more, left, bound))
 
 full_lines-length : (bytes : List ℕ) → length (full_lines bytes) ≤ length bytes
 full_lines-length [] = omega arith
@@ -127,25 +127,25 @@ full_lines-length (b ∷ bytes) = at (b == 10) (full_lines bytes) (full_lines-le
   at false (p ∷ ps) h = omega (arith, h)
 
 -- within the limit the items are those of the lines
-first_items-lines : (fuel : ℕ) (place : Place) (bytes : List ℕ) → place.bytes + length bytes ≤ longest_input → first_items (next_item longest_input) fuel place bytes ≡ items_at fuel (place.lines + 1) (lines_of bytes)
-first_items-lines zero place bytes fits = refl
-first_items-lines (suc fuel) place bytes fits =
-    let within : is_too_long longest_input place bytes ≡ false = search (rules, arith) in
-    rw within (at (first_of (place.lines + 1) (lines_of bytes)) (first_items-lines fuel)) where
-      found : (count : ℕ) (ended : Bool) (found : Result Item FileFault) → ((place : Place) (bytes : List ℕ) → place.bytes + length bytes ≤ longest_input → first_items (next_item longest_input) fuel place bytes ≡ items_at fuel (place.lines + 1) (lines_of bytes)) →
-          followed (first_items (next_item longest_input) fuel) (from_front false (Some (front found count ended)) place bytes) ≡ from_found (items_at fuel) (place.lines + 1) (lines_of bytes) count found
+first_items-lines : (fuel : ℕ) (position : Position) (bytes : List ℕ) → position.bytes + length bytes ≤ longest_input → first_items (next_item longest_input) fuel position bytes ≡ items_at fuel (position.lines + 1) (lines_of bytes)
+first_items-lines zero position bytes fits = refl
+first_items-lines (suc fuel) position bytes fits =
+    let within : is_too_long longest_input position bytes ≡ false = search (rules, arith) in
+    rw within (at (first_of (position.lines + 1) (lines_of bytes)) (first_items-lines fuel)) where
+      found : (count : ℕ) (ended : Bool) (found : Result Item FileFault) → ((position : Position) (bytes : List ℕ) → position.bytes + length bytes ≤ longest_input → first_items (next_item longest_input) fuel position bytes ≡ items_at fuel (position.lines + 1) (lines_of bytes)) →
+          followed (first_items (next_item longest_input) fuel) (from_first_item false (Some (first_item found count ended)) position bytes) ≡ from_found (items_at fuel) (position.lines + 1) (lines_of bytes) count found
       found count ended (Ok item) ih =
           let taken = length (concat (take count (full_lines bytes))) in
           let bound = concat-full_lines count bytes in
           let left = length-drop taken bytes in
-          let sum : place.lines + count + 1 ≡ place.lines + 1 + count = omega arith in
-          ap (with_first item) (ih (record { lines = place.lines + count; bytes = place.bytes + taken }) (drop taken bytes) (omega (arith, fits, bound, left))
+          let sum : position.lines + count + 1 ≡ position.lines + 1 + count = omega arith in
+          ap (with_first item) (ih (record { lines = position.lines + count; bytes = position.bytes + taken }) (drop taken bytes) (omega (arith, fits, bound, left))
           ∙ ap (λ (m : ℕ). items_at fuel m (lines_of (drop taken bytes))) sum
-          ∙ ap (λ (ls : List (List ℕ)). items_at fuel (place.lines + 1 + count) ls) (ap (map line_of) (full_lines-drop count bytes) ∙ sym (drop-map line_of count (full_lines bytes))))
+          ∙ ap (λ (ls : List (List ℕ)). items_at fuel (position.lines + 1 + count) ls) (ap (map line_of) (full_lines-drop count bytes) ∙ sym (drop-map line_of count (full_lines bytes))))
       found count ended (Err fault) ih = refl
 
-      at : (f : Option Front) → ((place : Place) (bytes : List ℕ) → place.bytes + length bytes ≤ longest_input → first_items (next_item longest_input) fuel place bytes ≡ items_at fuel (place.lines + 1) (lines_of bytes)) →
-          followed (first_items (next_item longest_input) fuel) (from_front false f place bytes) ≡ from_first (items_at fuel) (place.lines + 1) (lines_of bytes) f
+      at : (f : Option FirstItem) → ((position : Position) (bytes : List ℕ) → position.bytes + length bytes ≤ longest_input → first_items (next_item longest_input) fuel position bytes ≡ items_at fuel (position.lines + 1) (lines_of bytes)) →
+          followed (first_items (next_item longest_input) fuel) (from_first_item false f position bytes) ≡ from_first (items_at fuel) (position.lines + 1) (lines_of bytes) f
       at None ih = refl
       at (Some f) ih = found f.count f.is_ended f.found ih
 

@@ -3,58 +3,58 @@ use Rattle.std.proofs.Common.{◌≡◌, ℕ, zero, suc, ◌+◌, ◌<◌, true,
 use Rattle.std.specs.Prelude.{◌⊎◌, Option, Some, None, Ok}
 use Rattle.std.specs.Io.KnownBytes.{Consumes, IsAtEnd}
 use Rattle.std.proofs.lemmas.List.{append_assoc, append-nil, append_cancel_right}
-use Rattle.dd_file.specs.Place.{Place}
-use Rattle.dd_file.specs.Device.{LosesFront}
+use Rattle.dd_file.specs.Position.{Position}
+use Rattle.dd_file.specs.Device.{LosesPrefix}
 use Rattle.dd_file.specs.Reading.{Next, Over, Found, Faulty, Script, followed, with_first, first_items, script_from}
 use Rattle.dd_file.specs.ReaderState.{ReaderState}
-use Rattle.dd_file.specs.Answer.{AgreesWith, Agrees, TellsNext, IsCutShort, MovesOn}
+use Rattle.dd_file.specs.Answer.{AgreesWith, Agrees, IsNextOfInput, IsCutShort, MovesOn}
 use Rattle.dd_file.specs.InOrder.{ReadsTo, TakesBytes, GivenSoFar}
 use Rattle.dd_file.specs.InTurn.{AgreesInTurn}
-use Rattle.dd_file.proofs.LineReading.PartsOfPiece.{consumes-append}
+use Rattle.dd_file.proofs.LineReading.PartsOfFullLine.{consumes-append}
 
 -- the rest is the same at any fuel above the number of bytes
-followed-same : {A : Type 0} (next : Place → List ℕ → Next A) (place : Place) (bytes : List ℕ) (n m : ℕ) (found : Next A) → next place bytes ≡ found → TakesBytes next → length bytes < suc n → length bytes < suc m →
-    ((behind : Place) (left : List ℕ) → length left < n → length left < m → first_items next n behind left ≡ first_items next m behind left) →
+followed-same : {A : Type 0} (next : Position → List ℕ → Next A) (position : Position) (bytes : List ℕ) (n m : ℕ) (found : Next A) → next position bytes ≡ found → TakesBytes next → length bytes < suc n → length bytes < suc m →
+    ((suffix : Position) (left : List ℕ) → length left < n → length left < m → first_items next n suffix left ≡ first_items next m suffix left) →
     followed (first_items next n) found ≡ followed (first_items next m) found
-followed-same next place bytes n m Over e takes hn hm same = refl
-followed-same next place bytes n m (Found item behind left) e takes hn hm same =
-    let shorter = takes place behind bytes left item e in
-    ap (with_first item) (same behind left (omega (arith, shorter, hn)) (omega (arith, shorter, hm)))
-followed-same next place bytes n m (Faulty fault) e takes hn hm same = refl
+followed-same next position bytes n m Over e takes hn hm same = refl
+followed-same next position bytes n m (Found item suffix left) e takes hn hm same =
+    let shorter = takes position suffix bytes left item e in
+    ap (with_first item) (same suffix left (omega (arith, shorter, hn)) (omega (arith, shorter, hm)))
+followed-same next position bytes n m (Faulty fault) e takes hn hm same = refl
 
-pub first_items-fuel : {A : Type 0} (next : Place → List ℕ → Next A) → TakesBytes next → (n m : ℕ) (place : Place) (bytes : List ℕ) → length bytes < n → length bytes < m →
-    first_items next n place bytes ≡ first_items next m place bytes
-first_items-fuel next takes zero m place bytes hn hm = absurd (omega (arith, hn))
-first_items-fuel next takes (suc n) zero place bytes hn hm = absurd (omega (arith, hm))
-first_items-fuel next takes (suc n) (suc m) place bytes hn hm = followed-same next place bytes n m (next place bytes) refl takes hn hm (first_items-fuel next takes n m)
+pub first_items-fuel : {A : Type 0} (next : Position → List ℕ → Next A) → TakesBytes next → (n m : ℕ) (position : Position) (bytes : List ℕ) → length bytes < n → length bytes < m →
+    first_items next n position bytes ≡ first_items next m position bytes
+first_items-fuel next takes zero m position bytes hn hm = absurd (omega (arith, hn))
+first_items-fuel next takes (suc n) zero position bytes hn hm = absurd (omega (arith, hm))
+first_items-fuel next takes (suc n) (suc m) position bytes hn hm = followed-same next position bytes n m (next position bytes) refl takes hn hm (first_items-fuel next takes n m)
 
 -- what is read from a place on is what comes next, and then what is read behind it
-script_from-at : {A : Type 0} (next : Place → List ℕ → Next A) → TakesBytes next → (place : Place) (bytes : List ℕ) (found : Next A) → next place bytes ≡ found →
+script_from-at : {A : Type 0} (next : Position → List ℕ → Next A) → TakesBytes next → (position : Position) (bytes : List ℕ) (found : Next A) → next position bytes ≡ found →
     followed (first_items next (length bytes)) found ≡ followed (script_from next) found
-script_from-at next takes place bytes Over e = refl
-script_from-at next takes place bytes (Found item behind left) e =
-    let shorter = takes place behind bytes left item e in
-    ap (with_first item) (first_items-fuel next takes (length bytes) (length left + 1) behind left shorter (omega arith))
-script_from-at next takes place bytes (Faulty fault) e = refl
+script_from-at next takes position bytes Over e = refl
+script_from-at next takes position bytes (Found item suffix left) e =
+    let shorter = takes position suffix bytes left item e in
+    ap (with_first item) (first_items-fuel next takes (length bytes) (length left + 1) suffix left shorter (omega arith))
+script_from-at next takes position bytes (Faulty fault) e = refl
 
-pub script_from-followed : {A : Type 0} (next : Place → List ℕ → Next A) → TakesBytes next → (place : Place) (bytes : List ℕ) →
-    script_from next place bytes ≡ followed (script_from next) (next place bytes)
-script_from-followed next takes place bytes =
+pub script_from-followed : {A : Type 0} (next : Position → List ℕ → Next A) → TakesBytes next → (position : Position) (bytes : List ℕ) →
+    script_from next position bytes ≡ followed (script_from next) (next position bytes)
+script_from-followed next takes position bytes =
     let one : length bytes + 1 ≡ suc (length bytes) = omega arith in
-    ap (λ n. first_items next n place bytes) one ∙ script_from-at next takes place bytes (next place bytes) refl
+    ap (λ n. first_items next n position bytes) one ∙ script_from-at next takes position bytes (next position bytes) refl
 
 -- the items that were read stand at the front of the script, and the fault is that of the rest
-pub record IsFront {A : Type 0} (front : List A) (script rest : Script A) : Type 0 where
-  pub items : script.items ≡ front ++ rest.items
+pub record IsFront {A : Type 0} (prefix : List A) (script rest : Script A) : Type 0 where
+  pub items : script.items ≡ prefix ++ rest.items
   pub fault : script.fault ≡ rest.fault
 
 -- one more item
-pub ReadsTo-push : {A : Type 0} (next : Place → List ℕ → Next A) (items : List A) (item : A) (place now behind : Place) (bytes rest left : List ℕ) →
-    ReadsTo next place bytes items now rest → next now rest ≡ Found item behind left → ReadsTo next place bytes (items ++ item ∷ []) behind left
-ReadsTo-push next [] item place now behind bytes rest left read more =
-    (behind, left, ap (λ (p : Place). next p bytes) (sym read.0) ∙ ap (next now) (sym read.1) ∙ more, (refl, refl))
-ReadsTo-push next (x ∷ items) item place now behind bytes rest left read more =
-    (read.0, read.1, read.2, ReadsTo-push next items item read.0 now behind read.1 rest left read.3 more)
+pub ReadsTo-push : {A : Type 0} (next : Position → List ℕ → Next A) (items : List A) (item : A) (position now suffix : Position) (bytes rest left : List ℕ) →
+    ReadsTo next position bytes items now rest → next now rest ≡ Found item suffix left → ReadsTo next position bytes (items ++ item ∷ []) suffix left
+ReadsTo-push next [] item position now suffix bytes rest left read more =
+    (suffix, left, ap (λ (p : Position). next p bytes) (sym read.0) ∙ ap (next now) (sym read.1) ∙ more, (refl, refl))
+ReadsTo-push next (x ∷ items) item position now suffix bytes rest left read more =
+    (read.0, read.1, read.2, ReadsTo-push next items item read.0 now suffix read.1 rest left read.3 more)
 
 -- one call after another
 pub moves-append : {R : Type 0} (remaining : R → Option (List ℕ)) (old mid new : ReaderState) (before between after : R) →
@@ -72,36 +72,36 @@ moves-append remaining old mid new before between after first second = record {
   at (inl ended) = at-mid ended (first.met ended)
   at (inr end) = inr end
 
-pub no-front : (xs ys : List ℕ) → xs ++ ys ≡ [] → (xs ≡ []) × (ys ≡ [])
-no-front [] ys none = (refl, none)
-no-front (x ∷ xs) ys none = cc
+pub no-prefix : (xs ys : List ℕ) → xs ++ ys ≡ [] → (xs ≡ []) × (ys ≡ [])
+no-prefix [] ys none = (refl, none)
+no-prefix (x ∷ xs) ys none = cc
 
 in-turn : (old mid : ReaderState) (before between after input more one two : List ℕ) → before ≡ one ++ between → between ≡ two ++ after →
     (mid.is_ended ≡ true → (old.is_ended ≡ true) ⊎ (between ≡ [])) → AgreesWith old before after input more → AgreesInTurn old mid (Some before) (Some between) (Some after) input more
 in-turn old mid before between after input more one two first second met agrees =
-    let given : agrees.given ≡ one ++ two = append_cancel_right _ _ _ (sym agrees.told ∙ first ∙ ap (λ t. one ++ t) second ∙ sym (append_assoc one two after)) in
+    let given : agrees.given ≡ one ++ two = append_cancel_right _ _ _ (sym agrees.consumed ∙ first ∙ ap (λ t. one ++ t) second ∙ sym (append_assoc one two after)) in
     let ended : old.is_ended ≡ true → one ++ (two ++ more) ≡ [] = λ e. sym (append_assoc one two more) ∙ ap (λ t. t ++ more) (sym given) ∙ agrees.met e in
     let last : between ≡ [] → two ++ more ≡ [] = λ none.
-    let parts = no-front two after (sym second ∙ none) in ap (λ t. t ++ more) parts.0 ∙ agrees.last parts.1 in
+    let parts = no-prefix two after (sym second ∙ none) in ap (λ t. t ++ more) parts.0 ∙ agrees.last parts.1 in
     record {
-      behind = two ++ more;
+      suffix = two ++ more;
       first = record {
         given = one;
-        told = first;
-        whole = agrees.whole ∙ ap (λ t. (old.held ++ t) ++ more) given ∙ ap (λ t. t ++ more) (sym (append_assoc old.held one two)) ∙ append_assoc (old.held ++ one) two more;
+        consumed = first;
+        whole = agrees.whole ∙ ap (λ t. (old.buffered ++ t) ++ more) given ∙ ap (λ t. t ++ more) (sym (append_assoc old.buffered one two)) ∙ append_assoc (old.buffered ++ one) two more;
         met = ended;
         last = last;
       };
       second = record {
         given = two;
-        told = second;
-        whole = sym (append_assoc mid.held two more);
-        met = λ e. elim (met e) [ inl was ↦ (no-front one (two ++ more) (ended was)).1 | inr none ↦ last none ];
+        consumed = second;
+        whole = sym (append_assoc mid.buffered two more);
+        met = λ e. elim (met e) [ inl was ↦ (no-prefix one (two ++ more) (ended was)).1 | inr none ↦ last none ];
         last = agrees.last;
       };
     }
 
-pub agrees-in_turn : (old mid : ReaderState) (before between after : Option (List ℕ)) (input more : List ℕ) → LosesFront before between → LosesFront between after →
+pub agrees-in_turn : (old mid : ReaderState) (before between after : Option (List ℕ)) (input more : List ℕ) → LosesPrefix before between → LosesPrefix between after →
     (mid.is_ended ≡ true → (old.is_ended ≡ true) ⊎ IsAtEnd between) → Agrees old before after input more → AgreesInTurn old mid before between after input more
 agrees-in_turn old mid (Some before) (Some between) (Some after) input more first second met agrees =
     in-turn old mid before between after input more first.0 second.0 first.1 second.1 met agrees
@@ -110,7 +110,7 @@ agrees-in_turn old mid (Some before) None after input more first second met agre
 agrees-in_turn old mid None between after input more first second met agrees = absurd agrees
 
 -- before the first call
-pub given-none : {R A : Type 0} (remaining : R → Option (List ℕ)) (next : Place → List ℕ → Next A) (old : ReaderState) (before : R) → GivenSoFar remaining next old old before before []
+pub given-none : {R A : Type 0} (remaining : R → Option (List ℕ)) (next : Position → List ℕ → Next A) (old : ReaderState) (before : R) → GivenSoFar remaining next old old before before []
 given-none remaining next old before = record {
   moves = record { taken = ([], keeps (remaining before)); met = inl; stays = λ ended. (refl, ended) };
   read = λ input more agrees. at (remaining before) input more agrees;
@@ -119,11 +119,11 @@ given-none remaining next old before = record {
   keeps None = tt
   keeps (Some bytes) = refl
 
-  at : (bytes : Option (List ℕ)) (input more : List ℕ) → Agrees old bytes bytes input more → ReadsTo next old.place input [] old.place (old.held ++ more)
+  at : (bytes : Option (List ℕ)) (input more : List ℕ) → Agrees old bytes bytes input more → ReadsTo next old.position input [] old.position (old.buffered ++ more)
   at None input more agrees = absurd agrees
   at (Some bytes) input more agrees =
-      let nothing : agrees.given ≡ [] = append_cancel_right _ _ bytes (sym agrees.told) in
-      (refl, sym (agrees.whole ∙ ap (λ t. (old.held ++ t) ++ more) nothing ∙ ap (λ t. t ++ more) (append-nil old.held)))
+      let nothing : agrees.given ≡ [] = append_cancel_right _ _ bytes (sym agrees.consumed) in
+      (refl, sym (agrees.whole ∙ ap (λ t. (old.buffered ++ t) ++ more) nothing ∙ ap (λ t. t ++ more) (append-nil old.buffered)))
 
 -- what an answer other than a fault says
 pub answer-whole : {X : Type 0} {P : Type 0} (found : X) → IsCutShort (Ok found) ⊎ P → P
@@ -132,13 +132,13 @@ answer-whole found (inl (inr e)) = cc
 answer-whole found (inr is) = is
 
 -- after one more call that gave something
-pub given-more : {R X A : Type 0} (remaining : R → Option (List ℕ)) (view : X → A) (next : Place → List ℕ → Next A) (old mid new : ReaderState) (before between after : R) (items : List A) (item : X) →
-    GivenSoFar remaining next old mid before between items → MovesOn remaining mid new between after → TellsNext view next mid new (remaining between) (remaining after) (Ok (Some item)) →
+pub given-more : {R X A : Type 0} (remaining : R → Option (List ℕ)) (view : X → A) (next : Position → List ℕ → Next A) (old mid new : ReaderState) (before between after : R) (items : List A) (item : X) →
+    GivenSoFar remaining next old mid before between items → MovesOn remaining mid new between after → IsNextOfInput view next mid new (remaining between) (remaining after) (Ok (Some item)) →
     GivenSoFar remaining next old new before after (items ++ view item ∷ [])
 given-more remaining view next old mid new before between after items item so_far moves answers = record {
   moves = moves-append remaining old mid new before between after so_far.moves moves;
   read = λ input more agrees.
       let turn = agrees-in_turn old mid (remaining before) (remaining between) (remaining after) input more so_far.moves.taken moves.taken so_far.moves.met agrees in
-      ReadsTo-push next items (view item) old.place mid.place new.place input (mid.held ++ turn.behind) (new.held ++ more) (so_far.read input turn.behind turn.first)
-      (answer-whole (Some item) (answers (mid.held ++ turn.behind) more turn.second));
+      ReadsTo-push next items (view item) old.position mid.position new.position input (mid.buffered ++ turn.suffix) (new.buffered ++ more) (so_far.read input turn.suffix turn.first)
+      (answer-whole (Some item) (answers (mid.buffered ++ turn.suffix) more turn.second));
 }

@@ -4,9 +4,9 @@ use Rattle.std.specs.Prelude.{◌==◌, Some, codes, filter}
 use Rattle.std.specs.List.{list_all, list_any}
 use Rattle.std.proofs.Math.Seq.{drop-append_seam}
 use Rattle.ascii_text.specs.WhiteSpace.{is_blank}
-use Rattle.dd_file.specs.Parts.{up_to, behind}
+use Rattle.dd_file.specs.Parts.{up_to, suffix}
 use Rattle.ascii_text.specs.Lines.{without_last}
-use Rattle.dd_file.specs.Script.{first_of, head_of, at_head, is_comment, is_continued, is_dashes, begins_with_dashes, before_pair, has_pair}
+use Rattle.dd_file.specs.Script.{first_of, directive_lines_of, at_directive, is_comment, is_continued, is_dashes, begins_with_dashes, before_pair, has_pair}
 use Rattle.dd_file.specs.Rewritten.{is_output_line}
 use Rattle.dd_file.proofs.TextLines.CarriageReturns.{without_return, without_returns, trimmed-without_return}
 use Rattle.dd_file.proofs.TextLines.CutAgain.{and-parts}
@@ -19,10 +19,10 @@ up_to-seam test (z ∷ xs) x ys none here = at (test z) (up_to-seam test xs x ys
   at true ih k = cc
   at false ih k = ap (λ t. z ∷ t) (ih k here)
 
-pub behind-seam : {X : Type 0} (test : X → Bool) (xs : List X) (x : X) (ys : List X) → list_any test xs ≡ false → test x ≡ true → behind test (xs ++ x ∷ ys) ≡ ys
-behind-seam test [] x ys none here = ap (λ c. cond c ys (behind test ys)) here
-behind-seam test (z ∷ xs) x ys none here = at (test z) (behind-seam test xs x ys) none where
-  at : (c : Bool) → (list_any test xs ≡ false → test x ≡ true → behind test (xs ++ x ∷ ys) ≡ ys) → (c || list_any test xs) ≡ false → cond c (xs ++ x ∷ ys) (behind test (xs ++ x ∷ ys)) ≡ ys
+pub suffix-seam : {X : Type 0} (test : X → Bool) (xs : List X) (x : X) (ys : List X) → list_any test xs ≡ false → test x ≡ true → suffix test (xs ++ x ∷ ys) ≡ ys
+suffix-seam test [] x ys none here = ap (λ c. cond c ys (suffix test ys)) here
+suffix-seam test (z ∷ xs) x ys none here = at (test z) (suffix-seam test xs x ys) none where
+  at : (c : Bool) → (list_any test xs ≡ false → test x ≡ true → suffix test (xs ++ x ∷ ys) ≡ ys) → (c || list_any test xs) ≡ false → cond c (xs ++ x ∷ ys) (suffix test (xs ++ x ∷ ys)) ≡ ys
   at true ih k = cc
   at false ih k = ih k here
 
@@ -54,11 +54,11 @@ all-up_to test other (x ∷ xs) h = let k = and-parts (test x) (list_all test xs
   at true here ih = refl
   at false here ih = ap (λ b. b && list_all test (up_to other xs)) here ∙ ih
 
-pub all-head : (test : List ℕ → Bool) (lines : List (List ℕ)) → list_all test lines ≡ true → list_all test (head_of lines) ≡ true
-all-head test [] h = refl
-all-head test (line ∷ lines) h = let k = and-parts (test line) (list_all test lines) h in at (is_continued line) k.0 (all-head test lines k.1) where
-  at : (c : Bool) → test line ≡ true → list_all test (head_of lines) ≡ true → list_all test (cond c (line ∷ head_of lines) (line ∷ [])) ≡ true
-  at true here ih = ap (λ b. b && list_all test (head_of lines)) here ∙ ih
+pub all-directive_lines : (test : List ℕ → Bool) (lines : List (List ℕ)) → list_all test lines ≡ true → list_all test (directive_lines_of lines) ≡ true
+all-directive_lines test [] h = refl
+all-directive_lines test (line ∷ lines) h = let k = and-parts (test line) (list_all test lines) h in at (is_continued line) k.0 (all-directive_lines test lines k.1) where
+  at : (c : Bool) → test line ≡ true → list_all test (directive_lines_of lines) ≡ true → list_all test (cond c (line ∷ directive_lines_of lines) (line ∷ [])) ≡ true
+  at true here ih = ap (λ b. b && list_all test (directive_lines_of lines)) here ∙ ih
   at false here ih = ap (λ b. b && true) here
 
 pub all-filter : {X : Type 0} (test kept : X → Bool) (xs : List X) → list_all test xs ≡ true → list_all test (filter kept xs) ≡ true
@@ -77,30 +77,30 @@ all-without_last test b (x ∷ []) h = at (x == b) where
 all-without_last test b (x ∷ y ∷ xs) h = let k = and-parts (test x) (list_all test (y ∷ xs)) h in ap (λ c. c && list_all test (without_last b (y ∷ xs))) k.0 ∙ all-without_last test b (y ∷ xs) k.1
 
 -- a head that has its last line, written and read again
-pub head_of-again : (lines more : List (List ℕ)) → list_all is_continued (head_of lines) ≡ false → head_of (without_returns (head_of lines) ++ more) ≡ without_returns (head_of lines)
-head_of-again [] more h = cc
-head_of-again (line ∷ lines) more h = at (is_continued line) refl (head_of-again lines more) h where
+pub directive_lines_of-again : (lines more : List (List ℕ)) → list_all is_continued (directive_lines_of lines) ≡ false → directive_lines_of (without_returns (directive_lines_of lines) ++ more) ≡ without_returns (directive_lines_of lines)
+directive_lines_of-again [] more h = cc
+directive_lines_of-again (line ∷ lines) more h = at (is_continued line) refl (directive_lines_of-again lines more) h where
   same : is_continued (without_return line) ≡ is_continued line
   same = rw (trimmed-without_return line) refl
 
-  at : (c : Bool) → is_continued line ≡ c → (list_all is_continued (head_of lines) ≡ false → head_of (without_returns (head_of lines) ++ more) ≡ without_returns (head_of lines)) →
-      list_all is_continued (cond c (line ∷ head_of lines) (line ∷ [])) ≡ false → head_of (without_returns (cond c (line ∷ head_of lines) (line ∷ [])) ++ more) ≡ without_returns (cond c (line ∷ head_of lines) (line ∷ []))
-  at true e ih k = ap (λ c. cond c (without_return line ∷ head_of (without_returns (head_of lines) ++ more)) (without_return line ∷ [])) (same ∙ e)
-      ∙ ap (λ t. without_return line ∷ t) (ih (sym (ap (λ b. b && list_all is_continued (head_of lines)) e) ∙ k))
-  at false e ih k = ap (λ c. cond c (without_return line ∷ head_of more) (without_return line ∷ [])) (same ∙ e)
+  at : (c : Bool) → is_continued line ≡ c → (list_all is_continued (directive_lines_of lines) ≡ false → directive_lines_of (without_returns (directive_lines_of lines) ++ more) ≡ without_returns (directive_lines_of lines)) →
+      list_all is_continued (cond c (line ∷ directive_lines_of lines) (line ∷ [])) ≡ false → directive_lines_of (without_returns (cond c (line ∷ directive_lines_of lines) (line ∷ [])) ++ more) ≡ without_returns (cond c (line ∷ directive_lines_of lines) (line ∷ []))
+  at true e ih k = ap (λ c. cond c (without_return line ∷ directive_lines_of (without_returns (directive_lines_of lines) ++ more)) (without_return line ∷ [])) (same ∙ e)
+      ∙ ap (λ t. without_return line ∷ t) (ih (sym (ap (λ b. b && list_all is_continued (directive_lines_of lines)) e) ∙ k))
+  at false e ih k = ap (λ c. cond c (without_return line ∷ directive_lines_of more) (without_return line ∷ [])) (same ∙ e)
 
 -- a head begins with its first line
-pub head_of-first : (line : List ℕ) (lines : List (List ℕ)) → (rest : List (List ℕ)) × (head_of (line ∷ lines) ≡ line ∷ rest)
-head_of-first line lines = at (is_continued line) where
-  at : (c : Bool) → (rest : List (List ℕ)) × (cond c (line ∷ head_of lines) (line ∷ []) ≡ line ∷ rest)
-  at true = (head_of lines, refl)
+pub directive_lines_of-first : (line : List ℕ) (lines : List (List ℕ)) → (rest : List (List ℕ)) × (directive_lines_of (line ∷ lines) ≡ line ∷ rest)
+directive_lines_of-first line lines = at (is_continued line) where
+  at : (c : Bool) → (rest : List (List ℕ)) × (cond c (line ∷ directive_lines_of lines) (line ∷ []) ≡ line ∷ rest)
+  at true = (directive_lines_of lines, refl)
   at false = ([], refl)
 
 -- lines that begin with a head
-pub first_of-head : (n : ℕ) (line : List ℕ) (rest more : List (List ℕ)) → is_comment line ≡ false → is_blank line ≡ false → head_of ((line ∷ rest) ++ more) ≡ line ∷ rest →
-    first_of n ((line ∷ rest) ++ more) ≡ Some (at_head n (line ∷ rest) more)
-first_of-head n line rest more comment blank head =
-    rw (comment, blank) (ap (λ (h : List (List ℕ)). Some (at_head n h (drop (length h) ((line ∷ rest) ++ more)))) head ∙ ap (λ ls. Some (at_head n (line ∷ rest) ls)) (drop-append_seam (line ∷ rest) more))
+pub first_of-directive_lines : (n : ℕ) (line : List ℕ) (rest more : List (List ℕ)) → is_comment line ≡ false → is_blank line ≡ false → directive_lines_of ((line ∷ rest) ++ more) ≡ line ∷ rest →
+    first_of n ((line ∷ rest) ++ more) ≡ Some (at_directive n (line ∷ rest) more)
+first_of-directive_lines n line rest more comment blank directive_lines =
+    rw (comment, blank) (ap (λ (h : List (List ℕ)). Some (at_directive n h (drop (length h) ((line ∷ rest) ++ more)))) directive_lines ∙ ap (λ ls. Some (at_directive n (line ∷ rest) ls)) (drop-append_seam (line ∷ rest) more))
 
 -- no line of an output is four dashes
 pub output_line-dashes : (line : List ℕ) → is_output_line line ≡ true → is_dashes line ≡ false

@@ -3,9 +3,9 @@ use Rattle.std.proofs.Common.{◌≡◌, ℕ, zero, suc, Bool, true, false, not,
 use Rattle.std.specs.Prelude.{◌==◌, Option, Some, None, Result, Ok, Err, filter}
 use Rattle.std.specs.List.{list_all}
 use Rattle.ascii_text.specs.Lines.{newline, full_lines, before_first_line, without_last, line_of, is_whole}
-use Rattle.dd_file.specs.Script.{Front, front, first_of}
-use Rattle.dd_file.specs.Place.{Place, start, longest_input}
-use Rattle.dd_file.specs.Reading.{followed, first_items, at_end, with_count, from_front, next_item, script_of, is_too_long, pieces_within}
+use Rattle.dd_file.specs.Script.{FirstItem, first_item, first_of}
+use Rattle.dd_file.specs.Position.{Position, start, longest_input}
+use Rattle.dd_file.specs.Reading.{followed, first_items, at_end, with_count, from_first_item, next_item, script_of, is_too_long, full_lines_within}
 use Rattle.dd_file.specs.Laws.{is_line, AreGiven}
 use Rattle.dd_file.specs.declared.item.Item.{Item}
 use Rattle.dd_file.specs.declared.fault.FileFault.{FileFault}
@@ -35,33 +35,33 @@ lines-are (full_line ∷ ps) h =
     let k = and-parts (is_piece full_line) (list_all is_piece ps) h in
     ap (λ c. c && list_all is_line (map line_of ps)) (all-without_last (λ b. not (b == 10)) 13 (without_last 10 full_line) k.0) ∙ lines-are ps k.1
 
-pieces_within-are : (limit : ℕ) (place : Place) (bytes : List ℕ) → list_all is_line (map line_of (pieces_within limit place bytes)) ≡ true
-pieces_within-are limit place bytes = at (is_too_long limit place bytes) where
+full_lines_within-are : (limit : ℕ) (position : Position) (bytes : List ℕ) → list_all is_line (map line_of (full_lines_within limit position bytes)) ≡ true
+full_lines_within-are limit position bytes = at (is_too_long limit position bytes) where
   cut : List ℕ
-  cut = take (limit - place.bytes) bytes
+  cut = take (limit - position.bytes) bytes
 
   at : (c : Bool) → list_all is_line (map line_of (cond c (filter is_whole (full_lines cut)) (full_lines bytes))) ≡ true
   at true = lines-are (filter is_whole (full_lines cut)) (all-filter is_piece is_whole (full_lines cut) (full_lines-are cut))
   at false = lines-are (full_lines bytes) (full_lines-are bytes)
 
 -- at most so many items
-first_items-given : (limit fuel : ℕ) (place : Place) (bytes : List ℕ) → AreGiven (first_items (next_item limit) fuel place bytes).items
-first_items-given limit zero place bytes = tt
-first_items-given limit (suc fuel) place bytes = at (is_too_long limit place bytes) (first_of (place.lines + 1) lines) refl (first_items-given limit fuel) where
+first_items-given : (limit fuel : ℕ) (position : Position) (bytes : List ℕ) → AreGiven (first_items (next_item limit) fuel position bytes).items
+first_items-given limit zero position bytes = tt
+first_items-given limit (suc fuel) position bytes = at (is_too_long limit position bytes) (first_of (position.lines + 1) lines) refl (first_items-given limit fuel) where
   lines : List (List ℕ)
-  lines = map line_of (pieces_within limit place bytes)
+  lines = map line_of (full_lines_within limit position bytes)
 
-  found : (c : Bool) (count : ℕ) (is_ended : Bool) (r : Result Item FileFault) → first_of (place.lines + 1) lines ≡ Some (front r count is_ended) →
-      ((p : Place) (bs : List ℕ) → AreGiven (first_items (next_item limit) fuel p bs).items) → AreGiven (followed (first_items (next_item limit) fuel) (cond c (at_end true place) (with_count count r place bytes))).items
+  found : (c : Bool) (count : ℕ) (is_ended : Bool) (r : Result Item FileFault) → first_of (position.lines + 1) lines ≡ Some (first_item r count is_ended) →
+      ((p : Position) (bs : List ℕ) → AreGiven (first_items (next_item limit) fuel p bs).items) → AreGiven (followed (first_items (next_item limit) fuel) (cond c (at_end true position) (with_count count r position bytes))).items
   found true count is_ended r e ih = tt
   found false count is_ended (Ok item) e ih = (
-    record { number = place.lines + 1; lines = lines; are_lines = pieces_within-are limit place bytes; count = count; is_ended = is_ended; first = e },
+    record { number = position.lines + 1; lines = lines; are_lines = full_lines_within-are limit position bytes; count = count; is_ended = is_ended; first = e },
     ih _ _,
   )
   found false count is_ended (Err fault) e ih = tt
 
-  at : (too_long : Bool) (f : Option Front) → first_of (place.lines + 1) lines ≡ f → ((p : Place) (bs : List ℕ) → AreGiven (first_items (next_item limit) fuel p bs).items) →
-      AreGiven (followed (first_items (next_item limit) fuel) (from_front too_long f place bytes)).items
+  at : (too_long : Bool) (f : Option FirstItem) → first_of (position.lines + 1) lines ≡ f → ((p : Position) (bs : List ℕ) → AreGiven (first_items (next_item limit) fuel p bs).items) →
+      AreGiven (followed (first_items (next_item limit) fuel) (from_first_item too_long f position bytes)).items
   at true None e ih = tt
   at false None e ih = tt
   at too_long (Some f) e ih = found (too_long && not f.is_ended) f.count f.is_ended f.found e ih

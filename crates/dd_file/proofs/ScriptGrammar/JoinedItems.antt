@@ -6,19 +6,19 @@ use Rattle.std.proofs.Math.Seq.{drop-append-add}
 use Rattle.std.proofs.lemmas.List.{append_assoc, append-nil, map-append, drop-append-le, nil_from_length}
 use Rattle.std.proofs.lemmas.List.Folds.{list_all-append}
 use Rattle.ascii_text.specs.Lines.{newline, full_lines, before_first_line, line_of, lines_of, text_of, without_last}
-use Rattle.dd_file.specs.Script.{front, first_of}
-use Rattle.dd_file.specs.Place.{longest_input}
+use Rattle.dd_file.specs.Script.{first_item, first_of}
+use Rattle.dd_file.specs.Position.{longest_input}
 use Rattle.dd_file.specs.Reading.{Script, script_of, with_first}
 use Rattle.dd_file.specs.Laws.{is_line, has_separator, IsComplete, Done, More, directive_in, directives_of, moved, moved_fault}
 use Rattle.dd_file.specs.declared.item.Item.{Item}
 use Rattle.dd_file.specs.declared.item.Item.TheVariants.{Comment, Blank, Directive}
 use Rattle.dd_file.specs.declared.fault.FileFault.{FileFault}
-use Rattle.dd_file.proofs.ScriptGrammar.EndedFront.{first_of-local, ended_front}
+use Rattle.dd_file.proofs.ScriptGrammar.EndedItem.{first_of-local, ended_front}
 use Rattle.dd_file.proofs.TextLines.CarriageReturns.{without_return}
 use Rattle.dd_file.proofs.TextLines.CutAgain.{and-parts, ended, lines-lines, text_of-append}
 use Rattle.ascii_text.proofs.Offered.{without_last-push}
-use Rattle.dd_file.proofs.ScriptGrammar.FrontLength.{first_of-fits, moved_item}
-use Rattle.dd_file.proofs.ScriptGrammar.OpenFront.{open-front}
+use Rattle.dd_file.proofs.ScriptGrammar.ItemLength.{first_of-fits, moved_item}
+use Rattle.dd_file.proofs.ScriptGrammar.OpenItem.{open-prefix}
 use Rattle.dd_file.proofs.ScriptGrammar.AllItems.{no_items, items_of, items_of-first, items_at-moved, moved_script, script_of-lines}
 
 -- any text is lines, each with its newline, and one more line, which may be empty
@@ -96,14 +96,14 @@ followed_by script = at (cut_of script).last (cut_of script).is (cut_of script).
       record { more = []; is_more = inl refl; lines = λ text. whole (b ∷ last) is h text ∙ sym (ap (λ t. t ++ [] ∷ lines_of text) own ∙ append_assoc (ended ls) (line_of ((b ∷ last) ++ newline) ∷ []) ([] ∷ lines_of text)) }
 
 -- the directives of one script and then of another, and the fault of the other
-record AreJoined (joined before behind : Script Item) : Type 0 where
-  directives : directives_of joined.items ≡ directives_of before.items ++ directives_of behind.items
-  fault : joined.fault ≡ behind.fault
+record AreJoined (joined before suffix : Script Item) : Type 0 where
+  directives : directives_of joined.items ≡ directives_of before.items ++ directives_of suffix.items
+  fault : joined.fault ≡ suffix.fault
 
 -- an empty line is a blank item
 items_of-blank : (n : ℕ) (lines : List (List ℕ)) → AreJoined (items_of n ([] ∷ lines)) (items_of n []) (items_of (n + 1) lines)
 items_of-blank n lines =
-    let first = items_of-first n ([] ∷ lines) (front (Ok (Blank ([] ∷ []))) 1 true) (Blank ([] ∷ [])) refl refl in
+    let first = items_of-first n ([] ∷ lines) (first_item (Ok (Blank ([] ∷ []))) 1 true) (Blank ([] ∷ [])) refl refl in
     record { directives = ap (λ (s : Script Item). directives_of s.items) first; fault = ap (λ (s : Script Item). s.fault) first }
 
 -- the item of a front with its separator
@@ -112,11 +112,11 @@ item-of count (Ok item) h = (item, refl)
 item-of count (Err fault) h = cc
 
 -- one item more in front
-joined-first : (joined before behind joined' before' : Script Item) (item : Item) → joined' ≡ with_first item joined → before' ≡ with_first item before →
-    AreJoined joined before behind → AreJoined joined' before' behind
-joined-first joined before behind joined' before' item ej eb are = record {
+joined-first : (joined before suffix joined' before' : Script Item) (item : Item) → joined' ≡ with_first item joined → before' ≡ with_first item before →
+    AreJoined joined before suffix → AreJoined joined' before' suffix
+joined-first joined before suffix joined' before' item ej eb are = record {
   directives = ap (λ (s : Script Item). directives_of s.items) ej ∙ ap (λ ds. directive_in item ++ ds) are.directives
-      ∙ sym (append_assoc (directive_in item) (directives_of before.items) (directives_of behind.items)) ∙ ap (λ (s : Script Item). directives_of s.items ++ directives_of behind.items) (sym eb);
+      ∙ sym (append_assoc (directive_in item) (directives_of before.items) (directives_of suffix.items)) ∙ ap (λ (s : Script Item). directives_of s.items ++ directives_of suffix.items) (sym eb);
   fault = ap (λ (s : Script Item). s.fault) ej ∙ are.fault;
 }
 
@@ -139,15 +139,15 @@ items_of-joined n lines more (More m ls f e sep rest) = at f.is_ended refl (item
       (joined-first _ _ _ _ _ item.0 whole (items_of-first m ls f item.0 e item.1) ih)
   at false ended ih =
       let item = item-of f.count f.found sep in
-      let open_end = open-front m ls f e ended sep in
+      let open_end = open-prefix m ls f e ended sep in
       let count = open_end.0 in
       let left = length-drop f.count ls in
       let none : drop f.count ls ≡ [] = nil_from_length (drop f.count ls) (omega (arith, count, left)) in
-      let behind : drop (f.count + 1) (ls ++ [] ∷ more) ≡ more = ap (λ (k : ℕ). drop (k + 1) (ls ++ [] ∷ more)) count ∙ drop-append-add ls ([] ∷ more) 1 in
+      let suffix : drop (f.count + 1) (ls ++ [] ∷ more) ≡ more = ap (λ (k : ℕ). drop (k + 1) (ls ++ [] ∷ more)) count ∙ drop-append-add ls ([] ∷ more) 1 in
       let sum : m + (f.count + 1) ≡ m + length ls + 1 = omega (arith, count) in
       let whole : items_of m (ls ++ [] ∷ more) ≡ with_first item.0 (items_of (m + length ls + 1) more) =
-      items_of-first m (ls ++ [] ∷ more) (front f.found (f.count + 1) true) item.0 (open_end.1 more) item.1
-      ∙ ap (λ (t : List (List ℕ)). with_first item.0 (items_of (m + (f.count + 1)) t)) behind ∙ ap (λ (k : ℕ). with_first item.0 (items_of k more)) sum in
+      items_of-first m (ls ++ [] ∷ more) (first_item f.found (f.count + 1) true) item.0 (open_end.1 more) item.1
+      ∙ ap (λ (t : List (List ℕ)). with_first item.0 (items_of (m + (f.count + 1)) t)) suffix ∙ ap (λ (k : ℕ). with_first item.0 (items_of k more)) sum in
       let before : items_of m ls ≡ with_first item.0 (items_of (m + f.count) []) =
       items_of-first m ls f item.0 e item.1 ∙ ap (λ (t : List (List ℕ)). with_first item.0 (items_of (m + f.count) t)) none in
       joined-first (items_of (m + length ls + 1) more) (items_of (m + f.count) []) _ _ _ item.0 whole before (record { directives = refl; fault = refl })
@@ -181,13 +181,13 @@ script-joined script text complete fits =
     ap (λ (t : List ℕ). length (lines_of t)) (sym (append-nil closed)) ∙ ap (λ (ls : List (List ℕ)). length ls) (is.lines [])
     ∙ ap (λ (t : List (List ℕ)). length (L ++ [] ∷ t)) (append-nil is.more) ∙ length-append L ([] ∷ is.more) ∙ (let sum : length L + length ([] ∷ is.more) ≡ length L + 1 + length is.more = omega arith in sum) in
     let all = length-append closed text in
-    let front = length-append script newline in
+    let prefix = length-append script newline in
     let two = length-append (script ++ newline) newline in
     let first = items_of-joined 1 L (is.more ++ T) complete in
     let second = second-line (1 + length L + 1) is.more T is.is_more in
     let sum : 1 + length L + 1 + length is.more ≡ k + 1 = omega (arith, count) in
     let joined_is : script_of (closed ++ text) ≡ items_of 1 (L ++ [] ∷ (is.more ++ T)) = script_of-lines (closed ++ text) fits ∙ ap (items_of 1) (is.lines text) in
-    let script_is : script_of script ≡ items_of 1 L = script_of-lines script (omega (arith, fits, all, front, two)) in
+    let script_is : script_of script ≡ items_of 1 L = script_of-lines script (omega (arith, fits, all, prefix, two)) in
     let text_is : script_of text ≡ items_of 1 T = script_of-lines text (omega (arith, fits, all)) in
     let rest : items_of (1 + length L + 1 + length is.more) T ≡ moved_script k (script_of text) =
     ap (λ (m : ℕ). items_of m T) sum ∙ items_at-moved (length T) k 1 T ∙ ap (moved_script k) (sym text_is) in (

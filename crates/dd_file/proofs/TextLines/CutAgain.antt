@@ -64,9 +64,9 @@ lines-byte : (c : Bool) (b : ℕ) (text : List ℕ) → (b == 10) ≡ c → Line
 lines-byte true b text e is = let newline_is : b ≡ 10 = search rules in ([], is.0 ∷ is.1, ap (λ x. x ∷ text) newline_is ∙ ap (λ t. 10 ∷ t) is.2, is.3)
 lines-byte false b text e is = (b ∷ is.0, is.1, ap (λ t. b ∷ t) is.2, ap (λ c. (not c && is_line is.0) && list_all is_line is.1) e ∙ is.3)
 
-lines-text : (front : List ℕ) → LinesOf (front ++ newline)
+lines-text : (prefix : List ℕ) → LinesOf (prefix ++ newline)
 lines-text [] = ([], [], refl, refl)
-lines-text (b ∷ front) = lines-byte (b == 10) b (front ++ newline) refl (lines-text front)
+lines-text (b ∷ prefix) = lines-byte (b == 10) b (prefix ++ newline) refl (lines-text prefix)
 
 -- an output is lines
 pub record IsOutputOf (lines : List (List ℕ)) (found : List ℕ) : Type 0 where
@@ -98,17 +98,17 @@ output-lines found h = elim (list-by_last found) [
         },
       )
 ] where
-  some : (front : List ℕ) (b : ℕ) → (length (front ++ b ∷ []) == 0) ≡ false
+  some : (prefix : List ℕ) (b : ℕ) → (length (prefix ++ b ∷ []) == 0) ≡ false
   some [] b = refl
-  some (x ∷ front) b = search rules
+  some (x ∷ prefix) b = search rules
 
   newline_is : (b : ℕ) (q : Bool) → nat_eq 10 b ≡ q → (q && true) ≡ true → b ≡ 10
   newline_is b true e k = search rules
   newline_is b false e k = cc
 
-  is_newline : (front : List ℕ) (b : ℕ) (text : List ℕ) → text ≡ front ++ b ∷ [] → ((length text == 0) || (nat_eq 10 b && true)) ≡ true → b ≡ 10
-  is_newline front b text e k =
-      newline_is b (nat_eq 10 b) refl (ap (λ z. z || (nat_eq 10 b && true)) (sym (ap (λ t. length t == 0) e ∙ some front b)) ∙ k)
+  is_newline : (prefix : List ℕ) (b : ℕ) (text : List ℕ) → text ≡ prefix ++ b ∷ [] → ((length text == 0) || (nat_eq 10 b && true)) ≡ true → b ≡ 10
+  is_newline prefix b text e k =
+      newline_is b (nat_eq 10 b) refl (ap (λ z. z || (nat_eq 10 b && true)) (sym (ap (λ t. length t == 0) e ∙ some prefix b)) ∙ k)
 
 -- no carriage return ends a line of an output
 output_line-return : (line : List ℕ) → is_output_line line ≡ true → without_return line ≡ line

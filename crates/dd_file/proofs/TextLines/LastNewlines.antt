@@ -77,8 +77,8 @@ newlines_at_end-second b n text newline some e =
     sym (newlines_at_end-push text b ∙ ap (λ x. counted (nat_eq 10 x) (not (newlines_at_end text == 0))) newline ∙ ap (λ m. counted true (not (m == 0))) (sym e) ∙ ap (λ z. counted true (not z)) more)
 
 -- a text is what is left without a newline at its end, and that newline
-pub text-held : (text : List ℕ) → without_last 10 text ++ (if newlines_at_end text == 0 then [] else newline) ≡ text
-text-held text = elim (list-by_last text) [
+pub text-buffered : (text : List ℕ) → without_last 10 text ++ (if newlines_at_end text == 0 then [] else newline) ≡ text
+text-buffered text = elim (list-by_last text) [
   | inl e ↦ rw e refl
   | inr p ↦ let whole = λ (t : List ℕ). without_last 10 t ++ (if newlines_at_end t == 0 then [] else newline) in
       ap whole p.2 ∙ ap (λ z. without_last 10 (p.0 ++ p.1 ∷ []) ++ (if z then [] else newline)) (newlines_at_end-zero p.0 p.1)
@@ -92,19 +92,19 @@ text-held text = elim (list-by_last text) [
 
 -- the script that ends here is what is left without a newline at its end, and that newline where it is the only one
 pub text-ended : (text : List ℕ) → without_last 10 text ++ (if newlines_at_end text == 1 then newline else []) ≡ without_double_end text
-text-ended text = at (ends_with nat_eq text (newline ++ newline)) (ends_with nat_eq text newline) (without_last 10 text) (text-held text) where
-  at : (p q : Bool) (front : List ℕ) → front ++ (if (if p then 2 else (if q then 1 else 0)) == 0 then [] else newline) ≡ text →
-      front ++ (if (if p then 2 else (if q then 1 else 0)) == 1 then newline else []) ≡ (if p then front else text)
-  at true q front h = append-nil front
-  at false true front h = h
-  at false false front h = h
+text-ended text = at (ends_with nat_eq text (newline ++ newline)) (ends_with nat_eq text newline) (without_last 10 text) (text-buffered text) where
+  at : (p q : Bool) (prefix : List ℕ) → prefix ++ (if (if p then 2 else (if q then 1 else 0)) == 0 then [] else newline) ≡ text →
+      prefix ++ (if (if p then 2 else (if q then 1 else 0)) == 1 then newline else []) ≡ (if p then prefix else text)
+  at true q prefix h = append-nil prefix
+  at false true prefix h = h
+  at false false prefix h = h
 
 -- without its last newline the text is a front part of itself with more behind it
-pub without_last-front : (xs ys : List ℕ) → (part : List ℕ) × (without_last 10 (xs ++ ys) ≡ without_last 10 xs ++ part)
-without_last-front xs [] = ([], ap (without_last 10) (append-nil xs) ∙ sym (append-nil (without_last 10 xs)))
-without_last-front xs (y ∷ ys) = let held = if newlines_at_end xs == 0 then [] else newline in (
-  held ++ without_last 10 (y ∷ ys),
-  without_last-append 10 xs y ys ∙ ap (λ t. t ++ without_last 10 (y ∷ ys)) (sym (text-held xs)) ∙ append_assoc (without_last 10 xs) held (without_last 10 (y ∷ ys)),
+pub without_last-prefix : (xs ys : List ℕ) → (part : List ℕ) × (without_last 10 (xs ++ ys) ≡ without_last 10 xs ++ part)
+without_last-prefix xs [] = ([], ap (without_last 10) (append-nil xs) ∙ sym (append-nil (without_last 10 xs)))
+without_last-prefix xs (y ∷ ys) = let buffered = if newlines_at_end xs == 0 then [] else newline in (
+  buffered ++ without_last 10 (y ∷ ys),
+  without_last-append 10 xs y ys ∙ ap (λ t. t ++ without_last 10 (y ∷ ys)) (sym (text-buffered xs)) ∙ append_assoc (without_last 10 xs) buffered (without_last 10 (y ∷ ys)),
 )
 
 -- a text behind whose last byte a newline is put
@@ -112,6 +112,6 @@ pub double_end-pushed : (xs : List ℕ) (a : ℕ) → without_double_end ((xs ++
 double_end-pushed xs a =
     let text = (xs ++ a ∷ []) ++ newline in
     ap (λ p. if p then without_last 10 text else text) (ends_with-two xs a 10) ∙ ap (λ t. if nat_eq 10 a && true then t else text) (without_last-push 10 10 (xs ++ a ∷ [])) ∙ at (nat_eq 10 a) (xs ++ a ∷ []) text where
-      at : (p : Bool) (front whole : List ℕ) → (if p && true then front else whole) ≡ cond p front whole
-      at true front whole = refl
-      at false front whole = refl
+      at : (p : Bool) (prefix whole : List ℕ) → (if p && true then prefix else whole) ≡ cond p prefix whole
+      at true prefix whole = refl
+      at false prefix whole = refl

@@ -2,8 +2,8 @@
 use Rattle.std.specs.Prelude.{◌≡◌, ℕ, List, [], ◌∷◌, ◌++◌, Ok, true, false, codes, refl}
 use Rattle.ascii_text.specs.Lines.{newline, lines_of}
 use Rattle.dd_file.specs.DirectiveText.{DirectiveText}
-use Rattle.dd_file.specs.Script.{front}
-use Rattle.dd_file.specs.Rewritten.{found_text, newlines_at_end, without_double_end}
+use Rattle.dd_file.specs.Script.{first_item}
+use Rattle.dd_file.specs.Rewritten.{output_text, newlines_at_end, without_double_end}
 use Rattle.dd_file.specs.Laws.{IsComplete, Done, More, has_separator}
 use Rattle.dd_file.specs.declared.item.Item.TheVariants.{Comment, Directive}
 
@@ -18,7 +18,7 @@ pub counted : newlines_at_end (((codes "a" ++ newline) ++ newline) ++ newline) �
 counted = refl
 
 -- an output with a blank line stands between double dashes
-pub doubled : lines_of (found_text ((codes "a" ++ newline) ++ newline)) ≡ codes "----" ∷ codes "----" ∷ codes "a" ∷ [] ∷ codes "----" ∷ codes "----" ∷ [] ∷ []
+pub doubled : lines_of (output_text ((codes "a" ++ newline) ++ newline)) ≡ codes "----" ∷ codes "----" ∷ codes "a" ∷ [] ∷ codes "----" ∷ codes "----" ∷ [] ∷ []
 doubled = refl
 
 -- the directive `vote` from line 2 on
@@ -27,7 +27,7 @@ vote expected = record { line = 2; command = codes "vote"; arguments = []; input
 
 -- a comment and a directive with its separator, at the end of a file without a newline
 pub complete : IsComplete 1 (codes "# a" ∷ codes "vote" ∷ codes "----" ∷ codes "x" ∷ [])
-complete = More 1 _ (front (Ok (Comment (codes "# a" ∷ []))) 1 true) refl refl (More 2 _ (front (Ok (Directive (vote (codes "x" ++ newline)))) 3 false) refl refl (Done 5))
+complete = More 1 _ (first_item (Ok (Comment (codes "# a" ∷ []))) 1 true) refl refl (More 2 _ (first_item (Ok (Directive (vote (codes "x" ++ newline)))) 3 false) refl refl (Done 5))
 
 -- the directive alone has no separator
 pub open_end : has_separator 1 (Ok (Directive (vote []))) ≡ false

@@ -24,7 +24,7 @@ fn show_next_line<R: Source>(
     lines: &mut Lines,
     source: &mut R,
 ) {
-    let held = lines.next_held(source);
+    let held = lines.next_buffered(source);
     if held.is_some() {
         show(rt, shown, b"h");
     }
@@ -306,7 +306,7 @@ fn show_held_item<R: Source>(
     reader: &mut Reader,
     source: &mut R,
 ) -> Option<Item> {
-    let held = reader.next_held(source);
+    let held = reader.next_buffered(source);
     if held.is_some() {
         show(rt, shown, b"h");
     }

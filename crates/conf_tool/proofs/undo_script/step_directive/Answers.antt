@@ -1,6 +1,6 @@
 use Rattle.std.proofs.Common.{◌≡◌, ◌∷◌, [], List, ℕ, true, false, map, vec_items, refl, sym, ap, ◌∙◌}
 use Rattle.std.specs.Prelude.{Option, Some, option_map}
-use Rattle.dd_file.specs.Words.{CommandText, command_of}
+use Rattle.dd_file.specs.DirectiveLine.{CommandText, command_of}
 use Rattle.dd_file.specs.Script.{directive}
 use Rattle.dd_file.specs.declared.item.Item.{Item}
 use Rattle.conf_change.specs.Step.{changes_of}

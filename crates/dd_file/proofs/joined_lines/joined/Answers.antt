@@ -17,9 +17,9 @@ joined-more line [] some = absurd (omega arith)
 joined-more line (next ∷ rest) some = refl
 
 -- a line that another follows
-front-line : (lines : List (List ℕ)) (i : ℕ) (line before text : List ℕ) → before ++ joined (drop i lines) ≡ joined lines → slice_get lines i ≡ Some line → i + 1 < length lines →
+prefix-line : (lines : List (List ℕ)) (i : ℕ) (line before text : List ℕ) → before ++ joined (drop i lines) ≡ joined lines → slice_get lines i ≡ Some line → i + 1 < length lines →
     text ≡ (before ++ without_last 92 (trimmed line)) ++ 32 ∷ [] → text ++ joined (drop (i + 1) lines) ≡ joined lines
-front-line lines i line before text so_far is lt more =
+prefix-line lines i line before text so_far is lt more =
     ap (λ t. t ++ joined (drop (i + 1) lines)) (more ∙ append_assoc before (without_last 92 (trimmed line)) (32 ∷ []))
     ∙ append_assoc before (without_last 92 (trimmed line) ++ 32 ∷ []) (joined (drop (i + 1) lines))
     ∙ ap (λ t. before ++ t) (sym (ap joined (at-line lines i line is) ∙ joined-more line (drop (i + 1) lines) (omega (arith, lt, length-drop (i + 1) lines)))) ∙ so_far
@@ -40,7 +40,7 @@ loop-i-preserved c =
     let before = c.loop-i.text.items in
     let count = c.count-count.ensures in
     elim c.if-i-count.branch [
-      | then-i-count+in_ok-extend_from_slice+in_ok-push w ↦ front-line lines i line before c.if-i-count.text.items c.loop-i.invariant is (let lt = w.if-i-count.true in omega (arith, lt, count))
+      | then-i-count+in_ok-extend_from_slice+in_ok-push w ↦ prefix-line lines i line before c.if-i-count.text.items c.loop-i.invariant is (let lt = w.if-i-count.true in omega (arith, lt, count))
           (ap vec_items w.text-is ∙ w.in_ok-push.ensures.items ∙ ap (λ t. t ++ 32 ∷ []) (w.in_ok-extend_from_slice.ensures.items ∙ ap (λ t. before ++ t) (w.without_end.ensures ∙ ap (without_last 92) w.trimmed.ensures)))
       | else-i-count+in_ok-extend_from_slice-2 w ↦ last-line lines i line before c.if-i-count.text.items c.loop-i.invariant is (let le = w.if-i-count.false in omega (arith, le, count))
           (ap vec_items w.text-is ∙ w.in_ok-extend_from_slice-2.ensures.items ∙ ap (λ t. before ++ t) w.trimmed-else-i-count.ensures)

@@ -2,18 +2,18 @@ use Rattle.std.proofs.Common.{◌≡◌, ℕ, ◌+◌, false, List, [], ◌∷�
 use Rattle.std.specs.Prelude.{Some, Ok}
 use Rattle.std.specs.List.{list_any}
 use Rattle.ascii_text.specs.WhiteSpace.{is_blank, trimmed}
-use Rattle.dd_file.specs.Words.{CommandText, command_of}
-use Rattle.dd_file.specs.Script.{front, head_of, is_continued, is_separator, directive, at_head}
-use Rattle.dd_file.proofs.ScriptGrammar.FoundInLines.{first_of-head}
+use Rattle.dd_file.specs.DirectiveLine.{CommandText, command_of}
+use Rattle.dd_file.specs.Script.{first_item, directive_lines_of, is_continued, is_separator, directive, at_directive}
+use Rattle.dd_file.proofs.ScriptGrammar.FoundInLines.{first_of-directive_lines}
 use Rattle.ascii_text.proofs.Offered.{is_blank-trimmed}
 use Rattle.dd_file.proofs.laws.directive_is_given.Goals as goal
 
-head-line : (line : List ℕ) (input : List (List ℕ)) → is_continued line ≡ false → head_of (line ∷ input) ≡ line ∷ []
-head-line line input ends = rw ends refl
+directive_lines-line : (line : List ℕ) (input : List (List ℕ)) → is_continued line ≡ false → directive_lines_of (line ∷ input) ≡ line ∷ []
+directive_lines-line line input ends = rw ends refl
 
 -- a head of one line, and no separator behind it
 one-line : (n : ℕ) (line : List ℕ) (input : List (List ℕ)) (command : CommandText) → is_continued line ≡ false → is_blank line ≡ false → command_of (trimmed line) ≡ Some command → list_any is_separator input ≡ false →
-    at_head n (line ∷ []) input ≡ front (Ok (directive n command (line ∷ []) input [])) (1 + length input) false
+    at_directive n (line ∷ []) input ≡ first_item (Ok (directive n command (line ∷ []) input [])) (1 + length input) false
 one-line n line input command ends some says none =
     let filled : is_blank (trimmed line) ≡ false = is_blank-trimmed line ∙ some in rw (ends, filled, says, none) refl
 
@@ -24,5 +24,5 @@ returns c n line input command comment some ends says none are = record {
   are_lines = are;
   count = 1 + length input;
   is_ended = false;
-  first = first_of-head n line [] input comment some (head-line line input ends) ∙ ap Some (one-line n line input command ends some says none);
+  first = first_of-directive_lines n line [] input comment some (directive_lines-line line input ends) ∙ ap Some (one-line n line input command ends some says none);
 }

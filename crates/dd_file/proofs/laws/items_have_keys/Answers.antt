@@ -1,6 +1,6 @@
 use Rattle.dd_file.specs.Reading.{script_of}
 use Rattle.dd_file.proofs.ScriptGrammar.GivenItems.{script_of-given}
-use Rattle.dd_file.proofs.DirectiveWords.Keys.{items-keys}
+use Rattle.dd_file.proofs.DirectiveTokens.Keys.{items-keys}
 use Rattle.dd_file.proofs.laws.items_have_keys.Goals as goal
 
 pub returns : goal.returns

@@ -1,4 +1,4 @@
-use Rattle.dd_file.specs.Place.{longest_input}
+use Rattle.dd_file.specs.Position.{longest_input}
 use Rattle.dd_file.specs.Reading.{next_line}
 use Rattle.dd_file.proofs.ScriptGrammar.CallAfterCall.{script_from-followed}
 use Rattle.dd_file.proofs.ItemReading.BytesTaken.{next_line-takes}

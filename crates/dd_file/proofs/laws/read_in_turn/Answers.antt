@@ -1,5 +1,5 @@
 use Rattle.std.proofs.Common.{◌++◌}
-use Rattle.dd_file.proofs.LineReading.PartsOfPiece.{consumes-append}
+use Rattle.dd_file.proofs.LineReading.PartsOfFullLine.{consumes-append}
 use Rattle.dd_file.proofs.ScriptGrammar.CallAfterCall.{agrees-in_turn}
 use Rattle.dd_file.proofs.laws.read_in_turn.Goals as goal
 

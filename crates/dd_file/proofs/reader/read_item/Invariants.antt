@@ -1,5 +1,5 @@
 use Rattle.std.proofs.Common.{◌≡◌, ◌-◌, false, suc}
-use Rattle.dd_file.specs.Place.{longest_input}
+use Rattle.dd_file.specs.Position.{longest_input}
 use Rattle.dd_file.specs.Draft.{is_done}
 use Rattle.dd_file.proofs.ItemReading.UntilDone.{ReadingItem}
 use Rattle.dd_file.proofs.reader.read_item.Given as goal
@@ -14,4 +14,4 @@ invariant-read g l = record {
 
 -- the lines that are left up to the limit
 abbrev pub decreases-read : goal.decreases-read
-decreases-read g l = suc longest_input - l.lines.place.lines
+decreases-read g l = suc longest_input - l.lines.position.lines

@@ -4,18 +4,18 @@ use Rattle.dd_file.proofs.Rewriting.KnownBytes.{appends-append, append-part, par
 use Rattle.dd_file.proofs.Rewriting.PartByPart.{continues-bytes, breaks-bytes}
 use Rattle.dd_file.proofs.rewriter.write_text.Goals as goal
 
-pub returns-in_err-write_held_newline-clause-err : goal.returns-in_err-write_held_newline-clause-err
-returns-in_err-write_held_newline-clause-err g c =
+pub returns-in_err-write_pending_newline-clause-err : goal.returns-in_err-write_pending_newline-clause-err
+returns-in_err-write_pending_newline-clause-err g c =
     let p = err_from_is_err_and c.from_residual.result c.from_residual.ensures.1 in
-    rw (p.1) (breaks-bytes _ _ _ _ (sym c.if-is_empty.ensures) (part-part _ _ _ _ c.in_err-write_held_newline.ensures.err))
+    rw (p.1) (breaks-bytes _ _ _ _ (sym c.if-is_empty.ensures) (part-part _ _ _ _ c.in_err-write_pending_newline.ensures.err))
 
 pub returns-in_err-write_all-clause-err : goal.returns-in_err-write_all-clause-err
 returns-in_err-write_all-clause-err g c =
     let p = err_from_is_err_and c.from_residual-in_err-write_all.result c.from_residual-in_err-write_all.ensures.1 in
-    rw (p.1) (breaks-bytes _ _ _ _ (sym c.if-is_empty.ensures) (append-part _ (g.W.Sink.contents c.write_held_newline.new.writer) _ _ _ c.in_ok-write_held_newline.ensures.ok
+    rw (p.1) (breaks-bytes _ _ _ _ (sym c.if-is_empty.ensures) (append-part _ (g.W.Sink.contents c.write_pending_newline.new.writer) _ _ _ c.in_ok-write_pending_newline.ensures.ok
     (rw (c.without_end.ensures) at c.in_err-write_all.ensures.err)))
 
 pub returns-clause-ok : goal.returns-clause-ok
 returns-clause-ok g c = continues-bytes _ _ _ _ _ (sym c.if-is_empty.ensures)
-    (appends-append _ (g.W.Sink.contents c.write_held_newline.new.writer) _ _ _ c.in_ok-write_held_newline.ensures.ok (rw (c.without_end.ensures) at c.in_ok-write_all.ensures.ok))
+    (appends-append _ (g.W.Sink.contents c.write_pending_newline.new.writer) _ _ _ c.in_ok-write_pending_newline.ensures.ok (rw (c.without_end.ensures) at c.in_ok-write_all.ensures.ok))
     c.count_newlines.ensures

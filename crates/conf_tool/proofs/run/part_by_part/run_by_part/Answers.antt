@@ -1,8 +1,8 @@
 use Rattle.std.proofs.Common.{ap, ◌≤◌, ◌∙◌, ◌++◌, ◌∷◌, [], sym, subst, refl, arith}
 use Rattle.std.specs.Prelude.{Some}
 use Rattle.std.proofs.lemmas.Result.{err_from_is_err_and}
-use Rattle.dd_file.specs.Device.{AppendsPart, LosesFront}
-use Rattle.dd_file.specs.Place.{longest_input, start}
+use Rattle.dd_file.specs.Device.{AppendsPart, LosesPrefix}
+use Rattle.dd_file.specs.Position.{longest_input, start}
 use Rattle.dd_file.specs.Reading.{script_from}
 use Rattle.dd_file.specs.ReaderState.{ReaderState}
 use Rattle.conf_tool.specs.Answered.{script}
@@ -16,7 +16,7 @@ each-init g c = record {
   parts = [];
   reached = reached-begin _ _ _ c.requires.unread;
   answered = λ total begun. begun _;
-  counted = subst (λ (s : ReaderState). s.place.lines ≤ longest_input) (sym c.requires.unread) (omega arith);
+  counted = subst (λ (s : ReaderState). s.position.lines ≤ longest_input) (sym c.requires.unread) (omega arith);
   unread = refl;
   unwritten = refl;
 }
@@ -28,7 +28,7 @@ returns-in_err-found g c =
     let before = g.W.Sink.contents c.args.writer.now in
     let after = g.W.Sink.contents c.next_part.new.writer in
     let same = c.in_err-found.ensures.unread in
-    let lost = subst (λ r. LosesFront (remaining c.each.reader) (remaining r)) (sym same) (loses-nothing (remaining c.each.reader)) in
+    let lost = subst (λ r. LosesPrefix (remaining c.each.reader) (remaining r)) (sym same) (loses-nothing (remaining c.each.reader)) in
     rw (p.1, p.2) (record {
       output = λ total begun input more agrees.
           let front = reached-front _ _ _ _ _ _ c.each.invariant.reached lost input more agrees in
@@ -58,7 +58,7 @@ each-preserved g c =
       reached = subst (λ (s : ReaderState). Reached {A = g.row.P.Denot} g.S.Parts.coming (g.R.Source.remaining c.args.reader.now) (g.R.Source.remaining c.next_part.new.reader) s parts) same
           (reached-next _ _ _ _ _ _ _ _ _ _ _ _ g.met.S.Parts.in_turn c.each.invariant.reached reads);
       answered = λ total begun. c.in_ok-answer-in-Ok-Some.ensures.answered _ _ _ (g.met.M.PartByPart.stays _ _ _ _ _ _ (c.each.invariant.answered total begun) c.next_part.ensures.kept);
-      counted = subst (λ (s : ReaderState). s.place.lines ≤ longest_input) same reads.counted;
+      counted = subst (λ (s : ReaderState). s.position.lines ≤ longest_input) same reads.counted;
       unread = reads.read c.each.invariant.reached.open_end ∙ or-false _ ∙ c.each.invariant.unread;
       unwritten = c.in_ok-answer-in-Ok-Some.ensures.write ∙ or-false _ ∙ c.in_ok-found.ensures.write ∙ or-false _ ∙ c.each.invariant.unwritten;
     }

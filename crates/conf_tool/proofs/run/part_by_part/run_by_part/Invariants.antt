@@ -1,6 +1,6 @@
 use Rattle.std.proofs.Common.{◌≡◌, ◌≤◌, ◌-◌, ℕ, List, []}
 use Rattle.std.specs.Prelude.{Option}
-use Rattle.dd_file.specs.Place.{longest_input}
+use Rattle.dd_file.specs.Position.{longest_input}
 use Rattle.dd_file.specs.Reading.{Script}
 use Rattle.conf_tool.specs.Outputs.{Output}
 use Rattle.conf_tool.proofs.ModeInput.PlaceReached.{Reached}
@@ -17,11 +17,11 @@ invariant-each g l =
       reached : Reached g.S.Parts.coming (remaining l.fn.reader) (remaining l.reader) (g.S.Parts.reading l.parts) parts;
       answered : (total : Script g.row.P.Denot → Output) → ((held : Option (List ℕ)) → mode.HasAnswered l.fn.mode total [] held held) →
           mode.HasAnswered l.mode total parts (contents l.fn.writer) (contents l.writer);
-      counted : (g.S.Parts.reading l.parts).place.lines ≤ longest_input;
+      counted : (g.S.Parts.reading l.parts).position.lines ≤ longest_input;
       unread : g.R.Source.has_failed l.reader ≡ g.R.Source.has_failed l.fn.reader;
       unwritten : g.W.Sink.has_failed l.writer ≡ g.W.Sink.has_failed l.fn.writer;
     }
 
 -- an input has only so many lines, and each part has one
 abbrev pub decreases-each : goal.decreases-each
-decreases-each g l = longest_input - (g.S.Parts.reading l.parts).place.lines
+decreases-each g l = longest_input - (g.S.Parts.reading l.parts).position.lines

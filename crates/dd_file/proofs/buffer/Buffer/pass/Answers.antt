@@ -1,6 +1,6 @@
 use Rattle.std.proofs.Common.{◌≡◌, ◌+◌, ◌-◌, ◌≤◌, length, take, drop, ap, ◌∙◌, arith}
 use Rattle.std.proofs.lemmas.List.{length-take}
-use Rattle.dd_file.proofs.LineReading.PartsOfPiece.{take-drop_later}
+use Rattle.dd_file.proofs.LineReading.PartsOfFullLine.{take-drop_later}
 use Rattle.dd_file.proofs.buffer.Buffer.pass.Goals as goal
 
 pub returns : goal.returns

@@ -13,11 +13,11 @@ returns-then-ends_in_dashes c =
     let view : c.self.inside.expected ≡ old.expected = ap (λ (d : DraftText). d.expected) c.self.view_is in
     let ends : ends_in_dashes old.expected ≡ true = ap ends_in_dashes (sym view) ∙ sym c.ends_in_dashes.ensures ∙ c.if-ends_in_dashes.true in
     let is : is_dashes c.args.line.now ≡ true = search rules in
-    let front : c.truncate.new.self ≡ take (length old.expected - 1) old.expected =
+    let prefix : c.truncate.new.self ≡ take (length old.expected - 1) old.expected =
     c.truncate.ensures ∙ ap (λ n. take (n - 1) c.self.inside.expected) c.count.ensures ∙ ap (λ (ls : List (List ℕ)). take (length ls - 1) ls) view in
     let P : DraftText → List (List ℕ) → DraftText = λ d ls. counted (record d { expected = ls }) (Pair c.args.command) in
     adds-pair c.args.command old _ _ _ c.args.line.now c.requires.fits (last-split old.expected (dashes-some old.expected ends)) ends is
-    (ap (λ d. P d c.truncate.new.self) c.self.view_is ∙ ap (P old) front)
+    (ap (λ d. P d c.truncate.new.self) c.self.view_is ∙ ap (P old) prefix)
 
 pub returns-in_ok-push : goal.returns-in_ok-push
 returns-in_ok-push c =

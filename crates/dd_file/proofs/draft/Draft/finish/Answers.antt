@@ -12,17 +12,17 @@ pub returns-in-CommentLine-clause-found : goal.returns-in-CommentLine-clause-fou
 returns-in-CommentLine-clause-found c =
     let fields = c.self.inside in
     found-comment_at c.args.self fields.raw_lines (ap (λ (d : DraftText). d.phase) (sym c.self.view_is) ∙ c.in-CommentLine.is) c.requires.fits
-    (sym (take-append-drop fields.heads fields.raw_lines) ∙ ap (λ (d : DraftText). d.head ++ d.input) c.self.view_is)
+    (sym (take-append-drop fields.directive_line_count fields.raw_lines) ∙ ap (λ (d : DraftText). d.directive_lines ++ d.input) c.self.view_is)
 
 pub returns-in-BlankLines-clause-found : goal.returns-in-BlankLines-clause-found
 returns-in-BlankLines-clause-found c =
     let fields = c.self.inside in
     found-blank_at c.args.self fields.raw_lines (ap (λ (d : DraftText). d.phase) (sym c.self.view_is) ∙ c.in-BlankLines.is) c.requires.fits
-    (sym (take-append-drop fields.heads fields.raw_lines) ∙ ap (λ (d : DraftText). d.head ++ d.input) c.self.view_is)
+    (sym (take-append-drop fields.directive_line_count fields.raw_lines) ∙ ap (λ (d : DraftText). d.directive_lines ++ d.input) c.self.view_is)
 
-pub returns-in-Head-clause-found : goal.returns-in-Head-clause-found
-returns-in-Head-clause-found c =
-    found-bad_at c.args.self c.self.inside.line (ap (λ (d : DraftText). d.phase) (sym c.self.view_is) ∙ c.in-Head.is) c.requires.fits (ap (λ (d : DraftText). d.line) c.self.view_is)
+pub returns-in-DirectiveLines-clause-found : goal.returns-in-DirectiveLines-clause-found
+returns-in-DirectiveLines-clause-found c =
+    found-bad_at c.args.self c.self.inside.line (ap (λ (d : DraftText). d.phase) (sym c.self.view_is) ∙ c.in-DirectiveLines.is) c.requires.fits (ap (λ (d : DraftText). d.line) c.self.view_is)
 
 pub returns-clause-found : goal.returns-clause-found
 returns-clause-found c =
@@ -38,5 +38,5 @@ returns-clause-found c =
       | in-Input-5 w ↦ (let is = w.in-Input.is in let same = w.command-is in let phase : Complete command ≡ fields.phase = cc in subst (HasParts command) phase AtComplete)
     ] in
     let made : Directive c.new.result ≡ drafted c.args.self command =
-    made-directive fields.line fields.heads command fields.raw_lines fields.expected _ c.new.result c.new.ensures c.into_text-expected.ensures ∙ ap (λ d. drafted d command) c.self.view_is in
+    made-directive fields.line fields.directive_line_count command fields.raw_lines fields.expected _ c.new.result c.new.ensures c.into_text-expected.ensures ∙ ap (λ d. drafted d command) c.self.view_is in
     ap (λ item. Ok (Some item)) made ∙ found-parts command c.args.self.phase c.args.self (subst (HasParts command) view parts) c.requires.fits

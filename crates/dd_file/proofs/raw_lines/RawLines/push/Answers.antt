@@ -1,7 +1,7 @@
 use Rattle.std.proofs.Common.{◌≡◌, ◌∷◌, [], ◌++◌, ◌+◌, length, ap, ◌∙◌, arith}
 use Rattle.ascii_text.specs.Lines.{newline}
 use Rattle.dd_file.specs.LineEnds.{LieIn}
-use Rattle.dd_file.proofs.TextLines.EndPlaces.{lie-fields, found-lines, fill-text, lie-push}
+use Rattle.dd_file.proofs.TextLines.EndPositions.{lie-fields, found-lines, fill-text, lie-push}
 use Rattle.dd_file.proofs.raw_lines.RawLines.push.Goals as goal
 use Rattle.dd_file.proofs.raw_lines.RawLines.push.Goals.{After-append-2}
 

@@ -1,10 +1,10 @@
 use Rattle.std.proofs.Common.{◌≡◌, ◌+◌, ◌-◌, length, take, ap, ◌∙◌, arith}
 use Rattle.ascii_text.specs.Lines.{text_of}
-use Rattle.dd_file.proofs.TextLines.EndPlaces.{next-start}
+use Rattle.dd_file.proofs.TextLines.EndPositions.{next-start}
 use Rattle.dd_file.proofs.raw_lines.RawLines.start.Goals as goal
 
-pub returns-clause-place : goal.returns-clause-place
-returns-clause-place c =
+pub returns-clause-position : goal.returns-clause-position
+returns-clause-position c =
     let i = c.args.i - 1 in
     let next : i + 1 ≡ c.args.i = omega arith in
-    ap (λ n. n + 1) c.end.ensures.place ∙ next-start c.args.self.now i (omega arith) ∙ ap (λ n. length (text_of (take n c.args.self.now))) next
+    ap (λ n. n + 1) c.end.ensures.position ∙ next-start c.args.self.now i (omega arith) ∙ ap (λ n. length (text_of (take n c.args.self.now))) next

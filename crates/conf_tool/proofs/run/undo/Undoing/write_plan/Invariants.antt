@@ -9,7 +9,7 @@ invariant-loop-place g l =
     let before = l.fn.self in
     let contents = g.W.Sink.contents in
     record {
-      so_far : ItemsWritten before.session l.self.session before.rewriter.newlines l.self.rewriter.newlines (contents l.fn.writer) (contents l.writer) (directives l.plan l.place);
+      so_far : ItemsWritten before.session l.self.session before.rewriter.newlines l.self.rewriter.newlines (contents l.fn.writer) (contents l.writer) (directives l.plan l.position);
       ready : l.self.rewriter.stage ≡ Ready;
       unfailed : g.W.Sink.has_failed l.writer ≡ g.W.Sink.has_failed l.fn.writer;
     }

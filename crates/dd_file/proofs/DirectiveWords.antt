@@ -1,9 +1,0 @@
--- The words of a directive: its command, its arguments and their values.
-
-pub mod FirstWord
-pub mod TrimmedEnd
-pub mod LoneKey
-pub mod ListedValues
-pub mod KeptArgument
-pub mod WordFront
-pub mod Keys

@@ -1,0 +1,100 @@
+-- A text that ends in a newline, and more behind it.
+use Rattle.std.proofs.Common.{◌≡◌, ℕ, ◌+◌, ◌-◌, ◌≤◌, Bool, true, false, cond, ◌&&◌, List, [], ◌∷◌, ◌++◌, length, take, refl, ◌∙◌, ap, arith}
+use Rattle.std.specs.Prelude.{◌==◌, filter}
+use Rattle.std.specs.List.{list_all}
+use Rattle.std.proofs.lemmas.List.Elements.{filter-append}
+use Rattle.std.proofs.Math.Seq.{take-append-add}
+use Rattle.ascii_text.specs.Lines.{newline, full_lines, before_first_line, is_whole}
+use Rattle.dd_file.specs.Position.{Position}
+use Rattle.dd_file.specs.Reading.{is_too_long, full_lines_within}
+
+-- nothing, or a text whose last byte is a newline
+abbrev pub is_whole_text : List ℕ → Bool
+is_whole_text [] = true
+is_whole_text (b ∷ []) = b == 10
+is_whole_text (b ∷ c ∷ bytes) = is_whole_text (c ∷ bytes)
+
+-- bytes have a first piece
+abbrev has_some : List (List ℕ) → Bool
+has_some [] = false
+has_some (full_line ∷ ps) = true
+
+some-step : (c : Bool) (b : ℕ) (ps : List (List ℕ)) → has_some (cond c (newline ∷ ps) (before_first_line b ps)) ≡ true
+some-step true b ps = refl
+some-step false b [] = refl
+some-step false b (full_line ∷ ps) = refl
+
+before-append : (b : ℕ) (ps qs : List (List ℕ)) → has_some ps ≡ true → before_first_line b (ps ++ qs) ≡ before_first_line b ps ++ qs
+before-append b [] qs h = cc
+before-append b (full_line ∷ ps) qs h = refl
+
+append-last : (c : Bool) (b : ℕ) (ys : List ℕ) → c ≡ true → cond c (newline ∷ full_lines ys) (before_first_line b (full_lines ys)) ≡ cond c (newline ∷ []) (before_first_line b []) ++ full_lines ys
+append-last true b ys h = refl
+append-last false b ys h = cc
+
+append-more : (c : Bool) (b : ℕ) (ps qs rs : List (List ℕ)) → has_some ps ≡ true → rs ≡ ps ++ qs →
+    cond c (newline ∷ rs) (before_first_line b rs) ≡ cond c (newline ∷ ps) (before_first_line b ps) ++ qs
+append-more true b ps qs rs h e = ap (λ t. newline ∷ t) e
+append-more false b ps qs rs h e = ap (before_first_line b) e ∙ before-append b ps qs h
+
+-- the pieces of a whole text, and then those behind it
+pub full_lines-append : (xs ys : List ℕ) → is_whole_text xs ≡ true → full_lines (xs ++ ys) ≡ full_lines xs ++ full_lines ys
+full_lines-append [] ys h = refl
+full_lines-append (b ∷ []) ys h = append-last (b == 10) b ys h
+full_lines-append (b ∷ c ∷ xs) ys h = append-more (b == 10) b (full_lines (c ∷ xs)) (full_lines ys) (full_lines (c ∷ xs ++ ys)) (some-step (c == 10) c (full_lines xs)) (full_lines-append (c ∷ xs) ys h)
+
+-- each piece of a whole text is whole
+whole-more : (b : ℕ) (full_line : List ℕ) → is_whole full_line ≡ true → is_whole (b ∷ full_line) ≡ true
+whole-more b [] h = cc
+whole-more b (c ∷ full_line) h = h
+
+and-left : (a b : Bool) → (a && b) ≡ true → a ≡ true
+and-left true b h = refl
+and-left false b h = h
+
+whole-first : (b : ℕ) (ps : List (List ℕ)) → has_some ps ≡ true → list_all is_whole ps ≡ true → list_all is_whole (before_first_line b ps) ≡ true
+whole-first b [] s h = cc
+whole-first b (full_line ∷ ps) s h = rw (whole-more b full_line (and-left _ _ h)) (and-right _ _ h) where
+  and-right : (a c : Bool) → (a && c) ≡ true → c ≡ true
+  and-right true c h = h
+  and-right false c h = cc
+
+whole-step : (c : Bool) (b : ℕ) (ps : List (List ℕ)) → has_some ps ≡ true → list_all is_whole ps ≡ true → list_all is_whole (cond c (newline ∷ ps) (before_first_line b ps)) ≡ true
+whole-step true b ps s h = h
+whole-step false b ps s h = whole-first b ps s h
+
+whole-last : (c : Bool) (b : ℕ) → c ≡ true → list_all is_whole (cond c (newline ∷ []) (before_first_line b [])) ≡ true
+whole-last true b h = refl
+whole-last false b h = cc
+
+pub full_lines-whole : (xs : List ℕ) → is_whole_text xs ≡ true → list_all is_whole (full_lines xs) ≡ true
+full_lines-whole [] h = refl
+full_lines-whole (b ∷ []) h = whole-last (b == 10) b h
+full_lines-whole (b ∷ c ∷ xs) h = whole-step (b == 10) b (full_lines (c ∷ xs)) (some-step (c == 10) c (full_lines xs)) (full_lines-whole (c ∷ xs) h)
+
+filter-step : {X : Type 0} (c : Bool) (x : X) (us xs : List X) (r : Bool) → (r ≡ true → us ≡ xs) → (c && r) ≡ true → cond c (x ∷ us) us ≡ x ∷ xs
+filter-step true x us xs r ih h = ap (λ t. x ∷ t) (ih h)
+filter-step false x us xs r ih h = cc
+
+filter-all : {X : Type 0} (test : X → Bool) (xs : List X) → list_all test xs ≡ true → filter test xs ≡ xs
+filter-all test [] h = refl
+filter-all test (x ∷ xs) h = filter-step (test x) x _ xs (list_all test xs) (filter-all test xs) h
+
+-- The pieces that are looked at are those of a whole text within the limit, and some behind them.
+pub full_lines_within-whole : (limit : ℕ) (position : Position) (bs more : List ℕ) → is_whole_text bs ≡ true → position.bytes + length bs ≤ limit →
+    (suffix : List (List ℕ)) × (full_lines_within limit position (bs ++ more) ≡ full_lines bs ++ suffix)
+full_lines_within-whole limit position bs more whole fits = at (is_too_long limit position (bs ++ more)) where
+  cut : take (limit - position.bytes) (bs ++ more) ≡ bs ++ take (limit - position.bytes - length bs) more
+  cut = let sum : limit - position.bytes ≡ length bs + (limit - position.bytes - length bs) = omega (arith, fits) in
+      ap (λ n. take n (bs ++ more)) sum ∙ take-append-add bs more (limit - position.bytes - length bs)
+
+  rest : List (List ℕ)
+  rest = full_lines (take (limit - position.bytes - length bs) more)
+
+  at : (c : Bool) → (suffix : List (List ℕ)) × (cond c (filter is_whole (full_lines (take (limit - position.bytes) (bs ++ more)))) (full_lines (bs ++ more)) ≡ full_lines bs ++ suffix)
+  at true = (
+    filter is_whole rest,
+    ap (λ t. filter is_whole (full_lines t)) cut ∙ ap (filter is_whole) (full_lines-append bs _ whole) ∙ filter-append is_whole (full_lines bs) rest
+        ∙ ap (λ t. t ++ filter is_whole rest) (filter-all is_whole (full_lines bs) (full_lines-whole bs whole)),
+  )
+  at false = (full_lines more, full_lines-append bs more whole)
