@@ -1,8 +1,8 @@
 -- Lists of changes: what they say of each id, and what they make of a configuration.
 
-pub mod LastWord
+pub mod LastEffective
 pub mod Memberships
 pub mod JoinedEntries
 pub mod ResultOfEach
 pub mod ChangeByChange
-pub mod WordByWord
+pub mod SummaryBySummary

@@ -2,4 +2,4 @@
 
 pub mod TestOfEachId
 pub mod SideBySide
-pub mod PlaceByPlace
+pub mod PositionByPosition

@@ -4,5 +4,5 @@ pub mod Acceptance
 pub mod OwedByCalls
 pub mod ChangerAfter
 pub mod Soundness
-pub mod NobodyTracked
+pub mod EmptyTracker
 pub mod OneChange

@@ -4,7 +4,7 @@ use Rattle.std.specs.Prelude.{Some, None, codes, Ok, Err}
 use Rattle.quorum_sets.specs.Ids.{has, ids_of, no_ids}
 use Rattle.quorum_sets.proofs.Offered.{has-ids_of, written_out}
 use Rattle.conf_change.specs.Configuration.{Configuration, first_broken}
-use Rattle.conf_change.specs.Change.{result_of, last_word, is_learner_after, is_next_after}
+use Rattle.conf_change.specs.Change.{result_of, last_effective, is_learner_after, is_next_after}
 use Rattle.conf_change.specs.Outcome.{simple_outcome, enter_outcome, leave_outcome}
 use Rattle.conf_change.specs.Progress.{keeps_progress}
 use Rattle.conf_change.specs.declared.config.Invariant.TheVariants.{ZeroId, NextNotOutgoing, NextAndIncoming}
@@ -31,11 +31,11 @@ abbrev many : List Change
 many = change Remove 1 ∷ change Remove 2 ∷ change Remove 9 ∷ change Voter 2 ∷ change Voter 3 ∷ change Voter 4 ∷ change Voter 2 ∷ change Voter 3
     ∷ change Voter 4 ∷ change Learner 2 ∷ change Learner 2 ∷ change Remove 4 ∷ change Remove 4 ∷ change Learner 1 ∷ change Learner 1 ∷ []
 
-last_words : (last_word many 1 ≡ Some Learner) × (last_word many 2 ≡ Some Learner) × (last_word many 3 ≡ Some Voter) × (last_word many 4 ≡ Some Remove) × (last_word many 9 ≡ Some Remove) × (last_word many 5 ≡ None)
-last_words = (refl, refl, refl, refl, refl, refl)
+change_summary : (last_effective many 1 ≡ Some Learner) × (last_effective many 2 ≡ Some Learner) × (last_effective many 3 ≡ Some Voter) × (last_effective many 4 ≡ Some Remove) × (last_effective many 9 ≡ Some Remove) × (last_effective many 5 ≡ None)
+change_summary = (refl, refl, refl, refl, refl, refl)
 
 -- a change of 0 and an update have no say
-no_say : (last_word (change Voter 0 ∷ change Update 1 ∷ []) 0 ≡ None) × (last_word (change Voter 0 ∷ change Update 1 ∷ []) 1 ≡ None)
+no_say : (last_effective (change Voter 0 ∷ change Update 1 ∷ []) 0 ≡ None) × (last_effective (change Voter 0 ∷ change Update 1 ∷ []) 1 ≡ None)
 no_say = (refl, refl)
 
 incoming_3 : has (result_of one_voter many).incoming 3 ≡ true

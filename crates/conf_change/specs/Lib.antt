@@ -8,9 +8,9 @@ pub mod Floor
 pub mod TrackerState
 pub mod ChangerState
 pub mod Progress
-pub mod LastWords
+pub mod ChangeSummary
 pub mod MemberWalk
-pub mod Seat
+pub mod Roles
 pub mod TrackerEdits
 pub mod Changer
 pub mod Acknowledgement

@@ -9,17 +9,17 @@ use Rattle.conf_change.specs.declared.progress.Progress.{Progress}
 use Rattle.conf_change.specs.declared.refused.Refused.{Refused}
 use Rattle.conf_change.specs.declared.refused.Refused.TheVariants.{AlreadyJoint, ZeroVoterJoint, NotJoint, SimpleInJoint, RemovedAllVoters, MoreThanOneVoter, NoMemory}
 
--- a part that is there or left out
-abbrev pub where_there : Bool → List ℕ → List ℕ
-where_there there text = if there then text else []
+-- an optional part of a text
+abbrev pub text_if : Bool → List ℕ → List ℕ
+text_if there text = if there then text else []
 
--- numbers with one space between
+-- numbers, separated by one space
 abbrev pub spaced_numbers : List ℕ → List ℕ
 spaced_numbers numbers = join_with_byte 32 (map decimal numbers)
 
--- the number at a place of them: a space comes before it unless it is the first
+-- the number at a position of a list, after a space unless it is the first
 abbrev pub spaced_number : ℕ → ℕ → List ℕ
-spaced_number place number = where_there (nat_lt 0 place) (codes " ") ++ decimal number
+spaced_number position number = text_if (nat_lt 0 position) (codes " ") ++ decimal number
 
 -- a set, as (1 2 3)
 abbrev pub set_text : Ids → List ℕ
@@ -29,16 +29,16 @@ set_text ids = codes "(" ++ spaced_numbers (ascending ids) ++ codes ")"
 abbrev pub config_text : Configuration → List ℕ
 config_text c =
     codes "voters=" ++ set_text c.incoming
-    ++ where_there (is_joint c) (codes "&&" ++ set_text c.outgoing)
-    ++ where_there (not (is_empty c.learners)) (codes " learners=" ++ set_text c.learners)
-    ++ where_there (not (is_empty c.learners_next)) (codes " learners_next=" ++ set_text c.learners_next)
-    ++ where_there c.auto_leave (codes " autoleave")
+    ++ text_if (is_joint c) (codes "&&" ++ set_text c.outgoing)
+    ++ text_if (not (is_empty c.learners)) (codes " learners=" ++ set_text c.learners)
+    ++ text_if (not (is_empty c.learners_next)) (codes " learners_next=" ++ set_text c.learners_next)
+    ++ text_if c.auto_leave (codes " autoleave")
 
 -- a member and its progress, in one line
 abbrev pub progress_text : ℕ → Progress → List ℕ
 progress_text id p =
     decimal id ++ codes ": StateProbe match=" ++ decimal p.matched ++ codes " next=" ++ decimal p.next
-    ++ where_there p.learner (codes " learner")
+    ++ text_if p.learner (codes " learner")
 
 -- why a change was refused
 abbrev pub refused_text : Refused → List ℕ
@@ -50,7 +50,7 @@ refused_text RemovedAllVoters = codes "removed all voters"
 refused_text MoreThanOneVoter = codes "more than one voter changed without entering joint config"
 refused_text NoMemory = codes "out of memory"
 
--- which word spells no change, and why
+-- the message of a bad token
 abbrev pub bad_token_text : BadToken → List ℕ
 bad_token_text (unknown_token token) = codes "unknown token " ++ token
 bad_token_text (unknown_input token) = codes "unknown input: " ++ token

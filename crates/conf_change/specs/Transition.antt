@@ -1,4 +1,4 @@
--- Which of the three changes a list of changes takes.
+-- Which step etcd takes for a list of changes.
 use Rattle.std.specs.Prelude.{true, false, List, [], ◌∷◌, map}
 use Rattle.conf_change.specs.declared.change.Change.{Change}
 use Rattle.conf_change.specs.declared.step.Step.{Step}
@@ -8,13 +8,13 @@ use Rattle.conf_change.specs.declared.step.StepKind.TheVariants as kind
 use Rattle.conf_change.specs.declared.transition.Transition.{Transition}
 use Rattle.conf_change.specs.declared.transition.Transition.TheVariants.{Auto, Implicit, Explicit}
 
--- without a word on it no change leaves, one is simple, and more enter; with one they always enter. Each change counts, whatever it says
-abbrev pub taken_of : Transition → List Change → StepKind
-taken_of Auto [] = kind.Leave
-taken_of Auto (_ ∷ []) = kind.Simple
-taken_of Auto (_ ∷ _ ∷ _) = kind.Enter true
-taken_of Implicit _ = kind.Enter true
-taken_of Explicit _ = kind.Enter false
+-- Auto leaves without a change, is simple with one, and enters with more; Implicit and Explicit always enter. Each change counts, effective or not.
+abbrev pub step_kind_of : Transition → List Change → StepKind
+step_kind_of Auto [] = kind.Leave
+step_kind_of Auto (_ ∷ []) = kind.Simple
+step_kind_of Auto (_ ∷ _ ∷ _) = kind.Enter true
+step_kind_of Implicit _ = kind.Enter true
+step_kind_of Explicit _ = kind.Enter false
 
 -- the step of this kind, with its list
 abbrev pub step_of : StepKind → List Change → Step
@@ -22,10 +22,10 @@ step_of kind.Simple changes = Simple changes
 step_of (kind.Enter auto_leave) changes = EnterJoint auto_leave changes
 step_of kind.Leave changes = LeaveJoint
 
--- the step that a list of changes takes
-abbrev pub step_taken : Transition → List Change → Step
-step_taken transition changes = step_of (taken_of transition changes) changes
+-- the step for a list of changes
+abbrev pub step_for : Transition → List Change → Step
+step_for transition changes = step_of (step_kind_of transition changes) changes
 
--- the steps that lists of changes take, one after another
-abbrev pub steps_taken : List (Transition × List Change) → List Step
-steps_taken lists = map (λ list. step_taken list.0 list.1) lists
+-- the steps for lists of changes, in order
+abbrev pub steps_for : List (Transition × List Change) → List Step
+steps_for lists = map (λ list. step_for list.0 list.1) lists

@@ -1,4 +1,4 @@
-//! The members in ascending order of the ids, each with its progress.
+//! The members with their progress, in ascending order of the ids.
 ghost use Rattle.std.specs.Prelude.{◌≡◌, ℕ, true, length, ◌==◌, Some, None, is_some, map, option_map, unwrap_or, IsOk, OnOk, MatchResult, if◌then◌else◌};
 ghost use Rattle.std.specs.Ordering.{nat_cmp};
 ghost use Rattle.std.specs.FinMap as finite;
@@ -8,7 +8,7 @@ ghost use Rattle.conf_change.specs.Progress.{fresh_progress, with_mark};
 ghost use Rattle.conf_change.specs.TrackerEdits.{entry_of};
 
 use crate::progress::Progress;
-use crate::seat::Membership;
+use crate::roles::Membership;
 use quorum_sets::NoMemory;
 use smallvec::SmallVec;
 
@@ -18,25 +18,25 @@ pub(crate) fn progress_of(members: &[(u64, Progress)], id: u64) -> Option<Progre
     ensures { result ≡ finite.get (finite.from_entries {R = nat_cmp} members.now) id }
 {
     match position_of(members, id) {
-        Ok(place) => Some(members[place].1),
+        Ok(position) => Some(members[position].1),
         Err(_) => None,
     }
 }
 
-// Sets the progress of an id that is there; any other id it leaves alone.
+// Sets the progress of an id, if it is there.
 pub(crate) fn set_progress_of(members: &mut [(u64, Progress)], id: u64, progress: Progress)
     requires { IsAscending (map (λ m. m.0) members.old) }
     ensures keys { map (λ m. m.0) members.new ≡ map (λ m. m.0) members.old }
     ensures gets { is_some (finite.get (finite.from_entries {R = nat_cmp} members.old) id) ≡ true → (q : ℕ) → finite.get (finite.from_entries {R = nat_cmp} members.new) q ≡ (if q == id then Some progress else finite.get (finite.from_entries {R = nat_cmp} members.old) q) }
 {
-    if let Ok(place) = position_of(members, id) {
-        members[place] = (id, progress);
+    if let Ok(position) = position_of(members, id) {
+        members[position] = (id, progress);
     }
 }
 
-// Gives an id the progress that it is to have where it is this in a configuration: a member keeps what it has or begins
-// afresh, with its mark, and anybody else has none.
-pub(crate) fn follow(
+// Updates the entry of an id to its new membership: a member keeps its progress or gets a fresh one, and is marked as a
+// learner or not; any other id has no entry.
+pub(crate) fn update_member(
     members: &mut SmallVec<(u64, Progress), 1>,
     id: u64,
     id_is: Membership,
@@ -55,7 +55,7 @@ pub(crate) fn follow(
     Ok(())
 }
 
-// Marks a member, which begins afresh where it has no progress yet.
+// Marks a member as a learner or not. A new member gets fresh progress.
 fn keep_or_begin(
     members: &mut SmallVec<(u64, Progress), 1>,
     id: u64,
@@ -68,41 +68,41 @@ fn keep_or_begin(
     ensures room { HasRoomFor members.old 1 → IsOk result }
 {
     match position_of(members.as_slice(), id) {
-        Ok(place) => mark(members.as_mut_slice(), id, place, learner),
-        Err(place) => {
+        Ok(position) => mark(members.as_mut_slice(), id, position, learner),
+        Err(position) => {
             let fresh = Progress::fresh(next_index);
-            members.insert(place, (id, Progress { learner, ..fresh }))?;
+            members.insert(position, (id, Progress { learner, ..fresh }))?;
         }
     }
     Ok(())
 }
 
-// Takes an id out.
+// Removes an id.
 fn take_out(members: &mut SmallVec<(u64, Progress), 1>, id: u64)
     requires { IsAscending (map (λ m. m.0) members.old.items) }
     ensures ascends { IsAscending (map (λ m. m.0) members.new.items) }
     ensures entries { (q : ℕ) → finite.get (finite.from_entries {R = nat_cmp} members.new.items) q ≡ (if q == id then None else finite.get (finite.from_entries {R = nat_cmp} members.old.items) q) }
 {
-    if let Ok(place) = position_of(members.as_slice(), id) {
-        members.remove(place);
+    if let Ok(position) = position_of(members.as_slice(), id) {
+        members.remove(position);
     }
 }
 
-// The index of the member with this id, or else the index where it is to be inserted.
+// The position of the member with this id, or the one at which it is to be inserted.
 fn position_of(members: &[(u64, Progress)], id: u64) -> Result<usize, usize>
     requires { IsAscending (map (λ m. m.0) members.now) }
-    ensures { MatchResult result (λ place. IsAtPosition (map (λ m. m.0) members.now) id place) (λ place. IsInsertionPoint (map (λ m. m.0) members.now) id place) }
+    ensures { MatchResult result (λ position. IsAtPosition (map (λ m. m.0) members.now) id position) (λ position. IsInsertionPoint (map (λ m. m.0) members.now) id position) }
 {
     members.binary_search_by_key(&id, |member| member.0)
 }
 
-// Marks the member at a place, which keeps its progress.
-fn mark(members: &mut [(u64, Progress)], id: u64, place: usize, learner: bool)
+// Marks the member at a position as a learner or not.
+fn mark(members: &mut [(u64, Progress)], id: u64, position: usize, learner: bool)
     requires ascends { IsAscending (map (λ m. m.0) members.old) }
-    requires stands { IsAtPosition (map (λ m. m.0) members.old) id place }
+    requires at_position { IsAtPosition (map (λ m. m.0) members.old) id position }
     ensures keys { map (λ m. m.0) members.new ≡ map (λ m. m.0) members.old }
     ensures entries { (q : ℕ) → finite.get (finite.from_entries {R = nat_cmp} members.new) q ≡ (if q == id then option_map (with_mark learner) (finite.get (finite.from_entries {R = nat_cmp} members.old) id) else finite.get (finite.from_entries {R = nat_cmp} members.old) q) }
 {
-    let known = members[place].1;
-    members[place] = (id, Progress { learner, ..known });
+    let known = members[position].1;
+    members[position] = (id, Progress { learner, ..known });
 }

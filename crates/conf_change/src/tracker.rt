@@ -7,38 +7,38 @@ ghost use Rattle.quorum_sets.specs.AscendingLists.{IsAscending};
 ghost use Rattle.conf_change.specs.Configuration.{is_member, is_joint, has_voter};
 ghost use Rattle.conf_change.specs.Change.{result_of};
 ghost use Rattle.conf_change.specs.Outcome.{after_leave};
-ghost use Rattle.conf_change.specs.Seat.{seat_in, is_member_seat};
-ghost use Rattle.conf_change.specs.TrackerEdits.{Applies, IsDue, Keeps, beginning, entry_of, progress_left_by_word, entries_of, progress_kept};
-ghost use Rattle.conf_change.specs.Changer.{IsSound, nobody, tracker_of};
+ghost use Rattle.conf_change.specs.Roles.{roles_in, has_member_role};
+ghost use Rattle.conf_change.specs.TrackerEdits.{Applies, HasEntries, Keeps, beginning, entry_of, progress_left_after, entries_of, progress_kept};
+ghost use Rattle.conf_change.specs.Changer.{IsSound, empty_tracker, tracker_of};
 ghost use Rattle.conf_change.specs.Acknowledgement.{with_progress};
 
 use crate::change::{Change, Kind};
+use crate::change_summary::{ChangeSummary, summarize};
 use crate::config::Config;
 use crate::edits;
 use crate::floor::Floor;
-use crate::last_words::{LastWord, last_words};
-use crate::members::{follow, progress_of, set_progress_of};
-use crate::places::Places;
+use crate::members::{progress_of, set_progress_of, update_member};
+use crate::positions::Positions;
 use crate::progress::Progress;
-use crate::seat::Seat;
+use crate::roles::Roles;
 use quorum_sets::{MemberSet, NoMemory, has_next, symdiff};
 use smallvec::SmallVec;
 use std::alloc::Global;
 use std::marker::Model;
 use std::mem::replace;
 
-// Up to how many changes are made one after another.
+// The longest list whose changes are made one after another; the changes of a longer one are summarized first.
 const SHORT_LIST: usize = 16;
 
-/// A configuration, the progress of its members, and the floor of fresh next (etcd's `tracker.ProgressTracker`). Members are the voters of either
-/// kind and the learners; nobody else has progress.
+/// A configuration and the progress of its members (etcd's `tracker.ProgressTracker`), and the smallest initial next index.
+/// The members are the incoming and outgoing voters and the learners; no other id has progress.
 #[derive(Drop)]
 pub struct Tracker<S: MemberSet> {
     config: Config<S>,
-    // The members in ascending order of the ids, with their progress; on the heap, so that a tracker is cheap to move.
+    // The members with their progress, in ascending order of the ids.
     members: SmallVec<(u64, Progress), 1>,
     floor: Floor,
-    // Where its sets are made.
+    // The allocator of its sets.
     alloc: Global,
 }
 
@@ -58,10 +58,10 @@ impl<S: MemberSet> Model for Tracker<S> {
 }
 
 impl<S: MemberSet> Tracker<S> {
-    // Nobody is in it.
+    // A tracker with an empty configuration.
     #[inline(always)]
     pub(crate) fn new(alloc: Global, floor: Floor) -> Tracker<S>
-        ensures { result ≡ nobody floor }
+        ensures { result ≡ empty_tracker floor }
     {
         Tracker {
             config: Config::empty(alloc),
@@ -97,45 +97,45 @@ impl<S: MemberSet> Tracker<S> {
         &self.config
     }
 
-    // The floor of fresh next.
+    // The smallest initial next index.
     pub(crate) fn floor(&self) -> Floor
         ensures { result ≡ self.now.floor }
     {
         self.floor
     }
 
-    // Takes the configuration out, and lets everybody go.
+    // Takes the configuration out, and leaves an empty one.
     #[inline(always)]
     pub(crate) fn take_config(&mut self) -> Config<S>
         ensures config { result ≡ self.old.config }
-        ensures left { self.new ≡ nobody self.old.floor }
+        ensures left { self.new ≡ empty_tracker self.old.floor }
     {
         self.members.clear();
         replace(&mut self.config, Config::empty(self.alloc))
     }
 
-    /// The progress of the id; None where it is no member.
+    /// The progress of the id, or `None` if it is not a member.
     pub fn progress(&self, id: u64) -> Option<Progress>
         ensures { result ≡ finite.get self.now.progress id }
     {
         progress_of(self.members.as_slice(), id)
     }
 
-    /// How many members it has.
+    /// The number of members.
     pub fn member_count(&self) -> usize
         ensures { result ≡ length (finite.entries self.now.progress) }
     {
         self.members.len()
     }
 
-    /// The member at a place, in ascending order of the ids, with its progress.
-    pub fn member_at(&self, place: usize) -> Option<(u64, Progress)>
-        ensures { result ≡ slice_get (finite.entries self.now.progress) place }
+    /// The member at a position in ascending order of the ids, with its progress.
+    pub fn member_at(&self, position: usize) -> Option<(u64, Progress)>
+        ensures { result ≡ slice_get (finite.entries self.now.progress) position }
     {
-        self.members.as_slice().get(place).copied()
+        self.members.as_slice().get(position).copied()
     }
 
-    // The same tracker once more.
+    // A copy.
     pub(crate) fn try_clone(&self) -> Result<Tracker<S>, NoMemory>
         ensures { IfOk result (λ copy. copy ≡ self.now) }
     {
@@ -182,7 +182,7 @@ impl<S: MemberSet> Tracker<S> {
         }
     }
 
-    // Makes one change in place; a new member is sent this index next. After want of memory the tracker is as it was.
+    // Makes one change, with this initial next index for a new member. On `NoMemory` the tracker is unchanged.
     pub(crate) fn make_change(&mut self, change: Change, next_index: u64) -> Result<(), NoMemory>
         requires { IsSound self.old }
         ensures ok { OnOk result (Applies next_index (change ∷ []) self.old self.new) }
@@ -190,30 +190,29 @@ impl<S: MemberSet> Tracker<S> {
     {
         self.members.reserve(1)?;
         let id_is = edits::apply(&mut self.config, change)?;
-        let Ok(()) = follow(&mut self.members, change.id, id_is, next_index) else {
+        let Ok(()) = update_member(&mut self.members, change.id, id_is, next_index) else {
             unreachable!()
         };
         Ok(())
     }
 
-    // How many ids are incoming voters of just one of the trackers, or the greatest `usize` where that is less.
+    // How many ids are incoming voters of exactly one of two trackers, saturating at the greatest `usize`.
     pub(crate) fn changed_voters(&self, other: &Tracker<S>) -> usize
         ensures { result ≡ min (difference_count self.now.config.incoming other.now.config.incoming) (2 ^ 64 - 1) }
     {
         symdiff(&self.config.incoming, &other.config.incoming)
     }
 
-    // The tracker that nobody is in, with the same floor.
+    // A tracker with an empty configuration and the same floor.
     #[inline(always)]
-    pub(crate) fn nobody(&self) -> Tracker<S>
-        ensures { result ≡ nobody self.now.floor }
+    pub(crate) fn emptied(&self) -> Tracker<S>
+        ensures { result ≡ empty_tracker self.now.floor }
     {
         Tracker::new(self.alloc, self.floor)
     }
 
-    // Becomes what another one is after a list of changes, with these outgoing voters and this flag; new members are sent
-    // this index next. A short list is made in turn; each change of a longer one would move too much. Where memory is
-    // wanting, it is left on the way.
+    // Overwrites `self` with another tracker after a list of changes, with these outgoing voters and this flag, and this
+    // initial next index for new members. On `NoMemory` its contents are unspecified.
     pub(crate) fn become_changed(
         &mut self,
         before: &Tracker<S>,
@@ -227,12 +226,7 @@ impl<S: MemberSet> Tracker<S> {
         ensures { OnOk result (Applies next_index changes.now (beginning before.now (S.ids outgoing.now) auto_leave) self.new) }
     {
         if changes.len() > SHORT_LIST {
-            *self = before.after_last_words(
-                outgoing.try_clone()?,
-                auto_leave,
-                changes,
-                next_index,
-            )?;
+            *self = before.after_summaries(outgoing.try_clone()?, auto_leave, changes, next_index)?;
             return Ok(());
         }
         self.begin_as(before, outgoing, auto_leave, changes.len())?;
@@ -240,7 +234,8 @@ impl<S: MemberSet> Tracker<S> {
         Ok(())
     }
 
-    // Becomes what another one is with these outgoing voters and this flag, with room for more members.
+    // Overwrites `self` with another tracker with these outgoing voters and this flag, and reserves capacity for `more`
+    // members.
     fn begin_as(
         &mut self,
         before: &Tracker<S>,
@@ -262,8 +257,8 @@ impl<S: MemberSet> Tracker<S> {
         copy_members(&mut self.members, before.members.as_slice(), more)
     }
 
-    // The tracker with these outgoing voters and this flag, after a list of changes, by one walk over the last words.
-    fn after_last_words(
+    // The tracker with these outgoing voters and this flag, after a list of changes, by their summaries.
+    fn after_summaries(
         &self,
         outgoing: S,
         auto_leave: bool,
@@ -275,19 +270,21 @@ impl<S: MemberSet> Tracker<S> {
         ensures { IfOk result (Applies next_index changes.now (beginning self.now (S.ids outgoing) auto_leave)) }
     {
         let alloc = self.alloc;
-        let words = last_words(alloc, self.members.as_slice(), changes)?;
+        let summaries = summarize(alloc, self.members.as_slice(), changes)?;
         let mut incoming = S::empty(alloc);
         let mut learners = S::empty(alloc);
         let mut learners_next = S::empty(alloc);
-        let mut members = SmallVec::with_capacity(alloc, words.len())?;
-        let mut places = Places::default();
-        for word in words.as_slice() {
-            let seat = self.seat(&outgoing, word.id, &mut places).after(word.last);
-            put_where(&mut incoming, word.id, seat.incoming)?;
-            put_where(&mut learners, word.id, seat.learner)?;
-            put_where(&mut learners_next, word.id, seat.next)?;
-            let entry = self.entry_after(*word, seat, next_index, &mut places.members);
-            push_entry(&mut members, word.id, entry)?;
+        let mut members = SmallVec::with_capacity(alloc, summaries.len())?;
+        let mut positions = Positions::default();
+        for summary in summaries.as_slice() {
+            let roles = self
+                .roles(&outgoing, summary.id, &mut positions)
+                .after(summary.last);
+            insert_if(&mut incoming, summary.id, roles.incoming)?;
+            insert_if(&mut learners, summary.id, roles.learner)?;
+            insert_if(&mut learners_next, summary.id, roles.next)?;
+            let entry = self.entry_after(*summary, roles, next_index, &mut positions.members);
+            push_entry(&mut members, summary.id, entry)?;
         }
         let config = Config {
             incoming,
@@ -299,56 +296,57 @@ impl<S: MemberSet> Tracker<S> {
         Ok(Tracker::begin(alloc, self.floor, config, members))
     }
 
-    // What an id is here, apart from the outgoing voters that are given.
-    fn seat(&self, outgoing: &S, id: u64, places: &mut Places) -> Seat
-        ensures { result ≡ seat_in (beginning self.now (S.ids outgoing.now) self.now.config.auto_leave).config id }
+    // The roles of an id here, but with these outgoing voters.
+    fn roles(&self, outgoing: &S, id: u64, positions: &mut Positions) -> Roles
+        ensures { result ≡ roles_in (beginning self.now (S.ids outgoing.now) self.now.config.auto_leave).config id }
     {
-        Seat {
-            incoming: has_next(&self.config.incoming, &mut places.incoming, id),
-            outgoing: has_next(outgoing, &mut places.outgoing, id),
-            learner: has_next(&self.config.learners, &mut places.learners, id),
-            next: has_next(&self.config.learners_next, &mut places.next, id),
+        Roles {
+            incoming: has_next(&self.config.incoming, &mut positions.incoming, id),
+            outgoing: has_next(outgoing, &mut positions.outgoing, id),
+            learner: has_next(&self.config.learners, &mut positions.learners, id),
+            next: has_next(&self.config.learners_next, &mut positions.next, id),
         }
     }
 
-    // The progress of an id after what was said of it: a member keeps what it has, unless it is removed and does not go
-    // out, or begins afresh, and anybody else has none.
+    // The progress of an id after the changes that a summary has: a member keeps its progress unless it is removed and is not
+    // an outgoing voter; then, and if it is new, it gets fresh progress. Any other id has none.
     fn entry_after(
         &self,
-        word: LastWord,
-        seat: Seat,
+        summary: ChangeSummary,
+        roles: Roles,
         next_index: u64,
-        place: &mut usize,
+        position: &mut usize,
     ) -> Option<Progress>
-        ensures { result ≡ entry_of next_index (is_member_seat seat) seat.learner (progress_left_by_word word.removes seat.outgoing (finite.get self.now.progress word.id)) }
+        ensures { result ≡ entry_of next_index (has_member_role roles) roles.learner (progress_left_after summary.removes roles.outgoing (finite.get self.now.progress summary.id)) }
     {
-        if !seat.is_member() {
+        if !roles.is_member() {
             return None;
         }
         let fresh = Progress::fresh(next_index);
-        let known = if word.removes && !seat.outgoing {
+        let known = if summary.removes && !roles.outgoing {
             fresh
         } else {
-            self.next_progress(place, word.id).unwrap_or(fresh)
+            self.next_progress(position, summary.id).unwrap_or(fresh)
         };
-        let learner = seat.learner;
+        let learner = roles.learner;
         Some(Progress { learner, ..known })
     }
 
-    // The progress of the id, which is looked for first at the place; None where it is no member.
-    fn next_progress(&self, place: &mut usize, id: u64) -> Option<Progress>
+    // The progress of the id, or `None` if it is not a member. It is looked up first at the position.
+    fn next_progress(&self, position: &mut usize, id: u64) -> Option<Progress>
         ensures { result ≡ finite.get self.now.progress id }
     {
-        match self.members.as_slice().get(*place).copied() {
+        match self.members.as_slice().get(*position).copied() {
             Some((found, progress)) if found == id => {
-                *place = place.saturating_add(1);
+                *position = position.saturating_add(1);
                 Some(progress)
             }
             _ => self.progress(id),
         }
     }
 
-    // Becomes what another one is when it has left the joint configuration. On `NoMemory` its contents are unspecified.
+    // Overwrites `self` with another tracker after leaving the joint configuration. On `NoMemory` its contents are
+    // unspecified.
     pub(crate) fn become_left(&mut self, before: &Tracker<S>) -> Result<(), NoMemory>
         ensures { OnOk result (Keeps (after_leave before.now.config) before.now self.new) }
     {
@@ -358,7 +356,7 @@ impl<S: MemberSet> Tracker<S> {
     }
 }
 
-// Makes one change after another, of a configuration and its members. Where memory is wanting, some of them are made.
+// Makes one change after another, of a configuration and its members. On `NoMemory` some of them are made.
 fn make_each<S: MemberSet>(
     config: &mut Config<S>,
     members: &mut SmallVec<(u64, Progress), 1>,
@@ -366,19 +364,19 @@ fn make_each<S: MemberSet>(
     next_index: u64,
 ) -> Result<(), NoMemory>
     requires ascends { IsAscending (map (λ m. m.0) members.old.items) }
-    requires due { IsDue next_index config.old (finite.from_entries members.old.items) }
+    requires expected { HasEntries next_index config.old (finite.from_entries members.old.items) }
     ensures ascends { IsAscending (map (λ m. m.0) members.new.items) }
     ensures made { OnOk result ((floor : Floor) → Applies next_index changes.now
         (tracker_of floor config.old (finite.from_entries members.old.items)) (tracker_of floor config.new (finite.from_entries members.new.items))) }
 {
     for change in changes {
         let id_is = edits::apply(config, *change)?;
-        follow(members, change.id, id_is, next_index)?;
+        update_member(members, change.id, id_is, next_index)?;
     }
     Ok(())
 }
 
-// Makes the members these, with room for more of them.
+// Overwrites the members with these, and reserves capacity for `more`.
 fn copy_members(
     members: &mut SmallVec<(u64, Progress), 1>,
     others: &[(u64, Progress)],
@@ -394,7 +392,8 @@ fn copy_members(
     Ok(())
 }
 
-// Makes the members those of others that are still in a configuration, with the progress that they have and their marks.
+// Overwrites the members with those of others that are members of a configuration. They keep their progress, and are marked
+// as learners or not.
 fn keep_members<S: MemberSet>(
     members: &mut SmallVec<(u64, Progress), 1>,
     config: &Config<S>,
@@ -406,9 +405,9 @@ fn keep_members<S: MemberSet>(
 {
     members.clear();
     members.reserve(others.len())?;
-    let mut places = Places::default();
+    let mut positions = Positions::default();
     for member in others {
-        let entry = kept(config, member.0, member.1, &mut places);
+        let entry = kept(config, member.0, member.1, &mut positions);
         if push_entry(members, member.0, entry).is_err() {
             members.clear();
             return Err(NoMemory);
@@ -417,7 +416,7 @@ fn keep_members<S: MemberSet>(
     Ok(())
 }
 
-// Whether the set has another id than this one.
+// Whether the set has an id other than this one.
 fn has_others<S: MemberSet>(set: &S, id: u64) -> bool
     ensures { result ≡ not (is_empty (without_id (S.ids set.now) id)) }
 {
@@ -428,18 +427,18 @@ fn has_others<S: MemberSet>(set: &S, id: u64) -> bool
     }
 }
 
-// What an id keeps that has progress: a member all of it, with its mark, and anybody else nothing.
+// The progress that an id keeps: a member keeps all, and is marked as a learner or not; any other id keeps none.
 fn kept<S: MemberSet>(
     config: &Config<S>,
     id: u64,
     progress: Progress,
-    places: &mut Places,
+    positions: &mut Positions,
 ) -> Option<Progress>
     ensures { result ≡ progress_kept (is_member config.now id) (has config.now.learners id) (Some progress) }
 {
-    let learner = has_next(&config.learners, &mut places.learners, id);
-    let incoming = has_next(&config.incoming, &mut places.incoming, id);
-    if learner || incoming || has_next(&config.outgoing, &mut places.outgoing, id) {
+    let learner = has_next(&config.learners, &mut positions.learners, id);
+    let incoming = has_next(&config.incoming, &mut positions.incoming, id);
+    if learner || incoming || has_next(&config.outgoing, &mut positions.outgoing, id) {
         Some(Progress {
             learner,
             ..progress
@@ -449,8 +448,8 @@ fn kept<S: MemberSet>(
     }
 }
 
-// Puts an id that is there into a set.
-fn put_where<S: MemberSet>(set: &mut S, id: u64, there: bool) -> Result<(), NoMemory>
+// Adds an id to a set if it is there.
+fn insert_if<S: MemberSet>(set: &mut S, id: u64, there: bool) -> Result<(), NoMemory>
     ensures { OnOk result (S.ids set.new ≡ (if there then with_id (S.ids set.old) id else S.ids set.old)) }
 {
     if there {
@@ -459,7 +458,7 @@ fn put_where<S: MemberSet>(set: &mut S, id: u64, there: bool) -> Result<(), NoMe
     Ok(())
 }
 
-// Puts an id with its progress behind the others, where it has any.
+// Appends an id with its progress, if it has any.
 fn push_entry(
     members: &mut SmallVec<(u64, Progress), 1>,
     id: u64,

@@ -2,7 +2,7 @@
 use Rattle.std.specs.Prelude.{ℕ, ◌+◌, Bool, true, false, ◌&&◌, ◌==◌, List, [], ◌∷◌, codes, Option, Some, None, option_map, Result, Ok, Err, bytes_eq, if◌then◌else◌}
 use Rattle.std.specs.Result.{result_ok}
 use Rattle.ascii_text.specs.Words.{words}
-use Rattle.conf_change.specs.ChangeList.{changes_in_words}
+use Rattle.conf_change.specs.ChangeList.{changes_in_tokens}
 use Rattle.conf_change.specs.declared.change.Change.{Change}
 use Rattle.conf_change.specs.declared.step.Step.{Step}
 use Rattle.conf_change.specs.declared.step.Step.TheVariants.{Simple, EnterJoint, LeaveJoint}
@@ -12,7 +12,7 @@ use Rattle.conf_plan.specs.declared.text.PlanTextFault.TheVariants.{BadLine, Too
 
 -- the changes that words spell, where they all spell one
 abbrev pub list_in : List (List ℕ) → Option (List Change)
-list_in tokens = result_ok (changes_in_words tokens)
+list_in tokens = result_ok (changes_in_tokens tokens)
 
 -- the flag that a word stands for
 abbrev pub flag_in : List ℕ → Option Bool

@@ -59,7 +59,7 @@ lines_of text = if has_bytes text then without_empty_end (slice_split is_newline
 pub record IsLineOf (line : List ℕ) (step : Step) : Type 0 where
   pub tokens : List (List ℕ)
   pub line_words : words line ≡ command_words step ++ tokens
-  pub spelled : AllZip ParsesTo tokens (changes_of step)
+  pub parsed : AllZip ParsesTo tokens (changes_of step)
 
 -- the text is one line, whose words say that there is nothing to do
 pub record SaysNothing (text : List ℕ) : Type 0 where

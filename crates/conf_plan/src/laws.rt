@@ -6,7 +6,7 @@ ghost use Rattle.conf_change.specs.Changer.{ChangerState, IsSound, Accepts};
 ghost use Rattle.conf_change.specs.ChangeList.{Denotes};
 ghost use Rattle.conf_change.specs.Progress.{keeps_progress};
 ghost use Rattle.conf_change.specs.Step.{changes_of};
-ghost use Rattle.conf_change.specs.Transition.{steps_taken};
+ghost use Rattle.conf_change.specs.Transition.{steps_for};
 ghost use Rattle.conf_change.specs.declared.change.Change.{Change};
 ghost use Rattle.conf_change.specs.declared.step.Step.{Step};
 ghost use Rattle.conf_change.specs.declared.transition.Transition.{Transition};
@@ -70,11 +70,11 @@ pub fn undo_of_run()
 
 /// The same for lists of changes, each taken by its transition.
 pub fn undo_of_changes()
-    ensures back { (before after : Configuration) (lists : List (Transition × List Change)) → IsValidWithVoter before → IsRun before (steps_taken lists) after
+    ensures back { (before after : Configuration) (lists : List (Transition × List Change)) → IsValidWithVoter before → IsRun before (steps_for lists) after
         → IsRun after (planned after before) before }
-    ensures at_most_four { (before after : Configuration) (lists : List (Transition × List Change)) → IsValidWithVoter before → IsRun before (steps_taken lists) after
+    ensures at_most_four { (before after : Configuration) (lists : List (Transition × List Change)) → IsValidWithVoter before → IsRun before (steps_for lists) after
         → length (planned after before) ≤ 4 }
-    ensures at_most_three { (before after : Configuration) (lists : List (Transition × List Change)) → IsValidWithVoter before → IsRun before (steps_taken lists) after
+    ensures at_most_three { (before after : Configuration) (lists : List (Transition × List Change)) → IsValidWithVoter before → IsRun before (steps_for lists) after
         → length lists ≡ 1 → length (planned after before) ≤ 3 }
 {}
 

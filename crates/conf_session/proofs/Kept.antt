@@ -8,9 +8,9 @@ use Rattle.conf_change.specs.Acknowledgement.{ack_answer, changer_with_progress}
 use Rattle.conf_change.specs.ChangerState.{ChangerState}
 use Rattle.conf_change.specs.Changer.{IsSound, Accepts, moved_to, begun_with, new_changer, changer_after}
 use Rattle.conf_change.specs.ConfState.{ConfStateLists, Describes, restored}
-use Rattle.conf_change.specs.Configuration.{Configuration, has_voter, is_valid, has_voter_or_nobody, is_restorable}
+use Rattle.conf_change.specs.Configuration.{Configuration, has_voter, is_valid, has_voter_or_is_empty, is_restorable}
 use Rattle.conf_change.specs.Outcome.{outcome}
-use Rattle.conf_change.specs.Transition.{step_taken}
+use Rattle.conf_change.specs.Transition.{step_for}
 use Rattle.conf_change.specs.declared.floor.Floor.{Floor}
 use Rattle.conf_change.specs.declared.acknowledgement.AckFault.{AckFault}
 use Rattle.conf_change.specs.declared.acknowledgement.AckFault.TheVariants.{NotMember, IndexTooLarge}
@@ -94,7 +94,7 @@ is-earlier laws session count older is some e =
     }
 
 valid : (c : Configuration) → is_restorable c ≡ true → has_voter c ≡ true → IsValidWithVoter c
-valid c restorable voter = record { valid = and-first (is_valid c) (has_voter_or_nobody c) restorable; voter = voter }
+valid c restorable voter = record { valid = and-first (is_valid c) (has_voter_or_is_empty c) restorable; voter = voter }
 
 -- ---- what becomes of them
 led-take : (now : Configuration) (kept : List Configuration) (n : ℕ) → LedTo now kept → LedTo now (take n kept)
@@ -205,7 +205,7 @@ command-due : ChangeLaws → PlanLaws → (command : Command) (session : Session
 command-due laws plans Simple session input values is some = step-due laws session (SimpleStep input.changes) _ refl
 command-due laws plans EnterJoint session input values is some = step-due laws session (EnterStep values.auto_leave input.changes) _ refl
 command-due laws plans LeaveJoint session input values is some = step-due laws session LeaveStep _ refl
-command-due laws plans ConfChange session input values is some = step-due laws session (step_taken values.transition input.changes) _ refl
+command-due laws plans ConfChange session input values is some = step-due laws session (step_for values.transition input.changes) _ refl
 command-due laws plans ConfState session input values is some = tt
 command-due laws plans Restore session input values is some = restored-due laws session input.saved (restored input.saved) refl
 command-due laws plans Undo session input values is some = undo-due laws plans session values.steps is some
@@ -237,7 +237,7 @@ new-is_session sound history floor = record { sound = sound floor 0; few = omega
 
 -- ---- the plan that undoes changes
 pub valid-older : (session : SessionState) (count : ℕ) (older : Configuration) → IsEarlier session count older → is_valid older ≡ true
-valid-older session count older earlier = and-first (is_valid older) (has_voter_or_nobody older) earlier.restorable
+valid-older session count older earlier = and-first (is_valid older) (has_voter_or_is_empty older) earlier.restorable
 
 pub plan-is : (session : SessionState) (count : ℕ) (older : Configuration) (plan : List Step) → slice_get session.kept (count - 1) ≡ Some older → has_voter older ≡ true → plan ≡ planned (present session) older →
     undo_plan_of session count ≡ Ok plan

@@ -9,7 +9,7 @@ use Rattle.dd_file.specs.DirectiveLine.{ArgumentText}
 use Rattle.dd_file.specs.Laws.{IsSameDirective}
 use Rattle.ascii_text.proofs.Offered.{full_lines-first}
 use Rattle.ascii_text.specs.Words.{words}
-use Rattle.conf_change.specs.ChangeList.{changes_in, changes_in_words}
+use Rattle.conf_change.specs.ChangeList.{changes_in, changes_in_tokens}
 use Rattle.conf_change.specs.ConfState.{ConfStateLists}
 use Rattle.conf_change.specs.ConfStateLine.{line_in, conf_state_in}
 use Rattle.conf_change.proofs.Offered.{DenotesConfState-from_some}
@@ -39,7 +39,7 @@ conf_state-same input other same = at (has_one (ends_of other)) (subst (λ ls. I
   at false e f = no-conf_state input e ∙ sym (no-conf_state other f)
 
 changes-same : (input other : List ℕ) → ends_of input ≡ ends_of other → changes_in input ≡ changes_in other
-changes-same input other same = ap changes_in_words (words-told input ∙ ap (flat_map words) same ∙ sym (words-told other))
+changes-same input other same = ap changes_in_tokens (words-told input ∙ ap (flat_map words) same ∙ sym (words-told other))
 
 -- bytes have a line
 some-line : (b : ℕ) (bs : List ℕ) → [] ≡ ends_of (b ∷ bs) → ⊥

@@ -17,7 +17,7 @@ use Rattle.conf_change.specs.Configuration.{Configuration, is_joint}
 use Rattle.conf_change.specs.ConfState.{ConfStateLists}
 use Rattle.ascii_text.specs.Number.{ParsesToNumber}
 use Rattle.conf_change.specs.TrackerState.{TrackerState}
-use Rattle.conf_change.specs.Text.{where_there, spaced_numbers, set_text, config_text, progress_text, refused_text}
+use Rattle.conf_change.specs.Text.{text_if, spaced_numbers, set_text, config_text, progress_text, refused_text}
 use Rattle.conf_change.specs.ConfStateLine.{truth_text, line_text, conf_state_text, ParsesToNumbers, DenotesConfState}
 use Rattle.conf_change.specs.declared.progress.Progress.{Progress}
 use Rattle.conf_change.specs.declared.refused.Refused.{Refused}
@@ -90,7 +90,7 @@ marked-told text h k =
 pub told-append : (front back : List ℕ) → list_any is_mark front ≡ true → IsBytes front → IsBytes back → is_told_line (front ++ back) ≡ true
 told-append front back h k l = marked-told (front ++ back) (any-front is_mark front back h) (all-append is_line_byte front back k l)
 
-where-bytes : (there : Bool) (text : List ℕ) → IsBytes text → IsBytes (where_there there text)
+where-bytes : (there : Bool) (text : List ℕ) → IsBytes text → IsBytes (text_if there text)
 where-bytes true text h = h
 where-bytes false text h = refl
 
@@ -182,7 +182,7 @@ numbers ns = IsTail-from_bytes (spaced_numbers ns) (spaced-bytes ns)
 set : (ids : Ids) → IsTail (set_text ids)
 set ids = IsTail-from_bytes (codes "(") refl ▹ numbers (ascending ids) ▹ IsTail-from_bytes (codes ")") refl
 
-named : (there : Bool) (name : List ℕ) (ids : Ids) → IsBytes name → IsTail (where_there there (name ++ set_text ids))
+named : (there : Bool) (name : List ℕ) (ids : Ids) → IsBytes name → IsTail (text_if there (name ++ set_text ids))
 named there name ids h = IsTail-from_bytes _ (where-bytes there (name ++ set_text ids) (all-append is_line_byte name (set_text ids) h (set ids).tail))
 
 config-line : (c : Configuration) → IsLine (config_text c)
@@ -191,7 +191,7 @@ config-line c =
     ▸ named (is_joint c) (codes "&&") c.outgoing refl
     ▸ named (not (is_empty c.learners)) (codes " learners=") c.learners refl
     ▸ named (not (is_empty c.learners_next)) (codes " learners_next=") c.learners_next refl
-    ▸ IsTail-from_bytes (where_there c.auto_leave (codes " autoleave")) (where-bytes c.auto_leave (codes " autoleave") refl)
+    ▸ IsTail-from_bytes (text_if c.auto_leave (codes " autoleave")) (where-bytes c.auto_leave (codes " autoleave") refl)
 
 pub config-told : (c : Configuration) → is_told_line (config_text c) ≡ true
 config-told c = IsLine-told (config-line c)
@@ -199,7 +199,7 @@ config-told c = IsLine-told (config-line c)
 progress-line : (id : ℕ) (p : Progress) → IsLine (progress_text id p)
 progress-line id p =
     IsLine-from_mark (decimal id) (high-mark (decimal id) (decimal-high id)) (decimal-bytes id) ▸ IsTail-from_bytes (codes ": StateProbe match=") refl ▸ IsTail-number p.matched ▸ IsTail-from_bytes (codes " next=") refl ▸ IsTail-number p.next
-    ▸ IsTail-from_bytes (where_there p.learner (codes " learner")) (where-bytes p.learner (codes " learner") refl)
+    ▸ IsTail-from_bytes (text_if p.learner (codes " learner")) (where-bytes p.learner (codes " learner") refl)
 
 pub progress-told : (id : ℕ) (p : Progress) → is_told_line (progress_text id p) ≡ true
 progress-told id p = IsLine-told (progress-line id p)
@@ -236,7 +236,7 @@ conf_state-told saved =
 byte-from_zero : (b : ℕ) → 48 ≤ b → is_line_byte b ≡ true
 byte-from_zero b h = grind (arith, nat_tests)
 
-digits-bytes : (spelled : List ℕ) → AllDigits 10 spelled → IsBytes spelled
+digits-bytes : (parsed : List ℕ) → AllDigits 10 parsed → IsBytes parsed
 digits-bytes [] h = refl
 digits-bytes (b ∷ bs) h = and-both _ _ (byte-from_zero b (digit_at (b ∷ bs) 0 h (omega arith)).0) (digits-bytes bs h.1)
 
@@ -247,14 +247,14 @@ joined-bytes (piece ∷ []) (n ∷ ns) h = digits-bytes piece h.0.numeral.1
 joined-bytes (piece ∷ next ∷ pieces) (n ∷ ns) h =
     all-append is_line_byte piece (32 ∷ join_with_byte 32 (next ∷ pieces)) (digits-bytes piece h.0.numeral.1) (joined-bytes (next ∷ pieces) ns h.1)
 
-spelled-tail : (text ns : List ℕ) → ParsesToNumbers text ns → IsTail text
-spelled-tail text ns h = IsTail-from_bytes text (ap (list_all is_line_byte) h.spaced ∙ joined-bytes h.tokens ns h.spelled)
+parsed-tail : (text ns : List ℕ) → ParsesToNumbers text ns → IsTail text
+parsed-tail text ns h = IsTail-from_bytes text (ap (list_all is_line_byte) h.spaced ∙ joined-bytes h.tokens ns h.parsed)
 
 -- the text of a saved configuration is one line
 pub saved-bytes : (text : List ℕ) (saved : ConfStateLists) → DenotesConfState text saved → list_all is_line_byte (trimmed text) ≡ true
 saved-bytes text saved h =
     let whole : IsLine (line_text h.voters h.voters_outgoing h.learners h.learners_next saved.auto_leave) = saved-line _ _ _ _ saved.auto_leave
-    (spelled-tail _ _ h.spells_voters) (spelled-tail _ _ h.spells_voters_outgoing) (spelled-tail _ _ h.spells_learners) (spelled-tail _ _ h.spells_learners_next) in
+    (parsed-tail _ _ h.parsed_voters) (parsed-tail _ _ h.parsed_voters_outgoing) (parsed-tail _ _ h.parsed_learners) (parsed-tail _ _ h.parsed_learners_next) in
     ap (list_all is_line_byte) h.line ∙ whole.bytes
 
 -- ---- texts of such lines

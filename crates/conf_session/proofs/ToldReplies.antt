@@ -18,7 +18,7 @@ use Rattle.conf_change.specs.ChangeList.{BadToken, unknown_token, unknown_input,
 use Rattle.conf_change.specs.ConfState.{ConfStateLists, lists_of, restored}
 use Rattle.conf_change.specs.ConfStateLine.{conf_state_in, conf_state_text}
 use Rattle.conf_change.specs.Text.{refused_text, progress_text, bad_token_text}
-use Rattle.conf_change.specs.Transition.{step_taken}
+use Rattle.conf_change.specs.Transition.{step_for}
 use Rattle.conf_change.specs.Changer.{begun_with, changer_after}
 use Rattle.conf_change.specs.declared.acknowledgement.AckFault.{AckFault}
 use Rattle.conf_change.specs.declared.acknowledgement.AckFault.TheVariants.{NotMember, IndexTooLarge}
@@ -207,7 +207,7 @@ command-tells : (command : Command) (session : SessionState) (input : Input) (va
 command-tells Simple session input values = step-tells (changer_after session.changer (SimpleStep input.changes))
 command-tells EnterJoint session input values = step-tells (changer_after session.changer (EnterStep values.auto_leave input.changes))
 command-tells LeaveJoint session input values = step-tells (changer_after session.changer LeaveStep)
-command-tells ConfChange session input values = step-tells (changer_after session.changer (step_taken values.transition input.changes))
+command-tells ConfChange session input values = step-tells (changer_after session.changer (step_for values.transition input.changes))
 command-tells ConfState session input values = let saved = lists_of session.changer.tracker.config in tells (conf_state_text saved) (conf_state-told saved)
 command-tells Restore session input values = restored-tells session.changer (restored input.saved)
 command-tells Undo session input values = undo-tells session values.steps (undo_plan_of session values.steps)

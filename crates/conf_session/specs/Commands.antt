@@ -11,7 +11,7 @@ use Rattle.conf_change.specs.ConfState.{lists_of, restored}
 use Rattle.conf_change.specs.ConfStateLine.{conf_state_text}
 use Rattle.conf_change.specs.Text.{refused_text}
 use Rattle.conf_change.specs.TrackerState.{TrackerState}
-use Rattle.conf_change.specs.Transition.{step_taken}
+use Rattle.conf_change.specs.Transition.{step_for}
 use Rattle.conf_change.specs.declared.acknowledgement.AckFault.{AckFault}
 use Rattle.conf_change.specs.declared.acknowledgement.AckFault.TheVariants.{NotMember, IndexTooLarge}
 use Rattle.conf_change.specs.declared.progress.Progress.{Progress}
@@ -97,7 +97,7 @@ abbrev pub reply_of : Command → SessionState → Input → Values → Reply
 reply_of Simple session input values = on_step session.changer (SimpleStep input.changes)
 reply_of EnterJoint session input values = on_step session.changer (EnterStep values.auto_leave input.changes)
 reply_of LeaveJoint session input values = on_step session.changer LeaveStep
-reply_of ConfChange session input values = on_step session.changer (step_taken values.transition input.changes)
+reply_of ConfChange session input values = on_step session.changer (step_for values.transition input.changes)
 reply_of ConfState session input values = told (conf_state_text (lists_of session.changer.tracker.config))
 reply_of Restore session input values = after_restored session.changer (restored input.saved)
 reply_of Undo session input values = undo_last session values.steps

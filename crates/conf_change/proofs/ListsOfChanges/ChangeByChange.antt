@@ -11,17 +11,17 @@ use Rattle.quorum_sets.specs.Ids.{Ids, has, is_empty}
 use Rattle.quorum_sets.specs.AscendingLists.{IsAscending}
 use Rattle.conf_change.specs.Configuration.{Configuration, is_member, is_joint}
 use Rattle.conf_change.specs.Change.{is_update, is_removal, is_incoming_after, is_learner_after, result_of, removes}
-use Rattle.conf_change.specs.Seat.{membership_in}
+use Rattle.conf_change.specs.Roles.{membership_in}
 use Rattle.conf_change.specs.TrackerState.{TrackerState, ProgressMap}
-use Rattle.conf_change.specs.TrackerEdits.{beginning, entry_of, entry_in, progress_left, progress_left_by_word, Applies, IsDue}
+use Rattle.conf_change.specs.TrackerEdits.{beginning, entry_of, entry_in, progress_left, progress_left_after, Applies, HasEntries}
 use Rattle.conf_change.specs.Changer.{IsSound, tracker_of}
 use Rattle.conf_change.specs.declared.change.Change.{Change}
 use Rattle.conf_change.specs.declared.floor.Floor.{Floor}
 use Rattle.conf_change.specs.declared.change.Kind.{Kind}
 use Rattle.conf_change.specs.declared.change.Kind.TheVariants.{Voter, Learner, Remove, Update}
 use Rattle.conf_change.specs.declared.progress.Progress.{Progress}
-use Rattle.conf_change.specs.declared.seat.Membership.{Membership}
-use Rattle.conf_change.proofs.ListsOfChanges.ResultOfEach.{has-incoming_after, has-learners_after, result_of-push, last_word-one, result_of-none}
+use Rattle.conf_change.specs.declared.roles.Membership.{Membership}
+use Rattle.conf_change.proofs.ListsOfChanges.ResultOfEach.{has-incoming_after, has-learners_after, result_of-push, last_effective-one, result_of-none}
 use Rattle.conf_change.proofs.Configurations.Validity.{ValidByMember-from_is_valid, has-none_in_empty}
 
 -- ---- one id, by what is true of it
@@ -33,20 +33,20 @@ entry_again next_index true l' true l (Some p) h = refl
 entry_again next_index true l' false l None h = refl
 entry_again next_index true l' false l (Some p) h = absurd (false≢true (h refl))
 
-left_same : (removed out : Bool) (had : Option Progress) → progress_left_by_word removed out had ≡ progress_left_by_word (removed || false) out had
+left_same : (removed out : Bool) (had : Option Progress) → progress_left_after removed out had ≡ progress_left_after (removed || false) out had
 left_same true out had = refl
 left_same false out had = refl
 
-left_nothing : (removed out : Bool) (had : Option Progress) → had ≡ None → progress_left_by_word removed out had ≡ None
+left_nothing : (removed out : Bool) (had : Option Progress) → had ≡ None → progress_left_after removed out had ≡ None
 left_nothing true true had e = e
 left_nothing true false had e = refl
 left_nothing false out had e = e
 
-left_out : (removed : Bool) (had : Option Progress) → progress_left_by_word removed true had ≡ had
+left_out : (removed : Bool) (had : Option Progress) → progress_left_after removed true had ≡ had
 left_out true had = refl
 left_out false had = refl
 
-left_removed : (removed : Bool) (had : Option Progress) → progress_left_by_word (removed || true) false had ≡ None
+left_removed : (removed : Bool) (had : Option Progress) → progress_left_after (removed || true) false had ≡ None
 left_removed true had = refl
 left_removed false had = refl
 
@@ -62,19 +62,19 @@ abbrev word_of : Kind → Bool → Bool → Option Kind
 word_of kind named zero = cond (named && not zero && not (is_update kind)) (Some kind) None
 
 abbrev member_after : Option Kind → Bool → Bool → Bool → Bool
-member_after word incoming out learner = is_incoming_after word incoming || out || is_learner_after word out learner
+member_after summary incoming out learner = is_incoming_after summary incoming || out || is_learner_after summary out learner
 
 -- one more change: the entry that is brought in line is what the longer list leaves, and who has one left is a member
 record StepAt (next_index : ℕ) (kind : Kind) (named zero incoming out learner removed : Bool) (had : Option Progress) : Type 0 where
   entry_is :
-      let word = word_of kind named zero in
-      let before = entry_of next_index (incoming || out || learner) learner (progress_left_by_word removed out had) in
-      cond named (entry_of next_index (member_after word incoming out learner) (is_learner_after word out learner) before) before
-      ≡ entry_of next_index (member_after word incoming out learner) (is_learner_after word out learner) (progress_left_by_word (removed || (named && is_removal kind)) out had)
-  member_is : is_some (progress_left_by_word (removed || (named && is_removal kind)) out had) ≡ true → member_after (word_of kind named zero) incoming out learner ≡ true
+      let summary = word_of kind named zero in
+      let before = entry_of next_index (incoming || out || learner) learner (progress_left_after removed out had) in
+      cond named (entry_of next_index (member_after summary incoming out learner) (is_learner_after summary out learner) before) before
+      ≡ entry_of next_index (member_after summary incoming out learner) (is_learner_after summary out learner) (progress_left_after (removed || (named && is_removal kind)) out had)
+  member_is : is_some (progress_left_after (removed || (named && is_removal kind)) out had) ≡ true → member_after (word_of kind named zero) incoming out learner ≡ true
 
 step_at : (next_index : ℕ) (kind : Kind) (named zero incoming out learner removed : Bool) (had : Option Progress)
-    → (zero ≡ true → had ≡ None) → (is_some (progress_left_by_word removed out had) ≡ true → (incoming || out || learner) ≡ true)
+    → (zero ≡ true → had ≡ None) → (is_some (progress_left_after removed out had) ≡ true → (incoming || out || learner) ≡ true)
     → StepAt next_index kind named zero incoming out learner removed had
 step_at next_index kind false zero incoming out learner removed had none here = record {
   entry_is = ap (entry_of next_index (incoming || out || learner) learner) (left_same removed out had);
@@ -82,25 +82,25 @@ step_at next_index kind false zero incoming out learner removed had none here = 
 }
 step_at next_index kind true true incoming out learner removed had none here = record {
   entry_is =
-      entry_again next_index (incoming || out || learner) learner (incoming || out || learner) learner (progress_left_by_word removed out had) here
+      entry_again next_index (incoming || out || learner) learner (incoming || out || learner) learner (progress_left_after removed out had) here
       ∙ ap (entry_of next_index (incoming || out || learner) learner)
       (left_nothing removed out had (none refl) ∙ sym (left_nothing (removed || is_removal kind) out had (none refl)));
   member_is = λ e. absurd (none_is_some _ (left_nothing (removed || is_removal kind) out had (none refl)) e);
 }
 step_at next_index Voter true false incoming out learner removed had none here = record {
   entry_is =
-      entry_again next_index true false (incoming || out || learner) learner (progress_left_by_word removed out had) here ∙ ap (entry_of next_index true false) (left_same removed out had);
+      entry_again next_index true false (incoming || out || learner) learner (progress_left_after removed out had) here ∙ ap (entry_of next_index true false) (left_same removed out had);
   member_is = λ e. refl;
 }
 step_at next_index Learner true false incoming out learner removed had none here = record {
   entry_is =
-      entry_again next_index (out || not out) (not out) (incoming || out || learner) learner (progress_left_by_word removed out had) here
+      entry_again next_index (out || not out) (not out) (incoming || out || learner) learner (progress_left_after removed out had) here
       ∙ ap (entry_of next_index (out || not out) (not out)) (left_same removed out had);
   member_is = λ e. or_not out;
 }
 step_at next_index Remove true false incoming true learner removed had none here = record {
   entry_is =
-      entry_again next_index true false (incoming || true || learner) learner (progress_left_by_word removed true had) here
+      entry_again next_index true false (incoming || true || learner) learner (progress_left_after removed true had) here
       ∙ ap (entry_of next_index true false) (left_out removed had ∙ sym (left_out (removed || true) had));
   member_is = λ e. refl;
 }
@@ -110,7 +110,7 @@ step_at next_index Remove true false incoming false learner removed had none her
 }
 step_at next_index Update true false incoming out learner removed had none here = record {
   entry_is =
-      entry_again next_index (incoming || out || learner) learner (incoming || out || learner) learner (progress_left_by_word removed out had) here
+      entry_again next_index (incoming || out || learner) learner (incoming || out || learner) learner (progress_left_after removed out had) here
       ∙ ap (entry_of next_index (incoming || out || learner) learner) (left_same removed out had);
   member_is = λ e. here (ap is_some (left_same removed out had) ∙ e);
 }
@@ -130,10 +130,10 @@ removes-push : (xs : List Change) (x : Change) (q : ℕ) → removes (xs ++ x �
 removes-push xs x q =
     list_any-append (λ change. (change.id == q) && is_removal change.kind) xs (x ∷ []) ∙ or_false (removes xs q) ((x.id == q) && is_removal x.kind)
 
-applied_none : (next_index : ℕ) (t : TrackerState) → IsDue next_index t.config t.progress → AppliedSoFar next_index [] t t
-applied_none next_index t due = record {
-  applied = record { configuration = result_of-none t.config; floor = refl; entries = due.each };
-  members = λ q e. sym (is_some-entry (is_member t.config q) _) ∙ sym (ap is_some (due.each q)) ∙ e;
+applied_none : (next_index : ℕ) (t : TrackerState) → HasEntries next_index t.config t.progress → AppliedSoFar next_index [] t t
+applied_none next_index t expected = record {
+  applied = record { configuration = result_of-none t.config; floor = refl; entries = expected.each };
+  members = λ q e. sym (is_some-entry (is_member t.config q) _) ∙ sym (ap is_some (expected.each q)) ∙ e;
 }
   where
     is_some-entry : (b : Bool) (p : Progress) → is_some (cond b (Some p) None) ≡ b
@@ -160,18 +160,18 @@ more_at next_index xs x before now after q none so_far made follows =
     let out = has before.config.outgoing q in
     let learner = has now.config.learners q in
     let had = finite.get before.progress q in
-    let word = word_of x.kind (x.id == q) (q == 0) in
-    let goes_out : has now.config.outgoing q ≡ out = ap (λ c. has c.outgoing q) so_far.applied.configuration in
-    let member_now : is_member now.config q ≡ (incoming || out || learner) = ap (λ b. incoming || b || learner) goes_out in
+    let summary = word_of x.kind (x.id == q) (q == 0) in
+    let is_outgoing : has now.config.outgoing q ≡ out = ap (λ c. has c.outgoing q) so_far.applied.configuration in
+    let member_now : is_member now.config q ≡ (incoming || out || learner) = ap (λ b. incoming || b || learner) is_outgoing in
     let was : finite.get now.progress q ≡ entry_of next_index (incoming || out || learner) learner (progress_left before xs q) =
     so_far.applied.entries q ∙ ap (λ b. entry_of next_index b learner (progress_left before xs q)) member_now in
-    let incoming_then : has (result_of now.config (x ∷ [])).incoming q ≡ is_incoming_after word incoming =
-    has-incoming_after now.config (x ∷ []) q ∙ ap (λ o. is_incoming_after o incoming) (last_word-one x q) in
-    let learner_made : has (result_of now.config (x ∷ [])).learners q ≡ is_learner_after word out learner =
-    has-learners_after now.config (x ∷ []) q ∙ (λ i. is_learner_after (last_word-one x q i) (goes_out i) learner) in
-    let learner_then : has after.config.learners q ≡ is_learner_after word out learner = ap (λ c. has c.learners q) made ∙ learner_made in
-    let member_then : is_member after.config q ≡ member_after word incoming out learner =
-    ap (λ c. is_member c q) made ∙ (λ i. incoming_then i || goes_out i || learner_made i) in
+    let incoming_then : has (result_of now.config (x ∷ [])).incoming q ≡ is_incoming_after summary incoming =
+    has-incoming_after now.config (x ∷ []) q ∙ ap (λ o. is_incoming_after o incoming) (last_effective-one x q) in
+    let learner_made : has (result_of now.config (x ∷ [])).learners q ≡ is_learner_after summary out learner =
+    has-learners_after now.config (x ∷ []) q ∙ (λ i. is_learner_after (last_effective-one x q i) (is_outgoing i) learner) in
+    let learner_then : has after.config.learners q ≡ is_learner_after summary out learner = ap (λ c. has c.learners q) made ∙ learner_made in
+    let member_then : is_member after.config q ≡ member_after summary incoming out learner =
+    ap (λ c. is_member c q) made ∙ (λ i. incoming_then i || is_outgoing i || learner_made i) in
     let removed = removes-push xs x q in
     let step = step_at next_index x.kind (x.id == q) (q == 0) incoming out learner (removes xs q) had
     (λ zero. ap (finite.get before.progress) (eqb-true q 0 zero) ∙ none) (λ e. sym member_now ∙ so_far.members q e) in (
@@ -179,8 +179,8 @@ more_at next_index xs x before now after q none so_far made follows =
           ∙ at_same (λ y. entry_in next_index after.config (finite.get now.progress y) y) q x.id (finite.get now.progress q) (q == x.id) refl
           ∙ (λ i. cond (nat_eq_equiv.symm q x.id i) (entry_of next_index (member_then i) (learner_then i) (was i)) (was i))
           ∙ step.entry_is
-          ∙ sym (λ i. entry_of next_index (member_then i) (learner_then i) (progress_left_by_word (removed i) out had)),
-      λ e. member_then ∙ step.member_is (sym (λ i. is_some (progress_left_by_word (removed i) out had)) ∙ e),
+          ∙ sym (λ i. entry_of next_index (member_then i) (learner_then i) (progress_left_after (removed i) out had)),
+      λ e. member_then ∙ step.member_is (sym (λ i. is_some (progress_left_after (removed i) out had)) ∙ e),
     )
 
 applied_more : (next_index : ℕ) (xs : List Change) (x : Change) (before now after : TrackerState)
@@ -198,11 +198,11 @@ applied_more next_index xs x before now after none so_far made floor follows = r
 
 -- ---- from a tracker that is sound
 -- who is a member has progress with its mark, and nobody else any
-entry_in-due : (next_index : ℕ) (had : Option Progress) (member learner : Bool) → is_some had ≡ member → IfSome had (λ p. p.learner ≡ learner) → had ≡ entry_of next_index member learner had
-entry_in-due next_index None true learner e marked = absurd (false≢true e)
-entry_in-due next_index None false learner e marked = refl
-entry_in-due next_index (Some p) true learner e marked = λ i. Some (record { matched = p.matched; next = p.next; learner = marked i })
-entry_in-due next_index (Some p) false learner e marked = absurd (false≢true (sym e))
+entry_in-expected : (next_index : ℕ) (had : Option Progress) (member learner : Bool) → is_some had ≡ member → IfSome had (λ p. p.learner ≡ learner) → had ≡ entry_of next_index member learner had
+entry_in-expected next_index None true learner e marked = absurd (false≢true e)
+entry_in-expected next_index None false learner e marked = refl
+entry_in-expected next_index (Some p) true learner e marked = λ i. Some (record { matched = p.matched; next = p.next; learner = marked i })
+entry_in-expected next_index (Some p) false learner e marked = absurd (false≢true (sym e))
 
 -- with other outgoing voters the members are the same
 abbrev pub HasSameMembers : TrackerState → Ids → Bool → Type 0
@@ -229,11 +229,11 @@ no_progress_of_zero t sound =
     nothing None e = refl
     nothing (Some p) e = absurd (false≢true (sym e))
 
-pub IsDue-beginning : (next_index : ℕ) (t : TrackerState) (outgoing : Ids) (auto_leave : Bool) → IsSound t → HasSameMembers t outgoing auto_leave
-    → IsDue next_index (beginning t outgoing auto_leave).config t.progress
-IsDue-beginning next_index t outgoing auto_leave sound members = record {
-  each = λ q. entry_in-due next_index (finite.get t.progress q) _ (has t.config.learners q) (sound.of_members q ∙ sym (members q)) (sound.marked q);
-  nobody = no_progress_of_zero t sound;
+pub HasEntries-beginning : (next_index : ℕ) (t : TrackerState) (outgoing : Ids) (auto_leave : Bool) → IsSound t → HasSameMembers t outgoing auto_leave
+    → HasEntries next_index (beginning t outgoing auto_leave).config t.progress
+HasEntries-beginning next_index t outgoing auto_leave sound members = record {
+  each = λ q. entry_in-expected next_index (finite.get t.progress q) _ (has t.config.learners q) (sound.of_members q ∙ sym (members q)) (sound.marked q);
+  no_zero = no_progress_of_zero t sound;
 }
 
 -- ---- a configuration, and the list of its members
@@ -241,7 +241,7 @@ abbrev tracker_at : Floor → Configuration → List (ℕ × Progress) → Track
 tracker_at floor c members = tracker_of floor c (finite.from_entries {R = nat_cmp} members)
 
 abbrev DueOf : ℕ → Configuration → List (ℕ × Progress) → Type 0
-DueOf next_index c members = IsDue next_index c (finite.from_entries {R = nat_cmp} members)
+DueOf next_index c members = HasEntries next_index c (finite.from_entries {R = nat_cmp} members)
 
 -- what is made of the first changes, whatever the floor
 pub record MadeSoFar (next_index : ℕ) (start : Configuration) (first : List (ℕ × Progress)) (changes : List Change) (c : Configuration) (members : List (ℕ × Progress)) : Type 0 where
@@ -250,9 +250,9 @@ pub record MadeSoFar (next_index : ℕ) (start : Configuration) (first : List (�
 
 pub MadeSoFar-none : (next_index : ℕ) (c : Configuration) (members : List (ℕ × Progress)) → IsAscending (map (λ m. m.0) members) → DueOf next_index c members
     → MadeSoFar next_index c members [] c members
-MadeSoFar-none next_index c members ascends due = record {
+MadeSoFar-none next_index c members ascends expected = record {
   ascends = ascends;
-  so_far = λ floor. applied_none next_index (tracker_at floor c members) due;
+  so_far = λ floor. applied_none next_index (tracker_at floor c members) expected;
 }
 
 -- one more change
@@ -262,12 +262,12 @@ pub MadeSoFar-one_more : (next_index : ℕ) (start : Configuration) (first : Lis
     → after ≡ result_of now (get_or changes k d ∷ []) → IsAscending (map (λ m. m.0) members')
     → Follows next_index (get_or changes k d).id after (finite.from_entries {R = nat_cmp} members) (finite.from_entries {R = nat_cmp} members')
     → MadeSoFar next_index start first (take (k + 1) changes) after members'
-MadeSoFar-one_more next_index start first changes k d now after members members' due within made_so_far is ascends follows =
+MadeSoFar-one_more next_index start first changes k d now after members members' expected within made_so_far is ascends follows =
     rw (take_more changes k d within) (record {
       ascends = ascends;
       so_far = λ floor.
           applied_more next_index (take k changes) (get_or changes k d) (tracker_at floor start first) (tracker_at floor now members) (tracker_at floor after members')
-          due.nobody (made_so_far.so_far floor) is refl follows;
+          expected.no_zero (made_so_far.so_far floor) is refl follows;
     })
 
 -- ---- the entry of one id, by what it is told to be
@@ -282,5 +282,5 @@ pub Applies-one : (next_index : ℕ) (x : Change) (before after : TrackerState) 
     → after.config ≡ result_of before.config (x ∷ []) → after.floor ≡ before.floor → Follows next_index x.id after.config before.progress after.progress
     → Applies next_index (x ∷ []) before after
 Applies-one next_index x before after sound made floor follows =
-    let due = IsDue-beginning next_index before before.config.outgoing before.config.auto_leave sound (λ q. refl) in
-    (applied_more next_index [] x before before after due.nobody (applied_none next_index before due) made floor follows).applied
+    let expected = HasEntries-beginning next_index before before.config.outgoing before.config.auto_leave sound (λ q. refl) in
+    (applied_more next_index [] x before before after expected.no_zero (applied_none next_index before expected) made floor follows).applied

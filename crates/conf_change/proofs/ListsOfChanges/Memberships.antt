@@ -3,7 +3,7 @@ use Rattle.std.proofs.Common.{◌≡◌, ℕ, Bool, true, false, not, ◌&&◌, 
 use Rattle.std.specs.Cmp.{nat_eq_equiv}
 use Rattle.quorum_sets.specs.Ids.{Ids, has, with_id, without_id}
 use Rattle.quorum_sets.proofs.Offered.{has-with_id, has-without_id}
-use Rattle.conf_change.specs.declared.seat.Membership.{Membership}
+use Rattle.conf_change.specs.declared.roles.Membership.{Membership}
 
 pub has-put_in : (s t : Ids) (id : ℕ) → t ≡ with_id s id → has t id ≡ true
 has-put_in s t id e = ap (λ x. has x id) e ∙ has-with_id s id id ∙ ap (λ b. b || has s id) (nat_eq_equiv.refl id)

@@ -9,7 +9,7 @@ use Rattle.std.specs.List.{list_any}
 use Rattle.quorum_sets.specs.Ids.{Ids, has, ascending, ids_where, with_id, without_id}
 use Rattle.quorum_sets.proofs.Offered.{has-ids_where, has-ascending, has-same_ids, has-with_id, has-without_id}
 use Rattle.conf_change.specs.Configuration.{Configuration}
-use Rattle.conf_change.specs.Change.{names, last_word, named_or_in, is_update, is_incoming_after, is_learner_after, is_next_after, result_of}
+use Rattle.conf_change.specs.Change.{names, last_effective, named_or_in, is_update, is_incoming_after, is_learner_after, is_next_after, result_of}
 use Rattle.conf_change.specs.declared.change.Change.{Change}
 use Rattle.conf_change.specs.declared.change.Kind.{Kind}
 use Rattle.conf_change.specs.declared.change.Kind.TheVariants.{Voter, Learner, Remove, Update}
@@ -23,12 +23,12 @@ reverse-push : (xs : List Change) (x : Change) → reverse (xs ++ x ∷ []) ≡ 
 reverse-push xs x = reverse-append xs (x ∷ [])
 
 -- one more change has the last word on the ids that it names
-pub last_word-push : (xs : List Change) (x : Change) (id : ℕ) → last_word (xs ++ x ∷ []) id ≡ cond (names id x) (Some x.kind) (last_word xs id)
-last_word-push xs x id = ap (λ ys. option_map (λ change. change.kind) (find (names id) ys)) (reverse-push xs x) ∙ of_cond (names id x) x _
+pub last_effective-push : (xs : List Change) (x : Change) (id : ℕ) → last_effective (xs ++ x ∷ []) id ≡ cond (names id x) (Some x.kind) (last_effective xs id)
+last_effective-push xs x id = ap (λ ys. option_map (λ change. change.kind) (find (names id) ys)) (reverse-push xs x) ∙ of_cond (names id x) x _
 
 -- a list of one change
-pub last_word-one : (x : Change) (q : ℕ) → last_word (x ∷ []) q ≡ cond (names q x) (Some x.kind) None
-last_word-one x q = of_cond (names q x) x None
+pub last_effective-one : (x : Change) (q : ℕ) → last_effective (x ∷ []) q ≡ cond (names q x) (Some x.kind) None
+last_effective-one x q = of_cond (names q x) x None
 
 -- ---- an id with a last word is named
 some_cond : (b : Bool) (x : Change) (o : Option Change) → is_some (cond b (Some x) o) ≡ (b || is_some o)
@@ -77,8 +77,8 @@ some_of_map : (o : Option Change) (k : Kind) → option_map (λ change. change.k
 some_of_map None k e = ap is_some e
 some_of_map (Some x) k e = refl
 
-pub last_word-is_named : (xs : List Change) (id : ℕ) (k : Kind) → last_word xs id ≡ Some k → list_any (λ m. id == m) (map (λ change. change.id) xs) ≡ true
-last_word-is_named xs id k e =
+pub last_effective-is_named : (xs : List Change) (id : ℕ) (k : Kind) → last_effective xs id ≡ Some k → list_any (λ m. id == m) (map (λ change. change.id) xs) ≡ true
+last_effective-is_named xs id k e =
     named_among id xs (sym (any_reverse (names id) xs) ∙ sym (is_some-find (names id) (reverse xs)) ∙ some_of_map _ k e)
 
 and_in : (a b : Bool) → (a ≡ true → b ≡ true) → (b && a) ≡ a
@@ -93,27 +93,27 @@ and_swap false true = refl
 and_swap false false = refl
 
 among : (decide : Option Kind → Bool → Bool) → ((was : Bool) → decide None was ≡ was) → (s : Ids) (xs : List Change) (q : ℕ) (o : Option Kind)
-    → last_word xs q ≡ o → decide o (has s q) ≡ true → list_any (λ m. q == m) (named_or_in xs s) ≡ true
+    → last_effective xs q ≡ o → decide o (has s q) ≡ true → list_any (λ m. q == m) (named_or_in xs s) ≡ true
 among decide same s xs q None e d =
     list_any-append _ (map (λ change. change.id) xs) (ascending s) ∙ or_true _ _ (sym (has-ascending s q) ∙ sym (same (has s q)) ∙ d)
 among decide same s xs q (Some k) e d =
-    list_any-append _ (map (λ change. change.id) xs) (ascending s) ∙ ap (λ b. b || list_any (λ m. q == m) (ascending s)) (last_word-is_named xs q k e)
+    list_any-append _ (map (λ change. change.id) xs) (ascending s) ∙ ap (λ b. b || list_any (λ m. q == m) (ascending s)) (last_effective-is_named xs q k e)
 
 has-decided : (decide : ℕ → Option Kind → Bool → Bool) → ((id : ℕ) (was : Bool) → decide id None was ≡ was) → (s : Ids) (xs : List Change) (q : ℕ)
-    → has (ids_where (λ id. decide id (last_word xs id) (has s id)) (named_or_in xs s)) q ≡ decide q (last_word xs q) (has s q)
+    → has (ids_where (λ id. decide id (last_effective xs id) (has s id)) (named_or_in xs s)) q ≡ decide q (last_effective xs q) (has s q)
 has-decided decide same s xs q =
-    has-ids_where (λ id. decide id (last_word xs id) (has s id)) (named_or_in xs s) q
-    ∙ and_swap (decide q (last_word xs q) (has s q)) (list_any (λ m. q == m) (named_or_in xs s))
-    ∙ and_in (decide q (last_word xs q) (has s q)) (list_any (λ m. q == m) (named_or_in xs s)) (λ d. among (decide q) (same q) s xs q (last_word xs q) refl d)
+    has-ids_where (λ id. decide id (last_effective xs id) (has s id)) (named_or_in xs s) q
+    ∙ and_swap (decide q (last_effective xs q) (has s q)) (list_any (λ m. q == m) (named_or_in xs s))
+    ∙ and_in (decide q (last_effective xs q) (has s q)) (list_any (λ m. q == m) (named_or_in xs s)) (λ d. among (decide q) (same q) s xs q (last_effective xs q) refl d)
 
 -- each id by itself
-pub has-incoming_after : (c : Configuration) (xs : List Change) (q : ℕ) → has (result_of c xs).incoming q ≡ is_incoming_after (last_word xs q) (has c.incoming q)
+pub has-incoming_after : (c : Configuration) (xs : List Change) (q : ℕ) → has (result_of c xs).incoming q ≡ is_incoming_after (last_effective xs q) (has c.incoming q)
 has-incoming_after c xs q = has-decided (λ _ o was. is_incoming_after o was) (λ _ _. refl) c.incoming xs q
 
-pub has-learners_after : (c : Configuration) (xs : List Change) (q : ℕ) → has (result_of c xs).learners q ≡ is_learner_after (last_word xs q) (has c.outgoing q) (has c.learners q)
+pub has-learners_after : (c : Configuration) (xs : List Change) (q : ℕ) → has (result_of c xs).learners q ≡ is_learner_after (last_effective xs q) (has c.outgoing q) (has c.learners q)
 has-learners_after c xs q = has-decided (λ id o was. is_learner_after o (has c.outgoing id) was) (λ _ _. refl) c.learners xs q
 
-pub has-next_after : (c : Configuration) (xs : List Change) (q : ℕ) → has (result_of c xs).learners_next q ≡ is_next_after (last_word xs q) (has c.outgoing q) (has c.learners_next q)
+pub has-next_after : (c : Configuration) (xs : List Change) (q : ℕ) → has (result_of c xs).learners_next q ≡ is_next_after (last_effective xs q) (has c.outgoing q) (has c.learners_next q)
 has-next_after c xs q = has-decided (λ id o was. is_next_after o (has c.outgoing id) was) (λ _ _. refl) c.learners_next xs q
 
 -- ---- two configurations with the same members
@@ -150,10 +150,10 @@ both_true true b c f e = rw (f refl, e) refl
 both_true false b c f e = refl
 
 -- a change has its say on its id alone
-last_word-only : (kind : Kind) (q id : ℕ) → id ≢ 0 → is_update kind ≡ false → last_word (only kind id) q ≡ cond (q == id) (Some kind) None
-last_word-only kind q id apart e =
+last_effective-only : (kind : Kind) (q id : ℕ) → id ≢ 0 → is_update kind ≡ false → last_effective (only kind id) q ≡ cond (q == id) (Some kind) None
+last_effective-only kind q id apart e =
     let x : Change = record { kind = kind; id = id } in
-    last_word-one x q
+    last_effective-one x q
     ∙ ap (λ b. cond b (Some kind) None)
     (both_true (id == q) (not (q == 0)) (is_update kind) (λ said. zero_apart q id apart (flip q id said)) e ∙ nat_eq_equiv.symm id q)
 
@@ -184,11 +184,11 @@ of_decided f kind w false e = sym e
 
 set_made : (decide : ℕ → Option Kind → Bool → Bool) → ((id : ℕ) (was : Bool) → decide id None was ≡ was) → (kind : Kind) (s t : Ids) (id : ℕ)
     → id ≢ 0 → is_update kind ≡ false → t ≡ put_to (decide id (Some kind) (has s id)) s id
-    → (q : ℕ) → has t q ≡ decide q (last_word (only kind id) q) (has s q)
+    → (q : ℕ) → has t q ≡ decide q (last_effective (only kind id) q) (has s q)
 set_made decide same kind s t id apart e made q =
     ap (λ u. has u q) made ∙ has-put_to _ s id q ∙ at_same (λ x. decide x (Some kind) (has s x)) q id (has s q) (q == id) refl
     ∙ of_decided (λ o. decide q o (has s q)) kind (has s q) (q == id) (same q (has s q))
-    ∙ ap (λ o. decide q o (has s q)) (sym (last_word-only kind q id apart e))
+    ∙ ap (λ o. decide q o (has s q)) (sym (last_effective-only kind q id apart e))
 
 -- where the id is put where the change says, and nothing else is altered
 pub result_of-change : (kind : Kind) (c d : Configuration) (id : ℕ) (out : Bool) → id ≢ 0 → is_update kind ≡ false → has c.outgoing id ≡ out
@@ -197,9 +197,9 @@ pub result_of-change : (kind : Kind) (c d : Configuration) (id : ℕ) (out : Boo
     → d.learners ≡ put_to (is_learner_after (Some kind) out (has c.learners id)) c.learners id
     → d.learners_next ≡ put_to (is_next_after (Some kind) out (has c.learners_next id)) c.learners_next id
     → d.auto_leave ≡ c.auto_leave → d ≡ result_of c (only kind id)
-result_of-change kind c d id out apart e goes_out incoming outgoing learners next auto_leave =
-    let learners_put = learners ∙ ap (λ b. put_to (is_learner_after (Some kind) b (has c.learners id)) c.learners id) (sym goes_out) in
-    let next_put = next ∙ ap (λ b. put_to (is_next_after (Some kind) b (has c.learners_next id)) c.learners_next id) (sym goes_out) in
+result_of-change kind c d id out apart e is_outgoing incoming outgoing learners next auto_leave =
+    let learners_put = learners ∙ ap (λ b. put_to (is_learner_after (Some kind) b (has c.learners id)) c.learners id) (sym is_outgoing) in
+    let next_put = next ∙ ap (λ b. put_to (is_next_after (Some kind) b (has c.learners_next id)) c.learners_next id) (sym is_outgoing) in
     configuration-by_members d (result_of c (only kind id))
     (λ q. set_made (λ _ o was. is_incoming_after o was) (λ _ _. refl) kind c.incoming d.incoming id apart e incoming q ∙ sym (has-incoming_after c (only kind id) q))
     outgoing
@@ -215,21 +215,21 @@ incoming_of-change kind c id apart e =
     ∙ sym (has-incoming_after c (only kind id) q))
 
 -- a list that has no say
-unsaid : (c : Configuration) (xs : List Change) → ((q : ℕ) → last_word xs q ≡ None) → c ≡ result_of c xs
-unsaid c xs silent =
+unsaid : (c : Configuration) (xs : List Change) → ((q : ℕ) → last_effective xs q ≡ None) → c ≡ result_of c xs
+unsaid c xs empty_summary =
     configuration-by_members c (result_of c xs)
-    (λ q. sym (has-incoming_after c xs q ∙ ap (λ o. is_incoming_after o (has c.incoming q)) (silent q)))
+    (λ q. sym (has-incoming_after c xs q ∙ ap (λ o. is_incoming_after o (has c.incoming q)) (empty_summary q)))
     refl
-    (λ q. sym (has-learners_after c xs q ∙ ap (λ o. is_learner_after o (has c.outgoing q) (has c.learners q)) (silent q)))
-    (λ q. sym (has-next_after c xs q ∙ ap (λ o. is_next_after o (has c.outgoing q) (has c.learners_next q)) (silent q)))
+    (λ q. sym (has-learners_after c xs q ∙ ap (λ o. is_learner_after o (has c.outgoing q) (has c.learners q)) (empty_summary q)))
+    (λ q. sym (has-next_after c xs q ∙ ap (λ o. is_next_after o (has c.outgoing q) (has c.learners_next q)) (empty_summary q)))
     refl
 
 pub result_of-none : (c : Configuration) → c ≡ result_of c []
 result_of-none c = unsaid c [] (λ q. refl)
 
 -- an update and a change of the id 0
-no_names : (x : Change) (q : ℕ) → names q x ≡ false → last_word (x ∷ []) q ≡ None
-no_names x q e = last_word-one x q ∙ ap (λ b. cond b (Some x.kind) None) e
+no_names : (x : Change) (q : ℕ) → names q x ≡ false → last_effective (x ∷ []) q ≡ None
+no_names x q e = last_effective-one x q ∙ ap (λ b. cond b (Some x.kind) None) e
 
 no_say : (a b c : Bool) → c ≡ true → (a && not b && not c) ≡ false
 no_say true true c e = refl
@@ -278,15 +278,15 @@ result_of-push c xs x =
     configuration-by_members (result_of (result_of c xs) (x ∷ [])) (result_of c (xs ++ x ∷ []))
     (λ q. has-incoming_after (result_of c xs) (x ∷ []) q
     ∙ (λ i. is_incoming_after (of_cond (names q x) x None i) (has-incoming_after c xs q i))
-    ∙ incoming_absorbs x.kind ((x.id == q) && not (q == 0)) (has c.incoming q) (last_word xs q)
-    ∙ sym (has-incoming_after c (xs ++ x ∷ []) q ∙ ap (λ o. is_incoming_after o (has c.incoming q)) (last_word-push xs x q)))
+    ∙ incoming_absorbs x.kind ((x.id == q) && not (q == 0)) (has c.incoming q) (last_effective xs q)
+    ∙ sym (has-incoming_after c (xs ++ x ∷ []) q ∙ ap (λ o. is_incoming_after o (has c.incoming q)) (last_effective-push xs x q)))
     refl
     (λ q. has-learners_after (result_of c xs) (x ∷ []) q
     ∙ (λ i. is_learner_after (of_cond (names q x) x None i) (has c.outgoing q) (has-learners_after c xs q i))
-    ∙ learners_absorb x.kind ((x.id == q) && not (q == 0)) (has c.outgoing q) (has c.learners q) (last_word xs q)
-    ∙ sym (has-learners_after c (xs ++ x ∷ []) q ∙ ap (λ o. is_learner_after o (has c.outgoing q) (has c.learners q)) (last_word-push xs x q)))
+    ∙ learners_absorb x.kind ((x.id == q) && not (q == 0)) (has c.outgoing q) (has c.learners q) (last_effective xs q)
+    ∙ sym (has-learners_after c (xs ++ x ∷ []) q ∙ ap (λ o. is_learner_after o (has c.outgoing q) (has c.learners q)) (last_effective-push xs x q)))
     (λ q. has-next_after (result_of c xs) (x ∷ []) q
     ∙ (λ i. is_next_after (of_cond (names q x) x None i) (has c.outgoing q) (has-next_after c xs q i))
-    ∙ next_absorbs x.kind ((x.id == q) && not (q == 0)) (has c.outgoing q) (has c.learners_next q) (last_word xs q)
-    ∙ sym (has-next_after c (xs ++ x ∷ []) q ∙ ap (λ o. is_next_after o (has c.outgoing q) (has c.learners_next q)) (last_word-push xs x q)))
+    ∙ next_absorbs x.kind ((x.id == q) && not (q == 0)) (has c.outgoing q) (has c.learners_next q) (last_effective xs q)
+    ∙ sym (has-next_after c (xs ++ x ∷ []) q ∙ ap (λ o. is_next_after o (has c.outgoing q) (has c.learners_next q)) (last_effective-push xs x q)))
     refl

@@ -21,9 +21,9 @@ use Rattle.conf_change.proofs.MemberProgress.OfEachId.{get-progress_by, find-of_
 
 -- ---- places of a set
 -- the id stands at this place or behind it
-pub record StandsFrom (ids : Ids) (place id : ℕ) : Type 0 where
+pub record StandsFrom (ids : Ids) (position id : ℕ) : Type 0 where
   pub at : ℕ
-  pub behind : place ≤ at
+  pub behind : position ≤ at
   pub within : at < size ids
   pub here : get_or (ascending ids) at 0 ≡ id
 
@@ -37,38 +37,38 @@ stands ids id among =
       here = get_or_default (ascending ids) found.0 0 found.1 found.2 ∙ found.3 ∙ sym (eqb-true id found.1 found.4);
     }
 
-has-at : (ids : Ids) (place id : ℕ) → slice_get (ascending ids) place ≡ Some id → has ids id ≡ true
-has-at ids place id here =
-    has-ascending ids id ∙ list_any_at (λ x. id == x) (ascending ids) place 0 (slice_get_within _ place id here) (eq-eqb id _ (sym (get_or_from_slice_get _ place id 0 here)))
+has-at : (ids : Ids) (position id : ℕ) → slice_get (ascending ids) position ≡ Some id → has ids id ≡ true
+has-at ids position id here =
+    has-ascending ids id ∙ list_any_at (λ x. id == x) (ascending ids) position 0 (slice_get_within _ position id here) (eq-eqb id _ (sym (get_or_from_slice_get _ position id 0 here)))
 
 -- ---- a step over an id
-pub passes-there : (ids : Ids) (id place : ℕ) → slice_get (ascending ids) place ≡ Some id → Passes ids id place (place + 1)
-passes-there ids id place here =
-    let is = get_or_from_slice_get (ascending ids) place id 0 here in
+pub passes-there : (ids : Ids) (id position : ℕ) → slice_get (ascending ids) position ≡ Some id → Passes ids id position (position + 1)
+passes-there ids id position here =
+    let is = get_or_from_slice_get (ascending ids) position id 0 here in
     record {
       kept = omega arith;
-      passed = λ k behind before within. let e : k ≡ place = omega arith in rw e is;
-      ahead = λ k behind within. let lt = ascending-is_ascending ids place k (omega arith) within in omega arith;
+      passed = λ k behind before within. let e : k ≡ position = omega arith in rw e is;
+      ahead = λ k behind within. let lt = ascending-is_ascending ids position k (omega arith) within in omega arith;
     }
 
-pub passes-apart : (ids : Ids) (id place : ℕ) → IsLeastFrom ids place id → ((x : ℕ) → slice_get (ascending ids) place ≡ Some x → x ≢ id) → Passes ids id place place
-passes-apart ids id place least differs = record {
+pub passes-apart : (ids : Ids) (id position : ℕ) → IsLeastFrom ids position id → ((x : ℕ) → slice_get (ascending ids) position ≡ Some x → x ≢ id) → Passes ids id position position
+passes-apart ids id position least differs = record {
   kept = omega arith;
   passed = λ k behind before within. absurd (omega arith);
   ahead = λ k behind within.
-      let inside : place < size ids = omega arith in
-      let le = least place (omega arith) inside in
-      let other = differs (get_or (ascending ids) place 0) (slice_get-get_or (ascending ids) place 0 inside) in
-      elim (cases_lt place k) [
-        | inl before ↦ (let lt = ascending-is_ascending ids place k before within in omega arith)
-        | inr there ↦ (let e : k ≡ place = omega arith in rw e (omega arith))
+      let inside : position < size ids = omega arith in
+      let le = least position (omega arith) inside in
+      let other = differs (get_or (ascending ids) position 0) (slice_get-get_or (ascending ids) position 0 inside) in
+      elim (cases_lt position k) [
+        | inl before ↦ (let lt = ascending-is_ascending ids position k before within in omega arith)
+        | inr there ↦ (let e : k ≡ position = omega arith in rw e (omega arith))
       ];
 }
 
 -- ---- a walk that has done some ids and stands at a place of the set
-pub record IsBehind (done : List ℕ) (ids : Ids) (place : ℕ) : Type 0 where
-  pub left : (q : ℕ) → has ids q ≡ true → list_any (λ x. q == x) done ≡ false → StandsFrom ids place q
-  pub ahead : (i k : ℕ) → i < length done → place ≤ k → k < size ids → get_or done i 0 < get_or (ascending ids) k 0
+pub record IsBehind (done : List ℕ) (ids : Ids) (position : ℕ) : Type 0 where
+  pub left : (q : ℕ) → has ids q ≡ true → list_any (λ x. q == x) done ≡ false → StandsFrom ids position q
+  pub ahead : (i k : ℕ) → i < length done → position ≤ k → k < size ids → get_or done i 0 < get_or (ascending ids) k 0
 
 pub behind-begin : (ids : Ids) → IsBehind [] ids 0
 behind-begin ids = record { left = λ q among _. stands ids q among; ahead = λ i k within _ _. absurd (omega arith) }
@@ -81,8 +81,8 @@ not_in q x done e = split (list_any (λ y. q == y) done) (q == x) (sym (list_any
   split false true e = absurd cc
   split false false e = (refl, refl)
 
-pub behind-more : (done : List ℕ) (ids : Ids) (x place next : ℕ) → IsBehind done ids place → Passes ids x place next → IsBehind (done ++ x ∷ []) ids next
-behind-more done ids x place next so_far passes = record {
+pub behind-more : (done : List ℕ) (ids : Ids) (x position next : ℕ) → IsBehind done ids position → Passes ids x position next → IsBehind (done ++ x ∷ []) ids next
+behind-more done ids x position next so_far passes = record {
   left = λ q among none.
       let apart = not_in q x done none in
       let there = so_far.left q among apart.0 in
@@ -103,15 +103,15 @@ behind-more done ids x place next so_far passes = record {
 }
 
 -- the ids that are done are below the one that stands at the place
-pub behind-below : (done : List ℕ) (ids : Ids) (place x : ℕ) → IsBehind done ids place → slice_get (ascending ids) place ≡ Some x → (i : ℕ) → i < length done → get_or done i 0 < x
-behind-below done ids place x so_far here i within =
-    let lt = so_far.ahead i place within (omega arith) (slice_get_within _ place x here) in
-    let is = get_or_from_slice_get (ascending ids) place x 0 here in
+pub behind-below : (done : List ℕ) (ids : Ids) (position x : ℕ) → IsBehind done ids position → slice_get (ascending ids) position ≡ Some x → (i : ℕ) → i < length done → get_or done i 0 < x
+behind-below done ids position x so_far here i within =
+    let lt = so_far.ahead i position within (omega arith) (slice_get_within _ position x here) in
+    let is = get_or_from_slice_get (ascending ids) position x 0 here in
     omega arith
 
 -- behind the last place all are done
-pub behind-all : (done : List ℕ) (ids : Ids) (place q : ℕ) → IsBehind done ids place → size ids ≤ place → has ids q ≡ true → list_any (λ x. q == x) done ≡ true
-behind-all done ids place q so_far past among = go (list_any (λ x. q == x) done) refl where
+pub behind-all : (done : List ℕ) (ids : Ids) (position q : ℕ) → IsBehind done ids position → size ids ≤ position → has ids q ≡ true → list_any (λ x. q == x) done ≡ true
+behind-all done ids position q so_far past among = go (list_any (λ x. q == x) done) refl where
   go : (b : Bool) → list_any (λ x. q == x) done ≡ b → b ≡ true
   go true e = refl
   go false e = let there = so_far.left q among e in let behind = there.behind in let within = there.within in absurd (omega arith)
@@ -142,32 +142,32 @@ pub IsHead-stands : (a b c : Option ℕ) (x : ℕ) → IsHead a b c (Some x) →
 IsHead-stands a b c x head = elim head.one [ inl e ↦ inl (sym e) | inr (inl e) ↦ inr (inl (sym e)) | inr (inr e) ↦ inr (inr (sym e)) ]
 
 -- none of a set is below the head
-pub IsLeastFrom-behind : (ids : Ids) (place id : ℕ) → ((x : ℕ) → slice_get (ascending ids) place ≡ Some x → (y : ℕ) × (Some id ≡ Some y) × (y ≤ x)) → IsLeastFrom ids place id
-IsLeastFrom-behind ids place id below k behind within =
-    let found = below (get_or (ascending ids) place 0) (slice_get-get_or (ascending ids) place 0 (omega arith)) in
+pub IsLeastFrom-behind : (ids : Ids) (position id : ℕ) → ((x : ℕ) → slice_get (ascending ids) position ≡ Some x → (y : ℕ) × (Some id ≡ Some y) × (y ≤ x)) → IsLeastFrom ids position id
+IsLeastFrom-behind ids position id below k behind within =
+    let found = below (get_or (ascending ids) position 0) (slice_get-get_or (ascending ids) position 0 (omega arith)) in
     let same : id ≡ found.0 = cc (found.1) in
     let le = found.2 in
-    elim (cases_lt place k) [
-      | inl before ↦ (let lt = ascending-is_ascending ids place k before within in omega arith)
-      | inr there ↦ (let e : k ≡ place = omega arith in rw e (omega arith))
+    elim (cases_lt position k) [
+      | inl before ↦ (let lt = ascending-is_ascending ids position k before within in omega arith)
+      | inr there ↦ (let e : k ≡ position = omega arith in rw e (omega arith))
     ]
 
 -- where there is no head, the set is passed
-pub size-past_last : (ids : Ids) (place : ℕ) → ((x : ℕ) → slice_get (ascending ids) place ≡ Some x → (y : ℕ) × (None ≡ Some y) × (y ≤ x)) → size ids ≤ place
-size-past_last ids place below =
-    elim (cases_lt place (size ids)) [
+pub size-past_last : (ids : Ids) (position : ℕ) → ((x : ℕ) → slice_get (ascending ids) position ≡ Some x → (y : ℕ) × (None ≡ Some y) × (y ≤ x)) → size ids ≤ position
+size-past_last ids position below =
+    elim (cases_lt position (size ids)) [
       | inr past ↦ past
-      | inl within ↦ (let found = below (get_or (ascending ids) place 0) (slice_get-get_or (ascending ids) place 0 within) in let no = found.1 in absurd cc)
+      | inl within ↦ (let found = below (get_or (ascending ids) position 0) (slice_get-get_or (ascending ids) position 0 within) in let no = found.1 in absurd cc)
     ]
 
 -- the place of the head moves
-moves : (ids : Ids) (x place next : ℕ) → slice_get (ascending ids) place ≡ Some x → Passes ids x place next → (place < next) × (place < size ids)
-moves ids x place next here passes =
-    let within = slice_get_within (ascending ids) place x here in
-    let is = get_or_from_slice_get (ascending ids) place x 0 here in
-    elim (cases_lt place next) [
+moves : (ids : Ids) (x position next : ℕ) → slice_get (ascending ids) position ≡ Some x → Passes ids x position next → (position < next) × (position < size ids)
+moves ids x position next here passes =
+    let within = slice_get_within (ascending ids) position x here in
+    let is = get_or_from_slice_get (ascending ids) position x 0 here in
+    elim (cases_lt position next) [
       | inl lt ↦ (lt, within)
-      | inr ge ↦ (let lt = passes.ahead place ge within in absurd (omega arith))
+      | inr ge ↦ (let lt = passes.ahead position ge within in absurd (omega arith))
     ]
 
 -- ---- one more id
@@ -190,10 +190,10 @@ walked-begin next_index a b c = record {
 }
 
 -- the mark of a learner
-pub has-marked : (done : List ℕ) (ids : Ids) (x place next : ℕ) (there : Bool) → IsBehind done ids place → ((i : ℕ) → i < length done → get_or done i 0 < x) → Passes ids x place next
-    → (there ≡ true → slice_get (ascending ids) place ≡ Some x) → (there ≡ false → next ≡ place) → there ≡ has ids x
-has-marked done ids x place next true so_far below passes here stays = sym (has-at ids place x (here refl))
-has-marked done ids x place next false so_far below passes here stays = go (has ids x) refl where
+pub has-marked : (done : List ℕ) (ids : Ids) (x position next : ℕ) (there : Bool) → IsBehind done ids position → ((i : ℕ) → i < length done → get_or done i 0 < x) → Passes ids x position next
+    → (there ≡ true → slice_get (ascending ids) position ≡ Some x) → (there ≡ false → next ≡ position) → there ≡ has ids x
+has-marked done ids x position next true so_far below passes here stays = sym (has-at ids position x (here refl))
+has-marked done ids x position next false so_far below passes here stays = go (has ids x) refl where
   new : list_any (λ y. x == y) done ≡ false
   new = list_any_none (λ y. x == y) done (λ i d within.
       ap (λ y. x == y) (get_or_default done i d 0 within) ∙ ne_eqb x _ (λ e. let lt = below i within in omega arith))
@@ -251,7 +251,7 @@ walked-more next_index a b c i j k i' j' k' x there entries after w head pass_a 
       | inr (inr e) ↦ behind-below (keys entries) c k x w.third e
     ] in
     let mark = has-marked (keys entries) c x k k' there w.third below pass_c here stays in
-    let Behind : Ids → ℕ → List ℕ → Type 0 = λ ids place done. IsBehind done ids place in
+    let Behind : Ids → ℕ → List ℕ → Type 0 = λ ids position done. IsBehind done ids position in
     record {
       ascends = subst IsAscending (sym now) (ascends-push (keys entries) x w.ascends below);
       fresh = is ∙ (λ n. w.fresh n ++ (x, fresh_progress next_index (mark n)) ∷ []) ∙ sym (ap (map of) now ∙ map-append of (keys entries) (x ∷ []));

@@ -74,8 +74,8 @@ GivesNext-seen_as before now step after same next = let P : ChangerState → Typ
 
 -- ---- a simple change
 -- the outgoing voters stay
-goes_out : (next_index : ℕ) (changes : List Change) (start after : TrackerState) → Applies next_index changes start after → start.config.outgoing ≡ after.config.outgoing
-goes_out next_index changes start after applied = sym (ap (λ c. c.outgoing) applied.configuration)
+is_outgoing : (next_index : ℕ) (changes : List Change) (start after : TrackerState) → Applies next_index changes start after → start.config.outgoing ≡ after.config.outgoing
+is_outgoing next_index changes start after applied = sym (ap (λ c. c.outgoing) applied.configuration)
 
 pub GivesNext-simple : (before : ChangerState) (changes : List Change) (next_index : ℕ) (start after : TrackerState) → IsSound before.tracker → next_index ≡ fresh_next_of before → start ≡ before.tracker
     → is_joint before.tracker.config ≡ false → Applies next_index changes start after → has_voter after.config ≡ true
@@ -84,7 +84,7 @@ pub GivesNext-simple : (before : ChangerState) (changes : List Change) (next_ind
 GivesNext-simple before changes next_index start after sound same_next same single applied voter few =
     let c = before.tracker.config in
     let is : after.config ≡ result_of c changes = applied.configuration ∙ ap (λ t. result_of t.config changes) same in
-    let outgoing = goes_out next_index changes start after applied in
+    let outgoing = is_outgoing next_index changes start after applied in
     GivesNext-from_entries before (Simple changes) after sound (outcome-simple_accepted c after.config changes single (sym is) voter few) (applied.floor ∙ ap (λ t. t.floor) same)
     (λ q. applied.entries q
     ∙ (λ i. entry_in (same_next i) after.config (cond (removes changes q && not (has (outgoing i) q)) None (finite.get (same i).progress q)) q))
@@ -96,7 +96,7 @@ pub GivesNext-enter : (before : ChangerState) (auto_leave : Bool) (changes : Lis
 GivesNext-enter before auto_leave changes next_index start after sound same_next same single had_one applied voter =
     let c = before.tracker.config in
     let is : after.config ≡ result_of (with_outgoing c auto_leave) changes = applied.configuration ∙ ap (λ t. result_of t.config changes) same in
-    let outgoing = goes_out next_index changes start after applied in
+    let outgoing = is_outgoing next_index changes start after applied in
     GivesNext-from_entries before (EnterJoint auto_leave changes) after sound (outcome-enter_accepted c after.config auto_leave changes single had_one (sym is) voter) (applied.floor ∙ ap (λ t. t.floor) same)
     (λ q. applied.entries q
     ∙ (λ i. entry_in (same_next i) after.config (cond (removes changes q && not (has (outgoing i) q)) None (finite.get (same i).progress q)) q))

@@ -9,7 +9,7 @@ use Rattle.quorum_sets.specs.Overlap.{Overlap}
 use Rattle.quorum_sets.specs.Voters.{AreNeighbours}
 use Rattle.quorum_sets.proofs.Offered.{has-ascending, has-no_ids, has-ids_of, QuorumsMeet-from_neighbours, QuorumsMeet-from_neighbours_back, CommittedMeetsWon-from_neighbours, CommittedMeetsWon-from_neighbours_back}
 use Rattle.conf_change.specs.Configuration.{Configuration, voters_of, is_joint, has_voter, is_valid, is_restorable, is_member}
-use Rattle.conf_change.specs.Change.{names, last_word, is_update, is_incoming_after, is_learner_after, is_next_after, result_of}
+use Rattle.conf_change.specs.Change.{names, last_effective, is_update, is_incoming_after, is_learner_after, is_next_after, result_of}
 use Rattle.conf_change.specs.Outcome.{outcome, with_outgoing, after_leave}
 use Rattle.conf_change.specs.Progress.{fresh_next_of, fresh_progress, with_mark, keeps_progress, progress_after}
 use Rattle.conf_change.specs.Floor.{fresh_next, IsAhead}
@@ -83,8 +83,8 @@ find-zero [] = refl
 find-zero (x ∷ xs) = ap (λ b. cond b (Some x) (find (names 0) xs)) (says_nothing_of_zero (x.id == 0) (not (is_update x.kind))) ∙ find-zero xs
 
 -- no change has a say on 0
-last_word-zero : (xs : List Change) → last_word xs 0 ≡ None
-last_word-zero xs = ap (option_map (λ change. change.kind)) (find-zero (reverse xs))
+last_effective-zero : (xs : List Change) → last_effective xs 0 ≡ None
+last_effective-zero xs = ap (option_map (λ change. change.kind)) (find-zero (reverse xs))
 
 next_after-outgoing : (o : Option Kind) (out was : Bool) → (was ≡ true → out ≡ true) → is_next_after o out was ≡ true → out ≡ true
 next_after-outgoing None out was f e = f e
@@ -117,18 +117,18 @@ learner_after-outgoing (Some Update) out was f e = f e
 -- a list of changes keeps validity
 result_of-is_valid : (c : Configuration) (xs : List Change) → ValidByMember c → ValidByMember (result_of c xs)
 result_of-is_valid c xs m = record {
-  zero_incoming = has-incoming_after c xs 0 ∙ ap (λ o. is_incoming_after o (has c.incoming 0)) (last_word-zero xs) ∙ m.zero_incoming;
+  zero_incoming = has-incoming_after c xs 0 ∙ ap (λ o. is_incoming_after o (has c.incoming 0)) (last_effective-zero xs) ∙ m.zero_incoming;
   zero_outgoing = m.zero_outgoing;
-  zero_learners = has-learners_after c xs 0 ∙ ap (λ o. is_learner_after o (has c.outgoing 0) (has c.learners 0)) (last_word-zero xs) ∙ m.zero_learners;
-  zero_next = has-next_after c xs 0 ∙ ap (λ o. is_next_after o (has c.outgoing 0) (has c.learners_next 0)) (last_word-zero xs) ∙ m.zero_next;
-  next_outgoing = λ q here. next_after-outgoing (last_word xs q) (has c.outgoing q) (has c.learners_next q) (m.next_outgoing q) (sym (has-next_after c xs q) ∙ here);
+  zero_learners = has-learners_after c xs 0 ∙ ap (λ o. is_learner_after o (has c.outgoing 0) (has c.learners 0)) (last_effective-zero xs) ∙ m.zero_learners;
+  zero_next = has-next_after c xs 0 ∙ ap (λ o. is_next_after o (has c.outgoing 0) (has c.learners_next 0)) (last_effective-zero xs) ∙ m.zero_next;
+  next_outgoing = λ q here. next_after-outgoing (last_effective xs q) (has c.outgoing q) (has c.learners_next q) (m.next_outgoing q) (sym (has-next_after c xs q) ∙ here);
   next_incoming = λ q here.
       has-incoming_after c xs q
-      ∙ next_after-incoming (last_word xs q) (has c.outgoing q) (has c.learners_next q) (has c.incoming q) (m.next_incoming q) (sym (has-next_after c xs q) ∙ here);
+      ∙ next_after-incoming (last_effective xs q) (has c.outgoing q) (has c.learners_next q) (has c.incoming q) (m.next_incoming q) (sym (has-next_after c xs q) ∙ here);
   learner_incoming = λ q here.
       has-incoming_after c xs q
-      ∙ learner_after-incoming (last_word xs q) (has c.outgoing q) (has c.learners q) (has c.incoming q) (m.learner_incoming q) (sym (has-learners_after c xs q) ∙ here);
-  learner_outgoing = λ q here. learner_after-outgoing (last_word xs q) (has c.outgoing q) (has c.learners q) (m.learner_outgoing q) (sym (has-learners_after c xs q) ∙ here);
+      ∙ learner_after-incoming (last_effective xs q) (has c.outgoing q) (has c.learners q) (has c.incoming q) (m.learner_incoming q) (sym (has-learners_after c xs q) ∙ here);
+  learner_outgoing = λ q here. learner_after-outgoing (last_effective xs q) (has c.outgoing q) (has c.learners q) (m.learner_outgoing q) (sym (has-learners_after c xs q) ∙ here);
   auto_leave = m.auto_leave;
 }
 

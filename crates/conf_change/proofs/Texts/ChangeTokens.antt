@@ -3,7 +3,7 @@ use Rattle.std.proofs.Common.{◌≡◌, ◌≢◌, ℕ, suc, ◌<◌, List, [],
 use Rattle.std.specs.List.{AllZip}
 use Rattle.std.proofs.lemmas.Bool.Decides.{nat_tests}
 use Rattle.ascii_text.specs.Number.{ParsesToNumber, number_in}
-use Rattle.conf_change.specs.ChangeList.{letter_of, ParsesTo, BadToken, unknown_token, unknown_input, bad_number, token_of, HasReason, IsFirstBad, kind_in, change_in, changes_in_words}
+use Rattle.conf_change.specs.ChangeList.{letter_of, ParsesTo, BadToken, unknown_token, unknown_input, bad_number, token_of, HasReason, IsFirstBad, kind_in, change_in, changes_in_tokens}
 use Rattle.conf_change.specs.declared.change.Change.{Change}
 use Rattle.conf_change.specs.declared.change.Kind.{Kind}
 use Rattle.conf_change.specs.declared.change.Kind.TheVariants.{Voter, Learner, Remove, Update}
@@ -34,10 +34,10 @@ change_in-some : (letter digit id : ℕ) (rest : List ℕ) (kind : Kind) → kin
 change_in-some letter digit id rest kind is_kind is_number = rw (is_kind, is_number) refl
 
 change_in-ok : (token : List ℕ) (change : Change) → ParsesTo token change → change_in token ≡ Ok change
-change_in-ok token change h = go h.number h.letter_first h.id_behind where
+change_in-ok token change h = go h.number h.letter_first h.id_after where
   go : (number : List ℕ) → token ≡ letter_of change.kind ∷ number → ParsesToNumber number change.id → change_in token ≡ Ok change
-  go [] is spelled = absurd (omega (arith, spelled.numeral.0))
-  go (digit ∷ rest) is spelled = ap change_in is ∙ change_in-some (letter_of change.kind) digit change.id rest change.kind (kind_in-letter_of change.kind) (number_in-ok (digit ∷ rest) change.id spelled)
+  go [] is parsed = absurd (omega (arith, parsed.numeral.0))
+  go (digit ∷ rest) is parsed = ap change_in is ∙ change_in-some (letter_of change.kind) digit change.id rest change.kind (kind_in-letter_of change.kind) (number_in-ok (digit ∷ rest) change.id parsed)
 
 ParsesTo-from_ok : (token : List ℕ) (change : Change) → change_in token ≡ Ok change → ParsesTo token change
 ParsesTo-from_ok [] change e = absurd cc
@@ -52,7 +52,7 @@ ParsesTo-from_ok (letter ∷ digit ∷ rest) change e = go (kind_in letter) (num
       rw same (record {
         number = digit ∷ rest;
         letter_first = ap (λ first. first ∷ digit ∷ rest) (letter_from_kind letter kind is_kind);
-        id_behind = ParsesToNumber-from_some (digit ∷ rest) id is_number;
+        id_after = ParsesToNumber-from_some (digit ∷ rest) id is_number;
       })
 
 not_spelled : (number : List ℕ) → number_in number ≡ None → (id : ℕ) → ¬ (ParsesToNumber number id)
@@ -93,17 +93,17 @@ change_in-err (bad_number token) reason = go reason.1 reason.2 reason.3 reason.4
   go (digit ∷ rest) long is none = rw is (rw (kind_in-letter_of reason.0, number_in-none (digit ∷ rest) none) refl)
 
 -- the words of a text, one after another
-pub changes_in_words-ok : (tokens : List (List ℕ)) (changes : List Change) → AllZip ParsesTo tokens changes → changes_in_words tokens ≡ Ok changes
-changes_in_words-ok [] [] h = refl
-changes_in_words-ok [] (change ∷ changes) h = absurd h
-changes_in_words-ok (token ∷ tokens) [] h = absurd h
-changes_in_words-ok (token ∷ tokens) (change ∷ changes) h = rw (change_in-ok token change h.0, changes_in_words-ok tokens changes h.1) refl
+pub changes_in_tokens-ok : (tokens : List (List ℕ)) (changes : List Change) → AllZip ParsesTo tokens changes → changes_in_tokens tokens ≡ Ok changes
+changes_in_tokens-ok [] [] h = refl
+changes_in_tokens-ok [] (change ∷ changes) h = absurd h
+changes_in_tokens-ok (token ∷ tokens) [] h = absurd h
+changes_in_tokens-ok (token ∷ tokens) (change ∷ changes) h = rw (change_in-ok token change h.0, changes_in_tokens-ok tokens changes h.1) refl
 
-pub AllZip-from_ok : (tokens : List (List ℕ)) (changes : List Change) → changes_in_words tokens ≡ Ok changes → AllZip ParsesTo tokens changes
+pub AllZip-from_ok : (tokens : List (List ℕ)) (changes : List Change) → changes_in_tokens tokens ≡ Ok changes → AllZip ParsesTo tokens changes
 AllZip-from_ok [] [] e = tt
 AllZip-from_ok [] (change ∷ changes) e = absurd cc
-AllZip-from_ok (token ∷ tokens) all e = go (change_in token) (changes_in_words tokens) refl refl (AllZip-from_ok tokens) where
-  go : (first : Result Change BadToken) (more : Result (List Change) BadToken) → change_in token ≡ first → changes_in_words tokens ≡ more → ((changes : List Change) → changes_in_words tokens ≡ Ok changes → AllZip ParsesTo tokens changes) → AllZip ParsesTo (token ∷ tokens) all
+AllZip-from_ok (token ∷ tokens) all e = go (change_in token) (changes_in_tokens tokens) refl refl (AllZip-from_ok tokens) where
+  go : (first : Result Change BadToken) (more : Result (List Change) BadToken) → change_in token ≡ first → changes_in_tokens tokens ≡ more → ((changes : List Change) → changes_in_tokens tokens ≡ Ok changes → AllZip ParsesTo tokens changes) → AllZip ParsesTo (token ∷ tokens) all
   go (Err bad) more is_first is_more later = let f = rw is_first at e in absurd cc
   go (Ok change) (Err bad) is_first is_more later = let f = rw (is_first, is_more) at e in absurd cc
   go (Ok change) (Ok changes) is_first is_more later =
@@ -111,15 +111,15 @@ AllZip-from_ok (token ∷ tokens) all e = go (change_in token) (changes_in_words
       let same : all ≡ change ∷ changes = cc in
       rw same (ParsesTo-from_ok token change is_first, later changes is_more)
 
-pub IsFirstBad-from_err : (tokens : List (List ℕ)) (bad : BadToken) → changes_in_words tokens ≡ Err bad → IsFirstBad tokens bad
+pub IsFirstBad-from_err : (tokens : List (List ℕ)) (bad : BadToken) → changes_in_tokens tokens ≡ Err bad → IsFirstBad tokens bad
 IsFirstBad-from_err [] bad e = absurd cc
-IsFirstBad-from_err (token ∷ tokens) bad e = go (change_in token) (changes_in_words tokens) refl refl (IsFirstBad-from_err tokens bad) where
-  go : (first : Result Change BadToken) (more : Result (List Change) BadToken) → change_in token ≡ first → changes_in_words tokens ≡ more → (changes_in_words tokens ≡ Err bad → IsFirstBad tokens bad) → IsFirstBad (token ∷ tokens) bad
+IsFirstBad-from_err (token ∷ tokens) bad e = go (change_in token) (changes_in_tokens tokens) refl refl (IsFirstBad-from_err tokens bad) where
+  go : (first : Result Change BadToken) (more : Result (List Change) BadToken) → change_in token ≡ first → changes_in_tokens tokens ≡ more → (changes_in_tokens tokens ≡ Err bad → IsFirstBad tokens bad) → IsFirstBad (token ∷ tokens) bad
   go (Err found) more is_first is_more rest =
       let f = rw is_first at e in
       let same : found ≡ bad = cc in
       let blames = Blames-from_err token bad (is_first ∙ ap (λ b. Err b) same) in
-      record { before = []; after = tokens; changes = []; place = ap (λ t. t ∷ tokens) blames.0; spelled = tt; reason = blames.1 }
+      record { before = []; after = tokens; changes = []; position = ap (λ t. t ∷ tokens) blames.0; parsed = tt; reason = blames.1 }
   go (Ok change) (Ok changes) is_first is_more rest = let f = rw (is_first, is_more) at e in absurd cc
   go (Ok change) (Err found) is_first is_more rest =
       let f = rw (is_first, is_more) at e in
@@ -129,19 +129,19 @@ IsFirstBad-from_err (token ∷ tokens) bad e = go (change_in token) (changes_in_
         before = token ∷ later.before;
         after = later.after;
         changes = change ∷ later.changes;
-        place = ap (λ ts. token ∷ ts) later.place;
-        spelled = (ParsesTo-from_ok token change is_first, later.spelled);
+        position = ap (λ ts. token ∷ ts) later.position;
+        parsed = (ParsesTo-from_ok token change is_first, later.parsed);
         reason = later.reason;
       }
 
-pub changes_in_words-err : (before : List (List ℕ)) (changes : List Change) (bad : BadToken) (after : List (List ℕ)) → AllZip ParsesTo before changes → HasReason bad → changes_in_words (before ++ token_of bad ∷ after) ≡ Err bad
-changes_in_words-err [] changes bad after spelled reason = rw (change_in-err bad reason) refl
-changes_in_words-err (token ∷ before) [] bad after spelled reason = absurd spelled
-changes_in_words-err (token ∷ before) (change ∷ changes) bad after spelled reason =
-    rw (change_in-ok token change spelled.0, changes_in_words-err before changes bad after spelled.1 reason) refl
+pub changes_in_tokens-err : (before : List (List ℕ)) (changes : List Change) (bad : BadToken) (after : List (List ℕ)) → AllZip ParsesTo before changes → HasReason bad → changes_in_tokens (before ++ token_of bad ∷ after) ≡ Err bad
+changes_in_tokens-err [] changes bad after parsed reason = rw (change_in-err bad reason) refl
+changes_in_tokens-err (token ∷ before) [] bad after parsed reason = absurd parsed
+changes_in_tokens-err (token ∷ before) (change ∷ changes) bad after parsed reason =
+    rw (change_in-ok token change parsed.0, changes_in_tokens-err before changes bad after parsed.1 reason) refl
 
-pub length-spelled : (tokens : List (List ℕ)) (changes : List Change) → AllZip ParsesTo tokens changes → length changes ≡ length tokens
-length-spelled [] [] h = refl
-length-spelled [] (change ∷ changes) h = absurd h
-length-spelled (token ∷ tokens) [] h = absurd h
-length-spelled (token ∷ tokens) (change ∷ changes) h = ap suc (length-spelled tokens changes h.1)
+pub length-parsed : (tokens : List (List ℕ)) (changes : List Change) → AllZip ParsesTo tokens changes → length changes ≡ length tokens
+length-parsed [] [] h = refl
+length-parsed [] (change ∷ changes) h = absurd h
+length-parsed (token ∷ tokens) [] h = absurd h
+length-parsed (token ∷ tokens) (change ∷ changes) h = ap suc (length-parsed tokens changes h.1)

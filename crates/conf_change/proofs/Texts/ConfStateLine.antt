@@ -70,32 +70,32 @@ numbers_in-not_empty : (text : List ℕ) → 0 < length text → numbers_in text
 numbers_in-not_empty text some = rw (lt-ltb 0 (length text) some) refl
 
 numbers_in-ok : (text : List ℕ) (numbers : List ℕ) → ParsesToNumbers text numbers → numbers_in text ≡ Some numbers
-numbers_in-ok text numbers h = go h.tokens numbers h.spaced h.spelled where
+numbers_in-ok text numbers h = go h.tokens numbers h.spaced h.parsed where
   go : (tokens : List (List ℕ)) (numbers : List ℕ) → text ≡ join_with_byte 32 tokens → AllZip ParsesToNumber tokens numbers → numbers_in text ≡ Some numbers
-  go [] [] is spelled = ap numbers_in is
-  go [] (number ∷ numbers) is spelled = absurd spelled
-  go (token ∷ tokens) [] is spelled = absurd spelled
-  go (token ∷ tokens) (number ∷ numbers) is spelled =
-      ap numbers_in is ∙ numbers_in-not_empty (join_with_byte 32 (token ∷ tokens)) (length-join token tokens spelled.0.numeral.0)
-      ∙ ap numbers_in_tokens (slice_split-join token tokens (number ∷ numbers) spelled) ∙ numbers_in_tokens-ok (token ∷ tokens) (number ∷ numbers) spelled
+  go [] [] is parsed = ap numbers_in is
+  go [] (number ∷ numbers) is parsed = absurd parsed
+  go (token ∷ tokens) [] is parsed = absurd parsed
+  go (token ∷ tokens) (number ∷ numbers) is parsed =
+      ap numbers_in is ∙ numbers_in-not_empty (join_with_byte 32 (token ∷ tokens)) (length-join token tokens parsed.0.numeral.0)
+      ∙ ap numbers_in_tokens (slice_split-join token tokens (number ∷ numbers) parsed) ∙ numbers_in_tokens-ok (token ∷ tokens) (number ∷ numbers) parsed
 
 ParsesToNumbers-from_some : (text : List ℕ) (numbers : List ℕ) → numbers_in text ≡ Some numbers → ParsesToNumbers text numbers
-ParsesToNumbers-from_some [] numbers e = let same : numbers ≡ [] = cc in rw same (record { tokens = []; spaced = refl; spelled = tt })
+ParsesToNumbers-from_some [] numbers e = let same : numbers ≡ [] = cc in rw same (record { tokens = []; spaced = refl; parsed = tt })
 ParsesToNumbers-from_some (b ∷ bs) numbers e = record {
   tokens = slice_split is_space_byte (b ∷ bs);
   spaced = sym (join_with_byte-slice_split 32 (b ∷ bs));
-  spelled = AllZip-from_some (slice_split is_space_byte (b ∷ bs)) numbers (sym (numbers_in-not_empty (b ∷ bs) (omega arith)) ∙ e);
+  parsed = AllZip-from_some (slice_split is_space_byte (b ∷ bs)) numbers (sym (numbers_in-not_empty (b ∷ bs) (omega arith)) ∙ e);
 }
 
-spelled-decimal : (numbers : List ℕ) → All (λ n. n < 2 ^ 64) numbers → AllZip ParsesToNumber (map decimal numbers) numbers
-spelled-decimal [] h = tt
-spelled-decimal (n ∷ ns) h =
+parsed-decimal : (numbers : List ℕ) → All (λ n. n < 2 ^ 64) numbers → AllZip ParsesToNumber (map decimal numbers) numbers
+parsed-decimal [] h = tt
+parsed-decimal (n ∷ ns) h =
     let small = All-head (λ m. m < 2 ^ 64) n ns h in
     let printed = decimal_is_IsNumeral n small in
-    (record { numeral = printed.0; value = printed.1; in_range = small }, spelled-decimal ns (All-tail (λ m. m < 2 ^ 64) n ns h))
+    (record { numeral = printed.0; value = printed.1; in_range = small }, parsed-decimal ns (All-tail (λ m. m < 2 ^ 64) n ns h))
 
 pub ParsesToNumbers-spaced : (numbers : List ℕ) → All (λ n. n < 2 ^ 64) numbers → ParsesToNumbers (spaced_numbers numbers) numbers
-ParsesToNumbers-spaced numbers h = record { tokens = map decimal numbers; spaced = refl; spelled = spelled-decimal numbers h }
+ParsesToNumbers-spaced numbers h = record { tokens = map decimal numbers; spaced = refl; parsed = parsed-decimal numbers h }
 
 -- ---- one field
 after_prefix-append : (prefix body : List ℕ) → after_prefix prefix (prefix ++ body) ≡ Some body
@@ -117,7 +117,7 @@ position_or_len-close inside rest none =
 
 field_in-ok : (prefix inside rest : List ℕ) (numbers : List ℕ) → ParsesToNumbers inside numbers → field_in prefix (prefix ++ (inside ++ 93 ∷ rest)) ≡ Some (numbers, 93 ∷ rest)
 field_in-ok prefix inside rest numbers h =
-    let none : All (λ b. is_close b ≡ false) inside = rw h.spaced (no_close-join h.tokens numbers h.spelled) in
+    let none : All (λ b. is_close b ≡ false) inside = rw h.spaced (no_close-join h.tokens numbers h.parsed) in
     rw (after_prefix-append prefix (inside ++ 93 ∷ rest))
     (rw (position_or_len-close inside rest none, take_at inside (93 ∷ rest) (length inside) refl, drop_at inside (93 ∷ rest) (length inside) refl, numbers_in-ok inside numbers h) refl)
 
@@ -136,7 +136,7 @@ some_injective x y e = cc
 record Field (prefix text numbers rest : List ℕ) : Type 0 where
   inside : List ℕ
   whole : text ≡ prefix ++ (inside ++ rest)
-  spelled : ParsesToNumbers inside numbers
+  parsed : ParsesToNumbers inside numbers
 
 Field-from_some : (prefix text numbers rest : List ℕ) → field_in prefix text ≡ Some (numbers, rest) → Field prefix text numbers rest
 Field-from_some prefix text numbers rest e =
@@ -150,7 +150,7 @@ Field-from_some prefix text numbers rest e =
     record {
       inside = take (n body) body;
       whole = append-after_prefix prefix text body front.1 ∙ ap (λ b. prefix ++ b) (sym (take-append-drop (n body) body) ∙ ap (λ r. take (n body) body ++ r) same_rest);
-      spelled = ParsesToNumbers-from_some (take (n body) body) numbers (read.1 ∙ ap (λ ns. Some ns) same_numbers);
+      parsed = ParsesToNumbers-from_some (take (n body) body) numbers (read.1 ∙ ap (λ ns. Some ns) same_numbers);
     }
 
 -- ---- the flag
@@ -177,10 +177,10 @@ line_text-parts a b c d flag = simp append_assoc
 pub conf_state_in-ok : (text : List ℕ) (saved : ConfStateLists) → DenotesConfState text saved → conf_state_in text ≡ Some saved
 conf_state_in-ok text saved h =
     rw (h.line ∙ line_text-parts h.voters h.voters_outgoing h.learners h.learners_next saved.auto_leave)
-    (rw (field_in-ok (codes "Voters:[") h.voters _ saved.voters h.spells_voters)
-    (rw (field_in-ok (codes "] VotersOutgoing:[") h.voters_outgoing _ saved.voters_outgoing h.spells_voters_outgoing)
-    (rw (field_in-ok (codes "] Learners:[") h.learners _ saved.learners h.spells_learners)
-    (rw (field_in-ok (codes "] LearnersNext:[") h.learners_next _ saved.learners_next h.spells_learners_next)
+    (rw (field_in-ok (codes "Voters:[") h.voters _ saved.voters h.parsed_voters)
+    (rw (field_in-ok (codes "] VotersOutgoing:[") h.voters_outgoing _ saved.voters_outgoing h.parsed_voters_outgoing)
+    (rw (field_in-ok (codes "] Learners:[") h.learners _ saved.learners h.parsed_learners)
+    (rw (field_in-ok (codes "] LearnersNext:[") h.learners_next _ saved.learners_next h.parsed_learners_next)
     (rw (auto_leave_in-text saved.auto_leave) refl)))))
 
 joined : (text a after_a b after_b c after_c d after_d : List ℕ) (flag : Bool)
@@ -207,10 +207,10 @@ DenotesConfState-from_some text saved e =
       learners = learners.inside;
       learners_next = learners_next.inside;
       line = joined (trimmed text) voters.inside first.0.1 voters_outgoing.inside second.0.1 learners.inside third.0.1 learners_next.inside fourth.0.1 last.0 voters.whole voters_outgoing.whole learners.whole learners_next.whole flag;
-      spells_voters = voters.spelled;
-      spells_voters_outgoing = voters_outgoing.spelled;
-      spells_learners = learners.spelled;
-      spells_learners_next = learners_next.spelled;
+      parsed_voters = voters.parsed;
+      parsed_voters_outgoing = voters_outgoing.parsed;
+      parsed_learners = learners.parsed;
+      parsed_learners_next = learners_next.parsed;
     } in
     subst (DenotesConfState text) (some_injective lists saved last.2) stands
 
@@ -237,10 +237,10 @@ DenotesConfState-printed saved voters voters_outgoing learners learners_next = r
   learners = spaced_numbers saved.learners;
   learners_next = spaced_numbers saved.learners_next;
   line = trimmed-line_text (spaced_numbers saved.voters) (spaced_numbers saved.voters_outgoing) (spaced_numbers saved.learners) (spaced_numbers saved.learners_next) saved.auto_leave;
-  spells_voters = voters;
-  spells_voters_outgoing = voters_outgoing;
-  spells_learners = learners;
-  spells_learners_next = learners_next;
+  parsed_voters = voters;
+  parsed_voters_outgoing = voters_outgoing;
+  parsed_learners = learners;
+  parsed_learners_next = learners_next;
 }
 
 line_grouped : (old p a q b r c s d t f : List ℕ) → old ++ (p ++ a) ++ (q ++ b) ++ (r ++ c) ++ (s ++ d) ++ t ++ f ≡ old ++ (p ++ a ++ q ++ b ++ r ++ c ++ s ++ d ++ t ++ f)

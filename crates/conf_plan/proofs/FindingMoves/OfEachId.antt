@@ -10,10 +10,10 @@ use Rattle.std.proofs.lemmas.List.Folds.{find-append, list_any-append}
 use Rattle.quorum_sets.specs.Ids.{Ids, has, ascending}
 use Rattle.quorum_sets.proofs.Offered.{has-ascending, has-ids_of}
 use Rattle.conf_change.specs.Configuration.{Configuration}
-use Rattle.conf_change.specs.Change.{names, last_word, is_update}
+use Rattle.conf_change.specs.Change.{names, last_effective, is_update}
 use Rattle.conf_change.specs.declared.change.Change.{Change}
 use Rattle.conf_change.specs.declared.change.Kind.{Kind}
-use Rattle.conf_change.proofs.Offered.{last_word-one}
+use Rattle.conf_change.proofs.Offered.{last_effective-one}
 use Rattle.conf_plan.specs.Planned.{kind_by, kind_of_move, union_of, moves}
 
 -- ---- a list with one change per id
@@ -25,12 +25,12 @@ kind_or None b = refl
 kind_or (Some x) b = refl
 
 -- the first change has its say where the others have none
-pub last_word-cons : (x : Change) (xs : List Change) (q : ℕ) → last_word (x ∷ xs) q ≡ option_or (last_word xs q) (cond (names q x) (Some x.kind) None)
-last_word-cons x xs q =
+pub last_effective-cons : (x : Change) (xs : List Change) (q : ℕ) → last_effective (x ∷ xs) q ≡ option_or (last_effective xs q) (cond (names q x) (Some x.kind) None)
+last_effective-cons x xs q =
     ap (λ ys. option_map (λ change. change.kind) (find (names q) ys)) (reverse-append (x ∷ []) xs)
     ∙ ap (option_map (λ (change : Change). change.kind)) (find-append (names q) (reverse xs) (x ∷ []))
     ∙ kind_or (find (names q) (reverse xs)) (find (names q) (x ∷ []))
-    ∙ ap (option_or (last_word xs q)) (last_word-one x q)
+    ∙ ap (option_or (last_effective xs q)) (last_effective-one x q)
 
 no_kind : (same later rest : Bool) (o : Option Kind) → (same ≡ true → o ≡ None) → cond (later && rest) o None ≡ cond ((same || later) && rest) o None
 no_kind false later rest o none = refl
@@ -52,20 +52,20 @@ own_kind false later rest o kind own = or_none (cond (later && rest) o None)
 
 -- the id x goes before those of the list
 with_first : (kind_for : ℕ → Option Kind) (x q : ℕ) (xs : List Change) (later : Bool) (o : Option Kind) → kind_for x ≡ o → IfSome o (λ kind. is_update kind ≡ false)
-    → last_word xs q ≡ cond (later && not (q == 0)) (kind_for q) None
-    → last_word (cons_option (option_map (change_of x) o) xs) q ≡ cond (((q == x) || later) && not (q == 0)) (kind_for q) None
+    → last_effective xs q ≡ cond (later && not (q == 0)) (kind_for q) None
+    → last_effective (cons_option (option_map (change_of x) o) xs) q ≡ cond (((q == x) || later) && not (q == 0)) (kind_for q) None
 with_first kind_for x q xs later None e plain rest =
     rest ∙ no_kind (q == x) later (not (q == 0)) (kind_for q) (λ same. ap kind_for (eqb-true q x same) ∙ e)
 with_first kind_for x q xs later (Some kind) e plain rest =
-    last_word-cons (change_of x kind) xs q
+    last_effective-cons (change_of x kind) xs q
     ∙ (λ i. option_or (rest i) (cond (nat_eq_equiv.symm x q i && not (q == 0) && not (plain i)) (Some kind) None))
     ∙ own_kind (q == x) later (not (q == 0)) (kind_for q) kind (λ same. ap kind_for (eqb-true q x same) ∙ e)
 
 -- where each id of a list gets the change that is for it, each other than 0 goes by that change
-last_word-each : (kind_for : ℕ → Option Kind) → ((id : ℕ) → IfSome (kind_for id) (λ kind. is_update kind ≡ false)) → (ids : List ℕ) (q : ℕ)
-    → last_word (filter_map (λ id. option_map (change_of id) (kind_for id)) ids) q ≡ cond (list_any (λ x. q == x) ids && not (q == 0)) (kind_for q) None
-last_word-each kind_for plain [] q = refl
-last_word-each kind_for plain (x ∷ xs) q = with_first kind_for x q _ _ (kind_for x) refl (plain x) (last_word-each kind_for plain xs q)
+last_effective-each : (kind_for : ℕ → Option Kind) → ((id : ℕ) → IfSome (kind_for id) (λ kind. is_update kind ≡ false)) → (ids : List ℕ) (q : ℕ)
+    → last_effective (filter_map (λ id. option_map (change_of id) (kind_for id)) ids) q ≡ cond (list_any (λ x. q == x) ids && not (q == 0)) (kind_for q) None
+last_effective-each kind_for plain [] q = refl
+last_effective-each kind_for plain (x ∷ xs) q = with_first kind_for x q _ _ (kind_for x) refl (plain x) (last_effective-each kind_for plain xs q)
 
 -- ---- the moves
 pub has-union_of : (a b : Ids) (q : ℕ) → has (union_of a b) q ≡ (has a q || has b q)
@@ -94,10 +94,10 @@ moves_all v m i l false zero = none ((v || m) || (i || l)) (kind_by v m i l) (ze
     none true o e = sym e
     none false o e = sym e
 
-pub last_word-moves : (c : Configuration) (voters learners : Ids) (q : ℕ) → kind_of_move c voters learners 0 ≡ None
-    → last_word (moves c voters learners) q ≡ kind_by (has voters q) (has learners q) (has c.incoming q) (has c.learners q)
-last_word-moves c voters learners q zero =
-    last_word-each (kind_of_move c voters learners) (λ id. kind_by-no_update (has voters id) (has learners id) (has c.incoming id) (has c.learners id)) _ q
+pub last_effective-moves : (c : Configuration) (voters learners : Ids) (q : ℕ) → kind_of_move c voters learners 0 ≡ None
+    → last_effective (moves c voters learners) q ≡ kind_by (has voters q) (has learners q) (has c.incoming q) (has c.learners q)
+last_effective-moves c voters learners q zero =
+    last_effective-each (kind_of_move c voters learners) (λ id. kind_by-no_update (has voters id) (has learners id) (has c.incoming id) (has c.learners id)) _ q
     ∙ ap (λ b. cond (b && not (q == 0)) (kind_of_move c voters learners q) None)
     (sym (has-ascending _ q) ∙ has-union_of (union_of voters learners) (union_of c.incoming c.learners) q
     ∙ (λ i. has-union_of voters learners q i || has-union_of c.incoming c.learners q i))

@@ -9,7 +9,7 @@ use Rattle.conf_change.specs.Change.{is_incoming_after, is_learner_after, is_nex
 use Rattle.conf_change.proofs.Offered.{has-incoming_after, has-learners_after, has-next_after, ValidByMember-from_is_valid, has-none_in_empty}
 use Rattle.conf_plan.specs.Run.{IsValidWithVoter}
 use Rattle.conf_plan.specs.Planned.{kind_by, kind_of_move, moves}
-use Rattle.conf_plan.proofs.FindingMoves.OfEachId.{last_word-moves}
+use Rattle.conf_plan.proofs.FindingMoves.OfEachId.{last_effective-moves}
 
 -- ---- a configuration that is valid with a voter, and not joint
 pub record IsSingle (c : Configuration) : Type 0 where
@@ -78,7 +78,7 @@ pub moves-has_wanted : (c : Configuration) (out voters learners : Ids) (flag : B
 moves-has_wanted c out voters learners flag single wanted apart_out =
     let start = with_out c out flag in
     let valid = ValidByMember-from_is_valid c single.settled.valid in
-    let word = λ (q : ℕ). last_word-moves c voters learners q (kind_of_move-zero c voters learners valid wanted) in
+    let word = λ (q : ℕ). last_effective-moves c voters learners q (kind_of_move-zero c voters learners valid wanted) in
     record {
       incoming = has-same_ids _ _ (λ q.
           has-incoming_after start (moves c voters learners) q ∙ ap (λ o. is_incoming_after o (has c.incoming q)) (word q)

@@ -104,7 +104,7 @@ commands_are_words LeaveJoint = All-cons IsWord (codes "leave-joint") [] (IsWord
 ParsesTo-printed : (change : Change) → change.id < 2 ^ 64 → ParsesTo (change_text change) change
 ParsesTo-printed change small =
     let printed = decimal_is_IsNumeral change.id small in
-    record { number = decimal change.id; letter_first = refl; id_behind = record { numeral = printed.0; value = printed.1; in_range = small } }
+    record { number = decimal change.id; letter_first = refl; id_after = record { numeral = printed.0; value = printed.1; in_range = small } }
 
 changes_are_words : (changes : List Change) → All (λ change. change.id < 2 ^ 64) changes → All IsWord (map change_text changes)
 changes_are_words [] h = All-nil IsWord
@@ -112,16 +112,16 @@ changes_are_words (change ∷ changes) h =
     All-cons IsWord (change_text change) (map change_text changes) (IsWord-change change (All-head (λ c. c.id < 2 ^ 64) change changes h))
     (changes_are_words changes (All-tail (λ c. c.id < 2 ^ 64) change changes h))
 
-spelled-printed : (changes : List Change) → All (λ change. change.id < 2 ^ 64) changes → AllZip ParsesTo (map change_text changes) changes
-spelled-printed [] h = tt
-spelled-printed (change ∷ changes) h =
-    (ParsesTo-printed change (All-head (λ c. c.id < 2 ^ 64) change changes h), spelled-printed changes (All-tail (λ c. c.id < 2 ^ 64) change changes h))
+parsed-printed : (changes : List Change) → All (λ change. change.id < 2 ^ 64) changes → AllZip ParsesTo (map change_text changes) changes
+parsed-printed [] h = tt
+parsed-printed (change ∷ changes) h =
+    (ParsesTo-printed change (All-head (λ c. c.id < 2 ^ 64) change changes h), parsed-printed changes (All-tail (λ c. c.id < 2 ^ 64) change changes h))
 
 -- so are read the changes of a step
 pub Denotes-printed : (changes : List Change) → All (λ change. change.id < 2 ^ 64) changes → Denotes (join_with_byte 32 (map change_text changes)) changes
 Denotes-printed [] h = tt
 Denotes-printed (change ∷ changes) h =
-    rw (words-join (change_text change) (map change_text changes) (changes_are_words (change ∷ changes) h)) (spelled-printed (change ∷ changes) h)
+    rw (words-join (change_text change) (map change_text changes) (changes_are_words (change ∷ changes) h)) (parsed-printed (change ∷ changes) h)
 
 -- the words of a line are its command and its changes
 abbrev all_words : Step → List (List ℕ)
@@ -136,7 +136,7 @@ words-line_text (EnterJoint auto_leave changes) h = words-join (codes "enter-joi
 words-line_text LeaveJoint h = words-join (codes "leave-joint") [] (all_are_words LeaveJoint h)
 
 IsLineOf-printed : (step : Step) → HasWordIds step → IsLineOf (line_text step) step
-IsLineOf-printed step h = record { tokens = map change_text (changes_of step); line_words = words-line_text step h; spelled = spelled-printed (changes_of step) h }
+IsLineOf-printed step h = record { tokens = map change_text (changes_of step); line_words = words-line_text step h; parsed = parsed-printed (changes_of step) h }
 
 -- ---- the lines
 lines_of-end : (line : List ℕ) → All IsNoNewline line → lines_of (line ++ 10 ∷ []) ≡ line ∷ []

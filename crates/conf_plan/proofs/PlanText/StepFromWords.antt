@@ -5,37 +5,37 @@ use Rattle.std.specs.List.{All, AllZip}
 use Rattle.std.proofs.lemmas.List.Elements.{All-nil, All-cons}
 use Rattle.std.proofs.lemmas.Slice.Eq.{bytes_eq-Decides}
 use Rattle.ascii_text.specs.Words.{words}
-use Rattle.conf_change.specs.ChangeList.{ParsesTo, BadToken, changes_in_words}
+use Rattle.conf_change.specs.ChangeList.{ParsesTo, BadToken, changes_in_tokens}
 use Rattle.conf_change.specs.declared.change.Change.{Change}
 use Rattle.conf_change.specs.declared.step.Step.{Step}
 use Rattle.conf_change.specs.declared.step.Step.TheVariants.{Simple, EnterJoint, LeaveJoint}
-use Rattle.conf_change.proofs.Offered.{changes_in_words-ok, AllZip-from_ok}
+use Rattle.conf_change.proofs.Offered.{changes_in_tokens-ok, AllZip-from_ok}
 use Rattle.conf_change.specs.Step.{changes_of}
 use Rattle.conf_plan.specs.PlanSteps.{HasWordIds}
 use Rattle.conf_plan.specs.PlanText.{flag_word, command_words, IsLineOf}
 use Rattle.conf_plan.specs.PlanCode.{list_in, flag_in, enter_with, enter_in, leave_in, step_in}
 
 step_in-words : (step : Step) (tokens : List (List ℕ)) → AllZip ParsesTo tokens (changes_of step) → step_in (command_words step ++ tokens) ≡ Some step
-step_in-words (Simple changes) tokens h = rw (changes_in_words-ok tokens changes h) refl
-step_in-words (EnterJoint true changes) tokens h = rw (changes_in_words-ok tokens changes h) refl
-step_in-words (EnterJoint false changes) tokens h = rw (changes_in_words-ok tokens changes h) refl
+step_in-words (Simple changes) tokens h = rw (changes_in_tokens-ok tokens changes h) refl
+step_in-words (EnterJoint true changes) tokens h = rw (changes_in_tokens-ok tokens changes h) refl
+step_in-words (EnterJoint false changes) tokens h = rw (changes_in_tokens-ok tokens changes h) refl
 step_in-words LeaveJoint [] h = refl
 step_in-words LeaveJoint (token ∷ tokens) h = absurd h
 
 pub step_in-some : (line : List ℕ) (step : Step) → IsLineOf line step → step_in (words line) ≡ Some step
-step_in-some line step h = ap step_in h.line_words ∙ step_in-words step h.tokens h.spelled
+step_in-some line step h = ap step_in h.line_words ∙ step_in-words step h.tokens h.parsed
 
 -- ---- what the words are, where a step was read from them
 -- the changes from which a step was made
 record IsMade (make : List Change → Step) (tokens : List (List ℕ)) (step : Step) : Type 0 where
   changes : List Change
   made : step ≡ make changes
-  spelled : AllZip ParsesTo tokens changes
+  parsed : AllZip ParsesTo tokens changes
 
 IsMade-from_some : (make : List Change → Step) (tokens : List (List ℕ)) (step : Step) → option_map make (list_in tokens) ≡ Some step → IsMade make tokens step
-IsMade-from_some make tokens step e = go (changes_in_words tokens) refl where
-  go : (r : Result (List Change) BadToken) → changes_in_words tokens ≡ r → IsMade make tokens step
-  go (Ok changes) is = let f = rw is at e in record { changes = changes; made = cc; spelled = AllZip-from_ok tokens changes is }
+IsMade-from_some make tokens step e = go (changes_in_tokens tokens) refl where
+  go : (r : Result (List Change) BadToken) → changes_in_tokens tokens ≡ r → IsMade make tokens step
+  go (Ok changes) is = let f = rw is at e in record { changes = changes; made = cc; parsed = AllZip-from_ok tokens changes is }
   go (Err bad) is = let f = rw is at e in absurd cc
 
 flag_word-from_some : (word : List ℕ) (flag : Bool) → flag_in word ≡ Some flag → word ≡ flag_word flag
@@ -49,7 +49,7 @@ flag_word-from_some word flag e = go (bytes_eq word (flag_word true)) (bytes_eq 
 record IsWordsOf (tokens : List (List ℕ)) (step : Step) : Type 0 where
   changes : List (List ℕ)
   are : tokens ≡ command_words step ++ changes
-  spelled : AllZip ParsesTo changes (changes_of step)
+  parsed : AllZip ParsesTo changes (changes_of step)
 
 with_flag : (flag : List ℕ) (tokens : List (List ℕ)) (step : Step) → enter_with (flag_in flag) tokens ≡ Some step → IsWordsOf (codes "enter-joint" ∷ flag ∷ tokens) step
 with_flag flag tokens step e = go (flag_in flag) refl where
@@ -57,20 +57,20 @@ with_flag flag tokens step e = go (flag_in flag) refl where
   go None is = let f = rw is at e in absurd cc
   go (Some auto_leave) is =
       let made = IsMade-from_some (EnterJoint auto_leave) tokens step (rw is at e) in
-      rw made.made (record { changes = tokens; are = ap (λ w. codes "enter-joint" ∷ w ∷ tokens) (flag_word-from_some flag auto_leave is); spelled = made.spelled })
+      rw made.made (record { changes = tokens; are = ap (λ w. codes "enter-joint" ∷ w ∷ tokens) (flag_word-from_some flag auto_leave is); parsed = made.parsed })
 
 IsWordsOf-enter : (tokens : List (List ℕ)) (step : Step) → enter_in tokens ≡ Some step → IsWordsOf (codes "enter-joint" ∷ tokens) step
 IsWordsOf-enter [] step e = absurd cc
 IsWordsOf-enter (flag ∷ tokens) step e = with_flag flag tokens step e
 
 IsWordsOf-leave : (tokens : List (List ℕ)) (step : Step) → leave_in tokens ≡ Some step → IsWordsOf (codes "leave-joint" ∷ tokens) step
-IsWordsOf-leave [] step e = let same : step ≡ LeaveJoint = cc in rw same (record { changes = []; are = refl; spelled = tt })
+IsWordsOf-leave [] step e = let same : step ≡ LeaveJoint = cc in rw same (record { changes = []; are = refl; parsed = tt })
 IsWordsOf-leave (token ∷ tokens) step e = absurd cc
 
 IsWordsOf-simple : (tokens : List (List ℕ)) (step : Step) → option_map Simple (list_in tokens) ≡ Some step → IsWordsOf (codes "simple" ∷ tokens) step
 IsWordsOf-simple tokens step e =
     let made = IsMade-from_some Simple tokens step e in
-    rw made.made (record { changes = tokens; are = refl; spelled = made.spelled })
+    rw made.made (record { changes = tokens; are = refl; parsed = made.parsed })
 
 -- the first word is the command
 IsWordsOf-first : (command word : List ℕ) (tokens : List (List ℕ)) (step : Step) → bytes_eq command word ≡ true → IsWordsOf (word ∷ tokens) step → IsWordsOf (command ∷ tokens) step
@@ -89,7 +89,7 @@ IsWordsOf-from_some (command ∷ tokens) step e =
 pub IsLineOf-from_some : (line : List ℕ) (step : Step) → step_in (words line) ≡ Some step → IsLineOf line step
 IsLineOf-from_some line step e =
     let is = IsWordsOf-from_some (words line) step e in
-    record { tokens = is.changes; line_words = is.are; spelled = is.spelled }
+    record { tokens = is.changes; line_words = is.are; parsed = is.parsed }
 
 -- ---- lines of no step
 pub IsLineOf-none : (line : List ℕ) → step_in (words line) ≡ None → (step : Step) → ¬ (IsLineOf line step)
@@ -103,12 +103,12 @@ step_in-none line none =
     ] refl
 
 -- ---- ids that were spelled are numbers of 64 bits
-word_ids-spelled : (tokens : List (List ℕ)) (changes : List Change) → AllZip ParsesTo tokens changes → All (λ change. change.id < 2 ^ 64) changes
-word_ids-spelled [] [] h = All-nil (λ change. change.id < 2 ^ 64)
-word_ids-spelled [] (change ∷ changes) h = absurd h
-word_ids-spelled (token ∷ tokens) [] h = absurd h
-word_ids-spelled (token ∷ tokens) (change ∷ changes) h =
-    All-cons (λ change. change.id < 2 ^ 64) change changes h.0.id_behind.in_range (word_ids-spelled tokens changes h.1)
+word_ids-parsed : (tokens : List (List ℕ)) (changes : List Change) → AllZip ParsesTo tokens changes → All (λ change. change.id < 2 ^ 64) changes
+word_ids-parsed [] [] h = All-nil (λ change. change.id < 2 ^ 64)
+word_ids-parsed [] (change ∷ changes) h = absurd h
+word_ids-parsed (token ∷ tokens) [] h = absurd h
+word_ids-parsed (token ∷ tokens) (change ∷ changes) h =
+    All-cons (λ change. change.id < 2 ^ 64) change changes h.0.id_after.in_range (word_ids-parsed tokens changes h.1)
 
 pub HasWordIds-from_line : (line : List ℕ) (step : Step) → IsLineOf line step → HasWordIds step
-HasWordIds-from_line line step h = word_ids-spelled h.tokens (changes_of step) h.spelled
+HasWordIds-from_line line step h = word_ids-parsed h.tokens (changes_of step) h.parsed

@@ -7,7 +7,7 @@ use Rattle.std.proofs.lemmas.List.Sums.{sum_by-cons}
 use Rattle.quorum_sets.specs.Ids.{has}
 use Rattle.quorum_sets.proofs.Offered.{has-no_ids}
 use Rattle.conf_change.specs.Configuration.{Configuration}
-use Rattle.conf_change.specs.Change.{names, last_word, is_incoming_after, is_learner_after, is_next_after, result_of}
+use Rattle.conf_change.specs.Change.{names, last_effective, is_incoming_after, is_learner_after, is_next_after, result_of}
 use Rattle.conf_change.specs.Outcome.{outcome, with_outgoing}
 use Rattle.conf_change.specs.Step.{changes_of}
 use Rattle.conf_change.specs.declared.change.Change.{Change}
@@ -18,7 +18,7 @@ use Rattle.conf_change.specs.declared.step.Step.TheVariants.{Simple, EnterJoint,
 use Rattle.conf_change.proofs.Offered.{SimpleTaken-from_outcome, EnterTaken-from_outcome, LeaveTaken-from_outcome, has-incoming_after, has-learners_after, has-next_after, has-after_leave}
 use Rattle.conf_plan.specs.Run.{IsRun}
 use Rattle.conf_plan.specs.Best.{times_named, is_any_learner, HasSamePart}
-use Rattle.conf_plan.proofs.FindingMoves.OfEachId.{last_word-cons}
+use Rattle.conf_plan.proofs.FindingMoves.OfEachId.{last_effective-cons}
 
 -- ---- a step decides by its last word alone, whether the id goes out or not
 record PartAfter (before after : Configuration) (word : Option Kind) (id : ℕ) : Type 0 where
@@ -33,20 +33,20 @@ learns_or_waits (Some Learner) false learns waits = refl
 learns_or_waits (Some Remove) out learns waits = refl
 learns_or_waits (Some Update) out learns waits = refl
 
-result_of-part : (c : Configuration) (xs : List Change) (q : ℕ) → PartAfter c (result_of c xs) (last_word xs q) q
+result_of-part : (c : Configuration) (xs : List Change) (q : ℕ) → PartAfter c (result_of c xs) (last_effective xs q) q
 result_of-part c xs q = record {
   voter = has-incoming_after c xs q;
   learner =
       (λ i. has-learners_after c xs q i || has-next_after c xs q i)
-      ∙ learns_or_waits (last_word xs q) (has c.outgoing q) (has c.learners q) (has c.learners_next q);
+      ∙ learns_or_waits (last_effective xs q) (has c.outgoing q) (has c.learners q) (has c.learners_next q);
 }
 
-outcome-part : (c after : Configuration) (step : Step) (q : ℕ) → outcome c step ≡ Ok after → PartAfter c after (last_word (changes_of step) q) q
+outcome-part : (c after : Configuration) (step : Step) (q : ℕ) → outcome c step ≡ Ok after → PartAfter c after (last_effective (changes_of step) q) q
 outcome-part c after (Simple changes) q e =
-    let P : Configuration → Type 0 = λ d. PartAfter c d (last_word changes q) q in
+    let P : Configuration → Type 0 = λ d. PartAfter c d (last_effective changes q) q in
     subst P (SimpleTaken-from_outcome c after changes e).made (result_of-part c changes q)
 outcome-part c after (EnterJoint auto_leave changes) q e =
-    let P : Configuration → Type 0 = λ d. PartAfter c d (last_word changes q) q in
+    let P : Configuration → Type 0 = λ d. PartAfter c d (last_effective changes q) q in
     let part = result_of-part (with_outgoing c auto_leave) changes q in
     subst P (EnterTaken-from_outcome c after auto_leave changes e).made (record { voter = part.voter; learner = part.learner })
 outcome-part c after LeaveJoint q e =
@@ -61,11 +61,11 @@ not_counted : (b : Bool) → ◌≡◌ {A = ℕ} (cond b 1 0) 0 → b ≡ false
 not_counted true e = absurd (omega arith)
 not_counted false e = refl
 
-no_word : (q : ℕ) (xs : List Change) → count_by (names q) xs ≡ 0 → last_word xs q ≡ None
+no_word : (q : ℕ) (xs : List Change) → count_by (names q) xs ≡ 0 → last_effective xs q ≡ None
 no_word q [] none = refl
 no_word q (x ∷ xs) none =
     let both : cond (names q x) 1 0 + count_by (names q) xs ≡ 0 = sym (sum_by-cons (λ y. cond (names q y) 1 0) x xs) ∙ none in
-    last_word-cons x xs q ∙ (λ i. option_or (no_word q xs (omega arith) i) (cond (not_counted (names q x) (omega arith) i) (Some x.kind) None))
+    last_effective-cons x xs q ∙ (λ i. option_or (no_word q xs (omega arith) i) (cond (not_counted (names q x) (omega arith) i) (Some x.kind) None))
 
 outcome-same_part : (c after : Configuration) (step : Step) (q : ℕ) → outcome c step ≡ Ok after → count_by (names q) (changes_of step) ≡ 0 → HasSamePart c after q
 outcome-same_part c after step q e none =

@@ -8,11 +8,11 @@ use Rattle.conf_change.proofs.append.append_numbers.Goals as goal
 
 pub returns-in_err-append_number_at-clause-extends : goal.returns-in_err-append_number_at-clause-extends
 returns-in_err-append_number_at-clause-extends c =
-    Extends-append _ _ _ (rw c.loop-place.invariant at c.append_number_at.ensures.extends)
+    Extends-append _ _ _ (rw c.loop-position.invariant at c.append_number_at.ensures.extends)
 
-pub loop-place-preserved : goal.loop-place-preserved
-loop-place-preserved c = grind (arith, common_steps, spaced_numbers-one_more)
+pub loop-position-preserved : goal.loop-position-preserved
+loop-position-preserved c = grind (arith, common_steps, spaced_numbers-one_more)
 
-pub returns-clause-spells : goal.returns-clause-spells
-returns-clause-spells c =
+pub returns-clause-parsed : goal.returns-clause-parsed
+returns-clause-parsed c =
     ParsesToNumbers-spaced c.args.numbers.now (All-from_get_or (λ n. n < 2 ^ 64) c.args.numbers.now 0 (λ i within. omega (arith, c.type_inv.numbers i)))

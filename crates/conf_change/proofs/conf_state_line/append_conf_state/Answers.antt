@@ -19,14 +19,14 @@ returns-clause-ok c =
     c.in_ok-append_field.ensures.ok c.in_ok-append_field-2.ensures.ok c.in_ok-append_field-3.ensures.ok c.in_ok-append_field-4.ensures.ok c.in_ok-append.ensures.ok is)
     c.append-2.ensures.ok)
 
-pub returns-clause-stands : goal.returns-clause-stands
-returns-clause-stands c =
+pub returns-clause-denotes : goal.returns-clause-denotes
+returns-clause-denotes c =
     let inside = c.state.inside in
     let saved : ConfStateLists = record { voters = inside.voters.items; voters_outgoing = inside.voters_outgoing.items; learners = inside.learners.items; learners_next = inside.learners_next.items; auto_leave = inside.auto_leave } in
     let P : ConfStateLists → Type 0 = λ s. OnOk c.append-2.result (DenotesConfState (conf_state_text s) s) in
     let Q : List ℕ → Type 0 = λ numbers. ParsesToNumbers (spaced_numbers numbers) numbers in
     subst P c.state.view_is (on_ok_weaker c.append-2.result
     (λ _. DenotesConfState-printed saved
-    (subst Q c.deref.ensures.value c.in_ok-append_field.ensures.spells) (subst Q c.deref-2.ensures.value c.in_ok-append_field-2.ensures.spells)
-    (subst Q c.deref-3.ensures.value c.in_ok-append_field-3.ensures.spells) (subst Q c.deref-4.ensures.value c.in_ok-append_field-4.ensures.spells))
+    (subst Q c.deref.ensures.value c.in_ok-append_field.ensures.parsed) (subst Q c.deref-2.ensures.value c.in_ok-append_field-2.ensures.parsed)
+    (subst Q c.deref-3.ensures.value c.in_ok-append_field-3.ensures.parsed) (subst Q c.deref-4.ensures.value c.in_ok-append_field-4.ensures.parsed))
     c.append-2.ensures.ok)

@@ -8,22 +8,22 @@ use Rattle.conf_change.proofs.config.check_next.Goals.{in-Some+else-not-has_next
 
 pub returns-then-not-has_next-clause-not_kept : goal.returns-then-not-has_next-clause-not_kept
 returns-then-not-has_next-clause-not_kept g c =
-    and_left _ _ (list_all-but_one _ _ c.loop-place.place c.in-Some.id (sym c.in-Some.ensures) (sym c.has_next.ensures ∙ c.if-not-has_next.true))
+    and_left _ _ (list_all-but_one _ _ c.loop-position.position c.in-Some.id (sym c.in-Some.ensures) (sym c.has_next.ensures ∙ c.if-not-has_next.true))
 
 pub returns-then-not-has_next-clause-broken : goal.returns-then-not-has_next-clause-broken
 returns-then-not-has_next-clause-broken g c =
     sym (ap (λ within. cond within NextAndIncoming NextNotOutgoing)
-    (list_all-but_one _ _ c.loop-place.place c.in-Some.id (sym c.in-Some.ensures) (sym c.has_next.ensures ∙ c.if-not-has_next.true)))
+    (list_all-but_one _ _ c.loop-position.position c.in-Some.id (sym c.in-Some.ensures) (sym c.has_next.ensures ∙ c.if-not-has_next.true)))
 
-pub loop-place-preserved : goal.loop-place-preserved
-loop-place-preserved g c = elim c.match-at.branch [
+pub loop-position-preserved : goal.loop-position-preserved
+loop-position-preserved g c = elim c.match-at.branch [
   | in-Some+else-not-has_next+then-has_next w ↦ record {
-    within = list_all-one_more _ _ c.loop-place.place w.in-Some.id true (sym w.in-Some.ensures) (sym w.has_next.ensures ∙ w.if-not-has_next.false) c.loop-place.invariant.within;
-    apart = w.apart-is ∙ list_all-no_more _ _ c.loop-place.place w.in-Some.id (sym w.in-Some.ensures) (sym (ap not w.has_next-in-Some.ensures) ∙ ap not w.if-has_next.true);
+    within = list_all-one_more _ _ c.loop-position.position w.in-Some.id true (sym w.in-Some.ensures) (sym w.has_next.ensures ∙ w.if-not-has_next.false) c.loop-position.invariant.within;
+    apart = w.apart-is ∙ list_all-no_more _ _ c.loop-position.position w.in-Some.id (sym w.in-Some.ensures) (sym (ap not w.has_next-in-Some.ensures) ∙ ap not w.if-has_next.true);
   }
   | in-Some+else-not-has_next+else-has_next w ↦ record {
-    within = list_all-one_more _ _ c.loop-place.place w.in-Some.id true (sym w.in-Some.ensures) (sym w.has_next.ensures ∙ w.if-not-has_next.false) c.loop-place.invariant.within;
-    apart = w.apart-is ∙ list_all-one_more _ _ c.loop-place.place w.in-Some.id c.loop-place.apart (sym w.in-Some.ensures) (sym (ap not w.has_next-in-Some.ensures) ∙ ap not w.if-has_next.false) c.loop-place.invariant.apart;
+    within = list_all-one_more _ _ c.loop-position.position w.in-Some.id true (sym w.in-Some.ensures) (sym w.has_next.ensures ∙ w.if-not-has_next.false) c.loop-position.invariant.within;
+    apart = w.apart-is ∙ list_all-one_more _ _ c.loop-position.position w.in-Some.id c.loop-position.apart (sym w.in-Some.ensures) (sym (ap not w.has_next-in-Some.ensures) ∙ ap not w.if-has_next.false) c.loop-position.invariant.apart;
   }
-  | in_default w ↦ slice_get-not_past _ _ _ (sym w.in_default.is ∙ c.at.ensures) c.len-place-end.ensures c.loop-place-test.true
+  | in_default w ↦ slice_get-not_past _ _ _ (sym w.in_default.is ∙ c.at.ensures) c.len-position-end.ensures c.loop-position-test.true
 ]

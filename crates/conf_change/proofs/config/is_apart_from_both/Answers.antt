@@ -8,22 +8,22 @@ use Rattle.conf_change.proofs.config.is_apart_from_both.Goals.{then-has_next-via
 pub returns-then-has_next : goal.returns-then-has_next
 returns-then-has_next g c = elim c.then-has_next.branch [
   | then-has_next-via-then-has_next w ↦
-      sym (and_left _ _ (list_all-but_one _ _ c.loop-place.place c.in-Some.id (sym c.in-Some.ensures) (sym (ap not c.has_next.ensures) ∙ ap not w.if-has_next.true)))
+      sym (and_left _ _ (list_all-but_one _ _ c.loop-position.position c.in-Some.id (sym c.in-Some.ensures) (sym (ap not c.has_next.ensures) ∙ ap not w.if-has_next.true)))
   | then-has_next-via-else-has_next+then-has_next-2 w ↦
-      sym (and_right _ _ (list_all-but_one _ _ c.loop-place.place c.in-Some.id (sym c.in-Some.ensures) (sym (ap not w.has_next-else-has_next.ensures) ∙ ap not w.if-has_next-2.true)))
+      sym (and_right _ _ (list_all-but_one _ _ c.loop-position.position c.in-Some.id (sym c.in-Some.ensures) (sym (ap not w.has_next-else-has_next.ensures) ∙ ap not w.if-has_next-2.true)))
 ]
 
-pub loop-place-preserved : goal.loop-place-preserved
-loop-place-preserved g c = elim c.match-at.branch [
+pub loop-position-preserved : goal.loop-position-preserved
+loop-position-preserved g c = elim c.match-at.branch [
   | in-Some+else-has_next+else-has_next-2 w ↦ record {
-    from_first = list_all-one_more _ _ c.loop-place.place w.in-Some.id true (sym w.in-Some.ensures) (sym (ap not w.has_next.ensures) ∙ ap not w.if-has_next.false) c.loop-place.invariant.from_first;
-    from_second = list_all-one_more _ _ c.loop-place.place w.in-Some.id true (sym w.in-Some.ensures) (sym (ap not w.has_next-else-has_next.ensures) ∙ ap not w.if-has_next-2.false) c.loop-place.invariant.from_second;
+    from_first = list_all-one_more _ _ c.loop-position.position w.in-Some.id true (sym w.in-Some.ensures) (sym (ap not w.has_next.ensures) ∙ ap not w.if-has_next.false) c.loop-position.invariant.from_first;
+    from_second = list_all-one_more _ _ c.loop-position.position w.in-Some.id true (sym w.in-Some.ensures) (sym (ap not w.has_next-else-has_next.ensures) ∙ ap not w.if-has_next-2.false) c.loop-position.invariant.from_second;
   }
-  | in_default w ↦ slice_get-not_past _ _ _ (sym w.in_default.is ∙ c.at.ensures) c.len-place-end.ensures c.loop-place-test.true
+  | in_default w ↦ slice_get-not_past _ _ _ (sym w.in_default.is ∙ c.at.ensures) c.len-position-end.ensures c.loop-position-test.true
 ]
 
 pub returns : goal.returns
 returns g c =
     sym (and_from _ _
-    (sym (list_all-walked _ _ c.loop-place.place _ c.len-place-end.ensures c.loop-place-test.false true c.loop-place.invariant.from_first))
-    (sym (list_all-walked _ _ c.loop-place.place _ c.len-place-end.ensures c.loop-place-test.false true c.loop-place.invariant.from_second)))
+    (sym (list_all-walked _ _ c.loop-position.position _ c.len-position-end.ensures c.loop-position-test.false true c.loop-position.invariant.from_first))
+    (sym (list_all-walked _ _ c.loop-position.position _ c.len-position-end.ensures c.loop-position-test.false true c.loop-position.invariant.from_second)))

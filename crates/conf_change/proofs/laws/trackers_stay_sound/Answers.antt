@@ -1,5 +1,5 @@
 use Rattle.conf_change.proofs.MemberProgress.Acknowledged.{ack_answer-is_sound}
-use Rattle.conf_change.proofs.Steps.NobodyTracked.{nobody-is_sound}
+use Rattle.conf_change.proofs.Steps.EmptyTracker.{empty_tracker-is_sound}
 use Rattle.conf_change.proofs.Steps.Soundness.{outcome-has_voter, outcome-is_restorable, moved_to-is_sound, begun_with-is_sound}
 use Rattle.conf_change.proofs.laws.trackers_stay_sound.Goals as goal
 
@@ -19,4 +19,4 @@ pub returns-clause-acknowledged : goal.returns-clause-acknowledged
 returns-clause-acknowledged c = ack_answer-is_sound
 
 pub returns-clause-empty : goal.returns-clause-empty
-returns-clause-empty c = λ floor last_index. nobody-is_sound floor
+returns-clause-empty c = λ floor last_index. empty_tracker-is_sound floor

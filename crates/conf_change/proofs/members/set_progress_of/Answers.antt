@@ -4,10 +4,10 @@ use Rattle.conf_change.proofs.MemberProgress.Entries.{get-set, keys-set, get-mis
 use Rattle.conf_change.proofs.members.set_progress_of.Goals as goal
 
 pub returns-in-Ok-clause-keys : goal.returns-in-Ok-clause-keys
-returns-in-Ok-clause-keys c = keys-set c.args.members.now c.args.id c.in-Ok.place c.args.progress c.in-Ok.ensures
+returns-in-Ok-clause-keys c = keys-set c.args.members.now c.args.id c.in-Ok.position c.args.progress c.in-Ok.ensures
 
 pub returns-in-Ok-clause-gets : goal.returns-in-Ok-clause-gets
-returns-in-Ok-clause-gets c = λ had q. get-set c.args.members.now c.args.id c.in-Ok.place c.args.progress c.requires c.in-Ok.ensures q
+returns-in-Ok-clause-gets c = λ had q. get-set c.args.members.now c.args.id c.in-Ok.position c.args.progress c.requires c.in-Ok.ensures q
 
 pub returns-in_default-clause-gets : goal.returns-in_default-clause-gets
 returns-in_default-clause-gets c = λ had q.

@@ -14,15 +14,15 @@ pub returns-in-Ok-clause-ascends : goal.returns-in-Ok-clause-ascends
 returns-in-Ok-clause-ascends c =
     let items = c.args.members.now.items in
     let P : Members → Type 0 = λ ms. IsAscending (map (λ m. m.0) ms) in
-    let S : Members → Type 0 = λ ms. IsAtPosition (map (λ m. m.0) ms) c.args.id c.in-Ok.place in
-    subst P (sym c.remove.ensures.items) (ascends-taken items c.args.id c.in-Ok.place c.requires (subst S c.as_slice.ensures c.in-Ok.ensures))
+    let S : Members → Type 0 = λ ms. IsAtPosition (map (λ m. m.0) ms) c.args.id c.in-Ok.position in
+    subst P (sym c.remove.ensures.items) (ascends-taken items c.args.id c.in-Ok.position c.requires (subst S c.as_slice.ensures c.in-Ok.ensures))
 
 pub returns-in-Ok-clause-entries : goal.returns-in-Ok-clause-entries
 returns-in-Ok-clause-entries c = λ q.
     let items = c.args.members.now.items in
     let P : Members → Type 0 = λ ms. finite.get (finite.from_entries {R = nat_cmp} ms) q ≡ cond (q == c.args.id) None (finite.get (finite.from_entries {R = nat_cmp} items) q) in
-    let S : Members → Type 0 = λ ms. IsAtPosition (map (λ m. m.0) ms) c.args.id c.in-Ok.place in
-    subst P (sym c.remove.ensures.items) (get-taken items c.args.id c.in-Ok.place c.requires (subst S c.as_slice.ensures c.in-Ok.ensures) q)
+    let S : Members → Type 0 = λ ms. IsAtPosition (map (λ m. m.0) ms) c.args.id c.in-Ok.position in
+    subst P (sym c.remove.ensures.items) (get-taken items c.args.id c.in-Ok.position c.requires (subst S c.as_slice.ensures c.in-Ok.ensures) q)
 
 pub returns-in_default-clause-entries : goal.returns-in_default-clause-entries
 returns-in_default-clause-entries c =

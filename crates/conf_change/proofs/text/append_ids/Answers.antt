@@ -8,10 +8,10 @@ use Rattle.conf_change.proofs.text.append_ids.Goals.{in-Some+in_ok-append_number
 
 pub returns-in_err-append_number_at-clause-extends : goal.returns-in_err-append_number_at-clause-extends
 returns-in_err-append_number_at-clause-extends g c =
-    Extends-append _ _ _ (rw c.loop-place.invariant at c.append_number_at.ensures.extends)
+    Extends-append _ _ _ (rw c.loop-position.invariant at c.append_number_at.ensures.extends)
 
-pub loop-place-preserved : goal.loop-place-preserved
-loop-place-preserved g c = elim c.match-at.branch [
+pub loop-position-preserved : goal.loop-position-preserved
+loop-position-preserved g c = elim c.match-at.branch [
   | in-Some+in_ok-append_number_at w ↦ grind (arith, common_steps, gets, spaced_numbers-one_more)
   | in_default w ↦ grind (arith, gets)
 ]

@@ -7,14 +7,14 @@ use Rattle.conf_change.proofs.ListsOfChanges.ChangeByChange.{Follows-told, MadeS
 use Rattle.conf_change.proofs.tracker.make_each.Goals as goal
 
 pub loop-change-init : goal.loop-change-init
-loop-change-init g c = MadeSoFar-none c.args.next_index c.args.config.now c.args.members.now.items c.requires.ascends c.requires.due
+loop-change-init g c = MadeSoFar-none c.args.next_index c.args.config.now c.args.members.now.items c.requires.ascends c.requires.expected
 
 pub loop-change-preserved : goal.loop-change-preserved
 loop-change-preserved g c =
     MadeSoFar-one_more c.args.next_index c.args.config.now c.args.members.now.items c.args.changes.now c.loop-change.change-index _
-    c.loop-change.config c.apply.new.config c.loop-change.members.items c.follow.new.members.items
-    c.requires.due c.loop-change-test.true c.loop-change.invariant c.in_ok-id_is.ensures.ok c.follow.ensures.ascends
-    (Follows-told c.args.next_index _ c.apply.new.config c.in_ok-id_is.id_is _ _ c.in_ok-id_is.ensures.membership c.in_ok-follow.ensures.entries)
+    c.loop-change.config c.apply.new.config c.loop-change.members.items c.update_member.new.members.items
+    c.requires.expected c.loop-change-test.true c.loop-change.invariant c.in_ok-id_is.ensures.ok c.update_member.ensures.ascends
+    (Follows-told c.args.next_index _ c.apply.new.config c.in_ok-id_is.id_is _ _ c.in_ok-id_is.ensures.membership c.in_ok-update_member.ensures.entries)
 
 pub returns-clause-made : goal.returns-clause-made
 returns-clause-made g c floor =

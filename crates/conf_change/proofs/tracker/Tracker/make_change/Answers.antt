@@ -9,7 +9,7 @@ use Rattle.conf_change.proofs.tracker.Tracker.make_change.Goals as goal
 
 pub returns-clause-ok : goal.returns-clause-ok
 returns-clause-ok g c =
-    let after : TrackerState = tracker_of c.self.inside.floor c.apply.new.config (finite.from_entries {R = nat_cmp} c.follow.new.members.items) in
+    let after : TrackerState = tracker_of c.self.inside.floor c.apply.new.config (finite.from_entries {R = nat_cmp} c.update_member.new.members.items) in
     let P : TrackerState → Type 0 = λ t. Applies c.args.next_index (c.args.change ∷ []) t after in
     subst P c.self.view_is
     (Applies-one c.args.next_index c.args.change _ after (subst IsSound (sym c.self.view_is) c.requires)

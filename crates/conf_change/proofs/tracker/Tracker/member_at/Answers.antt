@@ -6,5 +6,5 @@ use Rattle.conf_change.proofs.tracker.Tracker.member_at.Goals as goal
 
 pub returns : goal.returns
 returns g c =
-    c.copied.ensures ∙ item-copied _ c.args.place _ c.get.ensures.lookup
-    ∙ ap (λ es. slice_get es c.args.place) (c.as_slice.ensures ∙ sym (entries-from_entries _ (ascends-sorted _ c.self.invariant)) ∙ ap (λ t. entries t.progress) c.self.view_is)
+    c.copied.ensures ∙ item-copied _ c.args.position _ c.get.ensures.lookup
+    ∙ ap (λ es. slice_get es c.args.position) (c.as_slice.ensures ∙ sym (entries-from_entries _ (ascends-sorted _ c.self.invariant)) ∙ ap (λ t. entries t.progress) c.self.view_is)

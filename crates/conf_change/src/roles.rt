@@ -1,31 +1,31 @@
-//! What an id is in a configuration.
+//! The roles of an id in a configuration.
 ghost use Rattle.std.specs.Prelude.{◌≡◌};
-ghost use Rattle.conf_change.specs.Seat.{seat_after, is_member_seat, membership_in};
+ghost use Rattle.conf_change.specs.Roles.{roles_after, has_member_role, membership_in};
 
 use crate::change::Kind;
 use crate::config::Config;
 use quorum_sets::MemberSet;
 
-/// In which of the four sets of a configuration an id is.
+/// The roles of an id: in which of the four sets of a configuration it is.
 #[derive(Clone, Copy, Debug)]
-pub(crate) struct Seat {
+pub(crate) struct Roles {
     pub(crate) incoming: bool,
     pub(crate) outgoing: bool,
     pub(crate) learner: bool,
     pub(crate) next: bool,
 }
 
-impl Seat {
-    // What the id is after the last word on it. A learner that is still an outgoing voter waits among the next learners.
-    pub(crate) fn after(self, word: Option<Kind>) -> Seat
-        ensures { result ≡ seat_after self word }
+impl Roles {
+    // The roles after the last effective change of the id. A new learner that is an outgoing voter becomes a next learner.
+    pub(crate) fn after(self, last: Option<Kind>) -> Roles
+        ensures { result ≡ roles_after self last }
     {
-        let kind = match word {
+        let kind = match last {
             None | Some(Kind::Update) => return self,
             Some(kind) => kind,
         };
         let learns = matches!(kind, Kind::Learner);
-        Seat {
+        Roles {
             incoming: matches!(kind, Kind::Voter),
             outgoing: self.outgoing,
             learner: learns && !self.outgoing,
@@ -35,7 +35,7 @@ impl Seat {
 
     // Whether the id is a voter of either kind, or a learner.
     pub(crate) fn is_member(self) -> bool
-        ensures { result ≡ is_member_seat self }
+        ensures { result ≡ has_member_role self }
     {
         self.incoming || self.outgoing || self.learner
     }
@@ -49,7 +49,7 @@ pub(crate) struct Membership {
 }
 
 impl Membership {
-    // What the id is in a configuration.
+    // The membership of an id in a configuration.
     pub(crate) fn of<S: MemberSet>(config: &Config<S>, id: u64) -> Membership
         ensures { result ≡ membership_in config.now id }
     {

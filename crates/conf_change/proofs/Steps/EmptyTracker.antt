@@ -5,7 +5,7 @@ use Rattle.std.specs.Ordering.{nat_cmp}
 use Rattle.std.specs.FinMap as finite
 use Rattle.quorum_sets.proofs.Offered.{has-no_ids, ascending-no_ids}
 use Rattle.conf_change.specs.Configuration.{empty_configuration, is_restorable}
-use Rattle.conf_change.specs.Changer.{IsSound, nobody}
+use Rattle.conf_change.specs.Changer.{IsSound, empty_tracker}
 use Rattle.conf_change.specs.declared.floor.Floor.{Floor}
 use Rattle.conf_change.specs.declared.progress.Progress.{Progress}
 
@@ -18,8 +18,8 @@ no_progress id = finite.get-empty nat_cmp id
 of_none : (o : Option Progress) (P : Progress → Type 0) → o ≡ None → IfSome o P
 of_none o P e = let Q : Option Progress → Type 0 = λ x. IfSome x P in subst Q (sym e) tt
 
-pub nobody-is_sound : (floor : Floor) → IsSound (nobody floor)
-nobody-is_sound floor = record {
+pub empty_tracker-is_sound : (floor : Floor) → IsSound (empty_tracker floor)
+empty_tracker-is_sound floor = record {
   restorable = empty_is_restorable;
   of_members = λ id. ap is_some (no_progress id) ∙ sym (λ i. has-no_ids id i || has-no_ids id i || has-no_ids id i);
   marked = λ id. of_none _ _ (no_progress id);

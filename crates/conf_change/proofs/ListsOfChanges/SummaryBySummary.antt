@@ -11,32 +11,32 @@ use Rattle.quorum_sets.specs.Ids.{Ids, no_ids, has, with_id, ids_where}
 use Rattle.quorum_sets.specs.AscendingLists.{IsAscending}
 use Rattle.quorum_sets.proofs.Offered.{has-no_ids, has-with_id, has-ids_where, has-same_ids}
 use Rattle.conf_change.specs.Configuration.{is_member}
-use Rattle.conf_change.specs.Change.{last_word, is_incoming_after, is_learner_after, is_next_after, result_of}
-use Rattle.conf_change.specs.LastWords.{has_entry, SaysOf, ListsLastWords}
-use Rattle.conf_change.specs.Seat.{seat_in, seat_after, is_member_seat}
+use Rattle.conf_change.specs.Change.{last_effective, is_incoming_after, is_learner_after, is_next_after, result_of}
+use Rattle.conf_change.specs.ChangeSummary.{has_entry, Summarizes, ListsSummaries}
+use Rattle.conf_change.specs.Roles.{roles_in, roles_after, has_member_role}
 use Rattle.conf_change.specs.TrackerState.{TrackerState}
-use Rattle.conf_change.specs.TrackerEdits.{beginning, entry_of, progress_left, progress_left_by_word, entries_of, Applies}
+use Rattle.conf_change.specs.TrackerEdits.{beginning, entry_of, progress_left, progress_left_after, entries_of, Applies}
 use Rattle.conf_change.specs.Changer.{IsSound, tracker_of}
 use Rattle.conf_change.specs.declared.change.Change.{Change}
 use Rattle.conf_change.specs.declared.change.Kind.{Kind}
 use Rattle.conf_change.specs.declared.floor.Floor.{Floor}
-use Rattle.conf_change.specs.declared.last_words.LastWord.{LastWord}
+use Rattle.conf_change.specs.declared.change_summary.ChangeSummary.{ChangeSummary}
 use Rattle.conf_change.specs.declared.progress.Progress.{Progress}
-use Rattle.conf_change.specs.declared.seat.Seat.{Seat}
+use Rattle.conf_change.specs.declared.roles.Roles.{Roles}
 use Rattle.conf_change.proofs.ListsOfChanges.JoinedEntries.{ids, ids-at}
 use Rattle.conf_change.proofs.MemberProgress.Picked.{picked, get-picked, keys-get, ascends-picked_ids}
-use Rattle.conf_change.proofs.ListsOfChanges.ResultOfEach.{has-incoming_after, has-learners_after, has-next_after, configuration-by_members, last_word-is_named}
+use Rattle.conf_change.proofs.ListsOfChanges.ResultOfEach.{has-incoming_after, has-learners_after, has-next_after, configuration-by_members, last_effective-is_named}
 use Rattle.conf_change.proofs.Configurations.Validity.{ValidByMember-from_is_valid}
 
 -- ---- what each id is then
 abbrev pub incoming_then : TrackerState → List Change → ℕ → Bool
-incoming_then t xs q = is_incoming_after (last_word xs q) (has t.config.incoming q)
+incoming_then t xs q = is_incoming_after (last_effective xs q) (has t.config.incoming q)
 
 abbrev pub learner_then : TrackerState → List Change → ℕ → Bool
-learner_then t xs q = is_learner_after (last_word xs q) (has t.config.outgoing q) (has t.config.learners q)
+learner_then t xs q = is_learner_after (last_effective xs q) (has t.config.outgoing q) (has t.config.learners q)
 
 abbrev pub next_then : TrackerState → List Change → ℕ → Bool
-next_then t xs q = is_next_after (last_word xs q) (has t.config.outgoing q) (has t.config.learners_next q)
+next_then t xs q = is_next_after (last_effective xs q) (has t.config.outgoing q) (has t.config.learners_next q)
 
 abbrev pub member_then : TrackerState → List Change → ℕ → Bool
 member_then t xs q = incoming_then t xs q || has t.config.outgoing q || learner_then t xs q
@@ -98,25 +98,25 @@ where_more p passed x s after was is =
     ∙ one_more (p x) (q == x) (list_any (λ y. q == y) passed) (p q) (λ e. ap p (eqb-true q x e))
     ∙ sym (has-ids_where p (passed ++ x ∷ []) q ∙ ap (λ b. p q && b) (list_any-append (λ y. q == y) passed (x ∷ []))))
 
-pub walked-one_more : (next_index : ℕ) (t : TrackerState) (xs : List Change) (words : List LastWord) (k : ℕ) (d : LastWord)
-    (incoming learners next incoming' learners' next' : Ids) (members members' : List (ℕ × Progress)) (sat seat : Seat) (entry : Option Progress)
-    → k < length words → SaysOf xs (get_or words k d) → WalkedSoFar next_index t xs (take k (ids words)) incoming learners next members
-    → (let w = get_or words k d in
-    sat ≡ seat_in t.config w.id → seat ≡ seat_after sat w.last
-    → incoming' ≡ cond seat.incoming (with_id incoming w.id) incoming
-    → learners' ≡ cond seat.learner (with_id learners w.id) learners
-    → next' ≡ cond seat.next (with_id next w.id) next
-    → entry ≡ entry_of next_index (is_member_seat seat) seat.learner (progress_left_by_word w.removes seat.outgoing (finite.get t.progress w.id))
+pub walked-one_more : (next_index : ℕ) (t : TrackerState) (xs : List Change) (summaries : List ChangeSummary) (k : ℕ) (d : ChangeSummary)
+    (incoming learners next incoming' learners' next' : Ids) (members members' : List (ℕ × Progress)) (sat roles : Roles) (entry : Option Progress)
+    → k < length summaries → Summarizes xs (get_or summaries k d) → WalkedSoFar next_index t xs (take k (ids summaries)) incoming learners next members
+    → (let w = get_or summaries k d in
+    sat ≡ roles_in t.config w.id → roles ≡ roles_after sat w.last
+    → incoming' ≡ cond roles.incoming (with_id incoming w.id) incoming
+    → learners' ≡ cond roles.learner (with_id learners w.id) learners
+    → next' ≡ cond roles.next (with_id next w.id) next
+    → entry ≡ entry_of next_index (has_member_role roles) roles.learner (progress_left_after w.removes roles.outgoing (finite.get t.progress w.id))
     → members' ≡ members ++ entries_of w.id entry
-    → WalkedSoFar next_index t xs (take (k + 1) (ids words)) incoming' learners' next' members')
-walked-one_more next_index t xs words k d incoming learners next incoming' learners' next' members members' sat seat entry within says so_far sat_is seat_is i l n entry_is m =
-    let w = get_or words k d in
-    let passed = take k (ids words) in
-    let s : seat ≡ seat_after (seat_in t.config w.id) (last_word xs w.id) = seat_is ∙ (λ j. seat_after (sat_is j) (says.last j)) in
+    → WalkedSoFar next_index t xs (take (k + 1) (ids summaries)) incoming' learners' next' members')
+walked-one_more next_index t xs summaries k d incoming learners next incoming' learners' next' members members' sat roles entry within summarizes so_far sat_is seat_is i l n entry_is m =
+    let w = get_or summaries k d in
+    let passed = take k (ids summaries) in
+    let s : roles ≡ roles_after (roles_in t.config w.id) (last_effective xs w.id) = seat_is ∙ (λ j. roles_after (sat_is j) (summarizes.last j)) in
     let e : entry ≡ entry_then next_index t xs w.id =
-    entry_is ∙ (λ j. entry_of next_index (is_member_seat (s j)) (s j).learner (progress_left_by_word (says.removal j) (s j).outgoing (finite.get t.progress w.id))) in
-    let long : length (ids words) ≡ length words = length-map words (λ v. v.id) in
-    let more : take (k + 1) (ids words) ≡ passed ++ w.id ∷ [] = take_more (ids words) k 0 (subst (λ z. k < z) (sym long) within) ∙ ap (λ x. passed ++ x ∷ []) (ids-at words k d within) in
+    entry_is ∙ (λ j. entry_of next_index (has_member_role (s j)) (s j).learner (progress_left_after (summarizes.removal j) (s j).outgoing (finite.get t.progress w.id))) in
+    let long : length (ids summaries) ≡ length summaries = length-map summaries (λ v. v.id) in
+    let more : take (k + 1) (ids summaries) ≡ passed ++ w.id ∷ [] = take_more (ids summaries) k 0 (subst (λ z. k < z) (sym long) within) ∙ ap (λ x. passed ++ x ∷ []) (ids-at summaries k d within) in
     subst (λ p. WalkedSoFar next_index t xs p incoming' learners' next' members') (sym more) (record {
       incoming_is = where_more (incoming_then t xs) passed w.id incoming incoming' so_far.incoming_is (i ∙ ap (λ v. cond v.incoming (with_id incoming w.id) incoming) s);
       learners_are = where_more (learner_then t xs) passed w.id learners learners' so_far.learners_are (l ∙ ap (λ v. cond v.learner (with_id learners w.id) learners) s);
@@ -125,7 +125,7 @@ walked-one_more next_index t xs words k d incoming learners next incoming' learn
     })
 
 -- ---- at the end
-any-ids : (ws : List LastWord) (q : ℕ) → list_any (λ x. q == x) (ids ws) ≡ has_entry ws q
+any-ids : (ws : List ChangeSummary) (q : ℕ) → list_any (λ x. q == x) (ids ws) ≡ has_entry ws q
 any-ids [] q = refl
 any-ids (w ∷ ws) q = ap (λ b. (q == w.id) || b) (any-ids ws q)
 
@@ -146,55 +146,55 @@ settled false true p f = ap (λ b. cond b (Some p) None) (f refl)
 settled false false p f = refl
 
 -- an id that has a last word, or was a member, has an entry
-record Covers (before : TrackerState) (xs : List Change) (words : List LastWord) : Type 0 where
-  named : (q : ℕ) (kind : Kind) → last_word xs q ≡ Some kind → has_entry words q ≡ true
-  known : (q : ℕ) → is_member before.config q ≡ true → has_entry words q ≡ true
+record Covers (before : TrackerState) (xs : List Change) (summaries : List ChangeSummary) : Type 0 where
+  named : (q : ℕ) (kind : Kind) → last_effective xs q ≡ Some kind → has_entry summaries q ≡ true
+  known : (q : ℕ) → is_member before.config q ≡ true → has_entry summaries q ≡ true
 
-covers : (before : TrackerState) (es : List (ℕ × Progress)) (xs : List Change) (words : List LastWord) → IsSound before → finite.from_entries {R = nat_cmp} es ≡ before.progress
-    → ListsLastWords (map (λ m. m.0) es) xs words → Covers before xs words
-covers before es xs words sound same lists = record {
-  named = λ q kind e. lists.entries q ∙ or_right (list_any (λ id. q == id) (map (λ m. m.0) es)) _ (sym (any-named xs q) ∙ last_word-is_named xs q kind e);
+covers : (before : TrackerState) (es : List (ℕ × Progress)) (xs : List Change) (summaries : List ChangeSummary) → IsSound before → finite.from_entries {R = nat_cmp} es ≡ before.progress
+    → ListsSummaries (map (λ m. m.0) es) xs summaries → Covers before xs summaries
+covers before es xs summaries sound same lists = record {
+  named = λ q kind e. lists.entries q ∙ or_right (list_any (λ id. q == id) (map (λ m. m.0) es)) _ (sym (any-named xs q) ∙ last_effective-is_named xs q kind e);
   known = λ q e.
       lists.entries q
       ∙ or_left _ (list_any (λ change. q == change.id) xs) (sym (keys-get es q) ∙ ap (λ m. is_some (finite.get m q)) same ∙ sound.of_members q ∙ e);
 }
 
-covered_by : (before : TrackerState) (xs : List Change) (words : List LastWord) → Covers before xs words → (q : ℕ) (f : Option Kind → Bool) → (f None ≡ true → is_member before.config q ≡ true)
-    → (o : Option Kind) → last_word xs q ≡ o → f o ≡ true → has_entry words q ≡ true
-covered_by before xs words c q f was None e d = c.known q (was d)
-covered_by before xs words c q f was (Some kind) e d = c.named q kind e
+covered_by : (before : TrackerState) (xs : List Change) (summaries : List ChangeSummary) → Covers before xs summaries → (q : ℕ) (f : Option Kind → Bool) → (f None ≡ true → is_member before.config q ≡ true)
+    → (o : Option Kind) → last_effective xs q ≡ o → f o ≡ true → has_entry summaries q ≡ true
+covered_by before xs summaries c q f was None e d = c.known q (was d)
+covered_by before xs summaries c q f was (Some kind) e d = c.named q kind e
 
-pub walked-applies : (next_index : ℕ) (before : TrackerState) (floor : Floor) (outgoing : Ids) (auto_leave : Bool) (es : List (ℕ × Progress)) (xs : List Change) (words : List LastWord) (k : ℕ)
+pub walked-applies : (next_index : ℕ) (before : TrackerState) (floor : Floor) (outgoing : Ids) (auto_leave : Bool) (es : List (ℕ × Progress)) (xs : List Change) (summaries : List ChangeSummary) (k : ℕ)
     (incoming learners next : Ids) (members : List (ℕ × Progress))
     → IsSound before → floor ≡ before.floor → ((q : ℕ) → has outgoing q ≡ true → is_member before.config q ≡ true) → finite.from_entries {R = nat_cmp} es ≡ before.progress
-    → ListsLastWords (map (λ m. m.0) es) xs words → length words ≤ k
-    → WalkedSoFar next_index (beginning before outgoing auto_leave) xs (take k (ids words)) incoming learners next members
+    → ListsSummaries (map (λ m. m.0) es) xs summaries → length summaries ≤ k
+    → WalkedSoFar next_index (beginning before outgoing auto_leave) xs (take k (ids summaries)) incoming learners next members
     → Applies next_index xs (beginning before outgoing auto_leave)
     (tracker_of floor (record { incoming = incoming; outgoing = outgoing; learners = learners; learners_next = next; auto_leave = auto_leave }) (finite.from_entries members))
-walked-applies next_index before floor outgoing auto_leave es xs words k incoming learners next members sound same_floor inside same lists past so_far =
+walked-applies next_index before floor outgoing auto_leave es xs summaries k incoming learners next members sound same_floor inside same lists past so_far =
     let t = beginning before outgoing auto_leave in
-    let long : length (ids words) ≡ length words = length-map words (λ v. v.id) in
-    let walked = subst (λ p. WalkedSoFar next_index t xs p incoming learners next members) (take_all k (ids words) (subst (λ z. z ≤ k) (sym long) past)) so_far in
-    let c = covers before es xs words sound same lists in
+    let long : length (ids summaries) ≡ length summaries = length-map summaries (λ v. v.id) in
+    let walked = subst (λ p. WalkedSoFar next_index t xs p incoming learners next members) (take_all k (ids summaries) (subst (λ z. z ≤ k) (sym long) past)) so_far in
+    let c = covers before es xs summaries sound same lists in
     let old = before.config in
     let valid = ValidByMember-from_is_valid old (and_parts _ _ sound.restorable).0 in
-    let in_covered : (q : ℕ) → incoming_then t xs q ≡ true → has_entry words q ≡ true =
-    λ q. covered_by before xs words c q (λ o. is_incoming_after o (has old.incoming q)) (λ h. or_left (has old.incoming q || has old.outgoing q) (has old.learners q) (or_left (has old.incoming q) (has old.outgoing q) h)) (last_word xs q) refl in
-    let learner_covered : (q : ℕ) → learner_then t xs q ≡ true → has_entry words q ≡ true =
-    λ q. covered_by before xs words c q (λ o. is_learner_after o (has outgoing q) (has old.learners q)) (λ h. or_right (has old.incoming q || has old.outgoing q) (has old.learners q) h) (last_word xs q) refl in
-    let next_covered : (q : ℕ) → next_then t xs q ≡ true → has_entry words q ≡ true =
-    λ q. covered_by before xs words c q (λ o. is_next_after o (has outgoing q) (has old.learners_next q)) (λ h. or_left (has old.incoming q || has old.outgoing q) (has old.learners q) (or_right (has old.incoming q) (has old.outgoing q) (valid.next_outgoing q h))) (last_word xs q) refl in
-    let member_covered : (q : ℕ) → member_then t xs q ≡ true → has_entry words q ≡ true =
+    let in_covered : (q : ℕ) → incoming_then t xs q ≡ true → has_entry summaries q ≡ true =
+    λ q. covered_by before xs summaries c q (λ o. is_incoming_after o (has old.incoming q)) (λ h. or_left (has old.incoming q || has old.outgoing q) (has old.learners q) (or_left (has old.incoming q) (has old.outgoing q) h)) (last_effective xs q) refl in
+    let learner_covered : (q : ℕ) → learner_then t xs q ≡ true → has_entry summaries q ≡ true =
+    λ q. covered_by before xs summaries c q (λ o. is_learner_after o (has outgoing q) (has old.learners q)) (λ h. or_right (has old.incoming q || has old.outgoing q) (has old.learners q) h) (last_effective xs q) refl in
+    let next_covered : (q : ℕ) → next_then t xs q ≡ true → has_entry summaries q ≡ true =
+    λ q. covered_by before xs summaries c q (λ o. is_next_after o (has outgoing q) (has old.learners_next q)) (λ h. or_left (has old.incoming q || has old.outgoing q) (has old.learners q) (or_right (has old.incoming q) (has old.outgoing q) (valid.next_outgoing q h))) (last_effective xs q) refl in
+    let member_covered : (q : ℕ) → member_then t xs q ≡ true → has_entry summaries q ≡ true =
     λ q m. elim (or_cases (incoming_then t xs q || has outgoing q) (learner_then t xs q) m) [
       | inl first ↦ (elim (or_cases (incoming_then t xs q) (has outgoing q) first) [ inl i ↦ in_covered q i | inr o ↦ c.known q (inside q o) ])
       | inr l ↦ learner_covered q l
     ] in
     let in_is : (q : ℕ) → has incoming q ≡ incoming_then t xs q =
-    λ q. ap (λ s. has s q) walked.incoming_is ∙ has-where (incoming_then t xs) (ids words) q (λ d. any-ids words q ∙ in_covered q d) in
+    λ q. ap (λ s. has s q) walked.incoming_is ∙ has-where (incoming_then t xs) (ids summaries) q (λ d. any-ids summaries q ∙ in_covered q d) in
     let learner_is : (q : ℕ) → has learners q ≡ learner_then t xs q =
-    λ q. ap (λ s. has s q) walked.learners_are ∙ has-where (learner_then t xs) (ids words) q (λ d. any-ids words q ∙ learner_covered q d) in
+    λ q. ap (λ s. has s q) walked.learners_are ∙ has-where (learner_then t xs) (ids summaries) q (λ d. any-ids summaries q ∙ learner_covered q d) in
     let next_is : (q : ℕ) → has next q ≡ next_then t xs q =
-    λ q. ap (λ s. has s q) walked.next_are ∙ has-where (next_then t xs) (ids words) q (λ d. any-ids words q ∙ next_covered q d) in
+    λ q. ap (λ s. has s q) walked.next_are ∙ has-where (next_then t xs) (ids summaries) q (λ d. any-ids summaries q ∙ next_covered q d) in
     record {
       configuration =
           configuration-by_members (record { incoming = incoming; outgoing = outgoing; learners = learners; learners_next = next; auto_leave = auto_leave }) (result_of t.config xs)
@@ -204,15 +204,15 @@ walked-applies next_index before floor outgoing auto_leave es xs words k incomin
       floor = same_floor;
       entries = λ q.
           ap (λ m. finite.get (finite.from_entries {R = nat_cmp} m) q) walked.members_are
-          ∙ get-picked (entry_then next_index t xs) (ids words) q
-          ∙ settled (list_any (λ x. q == x) (ids words)) (member_then t xs q) _ (λ m. any-ids words q ∙ member_covered q m)
+          ∙ get-picked (entry_then next_index t xs) (ids summaries) q
+          ∙ settled (list_any (λ x. q == x) (ids summaries)) (member_then t xs q) _ (λ m. any-ids summaries q ∙ member_covered q m)
           ∙ sym (λ i. entry_of next_index (in_is q i || has outgoing q || learner_is q i) (learner_is q i) (progress_left t xs q));
     }
 
-pub walked-ascends : (next_index : ℕ) (t : TrackerState) (xs : List Change) (words : List LastWord) (k : ℕ) (incoming learners next : Ids) (members : List (ℕ × Progress))
-    → IsAscending (ids words) → length words ≤ k → WalkedSoFar next_index t xs (take k (ids words)) incoming learners next members → IsAscending (map (λ m. m.0) members)
-walked-ascends next_index t xs words k incoming learners next members up past so_far =
-    let long : length (ids words) ≡ length words = length-map words (λ v. v.id) in
-    let all = so_far.members_are ∙ ap (picked (λ q. q) (entry_then next_index t xs)) (take_all k (ids words) (subst (λ z. z ≤ k) (sym long) past)) in
+pub walked-ascends : (next_index : ℕ) (t : TrackerState) (xs : List Change) (summaries : List ChangeSummary) (k : ℕ) (incoming learners next : Ids) (members : List (ℕ × Progress))
+    → IsAscending (ids summaries) → length summaries ≤ k → WalkedSoFar next_index t xs (take k (ids summaries)) incoming learners next members → IsAscending (map (λ m. m.0) members)
+walked-ascends next_index t xs summaries k incoming learners next members up past so_far =
+    let long : length (ids summaries) ≡ length summaries = length-map summaries (λ v. v.id) in
+    let all = so_far.members_are ∙ ap (picked (λ q. q) (entry_then next_index t xs)) (take_all k (ids summaries) (subst (λ z. z ≤ k) (sym long) past)) in
     let Rises : List (ℕ × Progress) → Type 0 = λ ms. IsAscending (map (λ m. m.0) ms) in
-    subst Rises (sym all) (ascends-picked_ids (entry_then next_index t xs) (ids words) up)
+    subst Rises (sym all) (ascends-picked_ids (entry_then next_index t xs) (ids summaries) up)

@@ -1,7 +1,7 @@
 use Rattle.std.proofs.Common.{◌≡◌, sym, ap, subst, ◌∙◌}
 use Rattle.conf_change.specs.ConfState.{ConfStateLists, Describes, lists_of}
 use Rattle.conf_change.proofs.Configurations.DescribedByLists.{Describes-lists_of}
-use Rattle.conf_change.proofs.conf_state_form.conf_state.Goals as goal
+use Rattle.conf_change.proofs.saved_configuration.conf_state.Goals as goal
 
 pub returns-clause-describes : goal.returns-clause-describes
 returns-clause-describes g c =
