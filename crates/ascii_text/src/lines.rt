@@ -32,7 +32,7 @@ pub fn without_end(bytes: &[u8], end: u8) -> &[u8]
     ensures { result.now ≡ without_last end bytes.now }
 {
     match bytes.split_last() {
-        Some((last, front)) => { if *last == end { front } else { bytes } }
+        Some((last, prefix)) => { if *last == end { prefix } else { bytes } }
         None => bytes,
     }
 }

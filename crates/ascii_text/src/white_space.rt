@@ -22,11 +22,11 @@ pub fn without_leading_space(text: &[u8]) -> &[u8]
     ensures { result.now ≡ without_leading_space text.now }
 {
     let mut rest = text;
-    while let Some((first, behind)) = rest.split_first() {
+    while let Some((first, suffix)) = rest.split_first() {
         if !is_space(*first) {
             return rest;
         }
-        rest = behind;
+        rest = suffix;
     }
     rest
 }
@@ -36,11 +36,11 @@ pub fn without_trailing_space(text: &[u8]) -> &[u8]
     ensures { result.now ≡ without_trailing_space text.now }
 {
     let mut rest = text;
-    while let Some((last, front)) = rest.split_last() {
+    while let Some((last, prefix)) = rest.split_last() {
         if !is_space(*last) {
             return rest;
         }
-        rest = front;
+        rest = prefix;
     }
     rest
 }

@@ -43,8 +43,8 @@ has_entry summaries id = list_any (λ summary. id == summary.id) summaries
 
 -- one more summary: joined to the last one if that is of the same id, else appended
 pub record IsEntryAdded (before : List ChangeSummary) (summary : ChangeSummary) (after : List ChangeSummary) : Type 0 where
-  pub cases : ((front : List ChangeSummary) × (last : ChangeSummary) × (before ≡ front ++ last ∷ []) × (last.id ≡ summary.id) × (after ≡ front ++ and_later last summary ∷ []))
-      ⊎ (((front : List ChangeSummary) × (last : ChangeSummary) × (before ≡ front ++ last ∷ []) × (last.id ≢ summary.id) × (after ≡ before ++ summary ∷ []))
+  pub cases : ((prefix : List ChangeSummary) × (last : ChangeSummary) × (before ≡ prefix ++ last ∷ []) × (last.id ≡ summary.id) × (after ≡ prefix ++ and_later last summary ∷ []))
+      ⊎ (((prefix : List ChangeSummary) × (last : ChangeSummary) × (before ≡ prefix ++ last ∷ []) × (last.id ≢ summary.id) × (after ≡ before ++ summary ∷ []))
       ⊎ ((before ≡ []) × (after ≡ summary ∷ [])))
 
 -- one summary per id, in ascending order, is equivalent to the summaries in order

@@ -127,19 +127,19 @@ pub fn write_token_fault(text: &mut Vec<u8>, fault: TokenFault<'_>) -> Result<()
 }
 
 // Appends a message and its token, or nothing.
-fn append_both(text: &mut Vec<u8>, words: &[u8], token: &[u8]) -> Result<(), NoMemory>
-    ensures ok { OnOk result (text.new.items ≡ text.old.items ++ (words.now ++ token.now)) }
+fn append_both(text: &mut Vec<u8>, message: &[u8], token: &[u8]) -> Result<(), NoMemory>
+    ensures ok { OnOk result (text.new.items ≡ text.old.items ++ (message.now ++ token.now)) }
     ensures err { OnErr result (text.new.items ≡ text.old.items) }
 {
     let len = text.len();
-    let appended = append_parts(text, words, token);
+    let appended = append_parts(text, message, token);
     keep_whole(text, len, appended)
 }
 
-fn append_parts(text: &mut Vec<u8>, words: &[u8], token: &[u8]) -> Result<(), NoMemory>
-    ensures ok { OnOk result (text.new.items ≡ text.old.items ++ (words.now ++ token.now)) }
+fn append_parts(text: &mut Vec<u8>, message: &[u8], token: &[u8]) -> Result<(), NoMemory>
+    ensures ok { OnOk result (text.new.items ≡ text.old.items ++ (message.now ++ token.now)) }
     ensures extends { Extends text.old.items text.new.items }
 {
-    append(text, words)?;
+    append(text, message)?;
     append(text, token)
 }

@@ -3,7 +3,7 @@ use Rattle.std.specs.Prelude.{ℕ, Bool, ◌==◌, List, [], ◌∷◌, ◌++◌
 use Rattle.ascii_text.specs.Lines.{newline}
 use Rattle.conf_change.specs.Configuration.{Configuration}
 use Rattle.conf_change.specs.Outcome.{Outcome, outcome}
-use Rattle.conf_change.specs.ChangeList.{BadToken, changes_in, changes_in_words}
+use Rattle.conf_change.specs.ChangeList.{BadToken, changes_in, changes_in_tokens}
 use Rattle.ascii_text.specs.Words.{words}
 use Rattle.conf_change.specs.Text.{config_text, refused_text, bad_token_text}
 use Rattle.conf_change.specs.declared.change.Change.{Change}
@@ -30,7 +30,7 @@ reply_to_changes c (Err bad) = text_alone c (bad_token_text bad)
 
 -- the answer to a word, which spells a change or none
 abbrev pub reply_to_word : Configuration → List ℕ → LineReply
-reply_to_word c word = reply_to_changes c (changes_in_words (word ∷ []))
+reply_to_word c word = reply_to_changes c (changes_in_tokens (word ∷ []))
 
 -- the line has one word
 abbrev pub has_one_word : List ℕ → Bool

@@ -28,7 +28,7 @@ answered_entries session (item ∷ items) = entry item (found_for session item) 
 
 -- the items, each with what is found, as they are written again
 abbrev pub obeyed_text : SessionState → List Item → List ℕ
-obeyed_text session items = flat_map (λ (entry : Entry). entry_text entry.item entry.found) (answered_entries session items)
+obeyed_text session items = flat_map (λ (entry : Entry). entry_text entry.item entry.output) (answered_entries session items)
 
 -- it is a directive whose expected text is another
 abbrev pub expects_other : List ℕ → Item → Bool
@@ -38,7 +38,7 @@ expects_other found (Directive directive) = not (bytes_eq found directive.expect
 
 -- an entry differs: its directive expects another text
 abbrev pub differs : Entry → Bool
-differs entry = expects_other entry.found entry.item
+differs entry = expects_other entry.output entry.item
 
 -- each line of a text behind a sign
 abbrev pub marked : List ℕ → List ℕ → List ℕ
@@ -57,7 +57,7 @@ report_of found (Directive directive) = if not (bytes_eq found directive.expecte
 
 -- the report on an entry: nothing, unless it differs
 abbrev pub report : Entry → List ℕ
-report entry = report_of entry.found entry.item
+report entry = report_of entry.output entry.item
 
 -- how many directives there are, and how many differ
 abbrev pub counts_line : ℕ → ℕ → List ℕ

@@ -119,14 +119,14 @@ pub record AddsIn (phase : Phase) (old new : DraftText) (line : List ℕ) : Type
   pub first : new.line ≡ old.line
 
 -- the result for an item or its error
-abbrev pub found_in_item : Result Item FileFault → Result (Option Item) FileFault
-found_in_item (Ok item) = Ok (Some item)
-found_in_item (Err fault) = Err fault
+abbrev pub item_result : Result Item FileFault → Result (Option Item) FileFault
+item_result (Ok item) = Ok (Some item)
+item_result (Err fault) = Err fault
 
 -- the result for the item of some lines, if there is one
-abbrev pub found_of : Option FirstItem → Result (Option Item) FileFault
-found_of None = Ok None
-found_of (Some item) = found_in_item item.found
+abbrev pub result_of_first : Option FirstItem → Result (Option Item) FileFault
+result_of_first None = Ok None
+result_of_first (Some item) = item_result item.result
 
 -- an error that an item from line n on may have
 abbrev pub IsDraftFault : ℕ → FileFault → Type 0

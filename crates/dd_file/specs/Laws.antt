@@ -31,35 +31,35 @@ abbrev pub SameButEnds : List (List ℕ) → List (List ℕ) → Type 0
 SameButEnds lines others = map without_trailing_space lines ≡ map without_trailing_space others
 
 -- the directive was read back, at line n and with this expected output
-pub record IsSameDirective (n : ℕ) (found : List ℕ) (directive again : DirectiveText) : Type 0 where
+pub record IsSameDirective (n : ℕ) (output : List ℕ) (directive again : DirectiveText) : Type 0 where
   pub line : again.line ≡ n
   pub command : again.command ≡ directive.command
   pub arguments : again.arguments ≡ directive.arguments
   pub input : SameButEnds (lines_of again.input) (lines_of directive.input)
-  pub expected : again.expected ≡ found
+  pub expected : again.expected ≡ output
   pub raw_lines : SameButEnds again.raw_lines directive.raw_lines
 
 -- the item was read back, at line n; a directive has this expected output
 abbrev pub IsSameItem : ℕ → List ℕ → Item → Item → Type 0
-IsSameItem n found (Comment lines) again = (others : List (List ℕ)) × (again ≡ Comment others) × SameButEnds others lines
-IsSameItem n found (Blank lines) again = (others : List (List ℕ)) × (again ≡ Blank others) × SameButEnds others lines
-IsSameItem n found (Directive directive) again = (other : DirectiveText) × (again ≡ Directive other) × IsSameDirective n found directive other
+IsSameItem n output (Comment lines) again = (others : List (List ℕ)) × (again ≡ Comment others) × SameButEnds others lines
+IsSameItem n output (Blank lines) again = (others : List (List ℕ)) × (again ≡ Blank others) × SameButEnds others lines
+IsSameItem n output (Directive directive) again = (other : DirectiveText) × (again ≡ Directive other) × IsSameDirective n output directive other
 
 -- An item of a script that is written with an actual output is read back as that item, whatever lines follow, and those lines
 -- are left.
 abbrev pub WrittenItem : Type 0
 WrittenItem =
-    (n m count : ℕ) (is_ended : Bool) (lines more : List (List ℕ)) (item : Item) (found : List ℕ) →
-    list_all is_line lines ≡ true → is_output found ≡ true → first_of n lines ≡ Some (first_item (Ok item) count is_ended) →
-    (again : Item) × (first_of m (lines_of (entry_text item found) ++ more) ≡ Some (first_item (Ok again) (length (lines_of (entry_text item found))) true)) × IsSameItem m found item again
+    (n m count : ℕ) (is_ended : Bool) (lines more : List (List ℕ)) (item : Item) (output : List ℕ) →
+    list_all is_line lines ≡ true → is_output output ≡ true → first_of n lines ≡ Some (first_item (Ok item) count is_ended) →
+    (again : Item) × (first_of m (lines_of (entry_text item output) ++ more) ≡ Some (first_item (Ok again) (length (lines_of (entry_text item output))) true)) × IsSameItem m output item again
 
 -- The entries are read back item by item, each with its actual output as the expected one. A blank of one empty line at the
 -- end may be missing.
 pub data AreReadAgain : List Entry → List Item → Type 0 where
   AreOver : AreReadAgain [] []
-  LastIsRemoved : (found : List ℕ) → AreReadAgain (entry (Blank ([] ∷ [])) found ∷ []) []
-  ReadAgain : (n : ℕ) (item again : Item) (found : List ℕ) (entries : List Entry) (items : List Item) →
-      IsSameItem n found item again → AreReadAgain entries items → AreReadAgain (entry item found ∷ entries) (again ∷ items)
+  LastIsRemoved : (output : List ℕ) → AreReadAgain (entry (Blank ([] ∷ [])) output ∷ []) []
+  ReadAgain : (n : ℕ) (item again : Item) (output : List ℕ) (entries : List Entry) (items : List Item) →
+      IsSameItem n output item again → AreReadAgain entries items → AreReadAgain (entry item output ∷ entries) (again ∷ items)
 
 -- the last item is a blank of several lines
 abbrev pub ends_in_long_blank : List Item → Bool
@@ -100,7 +100,7 @@ abbrev pub WrittenScript : Type 0
 WrittenScript =
     (entries : List Entry) →
     let items = map (λ entry. entry.item) entries in
-    AreGiven items → list_all (λ entry. is_output entry.found) entries ≡ true → ends_in_long_blank items ≡ false →
+    AreGiven items → list_all (λ entry. is_output entry.output) entries ≡ true → ends_in_long_blank items ≡ false →
     length (rewritten_text entries) ≤ longest_input →
     let again = script_of (rewritten_text entries) in (again.fault ≡ None) × AreReadAgain entries again.items
 
@@ -122,7 +122,7 @@ has_separator count (Err fault) = false
 -- The lines from number n on are complete: they are items without an error, and each directive has its separator.
 pub data IsComplete : ℕ → List (List ℕ) → Type 0 where
   Done : (n : ℕ) → IsComplete n []
-  More : (n : ℕ) (lines : List (List ℕ)) (item : FirstItem) → first_of n lines ≡ Some item → has_separator item.count item.found ≡ true →
+  More : (n : ℕ) (lines : List (List ℕ)) (item : FirstItem) → first_of n lines ≡ Some item → has_separator item.count item.result ≡ true →
       IsComplete (n + item.count) (drop item.count lines) → IsComplete n lines
 
 -- complete by the first item of the lines: it has its separator and complete lines follow; an error is not complete
@@ -133,7 +133,7 @@ IsCompleteWith n lines count (Err fault) = ⊥
 -- complete by the first item of the lines, if there is one
 abbrev pub IsCompleteBy : ℕ → List (List ℕ) → Option FirstItem → Type 0
 IsCompleteBy n lines None = ⊤
-IsCompleteBy n lines (Some item) = IsCompleteWith n lines item.count item.found
+IsCompleteBy n lines (Some item) = IsCompleteWith n lines item.count item.result
 
 -- lines are complete exactly if they are complete by their first item
 abbrev pub CompleteByFirst : Type 0

@@ -24,10 +24,10 @@ full_lines_within limit position bytes =
     if is_too_long limit position bytes then filter is_whole (full_lines (take (limit - position.bytes) bytes)) else full_lines bytes
 
 -- the next item or line is made of the first count full lines
-abbrev pub found_in : {A : Type 0} → ℕ → A → Position → List ℕ → Next A
-found_in count found position bytes =
+abbrev pub next_of_lines : {A : Type 0} → ℕ → A → Position → List ℕ → Next A
+next_of_lines count result position bytes =
     let taken = length (concat (take count (full_lines bytes))) in
-    Found found (record { lines = position.lines + count; bytes = position.bytes + taken }) (drop taken bytes)
+    Found result (record { lines = position.lines + count; bytes = position.bytes + taken }) (drop taken bytes)
 
 -- nothing is left, or the limit is exceeded
 abbrev pub at_end : {A : Type 0} → Bool → Position → Next A
@@ -36,14 +36,14 @@ at_end false position = Over
 
 -- the next item, or its error
 abbrev pub with_count : ℕ → Result Item FileFault → Position → List ℕ → Next Item
-with_count count (Ok item) position bytes = found_in count item position bytes
+with_count count (Ok item) position bytes = next_of_lines count item position bytes
 with_count count (Err fault) position bytes = Faulty fault
 
 -- the next item by the first item of the lines; beyond the limit, only an item that is ended within it is read
 abbrev pub from_first_item : Bool → Option FirstItem → Position → List ℕ → Next Item
 from_first_item too_long None position bytes = at_end too_long position
 from_first_item too_long (Some item) position bytes =
-    if too_long && not item.is_ended then at_end true position else with_count item.count item.found position bytes
+    if too_long && not item.is_ended then at_end true position else with_count item.count item.result position bytes
 
 -- the next item of the bytes from this position on
 abbrev pub next_item : ℕ → Position → List ℕ → Next Item
@@ -53,7 +53,7 @@ next_item limit position bytes =
 -- the next line by the full lines that are left
 abbrev pub from_full_lines : Bool → List (List ℕ) → Position → List ℕ → Next (List ℕ)
 from_full_lines too_long [] position bytes = at_end too_long position
-from_full_lines too_long (full_line ∷ more) position bytes = found_in 1 (line_of full_line) position bytes
+from_full_lines too_long (full_line ∷ more) position bytes = next_of_lines 1 (line_of full_line) position bytes
 
 -- the next line of the bytes from this position on
 abbrev pub next_line : ℕ → Position → List ℕ → Next (List ℕ)

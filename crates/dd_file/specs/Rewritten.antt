@@ -43,7 +43,7 @@ closing false = newline
 
 -- an output with its separator
 abbrev pub output_text : List ℕ → List ℕ
-output_text found = (opening (has_blank_line found) ++ found) ++ closing (has_blank_line found)
+output_text output = (opening (has_blank_line output) ++ output) ++ closing (has_blank_line output)
 
 -- a line that an output may have: not four dashes, and no carriage return at its end
 abbrev pub is_output_line : List ℕ → Bool
@@ -55,7 +55,7 @@ is_output text = (length text == 0 || ends_with nat_eq text newline) && list_all
 
 -- an item with its actual output, which only a directive has
 abbrev pub entry_text : Item → List ℕ → List ℕ
-entry_text item found = kept_text item ++ (if is_directive item then output_text found else [])
+entry_text item output = kept_text item ++ (if is_directive item then output_text output else [])
 
 -- the text without its last newline if it ends in two
 abbrev pub without_double_end : List ℕ → List ℕ
@@ -64,15 +64,15 @@ without_double_end text = if ends_with nat_eq text (newline ++ newline) then wit
 -- an item with its actual output
 pub record Entry : Type 0 where
   pub item : Item
-  pub found : List ℕ
+  pub output : List ℕ
 
 -- an entry by its parts
 abbrev pub entry : Item → List ℕ → Entry
-entry item found = record { item = item; found = found }
+entry item output = record { item = item; output = output }
 
 -- the text of a rewritten script
 abbrev pub rewritten_text : List Entry → List ℕ
-rewritten_text entries = without_double_end (flat_map (λ entry. entry_text entry.item entry.found) entries)
+rewritten_text entries = without_double_end (flat_map (λ entry. entry_text entry.item entry.output) entries)
 
 -- how many newlines end a text: 0, 1, or 2 for two and more
 abbrev pub newlines_at_end : List ℕ → ℕ

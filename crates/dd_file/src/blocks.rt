@@ -56,9 +56,9 @@ impl<W: Sink> Blocks<W> {
             return Err(DeviceFault);
         }
         let waiting = &self.block[self.written..];
-        let wanted = waiting.len();
+        let total = waiting.len();
         let count = write_prefix(&mut self.writer, waiting);
-        if count < wanted {
+        if count < total {
             self.written += count;
             return Err(DeviceFault);
         }

@@ -2,7 +2,7 @@
 ghost use Rattle.std.specs.Prelude.{◌≡◌, ◌<◌, ◌+◌, ◌^◌, [], ◌∷◌, ◌++◌, true, false, length, IfOk, IfErr, OnOk};
 ghost use Rattle.std.specs.List.{list_all};
 ghost use Rattle.dd_file.specs.Script.{is_continued};
-ghost use Rattle.dd_file.specs.Draft.{blank_draft, counted, Fits, FitsIn, AddsIn, phase_after_directive_line, begins_directive, first_item_of, found_of, is_done, ends_in_dashes, IsDraftFault, at_line};
+ghost use Rattle.dd_file.specs.Draft.{blank_draft, counted, Fits, FitsIn, AddsIn, phase_after_directive_line, begins_directive, first_item_of, result_of_first, is_done, ends_in_dashes, IsDraftFault, at_line};
 
 use crate::command::{Command, parse_command};
 use crate::fault::FileFault;
@@ -223,7 +223,7 @@ impl Draft {
     pub(crate) fn finish(self) -> Result<Option<Item>, FileFault>
         requires fits { Fits self }
         requires room { self.line + self.count < 2 ^ 62 }
-        ensures found { result ≡ found_of (first_item_of self []) }
+        ensures found { result ≡ result_of_first (first_item_of self []) }
         ensures kind { IfErr result (IsDraftFault self.line) }
     {
         let Draft {

@@ -43,7 +43,7 @@ impl Argument {
 
     /// The argument of a token, which begins with a key of this length.
     pub(crate) fn new(alloc: Global, token: &[u8], key_len: usize) -> Result<Argument, AllocError>
-        requires says { is_argument token.now ≡ true }
+        requires parses { is_argument token.now ≡ true }
         requires key { key_len ≡ prefix_len is_key_byte token.now }
         ensures { IfOk result (λ argument. argument ≡ argument_in token.now) }
     {

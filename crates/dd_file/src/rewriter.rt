@@ -199,7 +199,7 @@ impl Rewriter {
 
     /// Writes the actual output of the directive that was kept last.
     pub fn found<W: Sink>(&mut self, writer: &mut W, text: &[u8]) -> Result<(), WriteFault>
-        requires wanted { IsOutputNext self.old }
+        requires output_next { IsOutputNext self.old }
         requires output { self.old.stage ≡ Stage.NeedsOutput → is_output text.now ≡ true }
         ensures { WritesMore W.contents W.has_failed self.old self.new writer.old writer.new Stage.Ready (output_text text.now) result }
     {
@@ -217,7 +217,7 @@ impl Rewriter {
         writer: &mut W,
         text: &[u8],
     ) -> Result<(), WriteFault>
-        requires wanted { IsOutputNext self.old }
+        requires output_next { IsOutputNext self.old }
         requires output { self.old.stage ≡ Stage.NeedsOutput → is_output text.now ≡ true }
         requires full { has_blank_line text.now ≡ false }
         ensures { WritesMore W.contents W.has_failed self.old self.new writer.old writer.new Stage.Ready (output_text text.now) result }

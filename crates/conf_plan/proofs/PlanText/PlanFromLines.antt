@@ -76,7 +76,7 @@ Tells-step count line lines step (Err (BadLine number)) is h = record {
   line = h.line;
   after = h.after;
   steps = step ∷ h.steps;
-  place = ap (λ ls. line ∷ ls) h.position;
+  place = ap (λ ls. line ∷ ls) h.place;
   counted = omega (arith, h.counted);
   in_first_four = h.in_first_four;
   stand = (is, h.stand);
@@ -87,7 +87,7 @@ Tells-step count line lines step (Err TooManySteps) is h = record {
   fifth = h.fifth;
   after = h.after;
   steps = step ∷ h.steps;
-  place = ap (λ ls. line ∷ ls) h.position;
+  place = ap (λ ls. line ∷ ls) h.place;
   four = omega (arith, h.four);
   stand = (is, h.stand);
 }
@@ -177,10 +177,10 @@ plan_in-ok text steps h = elim h [
 
 pub plan_in-fault : (text : List ℕ) (fault : PlanTextFault) → HasFault text fault → plan_in text ≡ Err fault
 plan_in-fault text (BadLine number) h =
-    plan_in-steps text h.something ∙ ap (steps_in 0) h.position ∙ steps_in-bad 0 number h.before h.steps h.line h.after h.stand (omega (arith, h.counted)) h.in_first_four h.bad
+    plan_in-steps text h.something ∙ ap (steps_in 0) h.place ∙ steps_in-bad 0 number h.before h.steps h.line h.after h.stand (omega (arith, h.counted)) h.in_first_four h.bad
 plan_in-fault text TooManySteps h =
-    let long : ¬ (SaysNothing text) = λ s. omega (arith, ap length (sym s.alone ∙ h.position), length-append h.before (h.fifth ∷ h.after), h.four) in
-    plan_in-steps text long ∙ ap (steps_in 0) h.position ∙ steps_in-long 0 h.before h.steps h.fifth h.after h.stand (omega (arith, h.four))
+    let long : ¬ (SaysNothing text) = λ s. omega (arith, ap length (sym s.alone ∙ h.place), length-append h.before (h.fifth ∷ h.after), h.four) in
+    plan_in-steps text long ∙ ap (steps_in 0) h.place ∙ steps_in-long 0 h.before h.steps h.fifth h.after h.stand (omega (arith, h.four))
 plan_in-fault text NoMemory h = absurd h
 
 -- what an answer says of the text
@@ -195,14 +195,14 @@ TellsOf-lines text something (Err (BadLine number)) h = record {
   line = h.line;
   after = h.after;
   steps = h.steps;
-  place = h.position;
+  place = h.place;
   counted = omega (arith, h.counted);
   in_first_four = h.in_first_four;
   stand = h.stand;
   bad = h.bad;
   something = something;
 }
-TellsOf-lines text something (Err TooManySteps) h = record { before = h.before; fifth = h.fifth; after = h.after; steps = h.steps; place = h.position; four = omega (arith, h.four); stand = h.stand }
+TellsOf-lines text something (Err TooManySteps) h = record { before = h.before; fifth = h.fifth; after = h.after; steps = h.steps; place = h.place; four = omega (arith, h.four); stand = h.stand }
 TellsOf-lines text something (Err NoMemory) h = absurd h
 
 TellsOf-plan_in : (text : List ℕ) → TellsOf text (plan_in text)

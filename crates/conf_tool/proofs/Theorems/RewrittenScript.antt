@@ -28,7 +28,7 @@ found-output stands session (Blank lines) keys = refl
 found-output stands session (Directive directive) keys = (stands session directive keys).output
 
 -- so each text that is found for a script is an output
-pub found-outputs : FoundStands → (session : SessionState) (items : List Item) → list_all item_has_keys items ≡ true → list_all (λ entry. is_output entry.found) (answered_entries session items) ≡ true
+pub found-outputs : FoundStands → (session : SessionState) (items : List Item) → list_all item_has_keys items ≡ true → list_all (λ entry. is_output entry.output) (answered_entries session items) ≡ true
 found-outputs stands session [] keys = refl
 found-outputs stands session (item ∷ items) keys = and-both _ _ (found-output stands session item (and-first _ _ keys)) (found-outputs stands (session_after session item) items (and-second _ _ keys))
 
@@ -58,7 +58,7 @@ clean-items session [] entries again e (ReadAgain n item other found more others
 clean-items session (one ∷ items) entries again e (ReadAgain n item other found more others is read) =
     let begins : entry item found ≡ entry one (found_for session one) = cc in
     let item_is = ap (λ (x : Entry). x.item) begins in
-    let found_is = ap (λ (x : Entry). x.found) begins in
+    let found_is = ap (λ (x : Entry). x.output) begins in
     let clean = clean-item session n one other (subst (λ text. IsSameItem n text one other) found_is (subst (λ i. IsSameItem n found i other) item_is is)) in
     ap (λ s. differs (entry other (found_for session other)) || list_any differs (answered_entries s others)) clean.after
     ∙ ap (λ b. b || list_any differs (answered_entries (session_after session one) others)) clean.same ∙ clean-items (session_after session one) items more others (cc) read

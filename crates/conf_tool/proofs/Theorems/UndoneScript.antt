@@ -17,7 +17,7 @@ use Rattle.dd_file.specs.DirectiveLine.{ArgumentText}
 use Rattle.dd_file.specs.Rewritten.{Entry, entry, rewritten_text}
 use Rattle.dd_file.specs.declared.item.Item.{Item}
 use Rattle.dd_file.specs.declared.item.Item.TheVariants.{Comment, Blank, Directive}
-use Rattle.conf_change.specs.ChangeList.{BadToken, letter_of, changes_in, changes_in_words}
+use Rattle.conf_change.specs.ChangeList.{BadToken, letter_of, changes_in, changes_in_tokens}
 use Rattle.conf_change.specs.Changer.{ChangerState, Accepts, moved_to, moved_by, changer_after}
 use Rattle.conf_change.specs.Configuration.{Configuration}
 use Rattle.conf_change.specs.Step.{changes_of}
@@ -87,7 +87,7 @@ words-of_input change changes =
 
 changes-of_input : (changes : List Change) → changes_in (join_with_byte 32 (map change_text changes)) ≡ Ok changes → changes_in (input_of changes) ≡ Ok changes
 changes-of_input [] read = read
-changes-of_input (change ∷ changes) read = ap changes_in_words (words-of_input change changes) ∙ read
+changes-of_input (change ∷ changes) read = ap changes_in_tokens (words-of_input change changes) ∙ read
 
 -- ---- a session that is given a step's directive takes the step
 abbrev directive_for : Step → DirectiveText

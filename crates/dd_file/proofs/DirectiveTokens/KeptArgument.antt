@@ -18,12 +18,12 @@ is_some-option_map f (Some x) = refl
 record Said (token : List ℕ) (argument : ArgumentText) : Type 0 where
   key : argument.key ≡ take (key_len token) token
   values : argument.values ≡ values_after (drop (key_len token) token)
-  says : has_values (drop (key_len token) token) ≡ true
+  parses : has_values (drop (key_len token) token) ≡ true
 
 said-by : (token : List ℕ) → is_argument token ≡ true → Said token (argument_in token)
-said-by token says = at (key_len token == 0) refl (drop (key_len token) token) refl where
+said-by token parses = at (key_len token == 0) refl (drop (key_len token) token) refl where
   refused : argument_of token ≡ None → ⊥
-  refused none = let e : is_some {T = ArgumentText} None ≡ true = sym (ap is_some none) ∙ says in absurd (search rules)
+  refused none = let e : is_some {T = ArgumentText} None ≡ true = sym (ap is_some none) ∙ parses in absurd (search rules)
 
   from : (argument : ArgumentText) → Some argument ≡ argument_of token → argument ≡ argument_in token
   from argument is = ap (λ o. unwrap_or o (with_key [] [])) is
@@ -33,7 +33,7 @@ said-by token says = at (key_len token == 0) refl (drop (key_len token) token) r
       let argument = from (with_key (take (key_len token) token) values) (sym (ap (option_map (with_key (take (key_len token) token))) is) ∙ argument_of-values token b text some cut equals) in record {
         key = ap (λ (a : ArgumentText). a.key) (sym argument);
         values = ap (λ (a : ArgumentText). a.values) (sym argument) ∙ sym (ap values_after cut ∙ ap (λ o. unwrap_or o []) is);
-        says = ap has_values cut ∙ ap is_some is;
+        parses = ap has_values cut ∙ ap is_some is;
       }
   valued b text some cut true equals None is =
       absurd (refused (sym (sym (ap (option_map (with_key (take (key_len token) token))) is) ∙ argument_of-values token b text some cut equals)))
@@ -54,15 +54,15 @@ said-by token says = at (key_len token == 0) refl (drop (key_len token) token) r
       let argument = from (with_key token []) (argument_of-alone token filled cut) in record {
         key = ap (λ (a : ArgumentText). a.key) (sym argument) ∙ sym whole;
         values = ap (λ (a : ArgumentText). a.values) (sym argument) ∙ sym (ap values_after cut);
-        says = ap has_values cut;
+        parses = ap has_values cut;
       }
   at false some (b ∷ text) cut = valued b text some cut (is_equals b) refl (values_of text) refl
 
 pub argument_in-key : (token : List ℕ) → is_argument token ≡ true → (argument_in token).key ≡ take (key_len token) token
-argument_in-key token says = (said-by token says).key
+argument_in-key token parses = (said-by token parses).key
 
 pub argument_in-values : (token : List ℕ) → is_argument token ≡ true → (argument_in token).values ≡ values_after (drop (key_len token) token)
-argument_in-values token says = (said-by token says).values
+argument_in-values token parses = (said-by token parses).values
 
-pub argument_in-says : (token : List ℕ) → is_argument token ≡ true → has_values (drop (key_len token) token) ≡ true
-argument_in-says token says = (said-by token says).says
+pub argument_in-parses : (token : List ℕ) → is_argument token ≡ true → has_values (drop (key_len token) token) ≡ true
+argument_in-parses token parses = (said-by token parses).parses

@@ -60,7 +60,7 @@ read-keys : (item : Item) → ReadItem item → item_has_keys item ≡ true
 read-keys item (ReadComment line are comment) = refl
 read-keys item (ReadBlank line are comment blank) = refl
 read-keys item (ReadBlankHead line rest is are blank) = refl
-read-keys item (ReadDirective n command line rest input expected is says command_is none are) = command_of-keys (tokens_of (joined (line ∷ rest))) command command_is
+read-keys item (ReadDirective n command line rest input expected is parses command_is none are) = command_of-keys (tokens_of (joined (line ∷ rest))) command command_is
 
 pub items-keys : (items : List Item) → AreGiven items → list_all item_has_keys items ≡ true
 items-keys [] are = refl

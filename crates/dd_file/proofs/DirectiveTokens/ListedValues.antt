@@ -51,7 +51,7 @@ up_to-closing (x ∷ xs) ends = at (is_closing x) refl xs refl (up_to-closing xs
 
 -- what a list says
 pub values_of-list : (inside : List ℕ) → is_some (values_of (40 ∷ inside)) ≡ true → unwrap_or (values_of (40 ∷ inside)) [] ≡ listed (take (length inside - 1) inside)
-values_of-list inside says = at (ends_at_closing inside) refl says where
+values_of-list inside parses = at (ends_at_closing inside) refl parses where
   at : (c : Bool) → ends_at_closing inside ≡ c → is_some (cond c (Some (listed (up_to is_closing inside))) None) ≡ true →
       unwrap_or (cond c (Some (listed (up_to is_closing inside))) None) [] ≡ listed (take (length inside - 1) inside)
   at true ends some = ap listed (up_to-closing inside ends)

@@ -268,8 +268,8 @@ token_len-inside (x ∷ xs) = at (is_closing x) refl (token_len-inside xs) where
       each (is_space x) ∙ ap (λ i. suc (token_len (is_opening x || not i) xs)) c ∙ ap (λ i. suc (token_len i xs)) (opens (is_opening x)) ∙ ap suc ih ∙ more ∙ ap (λ m. 1 + n + token_len false (drop m (x ∷ xs))) (sym one)
   at true c ih = let is : x ≡ 41 = search rules in rw is (omega arith)
 
-listed-says : (inside : List ℕ) → is_some (values_of (40 ∷ inside)) ≡ ends_at_closing inside
-listed-says inside = at (ends_at_closing inside) where
+listed-parses : (inside : List ℕ) → is_some (values_of (40 ∷ inside)) ≡ ends_at_closing inside
+listed-parses inside = at (ends_at_closing inside) where
   at : (c : Bool) → is_some (cond c (Some (listed (up_to is_closing inside))) None) ≡ c
   at true = refl
   at false = refl
@@ -281,15 +281,15 @@ values-open inside is =
     let len : token_len true inside ≡ length inside = omega (arith, token_len-inside inside, ap (token_len false) none) in
     let whole : first_token (40 ∷ inside) ≡ 40 ∷ inside = ap (λ k. 40 ∷ take k inside) len ∙ ap (λ l. 40 ∷ l) (take_all (length inside) inside (omega arith)) in
     let last : (p + 1 == length inside) ≡ false = let no : p + 1 ≡ length inside → ⊥ = λ e. omega (arith, e, is) in search rules in
-    ap (λ w. is_some (values_of w)) whole ∙ listed-says inside ∙ sym (ends_at_closing-position inside) ∙ last
+    ap (λ w. is_some (values_of w)) whole ∙ listed-parses inside ∙ sym (ends_at_closing-position inside) ∙ last
 
 -- how far the word of a list goes that is closed
 record Closed (inside : List ℕ) (m : ℕ) : Type 0 where
   len : token_len true inside ≡ position_or_len is_closing inside + (1 + m)
-  says : is_some (values_of (first_token (40 ∷ inside))) ≡ (position_or_len is_closing inside + 1 == position_or_len is_closing inside + (1 + m))
+  parses : is_some (values_of (first_token (40 ∷ inside))) ≡ (position_or_len is_closing inside + 1 == position_or_len is_closing inside + (1 + m))
 
 closed : (inside : List ℕ) → position_or_len is_closing inside < length inside → Closed inside (token_len false (drop (position_or_len is_closing inside + 1) inside))
-closed inside within = record { len = len; says = says } where
+closed inside within = record { len = len; parses = parses } where
   p : ℕ
   p = position_or_len is_closing inside
 
@@ -317,8 +317,8 @@ closed inside within = record { len = len; says = says } where
   count : length (take (p + (1 + m)) inside) ≡ p + (1 + m)
   count = omega (arith, length-take (p + (1 + m)) inside, token_len-bound false suffix, length-drop (p + 1) inside)
 
-  says : is_some (values_of (first_token (40 ∷ inside))) ≡ (p + 1 == p + (1 + m))
-  says = ap (λ w. is_some (values_of w)) token ∙ listed-says (take (p + (1 + m)) inside) ∙ sym (ends_at_closing-position (take (p + (1 + m)) inside)) ∙ (λ i. position i + 1 == count i)
+  parses : is_some (values_of (first_token (40 ∷ inside))) ≡ (p + 1 == p + (1 + m))
+  parses = ap (λ w. is_some (values_of w)) token ∙ listed-parses (take (p + (1 + m)) inside) ∙ sym (ends_at_closing-position (take (p + (1 + m)) inside)) ∙ (λ i. position i + 1 == count i)
 
 pub values-listed : (inside : List ℕ) → position_or_len is_closing inside < length inside → ends_token (drop (position_or_len is_closing inside + 1) inside) ≡ true →
     (position_or_len is_closing inside + 1 + 1 ≡ token_len false (40 ∷ inside)) × (is_some (values_of (first_token (40 ∷ inside))) ≡ true)
@@ -328,7 +328,7 @@ values-listed inside within ends =
     let is = closed inside within in
     let last : (p + 1 == p + (1 + token_len false (drop (p + 1) inside))) ≡ true = let same : p + 1 ≡ p + (1 + token_len false (drop (p + 1) inside)) = omega (arith, none) in search rules in (
       omega (arith, is.len, none),
-      is.says ∙ last,
+      is.parses ∙ last,
     )
 
 pub values-listed_more : (inside : List ℕ) → position_or_len is_closing inside < length inside → ends_token (drop (position_or_len is_closing inside + 1) inside) ≡ false → is_some (values_of (first_token (40 ∷ inside))) ≡ false
@@ -336,4 +336,4 @@ values-listed_more inside within goes =
     let p = position_or_len is_closing inside in
     let some = token_len-some_left (drop (p + 1) inside) goes in
     let last : (p + 1 == p + (1 + token_len false (drop (p + 1) inside))) ≡ false = let no : p + 1 ≡ p + (1 + token_len false (drop (p + 1) inside)) → ⊥ = λ e. omega (arith, some, e) in search rules in
-    (closed inside within).says ∙ last
+    (closed inside within).parses ∙ last

@@ -11,7 +11,7 @@ use Rattle.dd_file.specs.Reading.{next_line, next_item}
 use Rattle.dd_file.specs.ReaderState.{ReaderState, IsWithin}
 use Rattle.dd_file.specs.Answer.{ReadsOn, IsLineFault, IsItemFault, fault_of}
 use Rattle.dd_file.specs.Buffered.{CanReadBuffered, passed, whole_lines, is_line_buffered, is_item_buffered, is_ended_item}
-use Rattle.dd_file.specs.Draft.{DraftText, AddsIn, first_item_of, first_item_in, is_done, found_of, IsDraftFault, blank_draft}
+use Rattle.dd_file.specs.Draft.{DraftText, AddsIn, first_item_of, first_item_in, is_done, result_of_first, IsDraftFault, blank_draft}
 use Rattle.dd_file.specs.declared.item.Item.{Item}
 use Rattle.dd_file.specs.declared.fault.FileFault.{FileFault}
 use Rattle.ascii_text.proofs.Offered.{full_lines-first, first_len-bound, first_len-some, first_len-take, length-first, unfinished-rest}
@@ -152,7 +152,7 @@ buffered-more remaining has_failed old reader draft next count taken rest can wi
 
 -- the item is done
 pub buffered-done : {R : Type 0} (remaining : R → Option (List ℕ)) (has_failed : R → Bool) (old new : ReaderState) (reader : R) (draft : DraftText) (count taken : ℕ) (result : Result (Option Item) FileFault) → CanReadBuffered old → Within old →
-    HeldSoFar remaining old reader draft count taken → is_done draft.phase ≡ true → new ≡ passed old count taken → result ≡ found_of (first_item_of draft []) → IfErr result (IsDraftFault draft.line) →
+    HeldSoFar remaining old reader draft count taken → is_done draft.phase ≡ true → new ≡ passed old count taken → result ≡ result_of_first (first_item_of draft []) → IfErr result (IsDraftFault draft.line) →
     ReadsOn remaining has_failed (λ item. item) (next_item longest_input) IsItemFault old (record new { fault = fault_of result }) reader reader result
 buffered-done remaining has_failed old new reader draft count taken result can within so_far done is found kind =
     let now = passed old count taken in

@@ -112,7 +112,7 @@ line-leaves limit position (b ∷ bytes) = at (full_lines_within limit position 
 
 prefix-leaves : (too_long : Bool) (found : Option FirstItem) (position : Position) (bytes : List ℕ) → HasLine found → 0 < length bytes → Leaves bytes (from_first_item too_long found position bytes)
 prefix-leaves too_long None position bytes some has = at_end-leaves Item too_long position bytes
-prefix-leaves too_long (Some prefix) position bytes some has = at (too_long && not prefix.is_ended) prefix.found where
+prefix-leaves too_long (Some prefix) position bytes some has = at (too_long && not prefix.is_ended) prefix.result where
   at : (c : Bool) (found : Result Item FileFault) → Leaves bytes (cond c (at_end true position) (with_count prefix.count found position bytes))
   at true found = tt
   at false (Ok item) = drop-shorter _ bytes (full_lines-some prefix.count bytes some has) has

@@ -6,7 +6,7 @@ use Rattle.ascii_text.specs.Lines.{full_lines, line_of}
 use Rattle.dd_file.specs.Position.{Position}
 use Rattle.dd_file.specs.Script.{FirstItem, first_item, first_of}
 use Rattle.dd_file.specs.Reading.{Next, Over, Found, Faulty, next_item, next_line, from_first_item, with_count, is_too_long, full_lines_within}
-use Rattle.dd_file.specs.Draft.{DraftText, Fits, FitsIn, first_item_of, first_item_in, is_done, found_of, found_in_item}
+use Rattle.dd_file.specs.Draft.{DraftText, Fits, FitsIn, first_item_of, first_item_in, is_done, result_of_first, item_result}
 use Rattle.dd_file.specs.declared.item.Item.{Item}
 use Rattle.dd_file.specs.declared.phase.Phase.{Phase}
 use Rattle.dd_file.specs.declared.phase.Phase.TheVariants.{Begin, CommentLine, BlankLines, DirectiveLines, NoCommand, Input, Separator, Single, Double, Pair, Complete, AfterPair}
@@ -31,7 +31,7 @@ item-at limit position now bytes rest lines draft on prefix =
     ∙ ap (λ c. from_first_item c (first_item_of draft (map line_of (full_lines_within limit now rest))) position bytes) on.long
 
 counted : (limit : ℕ) (position now : Position) (bytes rest : List ℕ) (lines : List (List ℕ)) (k : ℕ) (found : Result Item FileFault) → LinesOn limit position bytes lines now rest →
-    ((item : Item) → found ≡ Ok item → k ≡ length lines) → with_count k found position bytes ≡ as_next (found_in_item found) now rest
+    ((item : Item) → found ≡ Ok item → k ≡ length lines) → with_count k found position bytes ≡ as_next (item_result found) now rest
 counted limit position now bytes rest lines k (Err fault) on all = refl
 counted limit position now bytes rest lines k (Ok item) on all =
     let taken : ℕ → ℕ = λ n. length (concat (take n (full_lines bytes))) in
@@ -41,10 +41,10 @@ counted limit position now bytes rest lines k (Ok item) on all =
 
 -- the item is done
 done-prefix : (limit : ℕ) (position now : Position) (bytes rest : List ℕ) (lines : List (List ℕ)) (too_long : Bool) (count : ℕ) (found : Option FirstItem) → LinesOn limit position bytes lines now rest →
-    Ends true count found → is_some found ≡ true → count ≡ length lines → from_first_item too_long found position bytes ≡ as_next (found_of found) now rest
+    Ends true count found → is_some found ≡ true → count ≡ length lines → from_first_item too_long found position bytes ≡ as_next (result_of_first found) now rest
 done-prefix limit position now bytes rest lines too_long count None on ends some is = cc
 done-prefix limit position now bytes rest lines too_long count (Some prefix) on ends some is =
-    rw (open_end too_long prefix.is_ended ends.ended) (counted limit position now bytes rest lines prefix.count prefix.found on (λ item e. ends.all item e ∙ is)) where
+    rw (open_end too_long prefix.is_ended ends.ended) (counted limit position now bytes rest lines prefix.count prefix.result on (λ item e. ends.all item e ∙ is)) where
       open_end : (c d : Bool) → d ≡ true → (c && not d) ≡ false
       open_end true true e = refl
       open_end true false e = cc
@@ -81,7 +81,7 @@ first_item_in-begun AfterPair draft fits = inr refl
 
 pub item-done : (limit : ℕ) (position now : Position) (bytes rest : List ℕ) (lines : List (List ℕ)) (draft : DraftText) → LinesOn limit position bytes lines now rest →
     ((more : List (List ℕ)) → first_item_of draft more ≡ first_of (position.lines + 1) (lines ++ more)) → Fits draft → is_done draft.phase ≡ true → draft.count ≡ length lines →
-    next_item limit position bytes ≡ as_next (found_of (first_item_of draft [])) now rest
+    next_item limit position bytes ≡ as_next (result_of_first (first_item_of draft [])) now rest
 item-done limit position now bytes rest lines draft on prefix fits done count =
     item-at limit position now bytes rest lines draft on prefix
     ∙ ap (λ f. from_first_item (is_too_long limit now rest) f position bytes) (done-same draft.phase draft (map line_of (full_lines_within limit now rest)) done)
@@ -90,13 +90,13 @@ item-done limit position now bytes rest lines draft on prefix fits done count =
 
 -- the end of the input
 end-prefix : (limit : ℕ) (position now : Position) (bytes rest : List ℕ) (lines : List (List ℕ)) (done : Bool) (count : ℕ) (found : Option FirstItem) → LinesOn limit position bytes lines now rest →
-    Ends done count found → count ≡ length lines → from_first_item false found position bytes ≡ as_next (found_of found) now rest
+    Ends done count found → count ≡ length lines → from_first_item false found position bytes ≡ as_next (result_of_first found) now rest
 end-prefix limit position now bytes rest lines done count None on ends is = refl
-end-prefix limit position now bytes rest lines done count (Some prefix) on ends is = counted limit position now bytes rest lines prefix.count prefix.found on (λ item e. ends.all item e ∙ is)
+end-prefix limit position now bytes rest lines done count (Some prefix) on ends is = counted limit position now bytes rest lines prefix.count prefix.result on (λ item e. ends.all item e ∙ is)
 
 pub item-end : (limit : ℕ) (position now : Position) (bytes rest : List ℕ) (lines : List (List ℕ)) (draft : DraftText) → LinesOn limit position bytes lines now rest →
     ((more : List (List ℕ)) → first_item_of draft more ≡ first_of (position.lines + 1) (lines ++ more)) → Fits draft → draft.count ≡ length lines → next_line limit now rest ≡ Over →
-    next_item limit position bytes ≡ as_next (found_of (first_item_of draft [])) now rest
+    next_item limit position bytes ≡ as_next (result_of_first (first_item_of draft [])) now rest
 item-end limit position now bytes rest lines draft on prefix fits count over =
     let last = line-over limit now rest over in
     item-at limit position now bytes rest lines draft on prefix

@@ -9,7 +9,7 @@ use Rattle.dd_file.specs.DirectiveText.{DirectiveText}
 use Rattle.dd_file.specs.Parts.{up_to}
 use Rattle.dd_file.specs.DirectiveLine.{CommandText}
 use Rattle.dd_file.specs.Script.{FirstItem, first_item, first_of, directive_lines_of, is_continued, is_separator, before_pair, has_pair, directive, in_double, in_single, body, at_directive}
-use Rattle.dd_file.specs.Draft.{DraftText, Fits, FitsIn, first_item_of, first_item_in, drafted, begins_directive, is_done, found_of, found_in_item}
+use Rattle.dd_file.specs.Draft.{DraftText, Fits, FitsIn, first_item_of, first_item_in, drafted, begins_directive, is_done, result_of_first, item_result}
 use Rattle.dd_file.specs.declared.item.Item.{Item}
 use Rattle.dd_file.specs.declared.item.Item.TheVariants.{Comment, Blank, Directive}
 use Rattle.dd_file.specs.declared.phase.Phase.{Phase}
@@ -21,7 +21,7 @@ use Rattle.dd_file.proofs.ItemReading.OneMoreLine.{first_of-begins, none-step}
 -- the front of the lines so far, in which an item has all of them
 pub record EndsWith (done : Bool) (count : ℕ) (last : FirstItem) : Type 0 where
   pub ended : last.is_ended ≡ done
-  pub all : (item : Item) → last.found ≡ Ok item → last.count ≡ count
+  pub all : (item : Item) → last.result ≡ Ok item → last.count ≡ count
 
 abbrev pub Ends : Bool → ℕ → Option FirstItem → Type 0
 Ends done count None = Unit {0}
@@ -56,11 +56,11 @@ pub double-end : (n : ℕ) (command : CommandText) (directive_lines input expect
 double-end n command directive_lines input expected none = ap (in_double n command directive_lines input) (append-nil expected) ∙ rw none refl
 
 -- what an unfinished directive is
-pub found-bad : (draft : DraftText) → FitsIn DirectiveLines draft → Err (BadDirective draft.line) ≡ found_of (first_item_in DirectiveLines draft [])
-found-bad draft fits = sym (ap found_of (first_of-continued draft.line draft.directive_lines fits.0 fits.1))
+pub found-bad : (draft : DraftText) → FitsIn DirectiveLines draft → Err (BadDirective draft.line) ≡ result_of_first (first_item_in DirectiveLines draft [])
+found-bad draft fits = sym (ap result_of_first (first_of-continued draft.line draft.directive_lines fits.0 fits.1))
 
-pub found-unclosed : (command : CommandText) (draft : DraftText) → FitsIn (Double command) draft → Err (UnclosedDouble draft.line) ≡ found_of (first_item_in (Double command) draft [])
-found-unclosed command draft fits = sym (ap (λ (f : FirstItem). found_in_item f.found) (double-end draft.line command draft.directive_lines draft.input draft.expected fits.0))
+pub found-unclosed : (command : CommandText) (draft : DraftText) → FitsIn (Double command) draft → Err (UnclosedDouble draft.line) ≡ result_of_first (first_item_in (Double command) draft [])
+found-unclosed command draft fits = sym (ap (λ (f : FirstItem). item_result f.result) (double-end draft.line command draft.directive_lines draft.input draft.expected fits.0))
 
 -- the directive that is made of the parts
 pub made-directive : (line directive_line_count : ℕ) (command : CommandText) (raw expected : List (List ℕ)) (text : List ℕ) (made : DirectiveText) →
@@ -78,10 +78,10 @@ pub data HasParts (command : CommandText) : Phase → Type 0 where
   AtPair : HasParts command (Pair command)
   AtComplete : HasParts command (Complete command)
 
-pub found-parts : (command : CommandText) (phase : Phase) (draft : DraftText) → HasParts command phase → FitsIn phase draft → Ok (Some (drafted draft command)) ≡ found_of (first_item_in phase draft [])
-found-parts c phase draft AtInput fits = sym (ap found_in_item (ap (λ (f : FirstItem). f.found) (body-end draft.line c draft.directive_lines draft.input fits.0) ∙ ap (λ e. Ok (directive draft.line c draft.directive_lines draft.input e)) (sym fits.1)))
-found-parts c phase draft AtSeparator fits = sym (ap found_in_item (ap (λ e. Ok (directive draft.line c draft.directive_lines draft.input e)) (sym fits.0)))
-found-parts c phase draft AtSingle fits = sym (ap (λ (f : FirstItem). found_in_item f.found) (single-end draft.line c draft.directive_lines draft.input draft.expected fits.0))
+pub found-parts : (command : CommandText) (phase : Phase) (draft : DraftText) → HasParts command phase → FitsIn phase draft → Ok (Some (drafted draft command)) ≡ result_of_first (first_item_in phase draft [])
+found-parts c phase draft AtInput fits = sym (ap item_result (ap (λ (f : FirstItem). f.result) (body-end draft.line c draft.directive_lines draft.input fits.0) ∙ ap (λ e. Ok (directive draft.line c draft.directive_lines draft.input e)) (sym fits.1)))
+found-parts c phase draft AtSeparator fits = sym (ap item_result (ap (λ e. Ok (directive draft.line c draft.directive_lines draft.input e)) (sym fits.0)))
+found-parts c phase draft AtSingle fits = sym (ap (λ (f : FirstItem). item_result f.result) (single-end draft.line c draft.directive_lines draft.input draft.expected fits.0))
 found-parts c phase draft AtPair fits = refl
 found-parts c phase draft AtComplete fits = refl
 
@@ -122,22 +122,22 @@ done-same (Complete command) draft more done = refl
 done-same AfterPair draft more done = refl
 
 -- the same where the phase is known
-pub found-bad_at : (draft : DraftText) (line : ℕ) → draft.phase ≡ DirectiveLines → Fits draft → line ≡ draft.line → Err (BadDirective line) ≡ found_of (first_item_of draft [])
+pub found-bad_at : (draft : DraftText) (line : ℕ) → draft.phase ≡ DirectiveLines → Fits draft → line ≡ draft.line → Err (BadDirective line) ≡ result_of_first (first_item_of draft [])
 found-bad_at draft line is fits same =
-    ap (λ n. Err (BadDirective n)) same ∙ found-bad draft (subst (λ p. FitsIn p draft) is fits) ∙ ap (λ p. found_of (first_item_in p draft [])) (sym is)
+    ap (λ n. Err (BadDirective n)) same ∙ found-bad draft (subst (λ p. FitsIn p draft) is fits) ∙ ap (λ p. result_of_first (first_item_in p draft [])) (sym is)
 
-pub found-unclosed_at : (command : CommandText) (draft : DraftText) (line : ℕ) → draft.phase ≡ Double command → Fits draft → line ≡ draft.line → Err (UnclosedDouble line) ≡ found_of (first_item_of draft [])
+pub found-unclosed_at : (command : CommandText) (draft : DraftText) (line : ℕ) → draft.phase ≡ Double command → Fits draft → line ≡ draft.line → Err (UnclosedDouble line) ≡ result_of_first (first_item_of draft [])
 found-unclosed_at command draft line is fits same =
-    ap (λ n. Err (UnclosedDouble n)) same ∙ found-unclosed command draft (subst (λ p. FitsIn p draft) is fits) ∙ ap (λ p. found_of (first_item_in p draft [])) (sym is)
+    ap (λ n. Err (UnclosedDouble n)) same ∙ found-unclosed command draft (subst (λ p. FitsIn p draft) is fits) ∙ ap (λ p. result_of_first (first_item_in p draft [])) (sym is)
 
 -- what a comment and blank lines are, of which all lines are of the head
 found-lines_at : (phase : Phase) (kind : List (List ℕ) → Item) (draft : DraftText) (lines : List (List ℕ)) → draft.phase ≡ phase → draft.input ≡ [] → lines ≡ draft.directive_lines ++ draft.input →
-    Ok (Some (kind draft.directive_lines)) ≡ found_of (first_item_in phase draft []) → Ok (Some (kind lines)) ≡ found_of (first_item_of draft [])
+    Ok (Some (kind draft.directive_lines)) ≡ result_of_first (first_item_in phase draft []) → Ok (Some (kind lines)) ≡ result_of_first (first_item_of draft [])
 found-lines_at phase kind draft lines is none all found =
-    ap (λ ls. Ok (Some (kind ls))) (all ∙ ap (λ i. draft.directive_lines ++ i) none ∙ append-nil draft.directive_lines) ∙ found ∙ ap (λ p. found_of (first_item_in p draft [])) (sym is)
+    ap (λ ls. Ok (Some (kind ls))) (all ∙ ap (λ i. draft.directive_lines ++ i) none ∙ append-nil draft.directive_lines) ∙ found ∙ ap (λ p. result_of_first (first_item_in p draft [])) (sym is)
 
-pub found-comment_at : (draft : DraftText) (lines : List (List ℕ)) → draft.phase ≡ CommentLine → Fits draft → lines ≡ draft.directive_lines ++ draft.input → Ok (Some (Comment lines)) ≡ found_of (first_item_of draft [])
+pub found-comment_at : (draft : DraftText) (lines : List (List ℕ)) → draft.phase ≡ CommentLine → Fits draft → lines ≡ draft.directive_lines ++ draft.input → Ok (Some (Comment lines)) ≡ result_of_first (first_item_of draft [])
 found-comment_at draft lines is fits all = found-lines_at CommentLine Comment draft lines is (subst (λ p. FitsIn p draft) is fits) all refl
 
-pub found-blank_at : (draft : DraftText) (lines : List (List ℕ)) → draft.phase ≡ BlankLines → Fits draft → lines ≡ draft.directive_lines ++ draft.input → Ok (Some (Blank lines)) ≡ found_of (first_item_of draft [])
+pub found-blank_at : (draft : DraftText) (lines : List (List ℕ)) → draft.phase ≡ BlankLines → Fits draft → lines ≡ draft.directive_lines ++ draft.input → Ok (Some (Blank lines)) ≡ result_of_first (first_item_of draft [])
 found-blank_at draft lines is fits all = found-lines_at BlankLines Blank draft lines is (subst (λ p. FitsIn p draft) is fits) all refl

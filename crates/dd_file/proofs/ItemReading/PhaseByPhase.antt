@@ -138,21 +138,21 @@ adds-last old new line starts all empty so_far last e = rw e (at (is_blank text)
 
   at : (blank : Bool) → is_blank text ≡ blank → (command : Option CommandText) → command_of text ≡ command →
       AddsIn DirectiveLines old (counted (record old { directive_lines = directive_lines }) (cond blank BlankLines (phase_of_command command))) line
-  at true is command says = record {
+  at true is command parses = record {
     fits = empty.0;
     first_item = λ more. ap (λ n. Some (first_item (Ok (Blank directive_lines)) n true)) count ∙ sym (prefix-is more ∙ rw is refl);
     count = refl;
     first = refl;
   }
-  at false is None says = record {
+  at false is None parses = record {
     fits = tt;
-    first_item = λ more. ap (λ n. Some (first_item (Err (BadDirective old.line)) n true)) count ∙ sym (prefix-is more ∙ rw (is, says) refl);
+    first_item = λ more. ap (λ n. Some (first_item (Err (BadDirective old.line)) n true)) count ∙ sym (prefix-is more ∙ rw (is, parses) refl);
     count = refl;
     first = refl;
   }
-  at false is (Some command) says = record {
+  at false is (Some command) parses = record {
     fits = (ap (list_any is_separator) (empty.0), empty.1, let none = ap length (empty.0) in omega (arith, count, none));
-    first_item = λ more. ap (λ i. Some (body old.line command directive_lines (i ++ more))) (empty.0) ∙ sym (prefix-is more ∙ rw (is, says) refl);
+    first_item = λ more. ap (λ i. Some (body old.line command directive_lines (i ++ more))) (empty.0) ∙ sym (prefix-is more ∙ rw (is, parses) refl);
     count = refl;
     first = refl;
   }

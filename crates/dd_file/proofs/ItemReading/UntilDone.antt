@@ -8,7 +8,7 @@ use Rattle.dd_file.specs.Reading.{Over, Found, Faulty, next_line, next_item}
 use Rattle.dd_file.specs.ReaderState.{ReaderState, IsOver}
 use Rattle.dd_file.specs.Answer.{Agrees, IsNextOfInput, MovesOn, ReadsOn, IsLineFault, IsItemFault, IsCutShort, next_in_answer, is_read_fault, fault_of}
 use Rattle.dd_file.specs.InOrder.{GivenSoFar}
-use Rattle.dd_file.specs.Draft.{DraftText, blank_draft, Fits, AddsIn, first_item_of, first_item_in, is_done, found_of, found_in_item, IsDraftFault, at_line}
+use Rattle.dd_file.specs.Draft.{DraftText, blank_draft, Fits, AddsIn, first_item_of, first_item_in, is_done, result_of_first, item_result, IsDraftFault, at_line}
 use Rattle.dd_file.specs.declared.phase.Phase.TheVariants.{Begin}
 use Rattle.dd_file.specs.declared.item.Item.{Item}
 use Rattle.dd_file.specs.declared.fault.FileFault.{FileFault}
@@ -153,10 +153,10 @@ when-ok : {P : Type 0} (result : Result (Option Item) FileFault) → P → OnOk 
 when-ok (Ok found) p = p
 when-ok (Err fault) p = tt
 
-found-some : {P : Type 0} (found : Option FirstItem) → is_some found ≡ true → found_of found ≡ Ok None → P
+found-some : {P : Type 0} (found : Option FirstItem) → is_some found ≡ true → result_of_first found ≡ Ok None → P
 found-some None some e = cc
-found-some {P = P} (Some prefix) some e = at prefix.found e where
-  at : (found : Result Item FileFault) → found_in_item found ≡ Ok None → P
+found-some {P = P} (Some prefix) some e = at prefix.result e where
+  at : (found : Result Item FileFault) → item_result found ≡ Ok None → P
   at (Ok item) e = cc
   at (Err fault) e = cc
 
@@ -165,13 +165,13 @@ positive zero h = absurd (h refl)
 positive (suc n) h = omega arith
 
 -- no line was read, so nothing was found
-begin-none : {P : Type 0} (draft : DraftText) (item : Item) → draft.phase ≡ Begin → Fits draft → Ok (Some item) ≡ found_of (first_item_of draft []) → P
-begin-none draft item begin fits e = let bad : Ok (Some item) ≡ found_of (first_item_in Begin draft []) = e ∙ ap (λ p. found_of (first_item_in p draft [])) begin in cc
+begin-none : {P : Type 0} (draft : DraftText) (item : Item) → draft.phase ≡ Begin → Fits draft → Ok (Some item) ≡ result_of_first (first_item_of draft []) → P
+begin-none draft item begin fits e = let bad : Ok (Some item) ≡ result_of_first (first_item_in Begin draft []) = e ∙ ap (λ p. result_of_first (first_item_in p draft [])) begin in cc
 
 -- the item is done
 pub done-reads : {R : Type 0} (remaining : R → Option (List ℕ)) (has_failed : R → Bool) (old now : ReaderState) (before after : R) (draft : DraftText) (result : Result (Option Item) FileFault) →
     old.fault ≡ None → old.is_ended ≡ false → ReadingItem remaining old now before after draft → is_done draft.phase ≡ true → length now.buffered ≤ longest_lookahead → has_failed after ≡ has_failed before →
-    result ≡ found_of (first_item_of draft []) → IfErr result (IsDraftFault draft.line) →
+    result ≡ result_of_first (first_item_of draft []) → IfErr result (IsDraftFault draft.line) →
     ReadsOn remaining has_failed (λ item. item) (next_item longest_input) IsItemFault old (record now { fault = fault_of result }) before after result
 done-reads remaining has_failed old now before after draft result faultless unended reading done ahead sound is kind =
     item-reads remaining has_failed old now before after result faultless unended (record {
@@ -268,7 +268,7 @@ agrees-none state None after input more agrees none = absurd agrees
 
 pub end-reads : {R L : Type 0} (remaining : R → Option (List ℕ)) (has_failed : R → Bool) (view : L → List ℕ) (old now new : ReaderState) (before between after : R) (draft : DraftText) (result : Result (Option Item) FileFault) →
     old.fault ≡ None → old.is_ended ≡ false → ReadingItem remaining old now before between draft → ReadsOn remaining has_failed view (next_line longest_input) IsLineFault now new between after (Ok None) →
-    has_failed between ≡ has_failed before → result ≡ found_of (first_item_of draft []) → IfErr result (IsDraftFault draft.line) →
+    has_failed between ≡ has_failed before → result ≡ result_of_first (first_item_of draft []) → IfErr result (IsDraftFault draft.line) →
     ReadsOn remaining has_failed (λ item. item) (next_item longest_input) IsItemFault old (record new { fault = fault_of result }) before after result
 end-reads remaining has_failed view old now new before between after draft result faultless unended reading read sound is kind =
     item-reads remaining has_failed old new before after result faultless unended (record {
@@ -287,7 +287,7 @@ end-reads remaining has_failed view old now new before between after draft resul
       none : result ≡ Ok None → draft.count ≡ 0
       none e = elim (first_item_in-begun draft.phase draft reading.fits) [ inl none-read ↦ none-read | inr some ↦ found-some (first_item_of draft []) some (sym is ∙ e) ]
 
-      forward : (r : Result (Option Item) FileFault) → r ≡ found_of (first_item_of draft []) → IfOk r (λ found. IfSome found (λ _. old.position.lines < new.position.lines))
+      forward : (r : Result (Option Item) FileFault) → r ≡ result_of_first (first_item_of draft []) → IfOk r (λ found. IfSome found (λ _. old.position.lines < new.position.lines))
       forward (Ok None) h = tt
       forward (Err fault) h = tt
       forward (Ok (Some item)) h =

@@ -5,7 +5,7 @@ use Rattle.std.specs.List.{concat}
 use Rattle.std.proofs.lemmas.List.{append-nil, drop-drop, drop-take, take-append-drop, take-append-le, length-append, length-drop, length-take}
 use Rattle.ascii_text.specs.Lines.{first_len, full_lines, line_of, is_whole}
 use Rattle.dd_file.specs.Position.{Position}
-use Rattle.dd_file.specs.Reading.{Next, Over, Found, Faulty, next_line, from_full_lines, found_in, at_end, is_too_long, full_lines_within}
+use Rattle.dd_file.specs.Reading.{Next, Over, Found, Faulty, next_line, from_full_lines, next_of_lines, at_end, is_too_long, full_lines_within}
 use Rattle.dd_file.specs.InOrder.{ReadsTo}
 use Rattle.dd_file.specs.declared.fault.FileFault.{FileFault}
 use Rattle.ascii_text.proofs.Offered.{full_lines-first, first_len-bound, length-first, unfinished-rest}
@@ -117,7 +117,7 @@ step-on limit position (b ∷ bytes) line now rest e = at (within-first limit po
       StepOn limit position (b ∷ bytes) line now rest
   at (inl none) = no-end (is_too_long limit position (b ∷ bytes)) position now line rest (ap from (sym none) ∙ e)
   at (inr first) =
-      let found : found_in 1 (line_of full_line) position (b ∷ bytes) ≡ Found line now rest = ap from (sym first) ∙ e in
+      let found : next_of_lines 1 (line_of full_line) position (b ∷ bytes) ≡ Found line now rest = ap from (sym first) ∙ e in
       let taken : ℕ → Next (List ℕ) = λ n. Found (line_of full_line) (record { lines = position.lines + 1; bytes = position.bytes + n }) (drop n (b ∷ bytes)) in
       let is : Found (line_of full_line) (behind_first position (b ∷ bytes)) (drop (first_len (b ∷ bytes)) (b ∷ bytes)) ≡ Found line now rest = ap taken (sym one) ∙ found in
       let same-line : line_of full_line ≡ line = cc in

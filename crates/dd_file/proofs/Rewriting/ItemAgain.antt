@@ -148,11 +148,11 @@ IsReadAgain m more found item = IsReadAs true m more (entry_text item found) fou
 -- a head and what follows it
 at_directive-command : (m : ℕ) (directive_lines lines : List (List ℕ)) (command : CommandText) → list_all is_continued directive_lines ≡ false → is_blank (joined directive_lines) ≡ false →
     command_of (joined directive_lines) ≡ Some command → at_directive m directive_lines lines ≡ body m command directive_lines lines
-at_directive-command m directive_lines lines command ends says is = rw (ends, says, is) refl
+at_directive-command m directive_lines lines command ends parses is = rw (ends, parses, is) refl
 
 at_directive-blank : (m : ℕ) (directive_lines lines : List (List ℕ)) → list_all is_continued directive_lines ≡ false → is_blank (joined directive_lines) ≡ true →
     at_directive m directive_lines lines ≡ first_item (Ok (Blank directive_lines)) (length directive_lines) true
-at_directive-blank m directive_lines lines ends says = rw (ends, says) refl
+at_directive-blank m directive_lines lines ends parses = rw (ends, parses) refl
 
 first_of-again : (m : ℕ) (line : List ℕ) (rest more : List (List ℕ)) → IsHead line rest → first_of m (without_returns (line ∷ rest) ++ more) ≡ Some (at_directive m (without_returns (line ∷ rest)) more)
 first_of-again m line rest more is =
@@ -163,7 +163,7 @@ first_of-again m line rest more is =
 pub directive-again : (is_ended : Bool) (n m : ℕ) (command : CommandText) (line : List ℕ) (rest input expected more lines : List (List ℕ)) (found : List ℕ) → IsHead line rest →
     is_blank (joined (line ∷ rest)) ≡ false → command_of (joined (line ∷ rest)) ≡ Some command → list_any is_separator input ≡ false → list_all is_line ((line ∷ rest) ++ input) ≡ true → IsOutputOf lines found →
     IsReadAs is_ended m more (text_of (lines_of_written is_ended ((line ∷ rest) ++ input) (has_blank_line found) lines)) found (directive n command (line ∷ rest) input expected)
-directive-again is_ended n m command line rest input expected more lines found is says command_is none are found_is =
+directive-again is_ended n m command line rest input expected more lines found is parses command_is none are found_is =
     let directive_lines = line ∷ rest in
     let double = has_blank_line found in
     let H = without_returns directive_lines in
@@ -177,7 +177,7 @@ directive-again is_ended n m command line rest input expected more lines found i
     let count : length H + length I + length behind_raw ≡ length ((H ++ I) ++ behind_raw) = sym (length-append (H ++ I) behind_raw ∙ ap (λ k. k + length behind_raw) (length-append H I)) in
     let read : first_of m (((H ++ I) ++ behind_raw) ++ after) ≡ Some (first_item (Ok (directive m command H I lines)) (length ((H ++ I) ++ behind_raw)) is_ended) =
     ap (first_of m) whole ∙ first_of-again m line rest (I ++ (behind_raw ++ after)) is
-    ∙ ap Some (at_directive-command m H (I ++ (behind_raw ++ after)) command (all_continued-without_returns directive_lines ∙ is.ends) (ap is_blank joined_is ∙ says) (ap command_of joined_is ∙ command_is)
+    ∙ ap Some (at_directive-command m H (I ++ (behind_raw ++ after)) command (all_continued-without_returns directive_lines ∙ is.ends) (ap is_blank joined_is ∙ parses) (ap command_of joined_is ∙ command_is)
     ∙ body-again is_ended double m command H I lines more (any_separator-without_returns input ∙ none) found_is.are_output (sym (has_blank_line-lines lines found found_is))
     ∙ ap (λ (k : ℕ). first_item (Ok (directive m command H I lines)) k is_ended) count) in (
       directive m command H I lines,
@@ -238,7 +238,7 @@ pub read-again : (m : ℕ) (more : List (List ℕ)) (item : Item) (found : List 
 read-again m more item found output (ReadComment line are comment) = comment-again m line more found are comment
 read-again m more item found output (ReadBlank line are comment blank) = blank-again m line more found are comment blank
 read-again m more item found output (ReadBlankHead line rest is are blank) = directive_lines-again m line rest more found is are blank
-read-again m more item found output (ReadDirective n command line rest input expected is says command_is none are) =
+read-again m more item found output (ReadDirective n command line rest input expected is parses command_is none are) =
     let found_is = output-lines found output in
     subst (λ (text : List ℕ). IsReadAs true m more text found (directive n command (line ∷ rest) input expected)) (sym (directive-text ((line ∷ rest) ++ input) found_is.0 found found_is.1))
-    (directive-again true n m command line rest input expected more found_is.0 found is says command_is none are found_is.1)
+    (directive-again true n m command line rest input expected more found_is.0 found is parses command_is none are found_is.1)

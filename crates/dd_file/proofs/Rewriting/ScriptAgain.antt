@@ -30,12 +30,12 @@ IsAgain entries script = (script.fault ≡ None) × AreReadAgain entries script.
 -- entries of items that the grammar gives, with outputs
 abbrev AreWritten : List Entry → Type 0
 AreWritten [] = Unit {0}
-AreWritten (e ∷ entries) = ReadItem e.item × (is_output e.found ≡ true) × AreWritten entries
+AreWritten (e ∷ entries) = ReadItem e.item × (is_output e.output ≡ true) × AreWritten entries
 
-are-written : (entries : List Entry) → AreGiven (map (λ e. e.item) entries) → list_all (λ e. is_output e.found) entries ≡ true → AreWritten entries
+are-written : (entries : List Entry) → AreGiven (map (λ e. e.item) entries) → list_all (λ e. is_output e.output) entries ≡ true → AreWritten entries
 are-written [] given output = tt
 are-written (e ∷ entries) given output =
-    let k = and-parts (is_output e.found) (list_all (λ e. is_output e.found) entries) output in (given-read e.item given.0, k.0, are-written entries given.1 k.1)
+    let k = and-parts (is_output e.output) (list_all (λ e. is_output e.output) entries) output in (given-read e.item given.0, k.0, are-written entries given.1 k.1)
 
 -- a text of whole lines
 abbrev HasLines : List ℕ → Type 0
@@ -45,7 +45,7 @@ entry-lines : (item : Item) (found : List ℕ) → is_output found ≡ true → 
 entry-lines item found output (ReadComment line are comment) = (line ∷ [], append-nil (text_of (line ∷ [])), ap (λ b. b && true) are)
 entry-lines item found output (ReadBlank line are comment blank) = (line ∷ [], append-nil (text_of (line ∷ [])), ap (λ b. b && true) are)
 entry-lines item found output (ReadBlankHead line rest is are blank) = (line ∷ rest, append-nil (text_of (line ∷ rest)), are)
-entry-lines item found output (ReadDirective n command line rest input expected is says command_is none are) =
+entry-lines item found output (ReadDirective n command line rest input expected is parses command_is none are) =
     let found_is = output-lines found output in
     let raw = (line ∷ rest) ++ input in (
       lines_of_written true raw (has_blank_line found) found_is.0,
@@ -60,33 +60,33 @@ lines-append text more has =
 
 -- an entry that is read again first, and others behind it
 read-first : (m : ℕ) (lines more : List (List ℕ)) (is_ended : Bool) (e : Entry) (entries : List Entry) (again : Item) → first_of m (lines ++ more) ≡ Some (first_item (Ok again) (length lines) is_ended) →
-    IsSameItem m e.found e.item again → IsAgain entries (items_of (m + length lines) more) → IsAgain (e ∷ entries) (items_of m (lines ++ more))
+    IsSameItem m e.output e.item again → IsAgain entries (items_of (m + length lines) more) → IsAgain (e ∷ entries) (items_of m (lines ++ more))
 read-first m lines more is_ended e entries again read same rest =
     let whole : items_of m (lines ++ more) ≡ with_first again (items_of (m + length lines) more) =
     items_of-first m (lines ++ more) (first_item (Ok again) (length lines) is_ended) again read refl
     ∙ ap (λ (t : List (List ℕ)). with_first again (items_of (m + length lines) t)) (drop-append_seam lines more) in
-    subst (IsAgain (e ∷ entries)) (sym whole) (rest.0, ReadAgain m e.item again e.found entries _ same rest.1)
+    subst (IsAgain (e ∷ entries)) (sym whole) (rest.0, ReadAgain m e.item again e.output entries _ same rest.1)
 
-again-first : (m : ℕ) (e : Entry) (entries : List Entry) (more : List ℕ) → ReadItem e.item → is_output e.found ≡ true →
-    ((k : ℕ) → IsAgain entries (items_of k (lines_of more))) → IsAgain (e ∷ entries) (items_of m (lines_of (entry_text e.item e.found ++ more)))
+again-first : (m : ℕ) (e : Entry) (entries : List Entry) (more : List ℕ) → ReadItem e.item → is_output e.output ≡ true →
+    ((k : ℕ) → IsAgain entries (items_of k (lines_of more))) → IsAgain (e ∷ entries) (items_of m (lines_of (entry_text e.item e.output ++ more)))
 again-first m e entries more read output rest =
-    let text = entry_text e.item e.found in
-    let again = read-again m (lines_of more) e.item e.found output read in
-    subst (λ (ls : List (List ℕ)). IsAgain (e ∷ entries) (items_of m ls)) (sym (lines-append text more (entry-lines e.item e.found output read)))
+    let text = entry_text e.item e.output in
+    let again = read-again m (lines_of more) e.item e.output output read in
+    subst (λ (ls : List (List ℕ)). IsAgain (e ∷ entries) (items_of m ls)) (sym (lines-append text more (entry-lines e.item e.output output read)))
     (read-first m (lines_of text) (lines_of more) true e entries again.0 again.1 again.2 (rest (m + length (lines_of text))))
 
 no-entries : (k : ℕ) → IsAgain [] (items_of k (lines_of []))
 no-entries k = (refl, AreOver)
 
 abbrev texts_of : List Entry → List ℕ
-texts_of entries = flat_map (λ e. entry_text e.item e.found) entries
+texts_of entries = flat_map (λ e. entry_text e.item e.output) entries
 
 -- behind this text: what is left of the entries at the end of a script is read as they are
 abbrev IsLeft : List ℕ → List Entry → Type 0
 IsLeft before entries = (left : List ℕ) × (without_double_end (before ++ texts_of entries) ≡ before ++ left) × ((m : ℕ) → IsAgain entries (items_of m (lines_of left)))
 
 -- nothing is dropped
-all-left : (before : List ℕ) (e : Entry) → ReadItem e.item → is_output e.found ≡ true → without_double_end (before ++ texts_of (e ∷ [])) ≡ before ++ texts_of (e ∷ []) → IsLeft before (e ∷ [])
+all-left : (before : List ℕ) (e : Entry) → ReadItem e.item → is_output e.output ≡ true → without_double_end (before ++ texts_of (e ∷ [])) ≡ before ++ texts_of (e ∷ []) → IsLeft before (e ∷ [])
 all-left before e read output same = (texts_of (e ∷ []), same, λ m. again-first m e [] [] read output no-entries)
 
 -- a text of lines has a newline at its end
@@ -121,7 +121,7 @@ line-kept before line are some = elim (list-by_last line) [
 one-line : (line : List ℕ) → (((line ++ newline) ++ []) ++ []) ++ [] ≡ line ++ newline
 one-line line = append-nil _ ∙ append-nil _ ∙ append-nil (line ++ newline)
 
-line-left : (before line : List ℕ) (e : Entry) → ReadItem e.item → is_output e.found ≡ true → texts_of (e ∷ []) ≡ line ++ newline → is_line line ≡ true → (line ≡ [] → ⊥) → IsLeft before (e ∷ [])
+line-left : (before line : List ℕ) (e : Entry) → ReadItem e.item → is_output e.output ≡ true → texts_of (e ∷ []) ≡ line ++ newline → is_line line ≡ true → (line ≡ [] → ⊥) → IsLeft before (e ∷ [])
 line-left before line e read output text are some =
     all-left before e read output (ap (λ t. without_double_end (before ++ t)) text ∙ line-kept before line are some ∙ ap (λ t. before ++ t) (sym text))
 
@@ -149,7 +149,7 @@ suffix-blank raw double lines = ap (λ t. raw ++ dashes_line ∷ t) (at double) 
 directive-left : (before : List ℕ) (n : ℕ) (command : CommandText) (line : List ℕ) (rest input expected : List (List ℕ)) (found : List ℕ) → is_output found ≡ true → IsHead line rest →
     is_blank (joined (line ∷ rest)) ≡ false → command_of (joined (line ∷ rest)) ≡ Some command → list_any is_separator input ≡ false → list_all is_line ((line ∷ rest) ++ input) ≡ true →
     IsLeft before (entry (directive n command (line ∷ rest) input expected) found ∷ [])
-directive-left before n command line rest input expected found output is says command_is none are =
+directive-left before n command line rest input expected found output is parses command_is none are =
     let found_is = output-lines found output in
     let lines = found_is.0 in
     let double = has_blank_line found in
@@ -158,7 +158,7 @@ directive-left before n command line rest input expected found output is says co
     let e = entry (directive n command (line ∷ rest) input expected) found in
     let whole : texts_of (e ∷ []) ≡ text_of left ++ newline =
     append-nil (entry_text e.item found) ∙ directive-text raw lines found found_is.1 ∙ ap text_of (suffix-blank raw double lines) ∙ text_of-append left ([] ∷ []) in
-    let again = λ (m : ℕ). directive-again false n m command line rest input expected [] lines found is says command_is none are found_is.1 in (
+    let again = λ (m : ℕ). directive-again false n m command line rest input expected [] lines found is parses command_is none are found_is.1 in (
       text_of left,
       ap (λ t. without_double_end (before ++ t)) whole ∙ empty-dropped before line (lines_of_written false (rest ++ input) double lines),
       λ m. subst (λ (ls : List (List ℕ)). IsAgain (e ∷ []) (items_of m ls)) (append-nil (lines_of (text_of left)))
@@ -173,8 +173,8 @@ last-left before lines item found is (ReadBlank line are comment blank) output s
 last-left before lines item found is (ReadBlankHead line [] directive_lines are blank) output short =
     line-left before line (entry (Blank (line ∷ [])) found) (ReadBlankHead line [] directive_lines are blank) output (one-line line) (and-parts (is_line line) true are).0 (λ e. let bad : true ≡ false = ap is_blank (sym e) ∙ directive_lines.blank in cc)
 last-left before lines item found is (ReadBlankHead line (next ∷ rest) directive_lines are blank) output short = absurd (search (rules, arith))
-last-left before lines item found is (ReadDirective n command line rest input expected directive_lines says command_is none are) output short =
-    directive-left before n command line rest input expected found output directive_lines says command_is none are
+last-left before lines item found is (ReadDirective n command line rest input expected directive_lines parses command_is none are) output short =
+    directive-left before n command line rest input expected found output directive_lines parses command_is none are
 
 -- the end of a script is told by its last item
 ends-next : (item next : Item) (items : List Item) → ends_in_long_blank (item ∷ next ∷ items) ≡ ends_in_long_blank (next ∷ items)
@@ -185,10 +185,10 @@ ends-next (Directive directive) next items = refl
 -- behind lines: the rest of a script
 rest-left : (before : List ℕ) (lines : List (List ℕ)) → before ≡ text_of lines → (e : Entry) (entries : List Entry) → AreWritten (e ∷ entries) → ends_in_long_blank (map (λ e. e.item) (e ∷ entries)) ≡ false →
     IsLeft before (e ∷ entries)
-rest-left before lines is e [] written short = last-left before lines e.item e.found is written.0 written.1 short
+rest-left before lines is e [] written short = last-left before lines e.item e.output is written.0 written.1 short
 rest-left before lines is e (next ∷ entries) written short =
-    let text = entry_text e.item e.found in
-    let own = entry-lines e.item e.found written.1 written.0 in
+    let text = entry_text e.item e.output in
+    let own = entry-lines e.item e.output written.1 written.0 in
     let so_far : before ++ text ≡ text_of (lines ++ own.0) = ap (λ t. t ++ text) is ∙ ap (λ t. text_of lines ++ t) own.1 ∙ sym (text_of-append lines own.0) in
     let more = rest-left (before ++ text) (lines ++ own.0) so_far next entries written.2 (sym (ends-next e.item next.item (map (λ e. e.item) entries)) ∙ short) in (
       text ++ more.0,
@@ -197,7 +197,7 @@ rest-left before lines is e (next ∷ entries) written short =
     )
 
 -- all of it
-pub written-again : (entries : List Entry) → AreGiven (map (λ e. e.item) entries) → list_all (λ e. is_output e.found) entries ≡ true → ends_in_long_blank (map (λ e. e.item) entries) ≡ false →
+pub written-again : (entries : List Entry) → AreGiven (map (λ e. e.item) entries) → list_all (λ e. is_output e.output) entries ≡ true → ends_in_long_blank (map (λ e. e.item) entries) ≡ false →
     length (rewritten_text entries) ≤ longest_input → IsAgain entries (script_of (rewritten_text entries))
 written-again [] given output short fits = subst (IsAgain []) (sym (script_of-lines [] fits)) (no-entries 1)
 written-again (e ∷ entries) given output short fits =

@@ -23,7 +23,7 @@ from_found rest n lines count (Err fault) = record { items = []; fault = Some fa
 
 abbrev pub from_first : (ℕ → List (List ℕ) → Script Item) → ℕ → List (List ℕ) → Option FirstItem → Script Item
 from_first rest n lines None = no_items
-from_first rest n lines (Some f) = from_found rest n lines f.count f.found
+from_first rest n lines (Some f) = from_found rest n lines f.count f.result
 
 -- at most so many items of the lines from number n on
 abbrev pub items_at : ℕ → ℕ → List (List ℕ) → Script Item
@@ -38,7 +38,7 @@ items_of n lines = items_at (length lines) n lines
 from_first-same : (k j n : ℕ) (lines : List (List ℕ)) (f : Option FirstItem) → first_of n lines ≡ f → length lines ≤ suc k → length lines ≤ suc j →
     ((m : ℕ) (ls : List (List ℕ)) → length ls ≤ k → length ls ≤ j → items_at k m ls ≡ items_at j m ls) → from_first (items_at k) n lines f ≡ from_first (items_at j) n lines f
 from_first-same k j n lines None e hk hj ih = refl
-from_first-same k j n lines (Some f) e hk hj ih = at f.found where
+from_first-same k j n lines (Some f) e hk hj ih = at f.result where
   at : (found : Result Item FileFault) → from_found (items_at k) n lines f.count found ≡ from_found (items_at j) n lines f.count found
   at (Ok item) =
       let bounds = first_of-fits n lines f e in
@@ -58,7 +58,7 @@ items_at-enough (suc k) zero n (line ∷ lines) hk hj = absurd (omega (arith, hj
 items_at-enough (suc k) (suc j) n (line ∷ lines) hk hj = from_first-same k j n (line ∷ lines) (first_of n (line ∷ lines)) refl hk hj (items_at-enough k j)
 
 -- the first item, and those of the lines behind it
-pub items_of-first : (n : ℕ) (lines : List (List ℕ)) (f : FirstItem) (item : Item) → first_of n lines ≡ Some f → f.found ≡ Ok item →
+pub items_of-first : (n : ℕ) (lines : List (List ℕ)) (f : FirstItem) (item : Item) → first_of n lines ≡ Some f → f.result ≡ Ok item →
     items_of n lines ≡ with_first item (items_of (n + f.count) (drop f.count lines))
 items_of-first n [] f item e is = cc
 items_of-first n (line ∷ lines) f item e is =
@@ -76,7 +76,7 @@ pub items_at-moved : (fuel k n : ℕ) (lines : List (List ℕ)) → items_at fue
 items_at-moved zero k n lines = refl
 items_at-moved (suc fuel) k n lines = ap (from_first (items_at fuel) (k + n) lines) (first_of-moved k n lines) ∙ at (first_of n lines) (items_at-moved fuel) where
   found : (count : ℕ) (found : Result Item FileFault) → ((k n : ℕ) (lines : List (List ℕ)) → items_at fuel (k + n) lines ≡ moved_script k (items_at fuel n lines)) →
-      from_found (items_at fuel) (k + n) lines count (moved_front k (first_item found count true)).found ≡ moved_script k (from_found (items_at fuel) n lines count found)
+      from_found (items_at fuel) (k + n) lines count (moved_front k (first_item found count true)).result ≡ moved_script k (from_found (items_at fuel) n lines count found)
   found count (Ok item) ih =
       let sum : (k + n) + count ≡ k + (n + count) = omega arith in
       ap (with_first (moved_item k item)) (ap (λ (m : ℕ). items_at fuel m (drop count lines)) sum ∙ ih k (n + count) (drop count lines))
@@ -85,7 +85,7 @@ items_at-moved (suc fuel) k n lines = ap (from_first (items_at fuel) (k + n) lin
   at : (f : Option FirstItem) → ((k n : ℕ) (lines : List (List ℕ)) → items_at fuel (k + n) lines ≡ moved_script k (items_at fuel n lines)) →
       from_first (items_at fuel) (k + n) lines (option_map (moved_front k) f) ≡ moved_script k (from_first (items_at fuel) n lines f)
   at None ih = refl
-  at (Some f) ih = found f.count f.found ih
+  at (Some f) ih = found f.count f.result ih
 
 -- the first pieces, and those behind them
 full_lines-drop : (count : ℕ) (bytes : List ℕ) → full_lines (drop (length (concat (take count (full_lines bytes)))) bytes) ≡ drop count (full_lines bytes)
@@ -147,7 +147,7 @@ first_items-lines (suc fuel) position bytes fits =
       at : (f : Option FirstItem) → ((position : Position) (bytes : List ℕ) → position.bytes + length bytes ≤ longest_input → first_items (next_item longest_input) fuel position bytes ≡ items_at fuel (position.lines + 1) (lines_of bytes)) →
           followed (first_items (next_item longest_input) fuel) (from_first_item false f position bytes) ≡ from_first (items_at fuel) (position.lines + 1) (lines_of bytes) f
       at None ih = refl
-      at (Some f) ih = found f.count f.is_ended f.found ih
+      at (Some f) ih = found f.count f.is_ended f.result ih
 
 pub script_of-lines : (input : List ℕ) → length input ≤ longest_input → script_of input ≡ items_of 1 (lines_of input)
 script_of-lines input fits =

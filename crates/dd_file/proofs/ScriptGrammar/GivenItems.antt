@@ -64,7 +64,7 @@ first_items-given limit (suc fuel) position bytes = at (is_too_long limit positi
       AreGiven (followed (first_items (next_item limit) fuel) (from_first_item too_long f position bytes)).items
   at true None e ih = tt
   at false None e ih = tt
-  at too_long (Some f) e ih = found (too_long && not f.is_ended) f.count f.is_ended f.found e ih
+  at too_long (Some f) e ih = found (too_long && not f.is_ended) f.count f.is_ended f.result e ih
 
 pub script_of-given : (input : List ℕ) → AreGiven (script_of input).items
 script_of-given input = first_items-given longest_input (length input + 1) start input

@@ -126,7 +126,7 @@ moved_found lines (Ok item) = Ok (moved_item lines item)
 moved_found lines (Err fault) = Err (moved_fault lines fault)
 
 abbrev pub moved_front : ℕ → FirstItem → FirstItem
-moved_front lines f = first_item (moved_found lines f.found) f.count f.is_ended
+moved_front lines f = first_item (moved_found lines f.result) f.count f.is_ended
 
 moved-choice : (k : ℕ) (c : Bool) (a b a' b' : FirstItem) → a' ≡ moved_front k a → b' ≡ moved_front k b → cond c a' b' ≡ moved_front k (cond c a b)
 moved-choice k true a b a' b' ha hb = ha

@@ -128,7 +128,7 @@ items_of-joined n lines more (More m ls f e sep rest) = at f.is_ended refl (item
   at : (c : Bool) → f.is_ended ≡ c → AreJoined (items_of (m + f.count) (drop f.count ls ++ [] ∷ more)) (items_of (m + f.count) (drop f.count ls)) (items_of (m + f.count + length (drop f.count ls) + 1) more) →
       AreJoined (items_of m (ls ++ [] ∷ more)) (items_of m ls) (items_of (m + length ls + 1) more)
   at true ended ih =
-      let item = item-of f.count f.found sep in
+      let item = item-of f.count f.result sep in
       let bound = (first_of-fits m ls f e).1 in
       let left = length-drop f.count ls in
       let still : first_of m (ls ++ [] ∷ more) ≡ Some f = first_of-local m ls ([] ∷ more) (ap ended_front e ∙ ended) ∙ e in
@@ -138,7 +138,7 @@ items_of-joined n lines more (More m ls f e sep rest) = at f.is_ended refl (item
       subst (λ (k : ℕ). AreJoined (items_of m (ls ++ [] ∷ more)) (items_of m ls) (items_of k more)) sum
       (joined-first _ _ _ _ _ item.0 whole (items_of-first m ls f item.0 e item.1) ih)
   at false ended ih =
-      let item = item-of f.count f.found sep in
+      let item = item-of f.count f.result sep in
       let open_end = open-prefix m ls f e ended sep in
       let count = open_end.0 in
       let left = length-drop f.count ls in
@@ -146,7 +146,7 @@ items_of-joined n lines more (More m ls f e sep rest) = at f.is_ended refl (item
       let suffix : drop (f.count + 1) (ls ++ [] ∷ more) ≡ more = ap (λ (k : ℕ). drop (k + 1) (ls ++ [] ∷ more)) count ∙ drop-append-add ls ([] ∷ more) 1 in
       let sum : m + (f.count + 1) ≡ m + length ls + 1 = omega (arith, count) in
       let whole : items_of m (ls ++ [] ∷ more) ≡ with_first item.0 (items_of (m + length ls + 1) more) =
-      items_of-first m (ls ++ [] ∷ more) (first_item f.found (f.count + 1) true) item.0 (open_end.1 more) item.1
+      items_of-first m (ls ++ [] ∷ more) (first_item f.result (f.count + 1) true) item.0 (open_end.1 more) item.1
       ∙ ap (λ (t : List (List ℕ)). with_first item.0 (items_of (m + (f.count + 1)) t)) suffix ∙ ap (λ (k : ℕ). with_first item.0 (items_of k more)) sum in
       let before : items_of m ls ≡ with_first item.0 (items_of (m + f.count) []) =
       items_of-first m ls f item.0 e item.1 ∙ ap (λ (t : List (List ℕ)). with_first item.0 (items_of (m + f.count) t)) none in

@@ -51,10 +51,10 @@ abbrev HasItem : FirstItem → Item → Type 0
 HasItem f item = (count : ℕ) × (is_ended : Bool) × (f ≡ first_item (Ok item) count is_ended)
 
 item-is : (found item : Item) (count : ℕ) (is_ended : Bool) → HasItem (first_item (Ok found) count is_ended) item → found ≡ item
-item-is found item count is_ended is = ap (λ (f : FirstItem). item_or item f.found) is.2
+item-is found item count is_ended is = ap (λ (f : FirstItem). item_or item f.result) is.2
 
 no-item : (fault : FileFault) (item : Item) (count : ℕ) (is_ended : Bool) → HasItem (first_item (Err fault) count is_ended) item → ⊥
-no-item fault item count is_ended is = let bad : false ≡ true = ap (λ (f : FirstItem). has_item f.found) is.2 in cc
+no-item fault item count is_ended is = let bad : false ≡ true = ap (λ (f : FirstItem). has_item f.result) is.2 in cc
 
 -- what is known of a directive that lines begin with
 record IsDirective (n : ℕ) (command : CommandText) (directive_lines lines : List (List ℕ)) (item : Item) : Type 0 where
@@ -115,11 +115,11 @@ headed-item n line lines item are comment blank is =
     (subst (λ (h : List (List ℕ)). HasItem (at_directive n h left) item) first.1 is) where
       command : (rest left : List (List ℕ)) (c : Option CommandText) → list_all is_line (line ∷ rest) ≡ true → list_all is_line left ≡ true → IsHead line rest → is_blank (joined (line ∷ rest)) ≡ false →
           command_of (joined (line ∷ rest)) ≡ c → HasItem (at_command n c (line ∷ rest) left) item → ReadItem item
-      command rest left None h k directive_lines says e is = absurd (no-item _ item _ _ is)
-      command rest left (Some c) h k directive_lines says e is =
+      command rest left None h k directive_lines parses e is = absurd (no-item _ item _ _ is)
+      command rest left (Some c) h k directive_lines parses e is =
           let found_is = body-item n c (line ∷ rest) left item is in
           let all : list_all is_line ((line ∷ rest) ++ found_is.input) ≡ true = list_all-append is_line (line ∷ rest) found_is.input ∙ ap (λ b. b && list_all is_line found_is.input) h ∙ found_is.are_lines k in
-          subst ReadItem found_is.is (ReadDirective n c line rest found_is.input found_is.expected directive_lines says e found_is.none all)
+          subst ReadItem found_is.is (ReadDirective n c line rest found_is.input found_is.expected directive_lines parses e found_is.none all)
 
       at : (rest left : List (List ℕ)) → list_all is_line (line ∷ rest) ≡ true → list_all is_line left ≡ true →
           ((more : List (List ℕ)) → list_all is_continued (line ∷ rest) ≡ false → directive_lines_of (without_returns (line ∷ rest) ++ more) ≡ without_returns (line ∷ rest)) →

@@ -18,7 +18,7 @@ use Rattle.dd_file.proofs.ScriptGrammar.ItemLength.{up_to-suffix}
 
 -- a front of so many lines, and what a blank line and more behind them make of it
 abbrev pub Closes : FirstItem → ℕ → (List (List ℕ) → FirstItem) → Type 0
-Closes f total closed = f.is_ended ≡ false → has_separator f.count f.found ≡ true → (f.count ≡ total) × ((more : List (List ℕ)) → closed more ≡ first_item f.found (f.count + 1) true)
+Closes f total closed = f.is_ended ≡ false → has_separator f.count f.result ≡ true → (f.count ≡ total) × ((more : List (List ℕ)) → closed more ≡ first_item f.result (f.count + 1) true)
 
 closes-is : (f f' : FirstItem) (total total' : ℕ) (closed closed' : List (List ℕ) → FirstItem) → f ≡ f' → total' ≡ total → ((more : List (List ℕ)) → closed more ≡ closed' more) → Closes f' total' closed' → Closes f total closed
 closes-is f f' total total' closed closed' e t same c =
@@ -119,7 +119,7 @@ at_directive-closes n directive_lines lines =
     (closes-choice (is_blank (joined directive_lines)) _ _ _ (λ more. first_item (Ok (Blank directive_lines)) (length directive_lines) true) (λ more. at_command n (command_of (joined directive_lines)) directive_lines (lines ++ [] ∷ more))
     (closes-ended (Ok (Blank directive_lines)) (length directive_lines) _ _) (at_command-closes n (command_of (joined directive_lines)) directive_lines lines))
 
-has-end : (c : Bool) (fault : FileFault) (count : ℕ) (x : FirstItem) → has_separator (cond c (first_item (Err fault) count false) x).count (cond c (first_item (Err fault) count false) x).found ≡ true → c ≡ false
+has-end : (c : Bool) (fault : FileFault) (count : ℕ) (x : FirstItem) → has_separator (cond c (first_item (Err fault) count false) x).count (cond c (first_item (Err fault) count false) x).result ≡ true → c ≡ false
 has-end true fault count x h = cc
 has-end false fault count x h = refl
 
@@ -136,12 +136,12 @@ headed-closes n lines ended sep =
     (closed.0 ∙ total, λ more. rw (directive_lines-local lines ([] ∷ more) last, drop-append-le (length directive_lines) lines ([] ∷ more) bound) (closed.1 more))
 
 -- such a front, and the same with a blank line behind it
-pub open-prefix : (n : ℕ) (lines : List (List ℕ)) (f : FirstItem) → first_of n lines ≡ Some f → f.is_ended ≡ false → has_separator f.count f.found ≡ true →
-    (f.count ≡ length lines) × ((more : List (List ℕ)) → first_of n (lines ++ [] ∷ more) ≡ Some (first_item f.found (f.count + 1) true))
+pub open-prefix : (n : ℕ) (lines : List (List ℕ)) (f : FirstItem) → first_of n lines ≡ Some f → f.is_ended ≡ false → has_separator f.count f.result ≡ true →
+    (f.count ≡ length lines) × ((more : List (List ℕ)) → first_of n (lines ++ [] ∷ more) ≡ Some (first_item f.result (f.count + 1) true))
 open-prefix n [] f e = cc
 open-prefix n (line ∷ lines) f e = at (is_comment line) (is_blank line) e (headed-closes n (line ∷ lines)) where
-  some-is : (a : FirstItem) (total : ℕ) (closed : List (List ℕ) → FirstItem) → Closes a total closed → Some a ≡ Some f → f.is_ended ≡ false → has_separator f.count f.found ≡ true →
-      (f.count ≡ total) × ((more : List (List ℕ)) → Some (closed more) ≡ Some (first_item f.found (f.count + 1) true))
+  some-is : (a : FirstItem) (total : ℕ) (closed : List (List ℕ) → FirstItem) → Closes a total closed → Some a ≡ Some f → f.is_ended ≡ false → has_separator f.count f.result ≡ true →
+      (f.count ≡ total) × ((more : List (List ℕ)) → Some (closed more) ≡ Some (first_item f.result (f.count + 1) true))
   some-is a total closed c k ended sep =
       let same : a ≡ f = cc in
       let r = subst (λ (x : FirstItem). Closes x total closed) same c ended sep in (r.0, λ more. ap Some (r.1 more))
@@ -150,9 +150,9 @@ open-prefix n (line ∷ lines) f e = at (is_comment line) (is_blank line) e (hea
       (Some (at_directive n (directive_lines_of (line ∷ lines)) (drop (length (directive_lines_of (line ∷ lines))) (line ∷ lines))))) ≡ Some f →
       Closes (at_directive n (directive_lines_of (line ∷ lines)) (drop (length (directive_lines_of (line ∷ lines))) (line ∷ lines))) (length (line ∷ lines))
       (λ more. at_directive n (directive_lines_of ((line ∷ lines) ++ [] ∷ more)) (drop (length (directive_lines_of ((line ∷ lines) ++ [] ∷ more))) ((line ∷ lines) ++ [] ∷ more))) →
-      f.is_ended ≡ false → has_separator f.count f.found ≡ true → (f.count ≡ length (line ∷ lines)) × ((more : List (List ℕ)) →
+      f.is_ended ≡ false → has_separator f.count f.result ≡ true → (f.count ≡ length (line ∷ lines)) × ((more : List (List ℕ)) →
       cond c (Some (first_item (Ok (Comment (line ∷ []))) 1 true)) (cond d (Some (first_item (Ok (Blank (line ∷ []))) 1 true))
-      (Some (at_directive n (directive_lines_of ((line ∷ lines) ++ [] ∷ more)) (drop (length (directive_lines_of ((line ∷ lines) ++ [] ∷ more))) ((line ∷ lines) ++ [] ∷ more))))) ≡ Some (first_item f.found (f.count + 1) true))
+      (Some (at_directive n (directive_lines_of ((line ∷ lines) ++ [] ∷ more)) (drop (length (directive_lines_of ((line ∷ lines) ++ [] ∷ more))) ((line ∷ lines) ++ [] ∷ more))))) ≡ Some (first_item f.result (f.count + 1) true))
   at true d k h ended sep = let same : first_item (Ok (Comment (line ∷ []))) 1 true ≡ f = cc in let bad : true ≡ false = ap (λ (x : FirstItem). x.is_ended) same ∙ ended in cc
   at false true k h ended sep = let same : first_item (Ok (Blank (line ∷ []))) 1 true ≡ f = cc in let bad : true ≡ false = ap (λ (x : FirstItem). x.is_ended) same ∙ ended in cc
   at false false k h ended sep = some-is _ _ _ h k ended sep

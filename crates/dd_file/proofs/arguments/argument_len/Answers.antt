@@ -22,9 +22,9 @@ returns-in_err-values_len-in-Some-eq61-clause-argument c =
     let rest = take_rest text (n + 1) in
     let tail = suffix-key text n 61 c.requires at.3.0 (sym c.in-Some-eq61.field-0-test ∙ at.4 (omega arith) 0) in
     let some : key_len text ≡ 0 → ⊥ = λ none. c.if-key_len-eq0.false (c.requires ∙ none) in
-    let says = argument-said text (drop (n + 1) text) some tail in
+    let parses = argument-said text (drop (n + 1) text) some tail in
     let none = sym (ap (λ t. is_some (values_of (first_token t))) rest) ∙ c.in_err-values_len-in-Some-eq61.ensures in
-    rw c.from_residual.ensures (none-if _ (says.1 ∙ none))
+    rw c.from_residual.ensures (none-if _ (parses.1 ∙ none))
 
 pub overflow_add-result-in-Some-eq61 : goal.overflow_add-result-in-Some-eq61
 overflow_add-result-in-Some-eq61 c =
@@ -52,10 +52,10 @@ returns-in_ok-values_len-in-Some-eq61-clause-argument c =
     let rest = take_rest text (n + 1) in
     let tail = suffix-key text n 61 c.requires at.3.0 (sym c.in-Some-eq61.field-0-test ∙ at.4 (omega arith) 0) in
     let some : key_len text ≡ 0 → ⊥ = λ none. c.if-key_len-eq0.false (c.requires ∙ none) in
-    let says = argument-said text (drop (n + 1) text) some tail in
+    let parses = argument-said text (drop (n + 1) text) some tail in
     let found = c.in_ok-values_len-in-Some-eq61.ensures in
     let len = found.0 ∙ ap (token_len false) rest in
-    let values = sym (ap (λ t. is_some (values_of (first_token t))) rest) ∙ found.1 in (omega (arith, says.0, len, c.requires), says.1 ∙ values)
+    let values = sym (ap (λ t. is_some (values_of (first_token t))) rest) ∙ found.1 in (omega (arith, parses.0, len, c.requires), parses.1 ∙ values)
 
 pub returns-in_ok-values_len-in-Some-eq61-clause-key : goal.returns-in_ok-values_len-in-Some-eq61-clause-key
 returns-in_ok-values_len-in-Some-eq61-clause-key c = c.requires ∙ sym (prefix-key c.args.text.now).first

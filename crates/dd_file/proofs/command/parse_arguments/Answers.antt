@@ -13,9 +13,9 @@ split_at-requires c = omega (arith, c.in-Some-argument_len.ensures.argument.0, t
 -- what one more argument is behind the others
 one-more : (before : List ArgumentText) (argument : Option ArgumentText) (others : Option (List ArgumentText)) → is_some argument ≡ true →
     option_map (λ rest. (before ++ unwrap_or argument (with_key [] []) ∷ []) ++ rest) others ≡ option_map (λ rest. before ++ rest) (before_others argument others)
-one-more before None others says = cc
-one-more before (Some argument) None says = refl
-one-more before (Some argument) (Some others) says = ap (λ all. Some all) (append_assoc before (argument ∷ []) others)
+one-more before None others parses = cc
+one-more before (Some argument) None parses = refl
+one-more before (Some argument) (Some others) parses = ap (λ all. Some all) (append_assoc before (argument ∷ []) others)
 
 pub loop-begun-preserved : goal.loop-begun-preserved
 loop-begun-preserved c =

@@ -17,7 +17,7 @@ with_complete n lines count (Err fault) is = absurd is
 
 by_first : (n : ℕ) (lines : List (List ℕ)) → IsComplete n lines → IsCompleteBy n lines (first_of n lines)
 by_first n lines (Done m) = tt
-by_first n lines (More m ls item first separated rest) = subst (IsCompleteBy m ls) (sym first) (with_item m ls item.count item.found separated rest)
+by_first n lines (More m ls item first separated rest) = subst (IsCompleteBy m ls) (sym first) (with_item m ls item.count item.result separated rest)
 
 -- lines begin with something
 begun : (n : ℕ) (line : List ℕ) (lines : List (List ℕ)) → first_of n (line ∷ lines) ≡ None → ⊥
@@ -32,7 +32,7 @@ complete n [] is = Done n
 complete n (line ∷ lines) is = at (first_of n (line ∷ lines)) refl is where
   at : (first : Option FirstItem) → first_of n (line ∷ lines) ≡ first → IsCompleteBy n (line ∷ lines) first → IsComplete n (line ∷ lines)
   at None e is = absurd (begun n line lines e)
-  at (Some item) e is = let both = with_complete n (line ∷ lines) item.count item.found is in More n (line ∷ lines) item e both.0 both.1
+  at (Some item) e is = let both = with_complete n (line ∷ lines) item.count item.result is in More n (line ∷ lines) item e both.0 both.1
 
 pub returns : goal.returns
 returns c n lines = (by_first n lines, complete n lines)

@@ -14,15 +14,15 @@ directive_lines-line line input ends = rw ends refl
 -- a head of one line, and no separator behind it
 one-line : (n : ℕ) (line : List ℕ) (input : List (List ℕ)) (command : CommandText) → is_continued line ≡ false → is_blank line ≡ false → command_of (trimmed line) ≡ Some command → list_any is_separator input ≡ false →
     at_directive n (line ∷ []) input ≡ first_item (Ok (directive n command (line ∷ []) input [])) (1 + length input) false
-one-line n line input command ends some says none =
-    let filled : is_blank (trimmed line) ≡ false = is_blank-trimmed line ∙ some in rw (ends, filled, says, none) refl
+one-line n line input command ends some parses none =
+    let filled : is_blank (trimmed line) ≡ false = is_blank-trimmed line ∙ some in rw (ends, filled, parses, none) refl
 
 pub returns : goal.returns
-returns c n line input command comment some ends says none are = record {
+returns c n line input command comment some ends parses none are = record {
   number = n;
   lines = line ∷ input;
   are_lines = are;
   count = 1 + length input;
   is_ended = false;
-  first = first_of-directive_lines n line [] input comment some (directive_lines-line line input ends) ∙ ap Some (one-line n line input command ends some says none);
+  first = first_of-directive_lines n line [] input comment some (directive_lines-line line input ends) ∙ ap Some (one-line n line input command ends some parses none);
 }

@@ -4,7 +4,7 @@ use Rattle.std.proofs.lemmas.List.{length-take}
 use Rattle.std.proofs.lemmas.List.Folds.{length-prefix_len}
 use Rattle.dd_file.specs.ArgumentValues.{has_values, values_after}
 use Rattle.dd_file.specs.DirectiveLine.{ArgumentText, is_key_byte}
-use Rattle.dd_file.proofs.DirectiveTokens.KeptArgument.{argument_in-values, argument_in-says}
+use Rattle.dd_file.proofs.DirectiveTokens.KeptArgument.{argument_in-values, argument_in-parses}
 use Rattle.dd_file.proofs.item.Argument.values.Goals as goal
 
 pub split_at-requires : goal.split_at-requires
@@ -15,7 +15,7 @@ split_at-requires c =
 pub after_key-requires : goal.after_key-requires
 after_key-requires c =
     let rest = c.split_at.ensures.back ∙ (λ i. drop (c.self.invariant.1 i) (c.as_slice.ensures i)) in
-    ap has_values rest ∙ argument_in-says c.self.inside.token.items c.self.invariant.0
+    ap has_values rest ∙ argument_in-parses c.self.inside.token.items c.self.invariant.0
 
 pub returns : goal.returns
 returns c =

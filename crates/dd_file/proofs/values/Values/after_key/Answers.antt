@@ -11,8 +11,8 @@ pub returns : goal.returns
 returns c =
     let list = c.in-Some-eq40-default.list.now in
     let begins = c.in-Some.ensures.cases.0 ∙ ap (λ t. c.in-Some.field-0-0.now ∷ t) (c.in-Some-eq40-default.ensures.cases.0 ∙ ap (λ b. b ∷ list) c.in-Some-eq40-default.field-0-0-test) in
-    let says : is_some (values_of (40 ∷ list)) ≡ true = sym (ap has_values begins) ∙ c.requires in
-    let values = ap values_after begins ∙ values_of-list list says in
+    let parses : is_some (values_of (40 ∷ list)) ≡ true = sym (ap has_values begins) ∙ c.requires in
+    let values = ap values_after begins ∙ values_of-list list parses in
     let rest : List ℕ = take (length list - 1) list in
     let empty = c.is_blank.ensures in
     elim c.if-is_blank.branch [
