@@ -8,7 +8,8 @@ use crate::step::StepKind;
 /// How a list of changes is applied (etcd's `raftpb.ConfChangeTransition`).
 #[derive(Clone, Copy, Debug, PartialEq, Eq)]
 pub enum Transition {
-    /// By a simple step if the list has one change, else by a joint configuration that is left automatically.
+    /// No change leaves a joint configuration, one change is a simple step, and more enter a joint configuration that is left
+    /// automatically.
     Auto,
     /// Always by a joint configuration, which is left automatically.
     Implicit,

@@ -12,7 +12,7 @@ voters_without voters away = ids_where (λ id. not (has away id)) (ascending vot
 abbrev pub commits_without : Voters → Ids → Bool
 commits_without voters away = is_quorum voters (voters_without voters away)
 
--- if any k ids are down beside the uncounted ones, the other voters are still a quorum
+-- whenever at most k ids are down beside the uncounted ones, the other voters are still a quorum
 abbrev pub Endures : Voters → Ids → ℕ → Type 0
 Endures voters uncounted k = (down : Ids) → size down ≤ k → IsTrue (commits_without voters (union down uncounted))
 
