@@ -1,6 +1,6 @@
--- What is appended to a text.
+-- Appending to a text.
 use Rattle.std.specs.Prelude.{◌≡◌, ℕ, List, length, take}
 
--- a text begins with what it was before
+-- the old text is a prefix of the new one
 pub record Extends (old new : List ℕ) : Type 0 where
   pub begins : take (length old) new ≡ old

@@ -1,32 +1,32 @@
--- The lines of a text.
+-- The lines of a text. A full line is a line with its newline.
 use Rattle.std.specs.Prelude.{ℕ, suc, Bool, false, List, [], ◌∷◌, ◌++◌, ◌==◌, map, flat_map, if◌then◌else◌}
 
 -- the byte that ends a line
 abbrev pub newline : List ℕ
 newline = 10 ∷ []
 
--- a byte before the first of some pieces
+-- a byte in front of the first full line
 abbrev pub before_first_line : ℕ → List (List ℕ) → List (List ℕ)
 before_first_line b [] = (b ∷ []) ∷ []
 before_first_line b (full_line ∷ full_lines) = (b ∷ full_line) ∷ full_lines
 
--- The text cut after each newline. The last piece has none where the text does not end in one.
+-- the full lines of a text: it is cut after each newline; the last one has no newline if the text does not end in one
 abbrev pub full_lines : List ℕ → List (List ℕ)
 full_lines [] = []
 full_lines (b ∷ bs) = if b == 10 then newline ∷ full_lines bs else before_first_line b (full_lines bs)
 
--- how many bytes the first piece has
+-- the length of the first full line
 abbrev pub first_len : List ℕ → ℕ
 first_len [] = 0
 first_len (b ∷ bytes) = if b == 10 then 1 else suc (first_len bytes)
 
--- bytes without this one at their end, if it is there
+-- bytes without a last byte that is this one
 abbrev pub without_last : ℕ → List ℕ → List ℕ
 without_last b [] = []
 without_last b (x ∷ []) = if x == b then [] else x ∷ []
 without_last b (x ∷ y ∷ bytes) = x ∷ without_last b (y ∷ bytes)
 
--- a piece without its newline, and then without one carriage return
+-- the line of a full line: without its newline, and then without one carriage return
 abbrev pub line_of : List ℕ → List ℕ
 line_of full_line = without_last 13 (without_last 10 full_line)
 
@@ -38,7 +38,7 @@ lines_of text = map line_of (full_lines text)
 abbrev pub text_of : List (List ℕ) → List ℕ
 text_of lines = flat_map (λ line. line ++ newline) lines
 
--- whether a piece has its newline
+-- whether a full line has its newline
 abbrev pub is_whole : List ℕ → Bool
 is_whole [] = false
 is_whole (b ∷ []) = b == 10

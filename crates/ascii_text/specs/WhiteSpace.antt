@@ -10,12 +10,12 @@ is_space b = (nat_le 9 b && nat_le b 13) || b == 32
 abbrev pub is_blank : List ℕ → Bool
 is_blank bytes = list_all is_space bytes
 
--- the bytes from the first one on that is not white space
+-- the bytes without white space at their start
 abbrev pub without_leading_space : List ℕ → List ℕ
 without_leading_space [] = []
 without_leading_space (b ∷ bs) = if is_space b then without_leading_space bs else b ∷ bs
 
--- the bytes up to the last one that is not white space
+-- the bytes without white space at their end
 abbrev pub without_trailing_space : List ℕ → List ℕ
 without_trailing_space [] = []
 without_trailing_space (b ∷ bs) = if is_blank (b ∷ bs) then [] else b ∷ without_trailing_space bs

@@ -1,4 +1,4 @@
--- The words of a text: what stands between white space.
+-- The words of a text: the runs of bytes that are not white space.
 use Rattle.std.specs.Prelude.{ℕ, Bool, List, length, filter, nat_lt}
 use Rattle.std.specs.List.{slice_split}
 use Rattle.ascii_text.specs.WhiteSpace.{is_space}

@@ -1,4 +1,4 @@
-//! Parts of a text, appended one after another, and taken back together where memory runs out.
+//! Appending to a text. If memory runs out between two parts, what was appended is dropped again.
 ghost use Rattle.std.specs.Prelude.{◌≡◌, ◌<◌, ◌^◌, ◌++◌, length, take, replicate, decimal, OnOk, OnErr};
 ghost use Rattle.ascii_text.specs.Append.{Extends};
 
@@ -27,8 +27,7 @@ pub fn append_times(text: &mut Vec<u8>, byte: u8, count: usize) -> Result<(), No
     Ok(())
 }
 
-/// Appends a number in decimal. Where no memory is left the text is as it was. Most ids have one digit, which is
-/// pushed.
+/// Appends a number in decimal. On `AllocError` the text is unchanged.
 pub fn append_number(text: &mut Vec<u8>, number: u64) -> Result<(), AllocError>
     ensures ok { OnOk result (text.new.items ≡ text.old.items ++ decimal number) }
     ensures err { OnErr result (text.new.items ≡ text.old.items) }
@@ -41,8 +40,8 @@ pub fn append_number(text: &mut Vec<u8>, number: u64) -> Result<(), AllocError>
     Ok(())
 }
 
-// Appends a number of one digit or more. They are written where they stay, over as many as the greatest number has. It stays
-// a call, so that one digit takes none.
+// Appends a number that is not 0. Its digits overwrite 20 zeros, one for each digit of the greatest `u64`; the rest is
+// dropped.
 #[inline(never)]
 fn append_digits(text: &mut Vec<u8>, number: u64) -> Result<(), AllocError>
     requires { 0 < number }
@@ -57,7 +56,7 @@ fn append_digits(text: &mut Vec<u8>, number: u64) -> Result<(), AllocError>
     Ok(())
 }
 
-/// Cuts a text back to its first `len` bytes if what was to be appended to them is not whole, and passes the result on.
+/// Truncates a text to `len` bytes if appending to it has failed, and returns the result of the appending.
 pub fn keep_whole(
     text: &mut Vec<u8>,
     len: usize,

@@ -14,10 +14,10 @@
 #![tactic(auto)]
 
 pub mod append;
-pub mod position;
 pub mod lines;
 mod no_memory;
 pub mod number;
+pub mod position;
 pub mod white_space;
 pub mod words;
 

@@ -1,10 +1,10 @@
-//! Cutting a line from a text, and its end from a line.
+//! The lines of a text. A full line is a line with its newline; the last line of a text may have none.
 ghost use Rattle.std.specs.Prelude.{◌≡◌, ◌≤◌, ◌<◌, [], ◌∷◌, length, IfSome, MatchOption};
 ghost use Rattle.ascii_text.specs.Lines.{first_len, full_lines, without_last, line_of, is_whole};
 
 use memchr::memchr;
 
-/// How many bytes come up to the first newline, with it.
+/// The length of the first full line.
 pub fn first_line_len(bytes: &[u8]) -> usize
     ensures count { result ≡ first_len bytes.now }
     ensures bound { result ≤ length bytes.now }
@@ -15,7 +15,7 @@ pub fn first_line_len(bytes: &[u8]) -> usize
     }
 }
 
-/// The first line of a text with its newline, and what stands behind it. An empty text has none (own).
+/// The first full line of a text, and the text after it. An empty text has none (own).
 pub fn next_full_line(text: &[u8]) -> Option<(&[u8], &[u8])>
     ensures full_lines { MatchOption result (full_lines text.now ≡ [])
         (λ found. full_lines text.now ≡ found.0.now ∷ full_lines found.1.now) }
@@ -27,7 +27,7 @@ pub fn next_full_line(text: &[u8]) -> Option<(&[u8], &[u8])>
     Some(text.split_at(first_line_len(text)))
 }
 
-/// The bytes without this one at their end (own).
+/// The bytes without a last byte that is `end` (own).
 pub fn without_end(bytes: &[u8], end: u8) -> &[u8]
     ensures { result.now ≡ without_last end bytes.now }
 {
@@ -37,7 +37,7 @@ pub fn without_end(bytes: &[u8], end: u8) -> &[u8]
     }
 }
 
-/// A piece without its newline, and then without one carriage return.
+/// The line of a full line: without its newline, and then without one carriage return.
 pub fn line_of(full_line: &[u8]) -> &[u8]
     ensures { result.now ≡ line_of full_line.now }
 {

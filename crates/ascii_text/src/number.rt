@@ -2,8 +2,7 @@
 ghost use Rattle.std.specs.Prelude.{◌≡◌, ◌<◌, ◌≤◌, length};
 ghost use Rattle.ascii_text.specs.Number.{number_in};
 
-/// The number that the bytes spell: one or more decimal digits, leading zeros allowed, below 2^64. Anything else spells
-/// none (own).
+/// Parses a number: one or more decimal digits, leading zeros allowed, of a value below 2^64. Anything else is `None` (own).
 pub fn read_number(digits: &[u8]) -> Option<u64>
     ensures { result ≡ number_in digits.now }
 {
@@ -14,7 +13,7 @@ pub fn read_number(digits: &[u8]) -> Option<u64>
     }
 }
 
-// The same for fewer than 20 bytes. Whatever so few digits spell is below 2^64, so no step can overflow.
+// Parses fewer than 20 bytes. The value of so few digits is below 2^64, so no step overflows.
 fn read_short(digits: &[u8]) -> Option<u64>
     requires { length digits.now < 20 }
     ensures { result ≡ number_in digits.now }
@@ -32,7 +31,7 @@ fn read_short(digits: &[u8]) -> Option<u64>
     Some(number)
 }
 
-// The same for more bytes, of which some may be leading zeros.
+// Parses 20 bytes or more, some of which may be leading zeros.
 fn read_long(digits: &[u8]) -> Option<u64>
     requires { 20 ≤ length digits.now }
     ensures { result ≡ number_in digits.now }

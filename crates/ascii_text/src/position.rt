@@ -1,10 +1,10 @@
-//! Cutting a text at a byte.
+//! The first position of a byte in a text.
 ghost use Rattle.std.specs.Prelude.{◌≡◌, ◌==◌, ◌≤◌, length};
 ghost use Rattle.std.specs.List.{position_or_len};
 
 use memchr::memchr;
 
-/// The place of the first such byte, or the length of the text.
+/// The position of the first such byte, or the length of the text.
 pub fn position_of(text: &[u8], byte: u8) -> usize
     ensures position { result ≡ position_or_len (λ b. b == byte) text.now }
     ensures within { result ≤ length text.now }
@@ -17,7 +17,7 @@ pub fn position_of(text: &[u8], byte: u8) -> usize
     text.len()
 }
 
-/// The same for a byte that mostly stands far off: it is looked for a run of bytes at a time.
+/// As [`position_of`], for a byte that is mostly far off: it is searched for one run of bytes at a time.
 pub fn far_position_of(text: &[u8], byte: u8) -> usize
     ensures position { result ≡ position_or_len (λ b. b == byte) text.now }
     ensures within { result ≤ length text.now }

@@ -7,7 +7,6 @@ ghost use Rattle.ascii_text.specs.WhiteSpace.{is_space, is_blank, without_leadin
 pub fn is_space(byte: u8) -> bool
     ensures { result ≡ is_space byte }
 {
-    // Most bytes are above all of them, and one comparison tells.
     byte <= 32 && matches!(byte, 9..=13 | 32)
 }
 
@@ -18,7 +17,7 @@ pub fn is_blank(text: &[u8]) -> bool
     text.iter().all(|byte| is_space(*byte))
 }
 
-/// The text from the first byte on that is not white space.
+/// The text without white space at its start.
 pub fn without_leading_space(text: &[u8]) -> &[u8]
     ensures { result.now ≡ without_leading_space text.now }
 {
@@ -32,7 +31,7 @@ pub fn without_leading_space(text: &[u8]) -> &[u8]
     rest
 }
 
-/// The text up to the last byte that is not white space.
+/// The text without white space at its end.
 pub fn without_trailing_space(text: &[u8]) -> &[u8]
     ensures { result.now ≡ without_trailing_space text.now }
 {

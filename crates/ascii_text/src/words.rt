@@ -1,4 +1,4 @@
-//! The words of a text: what stands between white space.
+//! The words of a text: the runs of bytes that are not white space.
 ghost use Rattle.std.specs.Prelude.{◌≡◌, ◌<◌, ◌≤◌, ◌↔◌, [], ◌∷◌, ◌++◌, length, IsNone, IfSome};
 ghost use Rattle.std.specs.List.{position_or_len};
 ghost use Rattle.ascii_text.specs.WhiteSpace.{is_space, without_leading_space};
@@ -6,7 +6,7 @@ ghost use Rattle.ascii_text.specs.Words.{words};
 
 use crate::white_space::{is_space, without_leading_space};
 
-// How many bytes the word has that the text begins with.
+// The length of the word that the text begins with.
 fn word_len(text: &[u8]) -> usize
     ensures count { result ≡ position_or_len is_space text.now }
     ensures within { result ≤ length text.now }
@@ -14,7 +14,7 @@ fn word_len(text: &[u8]) -> usize
     text.iter().take_while(|byte| !is_space(**byte)).count()
 }
 
-/// The first word of a text and what follows it, or `None` where the text has no word.
+/// The first word of a text and the text after it, or `None` if the text has no word.
 pub fn next_token(text: &[u8]) -> Option<(&[u8], &[u8])>
     ensures none { IsNone result ↔ (words text.now ≡ []) }
     ensures word { IfSome result (λ found. words text.now ≡ found.0.now ∷ words found.1.now) }

@@ -1,4 +1,4 @@
--- Acknowledgements: what one makes of a member's progress, and who has acknowledged which index.
+-- Acknowledgements of log indexes by members.
 use Rattle.std.specs.Prelude.{ℕ, ◌+◌, max, ◌==◌, Option, Some, None, Result, Ok, Err, map, nat_lt, if◌then◌else◌}
 use Rattle.std.specs.FinMap as finite
 use Rattle.quorum_sets.specs.Committed.{Acks, greatest_index}
@@ -7,28 +7,28 @@ use Rattle.conf_change.specs.declared.acknowledgement.AckFault.{AckFault}
 use Rattle.conf_change.specs.declared.acknowledgement.AckFault.TheVariants.{NotMember, IndexTooLarge}
 use Rattle.conf_change.specs.declared.progress.Progress.{Progress}
 
--- the progress after an index is acknowledged: one above match becomes match, and next is then above it; any other alters nothing
+-- the progress after an acknowledgement: an index above match becomes match, and next is then at least one more; any other index changes nothing
 abbrev pub acknowledged : ℕ → Progress → Progress
 acknowledged index p =
     if nat_lt p.matched index then record { matched = index; next = max p.next (index + 1); learner = p.learner } else p
 
--- the same where there is progress, which only members have; nothing follows the greatest index, so that one is refused
+-- the progress of a member after an acknowledgement, or why it is refused: not a member, or the greatest index, after which there is none
 abbrev pub acknowledged_progress : Option Progress → ℕ → Result Progress AckFault
 acknowledged_progress None index = Err NotMember
 acknowledged_progress (Some was) index = if index == greatest_index then Err IndexTooLarge else Ok (acknowledged index was)
 
--- the progress of an id after it acknowledges an index, or why that is refused
+-- the result of an acknowledgement by an id
 abbrev pub ack_answer : TrackerState → ℕ → ℕ → Result Progress AckFault
 ack_answer tracker id index = acknowledged_progress (finite.get tracker.progress id) index
 
--- the tracker where the id has this progress
+-- the tracker with this progress of the id
 abbrev pub with_progress : TrackerState → ℕ → Progress → TrackerState
 with_progress tracker id p = tracker_of tracker.floor tracker.config (finite.insert tracker.progress id p)
 
--- the changer where the id has this progress, and nothing else differs
+-- the changer with this progress of the id
 abbrev pub changer_with_progress : ChangerState → ℕ → Progress → ChangerState
 changer_with_progress changer id p = changer_of (with_progress changer.tracker id p) changer.last_index
 
--- the match of each member
+-- the match index of each member
 abbrev pub matches : TrackerState → Acks
 matches tracker = finite.from_entries (map (λ entry. (entry.0, entry.1.matched)) (finite.entries tracker.progress))

@@ -1,4 +1,4 @@
--- Change lists: which texts stand for which changes, and what is wrong with the others.
+-- Change lists: which changes a text denotes, and what is wrong with a text that denotes none.
 use Rattle.std.specs.Prelude.{◌≡◌, ◌≢◌, ℕ, ◌<◌, ◌==◌, List, [], ◌∷◌, ◌++◌, length, slice_index, Option, Some, None, Result, Ok, Err, if◌then◌else◌}
 use Rattle.std.specs.List.{AllZip}
 use Rattle.ascii_text.specs.Words.{words}
@@ -16,17 +16,17 @@ letter_of Learner = 108
 letter_of Remove = 114
 letter_of Update = 117
 
--- the token is the letter of the change's kind and a number that is its id
+-- the token parses to the change: it is the letter of its kind and a number that is its id
 pub record ParsesTo (token : List ℕ) (change : Change) : Type 0 where
   pub number : List ℕ
   pub letter_first : token ≡ letter_of change.kind ∷ number
   pub id_after : ParsesToNumber number change.id
 
--- the words of the text spell the changes, one word a change
+-- the text denotes these changes: its tokens parse to them, one token per change
 abbrev pub Denotes : List ℕ → List Change → Type 0
 Denotes text changes = AllZip ParsesTo (words text) changes
 
--- a token that spells no change, with the reason
+-- a bad token, with the reason
 pub data BadToken : Type 0 where
   unknown_token : List ℕ → BadToken
   unknown_input : List ℕ → BadToken
@@ -38,13 +38,13 @@ token_of (unknown_token token) = token
 token_of (unknown_input token) = token
 token_of (bad_number token) = token
 
--- the reason is true of the token: it has fewer than two bytes; or it has two and begins with no kind's letter; or with one, and the rest is no number
+-- the reason is true of the token: it has fewer than two bytes; or it does not begin with a letter of a kind; or it does, and the rest is not a number
 abbrev pub HasReason : BadToken → Type 0
 HasReason (unknown_token token) = length token < 2
 HasReason (unknown_input token) = (1 < length token) × ((kind : Kind) → slice_index token 0 ≢ letter_of kind)
 HasReason (bad_number token) = (kind : Kind) × (rest : List ℕ) × (1 < length token) × (token ≡ letter_of kind ∷ rest) × ((number : ℕ) → ¬ (ParsesToNumber rest number))
 
--- the first of the tokens that spells no change: those before it all spell changes
+-- the first bad token: those before it all parse to changes
 pub record IsFirstBad (tokens : List (List ℕ)) (bad : BadToken) : Type 0 where
   pub before : List (List ℕ)
   pub after : List (List ℕ)
@@ -53,14 +53,15 @@ pub record IsFirstBad (tokens : List (List ℕ)) (bad : BadToken) : Type 0 where
   pub parsed : AllZip ParsesTo before changes
   pub reason : HasReason bad
 
--- the bad token that was told
+-- the bad token of an error
 abbrev pub bad_token : TokenFault → Option BadToken
 bad_token (UnknownToken token) = Some (unknown_token token.now)
 bad_token (UnknownInput token) = Some (unknown_input token.now)
 bad_token (BadNumber token) = Some (bad_number token.now)
 bad_token NoMemory = None
 
--- the same as functions: the kind of a letter
+-- ---- as functions
+-- the kind of a letter
 abbrev pub kind_in : ℕ → Option Kind
 kind_in byte =
     if byte == 118 then Some Voter else (if byte == 108 then Some Learner
@@ -71,18 +72,18 @@ abbrev pub with_number : List ℕ → Kind → Option ℕ → Result Change BadT
 with_number token kind None = Err (bad_number token)
 with_number token kind (Some id) = Ok (record { kind = kind; id = id })
 
--- the change of a kind and the digits after its letter, or an unknown input
+-- the change of a kind and the digits after its letter, or that the letter is unknown
 abbrev pub with_kind : List ℕ → Option Kind → List ℕ → Result Change BadToken
 with_kind token None rest = Err (unknown_input token)
 with_kind token (Some kind) rest = with_number token kind (number_in rest)
 
--- the change that a token spells, or what is wrong with it
+-- the change that a token parses to, or what is wrong with it
 abbrev pub change_in : List ℕ → Result Change BadToken
 change_in [] = Err (unknown_token [])
 change_in (letter ∷ []) = Err (unknown_token (letter ∷ []))
 change_in (letter ∷ digit ∷ rest) = with_kind (letter ∷ digit ∷ rest) (kind_in letter) (digit ∷ rest)
 
--- a change before others; the first bad token decides
+-- a change before others, or the first bad token
 abbrev pub and_more : Result Change BadToken → Result (List Change) BadToken → Result (List Change) BadToken
 and_more (Err bad) others = Err bad
 and_more (Ok change) (Err bad) = Err bad
@@ -93,6 +94,6 @@ abbrev pub changes_in_tokens : List (List ℕ) → Result (List Change) BadToken
 changes_in_tokens [] = Ok []
 changes_in_tokens (token ∷ tokens) = and_more (change_in token) (changes_in_tokens tokens)
 
--- the changes that a text stands for, or its first bad token
+-- the changes that a text denotes, or its first bad token
 abbrev pub changes_in : List ℕ → Result (List Change) BadToken
 changes_in text = changes_in_tokens (words text)

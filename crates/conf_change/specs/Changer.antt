@@ -1,4 +1,4 @@
--- What a changer's calls do to its configuration and progress.
+-- Changers: their steps, and what is true of every tracker.
 use Rattle.std.specs.Prelude.{◌≡◌, ◌≢◌, ℕ, true, is_some, IfSome, IfOk, IfErr, OnOk, OnErr, Result, Ok, Err}
 use Rattle.std.specs.FinMap as finite
 use Rattle.quorum_sets.specs.Ids.{has}
@@ -15,7 +15,7 @@ use Rattle.conf_change.specs.declared.refused.Refused.{Refused}
 use Rattle.conf_change.specs.declared.refused.Refused.TheVariants.{NoMemory}
 use Rattle.conf_change.specs.declared.step.Step.{Step}
 
--- nobody is in it
+-- a tracker with an empty configuration
 abbrev pub empty_tracker : Floor → TrackerState
 empty_tracker floor = record { config = empty_configuration; progress = finite.empty; floor = floor }
 
@@ -27,11 +27,11 @@ tracker_of floor c progress = record { config = c; progress = progress; floor = 
 abbrev pub changer_of : TrackerState → ℕ → ChangerState
 changer_of tracker last_index = record { tracker = tracker; last_index = last_index }
 
--- the changer that nobody is in yet
+-- a changer with an empty configuration
 abbrev pub new_changer : Floor → ℕ → ChangerState
 new_changer floor last_index = record { tracker = empty_tracker floor; last_index = last_index }
 
--- a changer that begins with a configuration whose progress is all fresh
+-- a changer with this configuration and fresh progress of its members
 abbrev pub begun_with : Floor → ℕ → Configuration → ChangerState
 begun_with floor last_index c = changer_of (tracker_of floor c (all_fresh (fresh_next floor last_index) c)) last_index
 
@@ -39,7 +39,7 @@ begun_with floor last_index c = changer_of (tracker_of floor c (all_fresh (fresh
 abbrev pub with_last_index : ChangerState → ℕ → ChangerState
 with_last_index changer last_index = record { tracker = changer.tracker; last_index = last_index }
 
--- the changer after a step to a configuration, where the floor and the last index stay
+-- the changer after a step to a configuration; the floor and the last index do not change
 abbrev pub moved_to : ChangerState → Step → Configuration → ChangerState
 moved_to changer step after = record {
   tracker = tracker_of changer.tracker.floor after (progress_after changer step after);
@@ -55,19 +55,19 @@ moved_by changer step (Err why) = Err why
 abbrev pub changer_after : ChangerState → Step → Result ChangerState Refused
 changer_after changer step = moved_by changer step (outcome changer.tracker.config step)
 
--- what holds of every tracker: its configuration is valid, and has a voter unless nobody is in it; its members and nobody else have progress; the learners are marked; and next is ahead of match, as the floor has it
+-- what is true of every tracker: its configuration is valid, and has an incoming voter or is empty; exactly its members have progress; the learners are marked; and next is ahead of match
 pub record IsSound (tracker : TrackerState) : Type 0 where
   pub restorable : is_restorable tracker.config ≡ true
   pub of_members : (id : ℕ) → is_some (finite.get tracker.progress id) ≡ is_member tracker.config id
   pub marked : (id : ℕ) → IfSome (finite.get tracker.progress id) (λ p. p.learner ≡ has tracker.config.learners id)
   pub ahead : (id : ℕ) → IfSome (finite.get tracker.progress id) (IsAhead tracker.floor)
 
--- the step is accepted: its configuration is the defined one, and so is the progress
+-- the step is accepted: the configuration and the progress after it are the defined ones
 pub record Accepts (before : ChangerState) (step : Step) (after : ChangerState) : Type 0 where
   pub configuration : outcome before.tracker.config step ≡ Ok after.tracker.config
   pub whole : after ≡ moved_to before step after.tracker.config
 
--- the step is refused for this reason, want of memory aside
+-- the step is refused for this reason, unless the reason is NoMemory
 abbrev pub Refuses : ChangerState → Step → Refused → Type 0
 Refuses before step why = why ≢ NoMemory → outcome before.tracker.config step ≡ Err why
 
@@ -75,11 +75,11 @@ Refuses before step why = why ≢ NoMemory → outcome before.tracker.config ste
 abbrev pub NeighboursAcross : ChangerState → ChangerState → Type 0
 NeighboursAcross before after = AreNeighbours (voters_of before.tracker.config) (voters_of after.tracker.config)
 
--- quorums of before and after meet, and what is committed on one side meets every vote that is won on the other
+-- the quorums before and after overlap, and so do committed indexes and won votes
 abbrev pub OverlapAcross : ChangerState → ChangerState → Type 0
 OverlapAcross before after = Overlap (voters_of before.tracker.config) (voters_of after.tracker.config)
 
--- What a call answers that gives the changer after a step: the defined configuration and progress, or the defined refusal (or want of memory). The tracker is sound before and after, the voters of before and after are neighbours and overlap, and where there was a voter there still is one.
+-- The result of a call that computes the changer after a step: the defined configuration and progress, or the defined refusal (or NoMemory). The tracker is sound before and after, the voters before and after are neighbours and overlap, and if there was a voter there still is one.
 pub record GivesNext (before : ChangerState) (step : Step) (result : Result ChangerState Refused) : Type 0 where
   pub accepted : IfOk result (Accepts before step)
   pub refused : IfErr result (Refuses before step)
@@ -89,12 +89,12 @@ pub record GivesNext (before : ChangerState) (step : Step) (result : Result Chan
   pub overlap : IfOk result (OverlapAcross before)
   pub voter : has_voter before.tracker.config ≡ true → IfOk result (λ after. has_voter after.tracker.config ≡ true)
 
--- what a call answers that leaves the next changer in its place
+-- the result of a call that leaves the changer after a step in its place
 abbrev pub left_in : Result (Unit {0}) Refused → ChangerState → Result ChangerState Refused
 left_in (Ok _) after = Ok after
 left_in (Err why) after = Err why
 
--- What a call answers and leaves that makes a step in place: the same, and nothing is altered by a refusal (or want of memory).
+-- The result of a call that takes a step in place: as GivesNext, and a refusal (or NoMemory) changes nothing.
 pub record Makes (before : ChangerState) (step : Step) (result : Result (Unit {0}) Refused) (after : ChangerState) : Type 0 where
   pub accepted : OnOk result (Accepts before step after)
   pub refused : IfErr result (Refuses before step)

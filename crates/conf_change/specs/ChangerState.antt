@@ -1,14 +1,14 @@
--- What a changer is, and how it is stored.
+-- The state of a changer.
 use Rattle.std.specs.Prelude.{ℕ, refl}
 use Rattle.std.specs.Coded.{Coded, coded_ℕ, coded×, code_by}
 use Rattle.conf_change.specs.TrackerState.{TrackerState, tracker_code}
 
--- what a changer is: a tracker, and the last index of the log; it and the floor decide what fresh progress is
+-- a changer: a tracker, and the last index of the log, at which new members begin
 pub record ChangerState : Type 0 where
   pub tracker : TrackerState
   pub last_index : ℕ
 
--- a changer as numbers, which is how a model is stored
+-- a changer as numbers, the form in which the model of a type is stored
 abbrev pub changer_code : Coded ChangerState
 changer_code =
     code_by (TrackerState × ℕ) (coded× tracker_code coded_ℕ)

@@ -1,4 +1,4 @@
--- A saved configuration, as four lists and a flag.
+-- Saved configurations (etcd's ConfState): four lists and a flag.
 use Rattle.std.specs.Prelude.{◌≡◌, ℕ, Bool, ◌&&◌, List, length, Option, Some, None, nat_eq, if◌then◌else◌}
 use Rattle.std.specs.Bool.{beq}
 use Rattle.std.specs.Cmp.{IsPartialEquivalence, partial_equiv_from_equiv, and_per, on_per, nat_eq_equiv, bool_eq_equiv}
@@ -6,7 +6,7 @@ use Rattle.std.specs.Cmp.Lexicographic.{pointwise, lists_per}
 use Rattle.quorum_sets.specs.Ids.{Ids, ascending, size, ids_of}
 use Rattle.conf_change.specs.Configuration.{Configuration, is_restorable}
 
--- the lists of a saved configuration, in the order in which they stand
+-- a ConfState: its lists, in their order, and its flag
 pub record ConfStateLists : Type 0 where
   pub voters : List ℕ
   pub voters_outgoing : List ℕ
@@ -14,13 +14,13 @@ pub record ConfStateLists : Type 0 where
   pub learners_next : List ℕ
   pub auto_leave : Bool
 
--- whether two saved forms have the same lists, in the same order, and the same flag
+-- whether two ConfStates have the same lists, in the same order, and the same flag
 abbrev pub is_same_conf_state : ConfStateLists → ConfStateLists → Bool
 is_same_conf_state a b =
     pointwise nat_eq a.voters b.voters && pointwise nat_eq a.voters_outgoing b.voters_outgoing
     && pointwise nat_eq a.learners b.learners && pointwise nat_eq a.learners_next b.learners_next && beq a.auto_leave b.auto_leave
 
--- being the same form is symmetric and transitive
+-- equality of ConfStates is symmetric and transitive
 pub is_same_conf_state-laws : IsPartialEquivalence is_same_conf_state
 is_same_conf_state-laws =
     let lists = lists_per (partial_equiv_from_equiv nat_eq_equiv) in
@@ -33,7 +33,7 @@ pub record Lists (list : List ℕ) (ids : Ids) : Type 0 where
   pub same : ids_of list ≡ ids
   pub once : length list ≡ size ids
 
--- the saved lists name the sets of the configuration, each id once, in any order
+-- the ConfState describes the configuration: its lists name the ids of the sets, each once, in any order
 pub record Describes (saved : ConfStateLists) (c : Configuration) : Type 0 where
   pub incoming : Lists saved.voters c.incoming
   pub outgoing : Lists saved.voters_outgoing c.outgoing
@@ -41,7 +41,7 @@ pub record Describes (saved : ConfStateLists) (c : Configuration) : Type 0 where
   pub learners_next : Lists saved.learners_next c.learners_next
   pub auto_leave : saved.auto_leave ≡ c.auto_leave
 
--- the saved form whose lists ascend
+-- the ConfState of a configuration with ascending lists
 abbrev pub lists_of : Configuration → ConfStateLists
 lists_of c = record {
   voters = ascending c.incoming;
@@ -51,7 +51,7 @@ lists_of c = record {
   auto_leave = c.auto_leave;
 }
 
--- no id stands twice
+-- the list names no id twice
 abbrev pub names_once : List ℕ → Bool
 names_once list = nat_eq (length list) (size (ids_of list))
 
@@ -65,7 +65,7 @@ named_by saved = record {
   auto_leave = saved.auto_leave;
 }
 
--- the configuration to which the saved form is restored, if it can be
+-- the configuration to which a ConfState is restored, if it can be
 abbrev pub restored : ConfStateLists → Option Configuration
 restored saved =
     if names_once saved.voters && names_once saved.voters_outgoing && names_once saved.learners && names_once saved.learners_next && is_restorable (named_by saved)

@@ -1,4 +1,4 @@
--- The line of a saved configuration: as it is printed, and which texts stand for one.
+-- ConfState lines: how one is printed, and which ConfState a text denotes.
 use Rattle.std.specs.Prelude.{◌≡◌, ℕ, Bool, true, false, ◌==◌, List, [], ◌∷◌, ◌++◌, length, take, drop, codes, Option, Some, None, option_map, option_and_then, bytes_eq, if◌then◌else◌}
 use Rattle.std.specs.List.{AllZip, join_with_byte, slice_split, position_or_len, before_first}
 use Rattle.ascii_text.specs.Words.{has_bytes}
@@ -22,13 +22,13 @@ abbrev pub conf_state_text : ConfStateLists → List ℕ
 conf_state_text saved =
     line_text (spaced_numbers saved.voters) (spaced_numbers saved.voters_outgoing) (spaced_numbers saved.learners) (spaced_numbers saved.learners_next) saved.auto_leave
 
--- the text is numbers with one space between, and these are the numbers
+-- the text parses to these numbers, which are separated by one space
 pub record ParsesToNumbers (text : List ℕ) (numbers : List ℕ) : Type 0 where
   pub tokens : List (List ℕ)
   pub spaced : text ≡ join_with_byte 32 tokens
   pub parsed : AllZip ParsesToNumber tokens numbers
 
--- the text is the line of the saved configuration, with any white space at its ends and any zeros before its numbers
+-- the text denotes the ConfState: it is its line, with any white space around it and any leading zeros in its numbers
 pub record DenotesConfState (text : List ℕ) (saved : ConfStateLists) : Type 0 where
   pub voters : List ℕ
   pub voters_outgoing : List ℕ
@@ -40,7 +40,8 @@ pub record DenotesConfState (text : List ℕ) (saved : ConfStateLists) : Type 0 
   pub parsed_learners : ParsesToNumbers learners saved.learners
   pub parsed_learners_next : ParsesToNumbers learners_next saved.learners_next
 
--- the same as functions: what follows a prefix
+-- ---- as functions
+-- the text after a prefix
 abbrev pub after_prefix : List ℕ → List ℕ → Option (List ℕ)
 after_prefix prefix text = if bytes_eq (take (length prefix) text) prefix then Some (drop (length prefix) text) else None
 
@@ -50,20 +51,20 @@ and_number None others = None
 and_number (Some number) None = None
 and_number (Some number) (Some numbers) = Some (number ∷ numbers)
 
--- the numbers of the pieces, if each is one
+-- the numbers that tokens parse to, if each does
 abbrev pub numbers_in_tokens : List (List ℕ) → Option (List ℕ)
 numbers_in_tokens [] = Some []
 numbers_in_tokens (token ∷ tokens) = and_number (number_in token) (numbers_in_tokens tokens)
 
--- the one space between numbers
+-- the byte is a space
 abbrev pub is_space_byte : ℕ → Bool
 is_space_byte byte = byte == 32
 
--- the numbers that a text has with one space between; the empty text has none
+-- the numbers that a text parses to, which are separated by one space; the empty text has none
 abbrev pub numbers_in : List ℕ → Option (List ℕ)
 numbers_in text = if has_bytes text then numbers_in_tokens (slice_split is_space_byte text) else Some []
 
--- the bracket that ends a list
+-- the byte is the bracket that ends a list
 abbrev pub is_close : ℕ → Bool
 is_close byte = byte == 93
 
@@ -72,18 +73,18 @@ abbrev pub field_in : List ℕ → List ℕ → Option (List ℕ × List ℕ)
 field_in prefix text =
     option_and_then (λ rest. option_map (λ numbers. (numbers, drop (position_or_len is_close rest) rest)) (numbers_in (before_first is_close rest))) (after_prefix prefix text)
 
--- the truth value behind the last field
+-- the value of the last field
 abbrev pub auto_leave_in : List ℕ → Option Bool
 auto_leave_in text =
     if bytes_eq text (codes "] AutoLeave:true") then Some true
     else (if bytes_eq text (codes "] AutoLeave:false") then Some false else None)
 
--- what is found is read on
+-- the value is passed on, if there is one
 infixl 10 ◌>>=◌
 abbrev pub ◌>>=◌ : {A B : Type 0} → Option A → (A → Option B) → Option B
 found >>= more = option_and_then more found
 
--- the saved configuration of a line without white space at its ends
+-- the ConfState of a trimmed line
 abbrev pub line_in : List ℕ → Option ConfStateLists
 line_in line = do
   voters ← field_in (codes "Voters:[") line
@@ -93,6 +94,6 @@ line_in line = do
   auto_leave ← auto_leave_in learners_next.1
   Some (record { voters = voters.0; voters_outgoing = voters_outgoing.0; learners = learners.0; learners_next = learners_next.0; auto_leave = auto_leave })
 
--- the saved configuration that a text stands for
+-- the ConfState that a text denotes
 abbrev pub conf_state_in : List ℕ → Option ConfStateLists
 conf_state_in text = line_in (trimmed text)

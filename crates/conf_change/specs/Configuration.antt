@@ -1,4 +1,4 @@
--- A configuration: who votes, who learns, and what is wrong with one that is not valid.
+-- Configurations, and the invariants of a valid one.
 use Rattle.std.specs.Prelude.{◌≡◌, ℕ, Bool, true, false, not, ◌&&◌, ◌||◌, List, [], ◌∷◌, ◌++◌, Option, find, nat_eq}
 use Rattle.std.specs.Bool.{beq}
 use Rattle.std.specs.List.{list_all}
@@ -7,7 +7,7 @@ use Rattle.quorum_sets.specs.Voters.{Voters}
 use Rattle.conf_change.specs.declared.config.Invariant.{Invariant}
 use Rattle.conf_change.specs.declared.config.Invariant.TheVariants.{ZeroId, NextNotOutgoing, NextAndIncoming, LearnerAndVoter, NotJointButNext, NotJointButAutoLeave}
 
--- the incoming and the outgoing voters, the learners, those who become learners when the joint configuration is left, and whether it is left by itself
+-- a configuration: the incoming and the outgoing voters, the learners, those that become learners when the joint configuration is left, and whether it is left automatically
 pub record Configuration : Type 0 where
   pub incoming : Ids
   pub outgoing : Ids
@@ -15,7 +15,7 @@ pub record Configuration : Type 0 where
   pub learners_next : Ids
   pub auto_leave : Bool
 
--- nobody is in it
+-- the empty configuration
 abbrev pub empty_configuration : Configuration
 empty_configuration = record { incoming = no_ids; outgoing = no_ids; learners = no_ids; learners_next = no_ids; auto_leave = false }
 
@@ -56,7 +56,7 @@ keeps c LearnerAndVoter = is_apart c.learners c.incoming && is_apart c.learners 
 keeps c NotJointButNext = is_joint c || is_empty c.learners_next
 keeps c NotJointButAutoLeave = is_joint c || not c.auto_leave
 
--- the invariants, in the order in which they are looked at
+-- the invariants, in the order in which they are checked
 abbrev pub invariants : List Invariant
 invariants = ZeroId ∷ NextNotOutgoing ∷ NextAndIncoming ∷ LearnerAndVoter ∷ NotJointButNext ∷ NotJointButAutoLeave ∷ []
 
@@ -80,15 +80,15 @@ pub record ValidByMember (c : Configuration) : Type 0 where
   pub learner_outgoing : (q : ℕ) → has c.learners q ≡ true → has c.outgoing q ≡ false
   pub auto_leave : is_joint c ≡ false → c.auto_leave ≡ false
 
--- it has an incoming voter, or nobody is in it
+-- it has an incoming voter, or is empty
 abbrev pub has_voter_or_is_empty : Configuration → Bool
 has_voter_or_is_empty c = has_voter c || (is_empty c.incoming && is_empty c.outgoing && is_empty c.learners && is_empty c.learners_next)
 
--- it is valid, and has an incoming voter or nobody at all
+-- it can be restored: it is valid, and has an incoming voter or is empty
 abbrev pub is_restorable : Configuration → Bool
 is_restorable c = is_valid c && has_voter_or_is_empty c
 
--- no id is in just one of the sets
+-- the sets have the same ids
 abbrev pub is_same_set : Ids → Ids → Bool
 is_same_set a b = nat_eq (difference_count a b) 0
 

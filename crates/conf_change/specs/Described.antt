@@ -1,4 +1,4 @@
--- The configuration that a saved form names, be it valid or not.
+-- The configuration that a ConfState describes, valid or not.
 use Rattle.std.specs.Prelude.{Bool, ◌&&◌, Option, Some, None, if◌then◌else◌}
 use Rattle.conf_change.specs.Configuration.{Configuration}
 use Rattle.conf_change.specs.ConfState.{ConfStateLists, names_once, named_by}

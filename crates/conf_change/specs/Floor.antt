@@ -1,20 +1,20 @@
--- Floors: the least index that a new member is sent next.
+-- The floor: the smallest initial next index.
 use Rattle.std.specs.Prelude.{◌≡◌, ℕ, max, ◌<◌, ◌≤◌, Bool, true, false, refl}
 use Rattle.std.specs.Coded.{Coded, coded_bool, code_by}
 use Rattle.conf_change.specs.declared.floor.Floor.{Floor}
 use Rattle.conf_change.specs.declared.floor.Floor.TheVariants.{Zero, One}
 use Rattle.conf_change.specs.declared.progress.Progress.{Progress}
 
--- the least fresh next
+-- the smallest initial next index
 abbrev pub number_of : Floor → ℕ
 number_of Zero = 0
 number_of One = 1
 
--- the index that a new member is sent next: the last index, or the floor where that is more
+-- the initial next index of a new member: the last index, or the floor if that is greater
 abbrev pub fresh_next : Floor → ℕ → ℕ
 fresh_next floor last_index = max last_index (number_of floor)
 
--- how match and next lie: match is below next, or with floor 0 at most next
+-- next is ahead of match: match is below next, or with floor 0 at most next
 abbrev pub IsAhead : Floor → Progress → Type 0
 IsAhead Zero p = p.matched ≤ p.next
 IsAhead One p = p.matched < p.next

@@ -1,4 +1,4 @@
--- The three changes of a configuration: what each gives, or why it is refused.
+-- The three steps of a configuration: the result of each, or why it is refused.
 use Rattle.std.specs.Prelude.{Bool, false, not, List, Result, Ok, Err, nat_lt, if◌then◌else◌}
 use Rattle.quorum_sets.specs.Ids.{no_ids, union, difference_count}
 use Rattle.conf_change.specs.Configuration.{Configuration, is_joint, has_voter}
@@ -9,11 +9,11 @@ use Rattle.conf_change.specs.declared.refused.Refused.TheVariants.{AlreadyJoint,
 use Rattle.conf_change.specs.declared.step.Step.{Step}
 use Rattle.conf_change.specs.declared.step.Step.TheVariants.{Simple, EnterJoint, LeaveJoint}
 
--- what a configuration becomes, or why the change is refused
+-- the configuration after a step, or why the step is refused
 abbrev pub Outcome : Type 0
 Outcome = Result Configuration Refused
 
--- one voter at a time: those are counted that differ before and after
+-- a simple step, after which at most one voter differs
 abbrev pub simple_outcome : Configuration → List Change → Outcome
 simple_outcome c changes =
     let after = result_of c changes in
@@ -22,11 +22,11 @@ simple_outcome c changes =
     else (if nat_lt 1 (difference_count c.incoming after.incoming) then Err MoreThanOneVoter
     else Ok after))
 
--- the configuration that is entered, before its changes: the incoming voters are the outgoing ones too
+-- the joint configuration before its changes: the incoming voters are the outgoing ones too
 abbrev pub with_outgoing : Configuration → Bool → Configuration
 with_outgoing c auto_leave = record c { outgoing = c.incoming; auto_leave = auto_leave }
 
--- into a joint configuration, where the changes are made of what is entered
+-- entering a joint configuration, in which the changes are made
 abbrev pub enter_outcome : Configuration → Bool → List Change → Outcome
 enter_outcome c auto_leave changes =
     let after = result_of (with_outgoing c auto_leave) changes in
@@ -35,7 +35,7 @@ enter_outcome c auto_leave changes =
     else (if not (has_voter after) then Err RemovedAllVoters
     else Ok after))
 
--- the outgoing voters go, and the next learners learn
+-- the configuration after leaving a joint one: the outgoing voters are removed, and the next learners become learners
 abbrev pub after_leave : Configuration → Configuration
 after_leave c = record {
   incoming = c.incoming;
@@ -45,11 +45,11 @@ after_leave c = record {
   auto_leave = false;
 }
 
--- out of a joint configuration
+-- leaving a joint configuration
 abbrev pub leave_outcome : Configuration → Outcome
 leave_outcome c = if is_joint c then Ok (after_leave c) else Err NotJoint
 
--- what a step gives
+-- the outcome of a step
 abbrev pub outcome : Configuration → Step → Outcome
 outcome c (Simple changes) = simple_outcome c changes
 outcome c (EnterJoint auto_leave changes) = enter_outcome c auto_leave changes

@@ -13,37 +13,37 @@ use Rattle.conf_change.specs.ChangerState.{ChangerState}
 use Rattle.conf_change.specs.declared.progress.Progress.{Progress}
 use Rattle.conf_change.specs.declared.step.Step.{Step}
 
--- the index that a new member of the changer is sent next
+-- the initial next index of a new member
 abbrev pub fresh_next_of : ChangerState → ℕ
 fresh_next_of changer = fresh_next changer.tracker.floor changer.last_index
 
--- the progress of a new member: nothing is known of it, and it is sent this index next
+-- the progress of a new member with this initial next index
 abbrev pub fresh_progress : ℕ → Bool → Progress
 fresh_progress next_index learner = record { matched = 0; next = next_index; learner = learner }
 
--- the progress p of an id that is a learner or not
+-- the progress, marked as that of a learner or not
 abbrev pub with_mark : Bool → Progress → Progress
 with_mark learner p = record { matched = p.matched; next = p.next; learner = learner }
 
--- what the members of a configuration have, each by itself
+-- the progress of the members of a configuration, by a function of the id
 abbrev pub progress_by : Configuration → (ℕ → Progress) → ProgressMap
 progress_by c of = finite.from_entries (map (λ id. (id, of id)) (members c))
 
--- all progress is fresh
+-- fresh progress of all members
 abbrev pub all_fresh : ℕ → Configuration → ProgressMap
 all_fresh next_index c = progress_by c (λ id. fresh_progress next_index (has c.learners id))
 
--- a list in rising order of the ids has fresh progress for each id of the three sets, with the learners marked, and for nobody else
+-- the entries are fresh progress of exactly the ids of three sets, with the learners marked, in ascending order
 pub record IsFreshOf (next_index : ℕ) (incoming outgoing learners : Ids) (entries : List (ℕ × Progress)) : Type 0 where
   pub ascends : IsAscending (map (λ m. m.0) entries)
   pub members : (q : ℕ) → list_any (λ x. q == x) (map (λ m. m.0) entries) ≡ (has incoming q || has outgoing q || has learners q)
   pub fresh : entries ≡ map (λ id. (id, fresh_progress next_index (has learners id))) (map (λ m. m.0) entries)
 
--- the step puts a new member in the id's place, if the id stays: its changes remove the id, and the id does not go out
+-- if the id is a member after the step, it is a new one: a change removes it, and it is not an outgoing voter
 abbrev pub is_replaced : Step → Configuration → ℕ → Bool
 is_replaced step after id = removes (changes_of step) id && not (has after.outgoing id)
 
--- a member keeps its progress in the step: it was one before and stays one, and no new member takes its place
+-- a member keeps its progress in the step: it is one before and after, and not a new one
 abbrev pub keeps_progress : Configuration → Step → Configuration → ℕ → Bool
 keeps_progress before step after id = is_member before id && is_member after id && not (is_replaced step after id)
 

@@ -1,4 +1,4 @@
--- What an id is in a configuration, and after the last word on it.
+-- The roles of an id in a configuration, and after its last effective change.
 use Rattle.std.specs.Prelude.{ℕ, Bool, ◌||◌, Option}
 use Rattle.quorum_sets.specs.Ids.{has}
 use Rattle.conf_change.specs.Configuration.{Configuration, is_member}
@@ -7,11 +7,11 @@ use Rattle.conf_change.specs.declared.change.Kind.{Kind}
 use Rattle.conf_change.specs.declared.roles.Membership.{Membership}
 use Rattle.conf_change.specs.declared.roles.Roles.{Roles}
 
--- what an id is in a configuration
+-- the roles of an id in a configuration
 abbrev pub roles_in : Configuration → ℕ → Roles
 roles_in c id = record { incoming = has c.incoming id; outgoing = has c.outgoing id; learner = has c.learners id; next = has c.learners_next id }
 
--- what it is after the last word on it
+-- the roles of an id after its last effective change
 abbrev pub roles_after : Roles → Option Kind → Roles
 roles_after roles last = record {
   incoming = is_incoming_after last roles.incoming;
@@ -20,7 +20,7 @@ roles_after roles last = record {
   next = is_next_after last roles.outgoing roles.next;
 }
 
--- a voter of either kind, or a learner
+-- the roles are those of a member: an incoming or outgoing voter, or a learner
 abbrev pub has_member_role : Roles → Bool
 has_member_role roles = roles.incoming || roles.outgoing || roles.learner
 

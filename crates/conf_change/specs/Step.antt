@@ -1,4 +1,4 @@
--- What steps have in common.
+-- Steps.
 use Rattle.std.specs.Prelude.{List, []}
 use Rattle.conf_change.specs.declared.change.Change.{Change}
 use Rattle.conf_change.specs.declared.step.Step.{Step}

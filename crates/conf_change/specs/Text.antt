@@ -9,15 +9,15 @@ use Rattle.conf_change.specs.declared.progress.Progress.{Progress}
 use Rattle.conf_change.specs.declared.refused.Refused.{Refused}
 use Rattle.conf_change.specs.declared.refused.Refused.TheVariants.{AlreadyJoint, ZeroVoterJoint, NotJoint, SimpleInJoint, RemovedAllVoters, MoreThanOneVoter, NoMemory}
 
--- a part that is there or left out
+-- an optional part of a text
 abbrev pub text_if : Bool → List ℕ → List ℕ
 text_if there text = if there then text else []
 
--- numbers with one space between
+-- numbers, separated by one space
 abbrev pub spaced_numbers : List ℕ → List ℕ
 spaced_numbers numbers = join_with_byte 32 (map decimal numbers)
 
--- the number at a place of them: a space comes before it unless it is the first
+-- the number at a position of a list, after a space unless it is the first
 abbrev pub spaced_number : ℕ → ℕ → List ℕ
 spaced_number position number = text_if (nat_lt 0 position) (codes " ") ++ decimal number
 
@@ -50,7 +50,7 @@ refused_text RemovedAllVoters = codes "removed all voters"
 refused_text MoreThanOneVoter = codes "more than one voter changed without entering joint config"
 refused_text NoMemory = codes "out of memory"
 
--- which word spells no change, and why
+-- the message of a bad token
 abbrev pub bad_token_text : BadToken → List ℕ
 bad_token_text (unknown_token token) = codes "unknown token " ++ token
 bad_token_text (unknown_input token) = codes "unknown input: " ++ token

@@ -1,4 +1,4 @@
--- What the steps make of a tracker, each id by itself.
+-- The tracker after a step, id by id.
 use Rattle.std.specs.Prelude.{◌≡◌, ℕ, Bool, not, ◌&&◌, List, [], ◌∷◌, Option, Some, None, option_map, unwrap_or, if◌then◌else◌}
 use Rattle.std.specs.FinMap as finite
 use Rattle.quorum_sets.specs.Ids.{Ids, has}
@@ -13,43 +13,43 @@ use Rattle.conf_change.specs.declared.progress.Progress.{Progress}
 abbrev pub beginning : TrackerState → Ids → Bool → TrackerState
 beginning t outgoing auto_leave = record { config = record t.config { outgoing = outgoing; auto_leave = auto_leave }; progress = t.progress; floor = t.floor }
 
--- what a member or somebody else is to have, a learner or not, where it had this before: a member keeps it or begins afresh, with its mark, and nobody else has any
+-- the entry of an id after a step: a member keeps its progress or gets a fresh one, and is marked as a learner or not; any other id has none
 abbrev pub entry_of : ℕ → Bool → Bool → Option Progress → Option Progress
 entry_of next_index member learner had = if member then Some (with_mark learner (unwrap_or had (fresh_progress next_index learner))) else None
 
--- what an id is to have in a configuration, where it had this before
+-- the entry of an id in a configuration after a step
 abbrev pub entry_in : ℕ → Configuration → Option Progress → ℕ → Option Progress
 entry_in next_index c had id = entry_of next_index (is_member c id) (has c.learners id) had
 
--- each id has what it is to have, and the id 0 nothing
+-- the progress fits the configuration: exactly the members have entries, with their marks, and the id 0 has none
 pub record HasEntries (next_index : ℕ) (c : Configuration) (progress : ProgressMap) : Type 0 where
   pub each : (id : ℕ) → finite.get progress id ≡ entry_in next_index c (finite.get progress id) id
   pub no_zero : finite.get progress 0 ≡ None
 
--- what is left of what an id had, unless it is removed and does not go out
+-- the progress of an id, unless it is removed and is not an outgoing voter
 abbrev pub progress_left_after : Bool → Bool → Option Progress → Option Progress
 progress_left_after removed is_outgoing had = if removed && not is_outgoing then None else had
 
--- what the changes leave to an id
+-- the progress that the changes leave to an id
 abbrev pub progress_left : TrackerState → List Change → ℕ → Option Progress
 progress_left t changes id = progress_left_after (removes changes id) (has t.config.outgoing id) (finite.get t.progress id)
 
--- an id with its progress, where it has any
+-- an id with its progress, if it has any
 abbrev pub entries_of : ℕ → Option Progress → List (ℕ × Progress)
 entries_of id None = []
 entries_of id (Some p) = (id, p) ∷ []
 
--- the tracker after a list of changes, whose new members are sent this index next: each id goes by the last word on it, and by whether a change removes it
+-- the tracker after a list of changes, with this initial next index for new members: the last effective change of an id decides its roles, and a removal its progress
 pub record Applies (next_index : ℕ) (changes : List Change) (before after : TrackerState) : Type 0 where
   pub configuration : after.config ≡ result_of before.config changes
   pub floor : after.floor ≡ before.floor
   pub entries : (q : ℕ) → finite.get after.progress q ≡ entry_in next_index after.config (progress_left before changes q) q
 
--- what somebody keeps who has progress: a member all, with its mark, and nobody else any
+-- the progress that an id keeps: a member keeps all and is marked as a learner or not; any other id keeps none
 abbrev pub progress_kept : Bool → Bool → Option Progress → Option Progress
 progress_kept member learner had = if member then option_map (with_mark learner) had else None
 
--- the tracker with this configuration, where the members keep their progress
+-- the tracker with this configuration, in which the members keep their progress
 pub record Keeps (c : Configuration) (before after : TrackerState) : Type 0 where
   pub configuration : after.config ≡ c
   pub floor : after.floor ≡ before.floor

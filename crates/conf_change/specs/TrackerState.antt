@@ -1,4 +1,4 @@
--- What a tracker is, and how it is stored.
+-- The state of a tracker.
 use Rattle.std.specs.Prelude.{ℕ, Bool, refl}
 use Rattle.std.specs.Ordering.{nat_cmp}
 use Rattle.std.specs.Coded.{Coded, coded_ℕ, coded_bool, coded×, code_by}
@@ -9,11 +9,11 @@ use Rattle.conf_change.specs.Floor.{floor_code}
 use Rattle.conf_change.specs.declared.floor.Floor.{Floor}
 use Rattle.conf_change.specs.declared.progress.Progress.{Progress}
 
--- the progress of each id that has one
+-- the progress of each member
 abbrev pub ProgressMap : Type 0
 ProgressMap = finite.FinMap nat_cmp Progress
 
--- a configuration, the progress of its members, and the floor of fresh next
+-- a tracker: a configuration, the progress of its members, and the smallest initial next index
 pub record TrackerState : Type 0 where
   pub config : Configuration
   pub progress : ProgressMap

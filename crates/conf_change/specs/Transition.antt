@@ -1,4 +1,4 @@
--- Which of the three changes a list of changes takes.
+-- Which step etcd takes for a list of changes.
 use Rattle.std.specs.Prelude.{true, false, List, [], ◌∷◌, map}
 use Rattle.conf_change.specs.declared.change.Change.{Change}
 use Rattle.conf_change.specs.declared.step.Step.{Step}
@@ -8,7 +8,7 @@ use Rattle.conf_change.specs.declared.step.StepKind.TheVariants as kind
 use Rattle.conf_change.specs.declared.transition.Transition.{Transition}
 use Rattle.conf_change.specs.declared.transition.Transition.TheVariants.{Auto, Implicit, Explicit}
 
--- without a word on it no change leaves, one is simple, and more enter; with one they always enter. Each change counts, whatever it says
+-- Auto leaves without a change, is simple with one, and enters with more; Implicit and Explicit always enter. Each change counts, effective or not.
 abbrev pub step_kind_of : Transition → List Change → StepKind
 step_kind_of Auto [] = kind.Leave
 step_kind_of Auto (_ ∷ []) = kind.Simple
@@ -22,10 +22,10 @@ step_of kind.Simple changes = Simple changes
 step_of (kind.Enter auto_leave) changes = EnterJoint auto_leave changes
 step_of kind.Leave changes = LeaveJoint
 
--- the step that a list of changes takes
+-- the step for a list of changes
 abbrev pub step_for : Transition → List Change → Step
 step_for transition changes = step_of (step_kind_of transition changes) changes
 
--- the steps that lists of changes take, one after another
+-- the steps for lists of changes, in order
 abbrev pub steps_for : List (Transition × List Change) → List Step
 steps_for lists = map (λ list. step_for list.0 list.1) lists

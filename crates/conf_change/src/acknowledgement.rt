@@ -6,15 +6,15 @@ use thiserror::Error;
 /// Why an acknowledgement is refused (own).
 #[derive(Clone, Copy, Debug, PartialEq, Eq, Error)]
 pub enum AckFault {
-    /// The id is no member.
+    /// The id is not a member.
     #[error("not a member")]
     NotMember,
-    /// The index is 2^64-1, behind which there is none to be sent next.
+    /// The index is 2^64-1, so there is no next index to send.
     #[error("index too large")]
     IndexTooLarge,
 }
 
-/// Each member has acknowledged its match, and nobody else has acknowledged anything.
+/// Each member has acknowledged its match index; any other id has acknowledged nothing.
 impl<S: MemberSet> AckSource for Tracker<S> {
     ghost use Rattle.conf_change.specs.Acknowledgement.{matches};
 

@@ -1,4 +1,4 @@
-//! Parts of a text: one that may be left out, and numbers.
+//! Appending optional parts and lists of numbers to a text.
 ghost use Rattle.std.specs.Prelude.{◌≡◌, ◌++◌, OnOk};
 ghost use Rattle.ascii_text.specs.Append.{Extends};
 ghost use Rattle.conf_change.specs.ConfStateLine.{ParsesToNumbers};
@@ -7,7 +7,7 @@ ghost use Rattle.conf_change.specs.Text.{text_if, spaced_number, spaced_numbers}
 use ascii_text::NoMemory;
 use ascii_text::append::{append, append_number};
 
-// Appends a part that is there, or nothing.
+// Appends a part if it is there.
 pub(crate) fn append_if(text: &mut Vec<u8>, there: bool, part: &[u8]) -> Result<(), NoMemory>
     ensures ok { OnOk result (text.new.items ≡ text.old.items ++ text_if there part.now) }
     ensures extends { Extends text.old.items text.new.items }
@@ -15,7 +15,7 @@ pub(crate) fn append_if(text: &mut Vec<u8>, there: bool, part: &[u8]) -> Result<
     if there { append(text, part) } else { Ok(()) }
 }
 
-// Appends the number at a place of a list. A space comes before it unless it is the first.
+// Appends the number at a position of a list, after a space unless it is the first.
 pub(crate) fn append_number_at(
     text: &mut Vec<u8>,
     position: usize,
@@ -31,7 +31,7 @@ pub(crate) fn append_number_at(
     Ok(())
 }
 
-// Appends numbers with one space between.
+// Appends numbers, separated by one space.
 pub(crate) fn append_numbers(text: &mut Vec<u8>, numbers: &[u64]) -> Result<(), NoMemory>
     ensures ok { OnOk result (text.new.items ≡ text.old.items ++ spaced_numbers numbers.now) }
     ensures parsed { OnOk result (ParsesToNumbers (spaced_numbers numbers.now) numbers.now) }

@@ -11,20 +11,20 @@ pub enum Kind {
     Voter,
     /// Makes it a learner, written `l`.
     Learner,
-    /// Takes it out of the configuration, written `r`.
+    /// Removes it from the configuration, written `r`.
     Remove,
-    /// Says that its address changed, written `u`; the configuration stays as it is.
+    /// Updates its address, written `u`; the configuration does not change.
     Update,
 }
 
-/// One change of one id. A change of the id 0 says nothing.
+/// One change of one id. A change of the id 0 has no effect.
 #[derive(Clone, Copy, Debug, PartialEq, Eq)]
 pub struct Change {
     pub kind: Kind,
     pub id: u64,
 }
 
-/// Changes that are made together, in order.
+/// A list of changes that are made together, in order.
 #[derive(Debug, Drop)]
 pub struct Changes {
     list: Vec<Change>,
@@ -76,7 +76,7 @@ impl Changes {
         self.list.as_slice()
     }
 
-    /// The same list once more.
+    /// A copy.
     pub fn try_clone(&self) -> Result<Changes, NoMemory>
         ensures { IfOk result (λ copy. copy ≡ self.now) }
     {

@@ -9,16 +9,16 @@ use ascii_text::words::next_token;
 use std::alloc::{AllocError, AllocFailed, Global};
 use thiserror::Error;
 
-/// Why a text is no list of changes, with the token that decides: the first one that spells no change.
+/// Why a text is not a list of changes, with the first bad token.
 #[derive(Clone, Copy, Debug, PartialEq, Eq, Error)]
 pub enum TokenFault<'a> {
     /// It has fewer than two bytes.
     #[error("unknown token")]
     UnknownToken(&'a [u8]),
-    /// It begins with none of the letters `v`, `l`, `r` and `u`.
+    /// It does not begin with one of the letters `v`, `l`, `r` and `u`.
     #[error("unknown input")]
     UnknownInput(&'a [u8]),
-    /// What follows the letter is no number below 2^64.
+    /// What follows the letter is not a number below 2^64.
     #[error("bad number")]
     BadNumber(&'a [u8]),
     #[error("out of memory")]
@@ -46,14 +46,13 @@ impl From<AllocError> for TokenFault<'_> {
 }
 
 /// Reads a list of changes: tokens separated by white space, each a letter and a decimal number. Numbers are below
-/// 2^64 and may have leading zeros; the first token that is none of these decides. A text without tokens is the empty
-/// list.
+/// 2^64 and may have leading zeros; the first bad token is the error. A text without tokens is the empty list.
 pub fn read_changes(alloc: Global, text: &[u8]) -> Result<Vec<Change>, TokenFault<'_>>
     ensures denotes { IfOk result (λ changes. Denotes text.now changes.items) }
     ensures one_per_token { IfOk result (λ changes. length changes.items ≡ length (words text.now)) }
     ensures first_bad { IfErr result (λ fault. IfSome (bad_token fault) (IsFirstBad (words text.now))) }
 
-    // The same by the function.
+    // As a function of the text:
     ensures value { IfOk result (λ changes. changes_in text.now ≡ Ok changes.items) }
     ensures fault { IfErr result (λ fault. IfSome (bad_token fault) (λ bad. changes_in text.now ≡ Err bad)) }
 {
@@ -62,7 +61,7 @@ pub fn read_changes(alloc: Global, text: &[u8]) -> Result<Vec<Change>, TokenFaul
     Ok(changes)
 }
 
-/// The same in place of what a list holds, and in its memory (own). After a fault the list is empty.
+/// As [`read_changes`], into a list that is overwritten and whose memory is reused (own). After an error the list is empty.
 pub fn read_changes_into<'a>(
     changes: &mut Vec<Change>,
     text: &'a [u8],
@@ -72,7 +71,7 @@ pub fn read_changes_into<'a>(
     ensures first_bad { IfErr result (λ fault. IfSome (bad_token fault) (IsFirstBad (words text.now))) }
     ensures left { OnErr result (changes.new.items ≡ []) }
 
-    // The same by the function.
+    // As a function of the text:
     ensures value { OnOk result (changes_in text.now ≡ Ok changes.new.items) }
     ensures fault { IfErr result (λ fault. IfSome (bad_token fault) (λ bad. changes_in text.now ≡ Err bad)) }
 {
@@ -83,13 +82,13 @@ pub fn read_changes_into<'a>(
     read
 }
 
-// Reads over what a list holds. After a fault the changes before it may be there.
+// Overwrites a list. After an error it may have the changes before the bad token.
 fn read_over<'a>(list: &mut Vec<Change>, text: &'a [u8]) -> Result<(), TokenFault<'a>>
     ensures value { OnOk result (changes_in text.now ≡ Ok list.new.items) }
     ensures fault { IfErr result (λ fault. IfSome (bad_token fault) (λ bad. changes_in text.now ≡ Err bad)) }
 {
     list.clear();
-    // Room for a usual list at once: a token and the space behind it have three bytes at least.
+    // A token and the space after it have at least three bytes.
     list.reserve(text.len().div_ceil(3).min(64))?;
     let mut rest = text;
     while let Some((token, suffix)) = next_token(rest) {
@@ -99,8 +98,7 @@ fn read_over<'a>(list: &mut Vec<Change>, text: &'a [u8]) -> Result<(), TokenFaul
     Ok(())
 }
 
-/// The change that a token spells: a letter and a decimal number below 2^64, which may have leading zeros. This takes no
-/// memory.
+/// Parses a change: a letter and a decimal number below 2^64, which may have leading zeros.
 pub fn read_change(token: &[u8]) -> Result<Change, TokenFault<'_>>
     ensures { MatchResult result (λ change. change_in token.now ≡ Ok change) (λ fault. IsSomeAnd (bad_token fault) (λ bad. change_in token.now ≡ Err bad)) }
 {

@@ -1,4 +1,5 @@
-//! What a list of changes says of each id: one entry an id, in rising order.
+//! The changes of each id in a list, summarized in one entry per id. Of several changes of one id the last effective one
+//! decides.
 ghost use Rattle.std.specs.Prelude.{◌≡◌, [], ◌∷◌, ◌++◌, map, option_to_list, IfOk, OnOk, IsNone};
 ghost use Rattle.std.specs.List.Sorted.{IsNonDecreasingBy};
 ghost use Rattle.conf_change.specs.ChangeSummary.{empty_summary, summary_of, and_later, IsEntryAdded, Joins, ListsSummaries};
@@ -8,7 +9,7 @@ use crate::progress::Progress;
 use quorum_sets::NoMemory;
 use std::alloc::Global;
 
-/// What is said of an id: the kind of the last change that has a say on it, and whether any change removes it.
+/// The changes of an id: the kind of the last effective one, and whether any of them removes the id.
 #[derive(Clone, Copy, Debug, Default)]
 pub(crate) struct ChangeSummary {
     pub(crate) id: u64,
@@ -17,7 +18,7 @@ pub(crate) struct ChangeSummary {
 }
 
 impl ChangeSummary {
-    // Nothing is said of the id.
+    // No change of the id.
     fn empty_summary(id: u64) -> ChangeSummary
         ensures { result ≡ empty_summary id }
     {
@@ -28,7 +29,7 @@ impl ChangeSummary {
         }
     }
 
-    // What one change says of its id.
+    // The summary of one change.
     fn of(change: Change) -> ChangeSummary
         ensures { result ≡ summary_of change }
     {
@@ -43,7 +44,7 @@ impl ChangeSummary {
         }
     }
 
-    // What both say of the id, the other one later.
+    // The summary of two lists of changes of the id, one after the other.
     fn and_later(self, later: ChangeSummary) -> ChangeSummary
         ensures { result ≡ and_later self later }
     {
@@ -55,7 +56,7 @@ impl ChangeSummary {
     }
 }
 
-/// What the changes say of each member and of each id that they name.
+/// The summaries of each member and of each id that the changes name, in ascending order of the ids.
 pub(crate) fn summarize(
     alloc: Global,
     members: &[(u64, Progress)],
@@ -68,7 +69,7 @@ pub(crate) fn summarize(
     joined_by_id(alloc, each.as_mut_slice())
 }
 
-// Adds the members, of whom nothing is said, and what each change says of its id.
+// Appends an empty summary for each member, and the summary of each change.
 fn add_in_turn(
     summaries: &mut Vec<ChangeSummary>,
     members: &[(u64, Progress)],
@@ -86,7 +87,7 @@ fn add_in_turn(
     Ok(())
 }
 
-// What is said of each id, as one entry. The sort keeps the order of what is said of one id.
+// Joins the summaries of each id. The sort is stable, so the changes of an id stay in order.
 fn joined_by_id(alloc: Global, each: &mut [ChangeSummary]) -> Result<Vec<ChangeSummary>, NoMemory>
     ensures { IfOk result (λ summaries. Joins each.old summaries.items) }
 {
@@ -94,7 +95,7 @@ fn joined_by_id(alloc: Global, each: &mut [ChangeSummary]) -> Result<Vec<ChangeS
     joined(alloc, each)
 }
 
-// The same where the entries of one id lie together.
+// Joins the summaries of each id, which are adjacent.
 fn joined(alloc: Global, each: &[ChangeSummary]) -> Result<Vec<ChangeSummary>, NoMemory>
     requires { IsNonDecreasingBy (λ w. w.id) each.now }
     ensures { IfOk result (λ summaries. Joins each.now summaries.items) }
@@ -110,8 +111,8 @@ fn joined(alloc: Global, each: &[ChangeSummary]) -> Result<Vec<ChangeSummary>, N
     Ok(summaries)
 }
 
-// Adds what is said of an id that is the last one or behind it. The last entry stands apart, and goes behind the others
-// once another comes.
+// Adds a summary to those so far: it is joined to the last one if that is of the same id. Returns the new last one, which is
+// kept apart from the others.
 fn add(
     summaries: &mut Vec<ChangeSummary>,
     last: Option<ChangeSummary>,

@@ -1,6 +1,14 @@
-//! The changer: a tracker, and the three steps of its configuration. A step writes the next changer, and the changer is
-//! replaced by it once nothing can fail; so a refused step alters nothing. Only `simple_one` asks first, and makes its
-//! change in place.
+//! The changer, which changes a configuration by steps (etcd's `confchange.Changer`).
+//!
+//! A simple step changes at most one voter, so each majority before it shares a member with each majority after it. Any
+//! other change of the voters goes through a joint configuration: the old voters become the outgoing voters, the changes
+//! are made to the incoming ones, and until the joint configuration is left a decision needs a majority of both.
+//!
+//! ```text
+//! (1 2 3)        --enter-joint v4 r1-->  (2 3 4)&&(1 2 3)  --leave-joint-->  (2 3 4)
+//! ```
+//!
+//! A step is accepted or refused as a whole: a refused step changes nothing.
 ghost use Rattle.std.specs.Prelude.{◌≡◌, ◌-◌, ◌^◌, ◌↔◌, [], ◌∷◌, true, false, not, nat_lt, Some, None, Err, IfOk, OnErr, if◌then◌else◌};
 ghost use Rattle.std.specs.FinMap as finite;
 ghost use Rattle.quorum_sets.specs.Ids.{difference_count};
@@ -26,9 +34,8 @@ use quorum_sets::{MemberSet, NoMemory};
 use std::alloc::Global;
 use std::marker::Model;
 
-/// A tracker, with the last index of the log, from which new members begin (etcd's `confchange.Changer`). A call
-/// that changes it in place leaves it as it was where it fails, also when memory runs out; `become_next` overwrites it, its
-/// floor too.
+/// A configuration with the progress of its members, and the last index of the log, at which new members begin (etcd's
+/// `confchange.Changer`). A step that fails leaves it unchanged, also when memory runs out.
 #[derive(Drop)]
 pub struct Changer<S: MemberSet> {
     tracker: Tracker<S>,
@@ -49,7 +56,7 @@ impl<S: MemberSet> Model for Changer<S> {
 }
 
 impl<S: MemberSet> Changer<S> {
-    /// A changer that nobody is in yet, with floor one. The last index is that of the log, 0 where it is empty.
+    /// A changer with an empty configuration and floor one. The last index is that of the log, 0 if the log is empty.
     pub fn new(alloc: Global, last_index: u64) -> Changer<S>
         ensures new { result ≡ new_changer One last_index }
         ensures sound { IsSound result.tracker }
@@ -57,7 +64,7 @@ impl<S: MemberSet> Changer<S> {
         Changer::new_with_floor(alloc, last_index, Floor::One)
     }
 
-    /// A changer that nobody is in yet, with this floor, which stays.
+    /// A changer with an empty configuration and this floor, which never changes.
     pub fn new_with_floor(alloc: Global, last_index: u64, floor: Floor) -> Changer<S>
         ensures new { result ≡ new_changer floor last_index }
         ensures sound { IsSound result.tracker }
@@ -65,7 +72,7 @@ impl<S: MemberSet> Changer<S> {
         Changer::begin(Tracker::new(alloc, floor), last_index)
     }
 
-    // A changer that begins with a tracker.
+    // The changer of a tracker.
     #[inline(always)]
     pub(crate) fn begin(tracker: Tracker<S>, last_index: u64) -> Changer<S>
         requires { IsSound tracker }
@@ -78,7 +85,7 @@ impl<S: MemberSet> Changer<S> {
         }
     }
 
-    /// The tracker.
+    /// The configuration and the progress of its members.
     pub fn tracker(&self) -> &Tracker<S>
         ensures tracker { result.now ≡ self.now.tracker }
         ensures sound { IsSound self.now.tracker }
@@ -86,28 +93,28 @@ impl<S: MemberSet> Changer<S> {
         &self.tracker
     }
 
-    /// The last index of the log, 0 where it is empty.
+    /// The last index of the log, 0 if it is empty.
     pub fn last_index(&self) -> u64
         ensures { result ≡ self.now.last_index }
     {
         self.last_index
     }
 
-    /// The floor of fresh next.
+    /// The smallest initial next index.
     pub fn floor(&self) -> Floor
         ensures { result ≡ self.now.tracker.floor }
     {
         self.tracker.floor()
     }
 
-    // The index that a new member is sent next.
+    // The initial next index of a new member.
     fn fresh_next(&self) -> u64
         ensures { result ≡ fresh_next_of self.now }
     {
         self.floor().fresh_next(self.last_index)
     }
 
-    /// Sets the last index of the log. Members that are there already keep their progress.
+    /// Sets the last index of the log. The progress of the members does not change.
     pub fn set_last_index(&mut self, last_index: u64)
         ensures set { self.new ≡ with_last_index self.old last_index }
         ensures sound { IsSound self.new.tracker }
@@ -115,7 +122,7 @@ impl<S: MemberSet> Changer<S> {
         self.last_index = last_index;
     }
 
-    /// The same changer once more.
+    /// A copy.
     pub fn try_clone(&self) -> Result<Changer<S>, NoMemory>
         ensures same { IfOk result (λ copy. copy ≡ self.now) }
         ensures sound { IfOk result (λ copy. IsSound copy.tracker) }
@@ -126,7 +133,7 @@ impl<S: MemberSet> Changer<S> {
         })
     }
 
-    /// Takes the configuration out of a changer that is done with. Nobody is in it then.
+    /// Takes the configuration out, and leaves an empty one.
     #[inline(always)]
     pub fn take_config(&mut self) -> Config<S>
         ensures config { result ≡ self.old.tracker.config }
@@ -137,7 +144,7 @@ impl<S: MemberSet> Changer<S> {
         self.tracker.take_config()
     }
 
-    // The changer that nobody is in, with the same floor and last index.
+    // A changer with an empty configuration and the same floor and last index.
     fn emptied(&self) -> Changer<S>
         ensures new { result ≡ new_changer self.now.tracker.floor self.now.last_index }
         ensures sound { IsSound result.tracker }
@@ -145,8 +152,8 @@ impl<S: MemberSet> Changer<S> {
         Changer::begin(self.tracker.emptied(), self.last_index)
     }
 
-    /// Overwrites `self` with the changer after a step of another one, reusing its memory, or with an empty one where the
-    /// step is refused. The changes of a step that leaves a joint configuration are not looked at.
+    /// Overwrites `self` with the result of a step of `before`, reusing its memory, or with an empty changer if the step is
+    /// refused. Leaving a joint configuration ignores `changes`.
     pub fn become_next(
         &mut self,
         before: &Changer<S>,
@@ -169,7 +176,7 @@ impl<S: MemberSet> Changer<S> {
         }
     }
 
-    /// Makes one change in place, as `simple` does a list of one, which changes one voter at most.
+    /// As [`Changer::simple`] for a list of one change, without a copy.
     pub fn simple_one(&mut self, change: Change) -> Result<(), Refused>
         ensures { Makes self.old (Simple (change ∷ [])) result self.new }
     {
@@ -184,10 +191,10 @@ impl<S: MemberSet> Changer<S> {
         Ok(())
     }
 
-    /// Changes one voter at most, and any number of learners (etcd's `Simple`; Ongaro's dissertation, section 4.1). The
-    /// voters are counted that differ before and after, and not the changes.
+    /// Makes changes that alter at most one voter, and any number of learners (etcd's `Simple`; Ongaro's dissertation,
+    /// section 4.1). The voters that differ before and after are counted, not the changes.
     ///
-    /// Refused with SimpleInJoint in a joint configuration, else with RemovedAllVoters where no voter is left, else with
+    /// Refused with SimpleInJoint in a joint configuration, else with RemovedAllVoters if no voter is left, else with
     /// MoreThanOneVoter.
     pub fn simple(&mut self, changes: &[Change]) -> Result<(), Refused>
         ensures { Makes self.old (Simple changes.now) result self.new }
@@ -195,11 +202,11 @@ impl<S: MemberSet> Changer<S> {
         self.make(StepKind::Simple, changes)
     }
 
-    /// Enters a joint configuration: the voters so far become the outgoing ones, and the changes are made of the incoming
-    /// ones and of the learners (etcd's `EnterJoint`; Ongaro's dissertation, section 4.3).
+    /// Enters a joint configuration: the voters so far become the outgoing ones, and the changes are made to the incoming
+    /// ones and to the learners (etcd's `EnterJoint`; Ongaro's dissertation, section 4.3).
     ///
-    /// Refused with AlreadyJoint in a joint configuration, else with ZeroVoterJoint where there is no voter, else with
-    /// RemovedAllVoters where no incoming voter is left.
+    /// Refused with AlreadyJoint in a joint configuration, else with ZeroVoterJoint if there is no voter, else with
+    /// RemovedAllVoters if no incoming voter is left.
     pub fn enter_joint(&mut self, auto_leave: bool, changes: &[Change]) -> Result<(), Refused>
         ensures { Makes self.old (EnterJoint auto_leave changes.now) result self.new }
     {
@@ -217,14 +224,14 @@ impl<S: MemberSet> Changer<S> {
         self.make(StepKind::Leave, &[])
     }
 
-    /// Takes a step, with its refusals.
+    /// Takes a step.
     pub fn step(&mut self, step: &Step) -> Result<(), Refused>
         ensures { Makes self.old step.now result self.new }
     {
         self.make(step.kind(), step.changes())
     }
 
-    /// Takes the step that a list of changes takes, as `taken` gives it, with its refusals.
+    /// Takes the step that etcd takes for a list of changes (see [`taken`]).
     pub fn change(&mut self, transition: Transition, changes: &[Change]) -> Result<(), Refused>
         ensures { Makes self.old (step_for transition changes.now) result self.new }
     {
@@ -241,10 +248,10 @@ impl<S: MemberSet> Changer<S> {
         Ok(())
     }
 
-    /// Takes the acknowledgement of an index by a member, and answers its progress then: an index above match becomes match,
-    /// and next is then above it; any other index alters nothing (etcd's `MaybeUpdate` of `tracker.Progress`).
+    /// Records that a member acknowledged an index, and returns its progress: an index above match becomes match, and next
+    /// is then at least one more; any other index changes nothing (etcd's `MaybeUpdate` of `tracker.Progress`).
     ///
-    /// Refused with NotMember where the id is no member, else with IndexTooLarge where the index is 2^64-1.
+    /// Refused with NotMember if the id is not a member, else with IndexTooLarge if the index is 2^64-1.
     pub fn ack(&mut self, id: u64, index: u64) -> Result<Progress, AckFault>
         ensures answer { result ≡ ack_answer self.old.tracker id index }
         ensures acknowledged { IfOk result (λ p. (was : Progress) × (finite.get self.old.tracker.progress id ≡ Some was) × (p ≡ acknowledged index was)) }
@@ -259,7 +266,7 @@ impl<S: MemberSet> Changer<S> {
         Ok(progress)
     }
 
-    /// What `ack` answers, with nothing altered.
+    /// The result of [`Changer::ack`], without a change.
     pub fn ack_answer(&self, id: u64, index: u64) -> Result<Progress, AckFault>
         ensures answer { result ≡ ack_answer self.now.tracker id index }
         ensures acknowledged { IfOk result (λ p. (was : Progress) × (finite.get self.now.tracker.progress id ≡ Some was) × (p ≡ acknowledged index was)) }
@@ -276,7 +283,7 @@ impl<S: MemberSet> Changer<S> {
     }
 }
 
-// Overwrites a tracker with that of the changer after a step of this kind. After a refusal its contents are unspecified.
+// Overwrites a tracker with the result of a step of this kind. After a refusal its contents are unspecified.
 fn make_next<S: MemberSet>(
     tracker: &mut Tracker<S>,
     before: &Changer<S>,
@@ -292,7 +299,7 @@ fn make_next<S: MemberSet>(
     }
 }
 
-// Makes a tracker that of the changer after a simple change.
+// Overwrites a tracker with the result of a simple change.
 fn make_simple<S: MemberSet>(
     tracker: &mut Tracker<S>,
     before: &Changer<S>,
@@ -318,7 +325,7 @@ fn make_simple<S: MemberSet>(
     }
 }
 
-// Makes a tracker that of the changer after it entered a joint configuration.
+// Overwrites a tracker with the result of entering a joint configuration.
 fn make_joint<S: MemberSet>(
     tracker: &mut Tracker<S>,
     before: &Changer<S>,
@@ -342,7 +349,7 @@ fn make_joint<S: MemberSet>(
     Ok(())
 }
 
-// Makes a tracker that of the changer after it left a joint configuration.
+// Overwrites a tracker with the result of leaving a joint configuration.
 fn make_left<S: MemberSet>(tracker: &mut Tracker<S>, before: &Changer<S>) -> Result<(), Refused>
     ensures { GivesNext before.now LeaveJoint (left_in result (changer_of tracker.new before.now.last_index)) }
 {
@@ -353,7 +360,7 @@ fn make_left<S: MemberSet>(tracker: &mut Tracker<S>, before: &Changer<S>) -> Res
     Ok(())
 }
 
-// Why a simple change does not lead from the one tracker, which is not joint, to the other; None where it does.
+// Why a simple change from one tracker, which is not joint, to the other is refused, if it is.
 fn simple_refusal<S: MemberSet>(before: &Tracker<S>, after: &Tracker<S>) -> Option<Refused>
     ensures { result ≡ (if not (has_voter after.now.config) then Some Refused.RemovedAllVoters
         else (if nat_lt 1 (difference_count before.now.config.incoming after.now.config.incoming) then Some Refused.MoreThanOneVoter else None)) }

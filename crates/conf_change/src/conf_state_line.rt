@@ -1,4 +1,4 @@
-//! The line of a saved configuration, written and read. The form of the line is own.
+//! ConfState lines, written and read. Their form is own.
 ghost use Rattle.std.specs.Prelude.{◌≡◌, ◌<◌, ◌≤◌, [], ◌∷◌, ◌++◌, Some, None, Err, length, drop, IfOk, OnOk, OnErr};
 ghost use Rattle.std.specs.List.{slice_split};
 ghost use Rattle.ascii_text.specs.Append.{Extends};
@@ -10,8 +10,8 @@ ghost use Rattle.conf_change.specs.ConfStateLine.{ParsesToNumbers, DenotesConfSt
 use crate::append::append_numbers;
 use crate::saved_configuration::{ConfState, ConfStateFault};
 use ascii_text::append::{append, keep_whole};
-use ascii_text::position::{far_position_of, position_of};
 use ascii_text::number::read_number;
+use ascii_text::position::{far_position_of, position_of};
 use ascii_text::white_space::trimmed;
 use quorum_sets::NoMemory;
 use std::alloc::{AllocError, AllocFailed, Global};
@@ -36,9 +36,8 @@ impl From<AllocError> for ConfStateFault {
     }
 }
 
-/// Appends the line of a saved configuration, without a newline, its lists in the order in which they stand:
-/// `Voters:[1 2] VotersOutgoing:[] Learners:[3] LearnersNext:[] AutoLeave:false`. What is appended is read as the same
-/// value.
+/// Appends the line of a ConfState, without a newline, its lists in their order:
+/// `Voters:[1 2] VotersOutgoing:[] Learners:[3] LearnersNext:[] AutoLeave:false`. The line is read back as the same value.
 #[tactic(auto, using(crate::proofs::Texts::ConfStateLine::line_laws))]
 pub fn write_conf_state(text: &mut Vec<u8>, state: &ConfState) -> Result<(), NoMemory>
     ensures ok { OnOk result (text.new.items ≡ text.old.items ++ conf_state_text state.now) }
@@ -70,7 +69,7 @@ fn truth_text(truth: bool) -> &'static [u8]
     if truth { b"true" } else { b"false" }
 }
 
-// Appends what stands before the numbers of a field, and the numbers.
+// Appends the prefix of a field, and its numbers.
 fn append_field(text: &mut Vec<u8>, name: &[u8], numbers: &[u64]) -> Result<(), NoMemory>
     ensures ok { OnOk result (text.new.items ≡ text.old.items ++ (name.now ++ spaced_numbers numbers.now)) }
     ensures parsed { OnOk result (ParsesToNumbers (spaced_numbers numbers.now) numbers.now) }
@@ -80,14 +79,14 @@ fn append_field(text: &mut Vec<u8>, name: &[u8], numbers: &[u64]) -> Result<(), 
     append_numbers(text, numbers)
 }
 
-/// Reads the line of a saved configuration: the form that `write_conf_state` appends, with any white space at its two
-/// ends and any zeros before its numbers, and nothing else. A list may have any order, which is kept.
+/// Reads a ConfState line: the form that `write_conf_state` appends, with any white space around it and any leading zeros in
+/// its numbers, and nothing else. A list may have any order, which is kept.
 #[tactic(auto, using(crate::proofs::Texts::ConfStateLine::line_laws))]
 pub fn read_conf_state(alloc: Global, text: &[u8]) -> Result<ConfState, ConfStateFault>
     ensures denotes { IfOk result (DenotesConfState text.now) }
     ensures bad { result ≡ Err ConfStateFault.BadConfState → (state : ConfStateLists) → ¬ (DenotesConfState text.now state) }
 
-    // The same by the function.
+    // As a function of the text:
     ensures value { IfOk result (λ state. conf_state_in text.now ≡ Some state) }
     ensures fault { result ≡ Err ConfStateFault.BadConfState → conf_state_in text.now ≡ None }
 {
@@ -112,7 +111,7 @@ fn read_line(alloc: Global, text: &[u8]) -> Result<ConfState, ConfStateFault>
     })
 }
 
-// Reads the numbers between a prefix and the next closing bracket; the text goes on with that bracket.
+// Reads the numbers between a prefix and the next closing bracket. The text that is left begins with that bracket.
 fn read_field<'a>(
     alloc: Global,
     prefix: &[u8],
@@ -128,7 +127,7 @@ fn read_field<'a>(
     Ok((read_numbers(alloc, numbers)?, rest))
 }
 
-// Reads numbers with one space between.
+// Reads numbers that are separated by one space.
 fn read_numbers(alloc: Global, text: &[u8]) -> Result<Vec<u64>, ConfStateFault>
     ensures ok { IfOk result (λ numbers. numbers_in text.now ≡ Some numbers.items) }
     ensures bad { result ≡ Err ConfStateFault.BadConfState → numbers_in text.now ≡ None }
@@ -136,7 +135,7 @@ fn read_numbers(alloc: Global, text: &[u8]) -> Result<Vec<u64>, ConfStateFault>
     if text.is_empty() {
         return Ok(Vec::new(alloc));
     }
-    // Room for a usual list at once: a number and the space behind it have two bytes at least.
+    // A number and the space after it have at least two bytes.
     let mut numbers = Vec::with_capacity(alloc, text.len().div_ceil(2).min(64))?;
     let mut rest = text;
     loop {
@@ -150,7 +149,7 @@ fn read_numbers(alloc: Global, text: &[u8]) -> Result<Vec<u64>, ConfStateFault>
     }
 }
 
-// What stands before the first space, and the text from that space on.
+// The text before the first space, and the text from that space on.
 fn first_token(text: &[u8]) -> (&[u8], &[u8])
     ensures last { length result.1.now ≡ 0 → slice_split is_space_byte text.now ≡ result.0.now ∷ [] }
     ensures more { 0 < length result.1.now → slice_split is_space_byte text.now ≡ result.0.now ∷ slice_split is_space_byte (drop 1 result.1.now) }

@@ -1,4 +1,4 @@
-//! Configurations: who votes, who learns, and what is wrong with one that is not valid.
+//! Configurations, and the invariants of a valid one.
 ghost use Rattle.std.specs.Prelude.{◌≡◌, ◌↔◌, Some, true, false, not, ◌&&◌, IfOk, IfErr, OnOk, OnErr, IsOk, IsTrue, if◌then◌else◌};
 ghost use Rattle.quorum_sets.specs.Ids.{has};
 ghost use Rattle.conf_change.specs.Configuration.{empty_configuration, first_broken, is_valid, keeps, is_within, is_apart, is_same, is_same_set};
@@ -10,18 +10,18 @@ use std::alloc::Global;
 use std::marker::Model;
 use thiserror::Error;
 
-/// A configuration, over sets of any kind (etcd's `tracker.Config`). Ids are 1 to 2^64-1.
+/// A configuration (etcd's `tracker.Config`). Ids are 1 to 2^64-1.
 #[derive(Drop)]
 pub struct Config<S: MemberSet> {
     /// The voters, or in a joint configuration the incoming ones.
     pub incoming: S,
-    /// The voters that go out; there are some exactly in a joint configuration.
+    /// The outgoing voters. A configuration is joint if it has some.
     pub outgoing: S,
-    /// The members that take the log and do not vote.
+    /// The learners: members that get the log and do not vote.
     pub learners: S,
     /// The outgoing voters that become learners when the joint configuration is left.
     pub learners_next: S,
-    /// Whether the joint configuration is left without being asked.
+    /// Whether the joint configuration is left automatically.
     pub auto_leave: bool,
 }
 
@@ -42,8 +42,8 @@ impl<S: MemberSet> Model for Config<S> {
     } };
 }
 
-/// What holds of a valid configuration, in the order in which it is looked at (etcd's `confchange` package; `ZeroId` and
-/// `NextAndIncoming` are own). As an error it tells what is broken.
+/// An invariant of valid configurations, in the order in which they are checked (etcd's `confchange` package; `ZeroId` and
+/// `NextAndIncoming` are own). As an error it is the one that is broken.
 #[derive(Clone, Copy, Debug, PartialEq, Eq, Error)]
 pub enum Invariant {
     #[error("a set holds the id 0")]
@@ -61,7 +61,7 @@ pub enum Invariant {
 }
 
 impl<S: MemberSet> Config<S> {
-    // Nobody is in it.
+    // The empty configuration.
     #[inline(always)]
     pub(crate) fn empty(alloc: Global) -> Config<S>
         ensures { result ≡ empty_configuration }
@@ -75,7 +75,7 @@ impl<S: MemberSet> Config<S> {
         }
     }
 
-    /// The same configuration once more.
+    /// A copy.
     pub fn try_clone(&self) -> Result<Config<S>, NoMemory>
         ensures { IfOk result (λ copy. copy ≡ self.now) }
     {
@@ -88,7 +88,7 @@ impl<S: MemberSet> Config<S> {
         })
     }
 
-    // What is left of a joint configuration: without the outgoing voters, and the next learners are learners.
+    // The configuration after leaving a joint one: the outgoing voters are removed, and the next learners are learners.
     pub(crate) fn after_leave(&self) -> Result<Config<S>, NoMemory>
         ensures { IfOk result (λ config. config ≡ after_leave self.now) }
     {
@@ -102,7 +102,7 @@ impl<S: MemberSet> Config<S> {
         })
     }
 
-    /// Whether the two have the same four sets and the same flag. It takes no memory.
+    /// Whether two configurations have the same four sets and the same flag.
     pub fn same(&self, other: &Config<S>) -> bool
         ensures same { result ≡ is_same self.now other.now }
         ensures equal { (result ≡ true) ↔ (self.now ≡ other.now) }
@@ -122,14 +122,14 @@ fn has_same_parts<S: MemberSet>(a: &Config<S>, b: &Config<S>) -> bool
         && a.auto_leave == b.auto_leave
 }
 
-// Whether no id is in just one of the sets.
+// Whether two sets have the same ids.
 fn has_same_ids<S: MemberSet>(a: &S, b: &S) -> bool
     ensures { result ≡ is_same_set (S.ids a.now) (S.ids b.now) }
 {
     symdiff(a, b) == 0
 }
 
-/// Answers the first invariant that the configuration breaks; one that breaks none is valid. It takes no memory.
+/// Checks a configuration; the error is the first invariant that it breaks.
 pub fn check<S: MemberSet>(config: &Config<S>) -> Result<(), Invariant>
     ensures valid { IsOk result ↔ IsTrue (is_valid config.now) }
     ensures first { (broken : Invariant) → ((result ≡ Err broken) ↔ (first_broken config.now ≡ Some broken)) }
@@ -144,7 +144,7 @@ pub fn check<S: MemberSet>(config: &Config<S>) -> Result<(), Invariant>
     check_single(config)
 }
 
-// Answers the first broken one of the two invariants of a configuration that is not joint. One that is joint keeps both.
+// Checks the two invariants of a configuration that is not joint. A joint one keeps both.
 fn check_single<S: MemberSet>(config: &Config<S>) -> Result<(), Invariant>
     ensures kept { OnOk result ((keeps config.now Invariant.NotJointButNext && keeps config.now Invariant.NotJointButAutoLeave) ≡ true) }
     ensures not_kept { OnErr result ((keeps config.now Invariant.NotJointButNext && keeps config.now Invariant.NotJointButAutoLeave) ≡ false) }
@@ -161,7 +161,7 @@ fn check_single<S: MemberSet>(config: &Config<S>) -> Result<(), Invariant>
     }
 }
 
-// Whether one of the four sets holds 0.
+// Whether one of the four sets has the id 0.
 fn holds_zero<S: MemberSet>(config: &Config<S>) -> bool
     ensures { result ≡ not (keeps config.now Invariant.ZeroId) }
 {
@@ -171,14 +171,14 @@ fn holds_zero<S: MemberSet>(config: &Config<S>) -> bool
         || begins_with_zero(&config.learners_next)
 }
 
-// Whether the set has 0, which would stand at its first place.
+// Whether the set has 0, which would be its first id.
 fn begins_with_zero<S: MemberSet>(set: &S) -> bool
     ensures { result ≡ has (S.ids set.now) 0 }
 {
     has_next(set, &mut 0, 0)
 }
 
-// Answers the first invariant of the next learners that is broken. One walk sees to both.
+// Checks the two invariants of the next learners.
 fn check_next<S: MemberSet>(next: &S, incoming: &S, outgoing: &S) -> Result<(), Invariant>
     ensures kept { OnOk result ((is_within (S.ids next.now) (S.ids outgoing.now) && is_apart (S.ids next.now) (S.ids incoming.now)) ≡ true) }
     ensures not_kept { OnErr result ((is_within (S.ids next.now) (S.ids outgoing.now) && is_apart (S.ids next.now) (S.ids incoming.now)) ≡ false) }
@@ -212,7 +212,9 @@ fn is_apart_from_both<S: MemberSet>(ids: &S, first: &S, second: &S) -> bool
     let mut second_position = 0;
     for position in 0..ids.len() {
         if let Some(id) = ids.at(position) {
-            if has_next(first, &mut first_position, id) || has_next(second, &mut second_position, id) {
+            if has_next(first, &mut first_position, id)
+                || has_next(second, &mut second_position, id)
+            {
                 return false;
             }
         }

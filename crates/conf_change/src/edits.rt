@@ -1,4 +1,4 @@
-//! Changes of a configuration, one at a time. Progress is not touched.
+//! Single changes of a configuration. Progress is not touched.
 ghost use Rattle.std.specs.Prelude.{◌≡◌, ◌≢◌, [], ◌∷◌, IfOk, OnOk, OnErr};
 ghost use Rattle.conf_change.specs.Change.{result_of};
 ghost use Rattle.conf_change.specs.Roles.{membership_in};
@@ -9,7 +9,7 @@ use crate::config::Config;
 use crate::roles::Membership;
 use quorum_sets::{MemberSet, NoMemory};
 
-// Makes one change, and answers what its id is then. After want of memory the configuration is as it was.
+// Makes one change, and returns the membership of its id. On `NoMemory` the configuration is unchanged.
 pub(crate) fn apply<S: MemberSet>(
     config: &mut Config<S>,
     change: Change,
@@ -43,7 +43,7 @@ fn make_voter<S: MemberSet>(config: &mut Config<S>, id: u64) -> Result<Membershi
     })
 }
 
-// Makes the id a learner. One that is still an outgoing voter waits among the next learners.
+// Makes the id a learner, or a next learner while it is an outgoing voter.
 fn make_learner<S: MemberSet>(config: &mut Config<S>, id: u64) -> Result<Membership, NoMemory>
     requires { id ≢ 0 }
     ensures ok { OnOk result (let change : Change = record { kind = Kind.Learner; id = id } in config.new ≡ result_of config.old (change ∷ [])) }
@@ -65,7 +65,7 @@ fn make_learner<S: MemberSet>(config: &mut Config<S>, id: u64) -> Result<Members
     })
 }
 
-// Takes the id out; an outgoing voter stays one until the joint configuration is left.
+// Removes the id; an outgoing voter stays one until the joint configuration is left.
 fn take_out<S: MemberSet>(config: &mut Config<S>, id: u64) -> Membership
     requires { id ≢ 0 }
     ensures out { let change : Change = record { kind = Kind.Remove; id = id } in config.new ≡ result_of config.old (change ∷ []) }

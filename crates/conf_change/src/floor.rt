@@ -1,18 +1,19 @@
-//! Floors: the least index that a new member is sent next.
+//! The smallest initial next index.
 ghost use Rattle.std.specs.Prelude.{◌≡◌};
 ghost use Rattle.conf_change.specs.Floor.{number_of, fresh_next};
 
-/// The least index that a new member is sent next (own). etcd's raft keeps to 1, and its script files begin at 0.
+/// The smallest initial next index: that of a new member while the log is empty (own). etcd's raft uses 1, its test scripts
+/// use 0.
 #[derive(Clone, Copy, Debug, PartialEq, Eq)]
 pub enum Floor {
-    /// The last index is taken as it is, 0 included.
+    /// The initial next index is the last index, also if that is 0.
     Zero,
-    /// The index is 1 at least.
+    /// The initial next index is at least 1.
     One,
 }
 
 impl Floor {
-    // The index that a new member is sent next: the last index, or the floor where that is more.
+    // The initial next index of a new member: the last index, or the floor if that is greater.
     pub(crate) fn fresh_next(self, last_index: u64) -> u64
         ensures { result ≡ fresh_next self last_index }
     {

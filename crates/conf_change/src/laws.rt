@@ -18,40 +18,39 @@ ghost use Rattle.conf_change.specs.Configuration.{Configuration, has_voter, is_r
 ghost use Rattle.conf_change.specs.ConfState.{ConfStateLists, Describes, is_same_conf_state, lists_of, restored};
 ghost use Rattle.conf_change.specs.ConfStateLine.{DenotesConfState, conf_state_in};
 
-/// A text stands for one list of changes at most, and it is the one that the function gives; where it stands for none,
-/// the function gives the first token that spells no change.
+/// A text denotes at most one list of changes, which is the value of the function; if it denotes none, the function gives its
+/// first bad token.
 pub fn one_list_per_text()
     ensures ok { (text : List ℕ) (changes : List Change) → (Denotes text changes) ↔ (changes_in text ≡ Ok changes) }
     ensures err { (text : List ℕ) (bad : BadToken) → (IsFirstBad (words text) bad) ↔ (changes_in text ≡ Err bad) }
     ensures one { (text : List ℕ) (a b : List Change) → Denotes text a → Denotes text b → a ≡ b }
 {}
 
-/// A text is the line of one saved configuration at most, and it is the one that the function gives.
+/// A text denotes at most one ConfState, which is the value of the function.
 pub fn one_conf_state_per_text()
     ensures some { (text : List ℕ) (saved : ConfStateLists) → (DenotesConfState text saved) ↔ (conf_state_in text ≡ Some saved) }
     ensures one { (text : List ℕ) (a b : ConfStateLists) → DenotesConfState text a → DenotesConfState text b → a ≡ b }
 {}
 
-/// What a saved form is restored to: the configuration that it describes, where that one can be restored, and nothing
-/// else.
+/// A ConfState is restored to the configuration that it describes, if that one can be restored, and to no other.
 pub fn restored_is_described()
     ensures { (saved : ConfStateLists) (c : Configuration) → ((restored saved ≡ Some c) ↔ (Describes saved c × (is_restorable c ≡ true))) }
 {}
 
-/// The saved form of a configuration, its lists in ascending order, describes it, and no two configurations are
-/// described by one saved form.
+/// The ConfState of a configuration, its lists in ascending order, describes it, and a ConfState describes at most one
+/// configuration.
 pub fn saved_form_describes()
     ensures own { (c : Configuration) → Describes (lists_of c) c }
     ensures one { (saved : ConfStateLists) (c d : Configuration) → Describes saved c → Describes saved d → c ≡ d }
 {}
 
-/// Saved forms are equal, by `==`, exactly where they have the same lists in the same order and the same flag.
+/// ConfStates are equal, by `==`, exactly if they have the same lists in the same order and the same flag.
 pub fn equal_conf_states_are_the_same()
     ensures { (a b : ConfStateLists) → (is_same_conf_state a b ≡ true) ↔ (a ≡ b) }
 {}
 
-/// A step leads a changer to one changer at most, and it is the one that the function gives; where the step is refused,
-/// the function gives the refusal.
+/// A step leads from a changer to at most one changer, which is the value of the function; if the step is refused, the
+/// function gives the refusal.
 pub fn one_changer_after_a_step()
     ensures ok { (before after : ChangerState) (step : Step) → (Accepts before step after) ↔ (changer_after before step ≡ Ok after) }
     ensures err { (before : ChangerState) (step : Step) (why : Refused) → (outcome before.tracker.config step ≡ Err why) ↔ (changer_after before step ≡ Err why) }
@@ -76,12 +75,12 @@ pub fn same_is_equality()
     ensures { (a b : Configuration) → (is_same a b ≡ true) ↔ (a ≡ b) }
 {}
 
-/// A configuration is valid exactly where all this is true of each id.
+/// A configuration is valid exactly if all this is true of each id.
 pub fn valid_by_member()
     ensures { (c : Configuration) → (is_valid c ≡ true) ↔ ValidByMember c }
 {}
 
-/// In what a list of changes makes of a configuration, each id goes by the last word on it.
+/// In the result of a list of changes, the last effective change of an id decides its roles.
 pub fn result_by_member()
     ensures incoming { (c : Configuration) (changes : List Change) (id : ℕ)
         → has (result_of c changes).incoming id ≡ is_incoming_after (last_effective changes id) (has c.incoming id) }

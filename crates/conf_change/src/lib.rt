@@ -20,7 +20,7 @@
 //!
 //! A list of changes is read as etcd reads it: `v1` makes 1 a voter, `l1` a learner, `r1` removes it and `u1` changes
 //! nothing; of several changes of one id the last one decides. A [`Changer`] has a configuration with the progress of its
-//! members, and gives the next one or says why the change is refused. A refused change alters nothing.
+//! members, and makes a list of changes or refuses it with a reason. A refused change alters nothing.
 //!
 //! A saved configuration, etcd's ConfState, is restored by [`Changer::restore`], without the steps that led to it.
 #![tactic(auto)]
@@ -29,14 +29,13 @@ pub mod acknowledgement;
 mod append;
 pub mod change;
 pub mod change_list;
+mod change_summary;
 pub mod changer;
-pub mod saved_configuration;
 pub mod conf_state_line;
 pub mod config;
 pub mod configuration_line;
 mod edits;
 pub mod floor;
-mod change_summary;
 pub mod laws;
 mod member_walk;
 mod members;
@@ -45,6 +44,7 @@ pub mod progress;
 pub mod refused;
 pub mod restore;
 mod roles;
+pub mod saved_configuration;
 pub mod step;
 pub mod text;
 pub mod tracker;
@@ -55,7 +55,6 @@ pub use acknowledgement::AckFault;
 pub use change::{Change, Changes, Kind};
 pub use change_list::{TokenFault, read_change, read_changes, read_changes_into};
 pub use changer::Changer;
-pub use saved_configuration::{ConfState, ConfStateFault, conf_state};
 pub use conf_state_line::{read_conf_state, write_conf_state};
 pub use config::{Config, Invariant, check};
 pub use configuration_line::{ConfigurationFault, read_configuration, valid_configuration};
@@ -64,6 +63,7 @@ pub use progress::Progress;
 pub use quorum_sets::union;
 pub use refused::Refused;
 pub use restore::{RestoreFault, described};
+pub use saved_configuration::{ConfState, ConfStateFault, conf_state};
 pub use step::{Step, StepKind};
 pub use text::{write_config, write_progress, write_refused, write_token_fault};
 pub use tracker::Tracker;

@@ -1,11 +1,11 @@
-//! A walk over the members of a configuration, in rising order of the ids.
+//! A walk over the members of a configuration, in ascending order.
 ghost use Rattle.std.specs.Prelude.{◌≡◌, true, false, Some, slice_get};
 ghost use Rattle.quorum_sets.specs.Ids.{ascending};
 ghost use Rattle.conf_change.specs.MemberWalk.{IsLeast, IsLeastFrom, Passes};
 
 use quorum_sets::MemberSet;
 
-// The lesser of two ids, or the one that is there.
+// The smaller of two ids, or the only one.
 pub(crate) fn least(a: Option<u64>, b: Option<u64>) -> Option<u64>
     ensures { IsLeast a b result }
 {
@@ -16,7 +16,7 @@ pub(crate) fn least(a: Option<u64>, b: Option<u64>) -> Option<u64>
     }
 }
 
-// Moves the place behind the id, where the id stands there, and tells whether it does.
+// Advances the position past the id, if the id is there, and returns whether it is.
 pub(crate) fn step_over<S: MemberSet>(set: &S, position: &mut usize, id: u64) -> bool
     requires { IsLeastFrom (S.ids set.now) position.old id }
     ensures passes { Passes (S.ids set.now) id position.old position.new }

@@ -1,4 +1,4 @@
-//! The members in ascending order of the ids, each with its progress.
+//! The members with their progress, in ascending order of the ids.
 ghost use Rattle.std.specs.Prelude.{◌≡◌, ℕ, true, length, ◌==◌, Some, None, is_some, map, option_map, unwrap_or, IsOk, OnOk, MatchResult, if◌then◌else◌};
 ghost use Rattle.std.specs.Ordering.{nat_cmp};
 ghost use Rattle.std.specs.FinMap as finite;
@@ -23,7 +23,7 @@ pub(crate) fn progress_of(members: &[(u64, Progress)], id: u64) -> Option<Progre
     }
 }
 
-// Sets the progress of an id that is there; any other id it leaves alone.
+// Sets the progress of an id, if it is there.
 pub(crate) fn set_progress_of(members: &mut [(u64, Progress)], id: u64, progress: Progress)
     requires { IsAscending (map (λ m. m.0) members.old) }
     ensures keys { map (λ m. m.0) members.new ≡ map (λ m. m.0) members.old }
@@ -34,8 +34,8 @@ pub(crate) fn set_progress_of(members: &mut [(u64, Progress)], id: u64, progress
     }
 }
 
-// Gives an id the progress that it is to have where it is this in a configuration: a member keeps what it has or begins
-// afresh, with its mark, and anybody else has none.
+// Updates the entry of an id to its new membership: a member keeps its progress or gets a fresh one, and is marked as a
+// learner or not; any other id has no entry.
 pub(crate) fn update_member(
     members: &mut SmallVec<(u64, Progress), 1>,
     id: u64,
@@ -55,7 +55,7 @@ pub(crate) fn update_member(
     Ok(())
 }
 
-// Marks a member, which begins afresh where it has no progress yet.
+// Marks a member as a learner or not. A new member gets fresh progress.
 fn keep_or_begin(
     members: &mut SmallVec<(u64, Progress), 1>,
     id: u64,
@@ -77,7 +77,7 @@ fn keep_or_begin(
     Ok(())
 }
 
-// Takes an id out.
+// Removes an id.
 fn take_out(members: &mut SmallVec<(u64, Progress), 1>, id: u64)
     requires { IsAscending (map (λ m. m.0) members.old.items) }
     ensures ascends { IsAscending (map (λ m. m.0) members.new.items) }
@@ -88,7 +88,7 @@ fn take_out(members: &mut SmallVec<(u64, Progress), 1>, id: u64)
     }
 }
 
-// The index of the member with this id, or else the index where it is to be inserted.
+// The position of the member with this id, or the one at which it is to be inserted.
 fn position_of(members: &[(u64, Progress)], id: u64) -> Result<usize, usize>
     requires { IsAscending (map (λ m. m.0) members.now) }
     ensures { MatchResult result (λ position. IsAtPosition (map (λ m. m.0) members.now) id position) (λ position. IsInsertionPoint (map (λ m. m.0) members.now) id position) }
@@ -96,7 +96,7 @@ fn position_of(members: &[(u64, Progress)], id: u64) -> Result<usize, usize>
     members.binary_search_by_key(&id, |member| member.0)
 }
 
-// Marks the member at a place, which keeps its progress.
+// Marks the member at a position as a learner or not.
 fn mark(members: &mut [(u64, Progress)], id: u64, position: usize, learner: bool)
     requires ascends { IsAscending (map (λ m. m.0) members.old) }
     requires at_position { IsAtPosition (map (λ m. m.0) members.old) id position }

@@ -1,7 +1,7 @@
-//! Where a walk over ids in rising order has come to.
+//! The positions of a walk over ids in ascending order.
 
-/// The places that a walk over ids in rising order has come to, in the sets of a configuration and among the members.
-/// They say where an id is looked for first, and nothing else rests on them.
+/// The positions of a walk over ids in ascending order, in the sets of a configuration and among the members. They are only
+/// hints where to look an id up first.
 #[derive(Clone, Copy, Debug, Default)]
 pub(crate) struct Positions {
     pub(crate) incoming: usize,

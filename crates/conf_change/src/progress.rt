@@ -1,22 +1,22 @@
-//! Progress of a member.
+//! The progress of a member.
 ghost use Rattle.std.specs.Prelude.{◌≡◌, ◌<◌, ◌-◌, ◌^◌, false};
 ghost use Rattle.conf_change.specs.Progress.{fresh_progress};
 ghost use Rattle.conf_change.specs.Acknowledgement.{acknowledged};
 
-/// How far a member has come in taking over the log (etcd's `tracker.Progress`). Match is below next, or with
-/// floor zero at most next.
+/// The progress of a member in replicating the log (etcd's `tracker.Progress`). Match is below next, or with floor zero at
+/// most next.
 #[derive(Clone, Copy, Debug, PartialEq, Eq)]
 pub struct Progress {
-    /// Match: the greatest index that the member is known to have, 0 where nothing is known.
+    /// Match: the greatest index that the member is known to have, 0 if none is known.
     pub matched: u64,
-    /// The index that the member is sent next, at least the floor.
+    /// The next index to send to the member, at least the floor.
     pub next: u64,
     /// Whether the member is a learner.
     pub learner: bool,
 }
 
 impl Progress {
-    // The progress of a new voter: nothing is known of it, and it is sent this index next.
+    // The progress of a new voter with this initial next index.
     pub(crate) fn fresh(next_index: u64) -> Progress
         ensures { result ≡ fresh_progress next_index false }
     {
@@ -46,7 +46,7 @@ impl Progress {
 impl Default for Progress {
     ghost is_default = { λ p. p ≡ fresh_progress 1 false };
 
-    /// The progress of a new voter where the log is empty, with floor one.
+    /// The progress of a new voter while the log is empty, with floor one.
     fn default() -> Progress {
         Progress::fresh(1)
     }

@@ -12,21 +12,21 @@ pub enum Refused {
     AlreadyJoint,
     /// A joint configuration is entered from one without a voter.
     ZeroVoterJoint,
-    /// A joint configuration is left, and there is none.
+    /// A configuration is left that is not joint.
     NotJoint,
     /// A simple change is made in a joint configuration.
     SimpleInJoint,
     /// No voter, or in a joint configuration no incoming one, would be left.
     RemovedAllVoters,
-    /// A simple change would alter for more than one id whether it is a voter. The ids that become voters and those that
-    /// no longer are count together: `r1 v5` alters two.
+    /// A simple change would alter more than one voter. Voters that are added and voters that are removed count together:
+    /// `r1 v5` alters two.
     MoreThanOneVoter,
-    /// Memory for the change was not found.
+    /// Memory ran out.
     NoMemory,
 }
 
 impl Refused {
-    // Its words.
+    // The text of the refusal.
     pub(crate) fn text(self) -> &'static str
         ensures { result.now ≡ refused_text self }
     {

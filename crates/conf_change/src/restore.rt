@@ -10,11 +10,11 @@ ghost use Rattle.conf_change.specs.declared.floor.Floor.TheVariants.{One};
 ghost use Rattle.conf_change.specs.Changer.{IsSound, begun_with};
 
 use crate::changer::Changer;
-use crate::saved_configuration::ConfState;
 use crate::config::{Config, check};
 use crate::floor::Floor;
 use crate::member_walk::{least, step_over};
 use crate::progress::Progress;
+use crate::saved_configuration::ConfState;
 use crate::tracker::Tracker;
 use quorum_sets::{MemberSet, NoMemory};
 use smallvec::SmallVec;
@@ -41,8 +41,8 @@ impl From<NoMemory> for RestoreFault {
 }
 
 impl<S: MemberSet> Changer<S> {
-    /// A changer with the saved configuration, whose progress is all fresh, with floor one. A saved form is refused unless
-    /// each list names each id once, the configuration is valid, and it has an incoming voter or nobody at all (own).
+    /// A changer with the saved configuration, fresh progress and floor one. A ConfState is refused unless each list names
+    /// each id once, the configuration is valid, and it has an incoming voter or is empty (own).
     pub fn restore(
         alloc: Global,
         state: &ConfState,
@@ -57,20 +57,20 @@ impl<S: MemberSet> Changer<S> {
         Changer::restore_with_floor(alloc, state, last_index, Floor::One)
     }
 
-    /// The same with this floor, which stays.
+    /// As [`Changer::restore`], with this floor.
     pub fn restore_with_floor(
         alloc: Global,
         state: &ConfState,
         last_index: u64,
         floor: Floor,
     ) -> Result<Changer<S>, RestoreFault>
-        // A saved form that describes a configuration which can be restored gives it, whatever the order of its lists.
+        // A ConfState that describes a restorable configuration gives it, whatever the order of its lists.
         ensures described { (c : Configuration) → Describes state.now c → is_restorable c ≡ true →
             MatchResult result (λ changer. changer ≡ begun_with floor last_index c) (λ fault. fault ≡ RestoreFault.NoMemory) }
-        // Every other is refused, for all trackers are sound.
+        // Any other is refused, since all trackers are sound.
         ensures restored { IfOk result (λ changer. Describes state.now changer.tracker.config) }
         ensures sound { IfOk result (λ changer. IsSound changer.tracker) }
-        // The same as a function of the saved form.
+        // As a function of the ConfState:
         ensures as_function { MatchResult result (λ changer. restored state.now ≡ Some changer.tracker.config) (λ fault. fault ≡ RestoreFault.NotAConfiguration → restored state.now ≡ None) }
     {
         let config = described(alloc, state)?;
@@ -82,13 +82,13 @@ impl<S: MemberSet> Changer<S> {
     }
 }
 
-/// The configuration that a saved form describes, be it valid or not. A saved form is refused, with NotAConfiguration,
-/// where one of its lists names an id twice.
+/// The configuration that a ConfState describes, valid or not. Refused with NotAConfiguration if one of its lists names an id
+/// twice.
 pub fn described<S: MemberSet>(alloc: Global, state: &ConfState) -> Result<Config<S>, RestoreFault>
     ensures described { IfOk result (λ config. Describes state.now config) }
     ensures refused { result ≡ Err RestoreFault.NotAConfiguration → (c : Configuration) → Describes state.now c → ⊥ }
 
-    // The same by the function.
+    // As a function of the ConfState:
     ensures value { IfOk result (λ config. described state.now ≡ Some config) }
     ensures fault { result ≡ Err RestoreFault.NotAConfiguration → described state.now ≡ None }
 {
@@ -114,14 +114,14 @@ fn set_from<S: MemberSet>(alloc: Global, list: &[u64]) -> Result<S, RestoreFault
     }
 }
 
-// Whether the configuration is valid, and has an incoming voter or nobody at all.
+// Whether the configuration is valid, and has an incoming voter or is empty.
 fn is_restorable<S: MemberSet>(config: &Config<S>) -> bool
     ensures { result ≡ is_restorable config.now }
 {
     check(config).is_ok() && has_voter_or_is_empty(config)
 }
 
-// Whether the configuration has an incoming voter, or nobody is in it.
+// Whether the configuration has an incoming voter or is empty.
 fn has_voter_or_is_empty<S: MemberSet>(config: &Config<S>) -> bool
     ensures { result ≡ has_voter_or_is_empty config.now }
 {
@@ -131,7 +131,7 @@ fn has_voter_or_is_empty<S: MemberSet>(config: &Config<S>) -> bool
             && config.learners_next.len() == 0)
 }
 
-// Fresh progress of all members, which are sent this index next, in ascending order of the ids.
+// Fresh progress of all members with this initial next index, in ascending order of the ids.
 fn fresh_progress<S: MemberSet>(
     alloc: Global,
     config: &Config<S>,
@@ -149,7 +149,7 @@ fn fresh_progress<S: MemberSet>(
     )
 }
 
-// The same of the three sets of members. They are walked side by side.
+// Fresh progress of the members of these three sets.
 fn fresh_of<S: MemberSet>(
     alloc: Global,
     incoming: &S,
@@ -169,7 +169,10 @@ fn fresh_of<S: MemberSet>(
     let mut outgoing_position = 0;
     let mut learner_position = 0;
     loop {
-        let voter = least(incoming.at(incoming_position), outgoing.at(outgoing_position));
+        let voter = least(
+            incoming.at(incoming_position),
+            outgoing.at(outgoing_position),
+        );
         let Some(id) = least(voter, learners.at(learner_position)) else {
             return Ok(members);
         };

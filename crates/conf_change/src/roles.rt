@@ -1,4 +1,4 @@
-//! What an id is in a configuration.
+//! The roles of an id in a configuration.
 ghost use Rattle.std.specs.Prelude.{◌≡◌};
 ghost use Rattle.conf_change.specs.Roles.{roles_after, has_member_role, membership_in};
 
@@ -6,7 +6,7 @@ use crate::change::Kind;
 use crate::config::Config;
 use quorum_sets::MemberSet;
 
-/// In which of the four sets of a configuration an id is.
+/// The roles of an id: in which of the four sets of a configuration it is.
 #[derive(Clone, Copy, Debug)]
 pub(crate) struct Roles {
     pub(crate) incoming: bool,
@@ -16,7 +16,7 @@ pub(crate) struct Roles {
 }
 
 impl Roles {
-    // What the id is after the last word on it. A learner that is still an outgoing voter waits among the next learners.
+    // The roles after the last effective change of the id. A new learner that is an outgoing voter becomes a next learner.
     pub(crate) fn after(self, last: Option<Kind>) -> Roles
         ensures { result ≡ roles_after self last }
     {
@@ -49,7 +49,7 @@ pub(crate) struct Membership {
 }
 
 impl Membership {
-    // What the id is in a configuration.
+    // The membership of an id in a configuration.
     pub(crate) fn of<S: MemberSet>(config: &Config<S>, id: u64) -> Membership
         ensures { result ≡ membership_in config.now id }
     {

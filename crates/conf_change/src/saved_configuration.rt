@@ -9,7 +9,7 @@ use std::alloc::Global;
 use std::marker::Model;
 use thiserror::Error;
 
-/// A saved configuration (etcd's `ConfState`): what its sets hold, as lists in any order, and its flag.
+/// A saved configuration (etcd's `ConfState`): its sets as lists in any order, and its flag.
 #[derive(Debug, Drop)]
 pub struct ConfState {
     /// The incoming voters.
@@ -20,7 +20,7 @@ pub struct ConfState {
     pub learners: Vec<u64>,
     /// The next learners.
     pub learners_next: Vec<u64>,
-    /// Whether the joint configuration is left without being asked.
+    /// Whether the joint configuration is left automatically.
     pub auto_leave: bool,
 }
 
@@ -54,7 +54,7 @@ impl PartialEq for ConfState {
     }
 }
 
-/// Why a text is no saved configuration.
+/// Why a text is not a ConfState line.
 #[derive(Clone, Copy, Debug, PartialEq, Eq, Error)]
 pub enum ConfStateFault {
     #[error("bad conf state")]
@@ -63,7 +63,7 @@ pub enum ConfStateFault {
     NoMemory,
 }
 
-/// Saves a configuration, its lists in ascending order.
+/// The ConfState of a configuration, its lists in ascending order.
 pub fn conf_state<S: MemberSet>(alloc: Global, config: &Config<S>) -> Result<ConfState, NoMemory>
     ensures ascending { IfOk result (λ state. state ≡ lists_of config.now) }
     ensures describes { IfOk result (λ state. Describes state config.now) }

@@ -5,15 +5,15 @@ ghost use Rattle.conf_change.specs.Transition.{step_of};
 
 use crate::change::{Change, Changes};
 
-/// One step from a configuration to the next: one voter at a time, into a joint configuration (with or without
-/// auto-leave), or out of it (Ongaro's dissertation, sections 4.1 and 4.3).
+/// A step from one configuration to the next: a simple change, entering a joint configuration (with or without auto-leave), or
+/// leaving it (Ongaro's dissertation, sections 4.1 and 4.3).
 #[derive(Debug, PartialEq, Drop)]
 pub enum Step {
-    /// One voter at most changes, and any number of learners.
+    /// At most one voter changes, and any number of learners.
     Simple(Changes),
-    /// A joint configuration is entered, with auto-leave or not, by these changes.
+    /// Enters a joint configuration, with auto-leave or not, by these changes.
     EnterJoint(bool, Changes),
-    /// The joint configuration is left.
+    /// Leaves a joint configuration.
     LeaveJoint,
 }
 

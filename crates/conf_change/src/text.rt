@@ -5,7 +5,7 @@ ghost use Rattle.ascii_text.specs.Append.{Extends};
 ghost use Rattle.conf_change.specs.Text.{spaced_numbers, set_text, text_if, config_text, progress_text, refused_text, bad_token_text};
 ghost use Rattle.conf_change.specs.ChangeList.{bad_token};
 
-use crate::append::{append_number_at, append_if};
+use crate::append::{append_if, append_number_at};
 use crate::change_list::TokenFault;
 use crate::config::Config;
 use crate::progress::Progress;
@@ -13,8 +13,8 @@ use crate::refused::Refused;
 use ascii_text::append::{append, append_number, keep_whole};
 use quorum_sets::{MemberSet, NoMemory};
 
-/// Appends a configuration, without a newline: `voters=(1 2)`, where it is joint `&&(2 3)`, then its learners and next
-/// learners where it has any, and `autoleave` where it leaves by itself. Sets are in ascending order.
+/// Appends a configuration, without a newline: `voters=(1 2)`, `&&(2 3)` if it is joint, its learners and next learners if it
+/// has any, and `autoleave` if that is set. Sets are in ascending order.
 pub fn write_config<S: MemberSet>(text: &mut Vec<u8>, config: &Config<S>) -> Result<(), NoMemory>
     ensures ok { OnOk result (text.new.items ≡ text.old.items ++ config_text config.now) }
     ensures err { OnErr result (text.new.items ≡ text.old.items) }
@@ -47,7 +47,7 @@ fn append_any<S: MemberSet>(text: &mut Vec<u8>, name: &[u8], set: &S) -> Result<
     Ok(())
 }
 
-// Appends a name and a set. It is written out where it is called, so that the length of the name is known.
+// Appends a name and a set.
 #[inline(always)]
 fn append_set<S: MemberSet>(text: &mut Vec<u8>, name: &[u8], set: &S) -> Result<(), NoMemory>
     ensures ok { OnOk result (text.new.items ≡ text.old.items ++ (name.now ++ set_text (S.ids set.now))) }
@@ -59,7 +59,7 @@ fn append_set<S: MemberSet>(text: &mut Vec<u8>, name: &[u8], set: &S) -> Result<
     append(text, b")")
 }
 
-// Appends the ids of a set, with one space between.
+// Appends the ids of a set, separated by one space.
 fn append_ids<S: MemberSet>(text: &mut Vec<u8>, set: &S) -> Result<(), NoMemory>
     ensures ok { OnOk result (text.new.items ≡ text.old.items ++ spaced_numbers (ascending (S.ids set.now))) }
     ensures extends { Extends text.old.items text.new.items }
@@ -72,8 +72,8 @@ fn append_ids<S: MemberSet>(text: &mut Vec<u8>, set: &S) -> Result<(), NoMemory>
     Ok(())
 }
 
-/// Appends a member's progress, without a newline: `1: StateProbe match=0 next=1`, and ` learner` behind that for a
-/// learner. The state is the one in which every member begins.
+/// Appends a member's progress, without a newline: `1: StateProbe match=0 next=1`, followed by ` learner` for a learner. The
+/// state is the one in which every member begins.
 pub fn write_progress(text: &mut Vec<u8>, id: u64, progress: Progress) -> Result<(), NoMemory>
     ensures ok { OnOk result (text.new.items ≡ text.old.items ++ progress_text id progress) }
     ensures err { OnErr result (text.new.items ≡ text.old.items) }
@@ -102,8 +102,7 @@ fn append_labelled(text: &mut Vec<u8>, label: &[u8], number: u64) -> Result<(), 
     Ok(())
 }
 
-/// Appends why a change was refused, without a newline, in the words of etcd's `confchange` package. Want of memory is
-/// no refusal of a change.
+/// Appends the message of a refusal, without a newline, as etcd's `confchange` package words it.
 pub fn write_refused(text: &mut Vec<u8>, refused: Refused) -> Result<(), NoMemory>
     requires { refused ≢ Refused.NoMemory }
     ensures ok { OnOk result (text.new.items ≡ text.old.items ++ refused_text refused) }
@@ -113,8 +112,8 @@ pub fn write_refused(text: &mut Vec<u8>, refused: Refused) -> Result<(), NoMemor
     Ok(())
 }
 
-/// Appends which word spells no change and why, without a newline: `unknown token `, `unknown input: ` or `bad number: `,
-/// as etcd's test scripts have it, and the word. Want of memory is told as such, and says nothing of a word.
+/// Appends the message of a bad token, without a newline: `unknown token `, `unknown input: ` or `bad number: `, as etcd's
+/// test scripts have it, and the token. `NoMemory` has no message; it is returned.
 pub fn write_token_fault(text: &mut Vec<u8>, fault: TokenFault<'_>) -> Result<(), NoMemory>
     ensures ok { OnOk result (IsSomeAnd (bad_token fault.entry) (λ bad. text.new.items ≡ text.old.items ++ bad_token_text bad)) }
     ensures err { OnErr result (text.new.items ≡ text.old.items) }
@@ -127,7 +126,7 @@ pub fn write_token_fault(text: &mut Vec<u8>, fault: TokenFault<'_>) -> Result<()
     }
 }
 
-// Appends words and the token that they tell of, or nothing.
+// Appends a message and its token, or nothing.
 fn append_both(text: &mut Vec<u8>, message: &[u8], token: &[u8]) -> Result<(), NoMemory>
     ensures ok { OnOk result (text.new.items ≡ text.old.items ++ (message.now ++ token.now)) }
     ensures err { OnErr result (text.new.items ≡ text.old.items) }

@@ -13,11 +13,11 @@ ghost use Rattle.conf_change.specs.Changer.{IsSound, empty_tracker, tracker_of};
 ghost use Rattle.conf_change.specs.Acknowledgement.{with_progress};
 
 use crate::change::{Change, Kind};
+use crate::change_summary::{ChangeSummary, summarize};
 use crate::config::Config;
 use crate::edits;
 use crate::floor::Floor;
-use crate::change_summary::{ChangeSummary, summarize};
-use crate::members::{update_member, progress_of, set_progress_of};
+use crate::members::{progress_of, set_progress_of, update_member};
 use crate::positions::Positions;
 use crate::progress::Progress;
 use crate::roles::Roles;
@@ -27,18 +27,18 @@ use std::alloc::Global;
 use std::marker::Model;
 use std::mem::replace;
 
-// Up to how many changes are made one after another.
+// The longest list whose changes are made one after another; the changes of a longer one are summarized first.
 const SHORT_LIST: usize = 16;
 
-/// A configuration, the progress of its members, and the floor of fresh next (etcd's `tracker.ProgressTracker`). Members are the voters of either
-/// kind and the learners; nobody else has progress.
+/// A configuration and the progress of its members (etcd's `tracker.ProgressTracker`), and the smallest initial next index.
+/// The members are the incoming and outgoing voters and the learners; no other id has progress.
 #[derive(Drop)]
 pub struct Tracker<S: MemberSet> {
     config: Config<S>,
-    // The members in ascending order of the ids, with their progress; on the heap, so that a tracker is cheap to move.
+    // The members with their progress, in ascending order of the ids.
     members: SmallVec<(u64, Progress), 1>,
     floor: Floor,
-    // Where its sets are made.
+    // The allocator of its sets.
     alloc: Global,
 }
 
@@ -58,7 +58,7 @@ impl<S: MemberSet> Model for Tracker<S> {
 }
 
 impl<S: MemberSet> Tracker<S> {
-    // Nobody is in it.
+    // A tracker with an empty configuration.
     #[inline(always)]
     pub(crate) fn new(alloc: Global, floor: Floor) -> Tracker<S>
         ensures { result ≡ empty_tracker floor }
@@ -97,14 +97,14 @@ impl<S: MemberSet> Tracker<S> {
         &self.config
     }
 
-    // The floor of fresh next.
+    // The smallest initial next index.
     pub(crate) fn floor(&self) -> Floor
         ensures { result ≡ self.now.floor }
     {
         self.floor
     }
 
-    // Takes the configuration out, and lets everybody go.
+    // Takes the configuration out, and leaves an empty one.
     #[inline(always)]
     pub(crate) fn take_config(&mut self) -> Config<S>
         ensures config { result ≡ self.old.config }
@@ -114,28 +114,28 @@ impl<S: MemberSet> Tracker<S> {
         replace(&mut self.config, Config::empty(self.alloc))
     }
 
-    /// The progress of the id; None where it is no member.
+    /// The progress of the id, or `None` if it is not a member.
     pub fn progress(&self, id: u64) -> Option<Progress>
         ensures { result ≡ finite.get self.now.progress id }
     {
         progress_of(self.members.as_slice(), id)
     }
 
-    /// How many members it has.
+    /// The number of members.
     pub fn member_count(&self) -> usize
         ensures { result ≡ length (finite.entries self.now.progress) }
     {
         self.members.len()
     }
 
-    /// The member at a place, in ascending order of the ids, with its progress.
+    /// The member at a position in ascending order of the ids, with its progress.
     pub fn member_at(&self, position: usize) -> Option<(u64, Progress)>
         ensures { result ≡ slice_get (finite.entries self.now.progress) position }
     {
         self.members.as_slice().get(position).copied()
     }
 
-    // The same tracker once more.
+    // A copy.
     pub(crate) fn try_clone(&self) -> Result<Tracker<S>, NoMemory>
         ensures { IfOk result (λ copy. copy ≡ self.now) }
     {
@@ -182,7 +182,7 @@ impl<S: MemberSet> Tracker<S> {
         }
     }
 
-    // Makes one change in place; a new member is sent this index next. After want of memory the tracker is as it was.
+    // Makes one change, with this initial next index for a new member. On `NoMemory` the tracker is unchanged.
     pub(crate) fn make_change(&mut self, change: Change, next_index: u64) -> Result<(), NoMemory>
         requires { IsSound self.old }
         ensures ok { OnOk result (Applies next_index (change ∷ []) self.old self.new) }
@@ -196,14 +196,14 @@ impl<S: MemberSet> Tracker<S> {
         Ok(())
     }
 
-    // How many ids are incoming voters of just one of the trackers, or the greatest `usize` where that is less.
+    // How many ids are incoming voters of exactly one of two trackers, saturating at the greatest `usize`.
     pub(crate) fn changed_voters(&self, other: &Tracker<S>) -> usize
         ensures { result ≡ min (difference_count self.now.config.incoming other.now.config.incoming) (2 ^ 64 - 1) }
     {
         symdiff(&self.config.incoming, &other.config.incoming)
     }
 
-    // The tracker that nobody is in, with the same floor.
+    // A tracker with an empty configuration and the same floor.
     #[inline(always)]
     pub(crate) fn emptied(&self) -> Tracker<S>
         ensures { result ≡ empty_tracker self.now.floor }
@@ -211,9 +211,8 @@ impl<S: MemberSet> Tracker<S> {
         Tracker::new(self.alloc, self.floor)
     }
 
-    // Becomes what another one is after a list of changes, with these outgoing voters and this flag; new members are sent
-    // this index next. A short list is made in turn; each change of a longer one would move too much. Where memory is
-    // wanting, it is left on the way.
+    // Overwrites `self` with another tracker after a list of changes, with these outgoing voters and this flag, and this
+    // initial next index for new members. On `NoMemory` its contents are unspecified.
     pub(crate) fn become_changed(
         &mut self,
         before: &Tracker<S>,
@@ -227,12 +226,7 @@ impl<S: MemberSet> Tracker<S> {
         ensures { OnOk result (Applies next_index changes.now (beginning before.now (S.ids outgoing.now) auto_leave) self.new) }
     {
         if changes.len() > SHORT_LIST {
-            *self = before.after_summaries(
-                outgoing.try_clone()?,
-                auto_leave,
-                changes,
-                next_index,
-            )?;
+            *self = before.after_summaries(outgoing.try_clone()?, auto_leave, changes, next_index)?;
             return Ok(());
         }
         self.begin_as(before, outgoing, auto_leave, changes.len())?;
@@ -240,7 +234,8 @@ impl<S: MemberSet> Tracker<S> {
         Ok(())
     }
 
-    // Becomes what another one is with these outgoing voters and this flag, with room for more members.
+    // Overwrites `self` with another tracker with these outgoing voters and this flag, and reserves capacity for `more`
+    // members.
     fn begin_as(
         &mut self,
         before: &Tracker<S>,
@@ -262,7 +257,7 @@ impl<S: MemberSet> Tracker<S> {
         copy_members(&mut self.members, before.members.as_slice(), more)
     }
 
-    // The tracker with these outgoing voters and this flag, after a list of changes, by one walk over the last words.
+    // The tracker with these outgoing voters and this flag, after a list of changes, by their summaries.
     fn after_summaries(
         &self,
         outgoing: S,
@@ -282,7 +277,9 @@ impl<S: MemberSet> Tracker<S> {
         let mut members = SmallVec::with_capacity(alloc, summaries.len())?;
         let mut positions = Positions::default();
         for summary in summaries.as_slice() {
-            let roles = self.roles(&outgoing, summary.id, &mut positions).after(summary.last);
+            let roles = self
+                .roles(&outgoing, summary.id, &mut positions)
+                .after(summary.last);
             insert_if(&mut incoming, summary.id, roles.incoming)?;
             insert_if(&mut learners, summary.id, roles.learner)?;
             insert_if(&mut learners_next, summary.id, roles.next)?;
@@ -299,7 +296,7 @@ impl<S: MemberSet> Tracker<S> {
         Ok(Tracker::begin(alloc, self.floor, config, members))
     }
 
-    // What an id is here, apart from the outgoing voters that are given.
+    // The roles of an id here, but with these outgoing voters.
     fn roles(&self, outgoing: &S, id: u64, positions: &mut Positions) -> Roles
         ensures { result ≡ roles_in (beginning self.now (S.ids outgoing.now) self.now.config.auto_leave).config id }
     {
@@ -311,8 +308,8 @@ impl<S: MemberSet> Tracker<S> {
         }
     }
 
-    // The progress of an id after what was said of it: a member keeps what it has, unless it is removed and does not go
-    // out, or begins afresh, and anybody else has none.
+    // The progress of an id after the changes that a summary has: a member keeps its progress unless it is removed and is not
+    // an outgoing voter; then, and if it is new, it gets fresh progress. Any other id has none.
     fn entry_after(
         &self,
         summary: ChangeSummary,
@@ -335,7 +332,7 @@ impl<S: MemberSet> Tracker<S> {
         Some(Progress { learner, ..known })
     }
 
-    // The progress of the id, which is looked for first at the place; None where it is no member.
+    // The progress of the id, or `None` if it is not a member. It is looked up first at the position.
     fn next_progress(&self, position: &mut usize, id: u64) -> Option<Progress>
         ensures { result ≡ finite.get self.now.progress id }
     {
@@ -348,7 +345,8 @@ impl<S: MemberSet> Tracker<S> {
         }
     }
 
-    // Becomes what another one is when it has left the joint configuration. On `NoMemory` its contents are unspecified.
+    // Overwrites `self` with another tracker after leaving the joint configuration. On `NoMemory` its contents are
+    // unspecified.
     pub(crate) fn become_left(&mut self, before: &Tracker<S>) -> Result<(), NoMemory>
         ensures { OnOk result (Keeps (after_leave before.now.config) before.now self.new) }
     {
@@ -358,7 +356,7 @@ impl<S: MemberSet> Tracker<S> {
     }
 }
 
-// Makes one change after another, of a configuration and its members. Where memory is wanting, some of them are made.
+// Makes one change after another, of a configuration and its members. On `NoMemory` some of them are made.
 fn make_each<S: MemberSet>(
     config: &mut Config<S>,
     members: &mut SmallVec<(u64, Progress), 1>,
@@ -378,7 +376,7 @@ fn make_each<S: MemberSet>(
     Ok(())
 }
 
-// Makes the members these, with room for more of them.
+// Overwrites the members with these, and reserves capacity for `more`.
 fn copy_members(
     members: &mut SmallVec<(u64, Progress), 1>,
     others: &[(u64, Progress)],
@@ -394,7 +392,8 @@ fn copy_members(
     Ok(())
 }
 
-// Makes the members those of others that are still in a configuration, with the progress that they have and their marks.
+// Overwrites the members with those of others that are members of a configuration. They keep their progress, and are marked
+// as learners or not.
 fn keep_members<S: MemberSet>(
     members: &mut SmallVec<(u64, Progress), 1>,
     config: &Config<S>,
@@ -417,7 +416,7 @@ fn keep_members<S: MemberSet>(
     Ok(())
 }
 
-// Whether the set has another id than this one.
+// Whether the set has an id other than this one.
 fn has_others<S: MemberSet>(set: &S, id: u64) -> bool
     ensures { result ≡ not (is_empty (without_id (S.ids set.now) id)) }
 {
@@ -428,7 +427,7 @@ fn has_others<S: MemberSet>(set: &S, id: u64) -> bool
     }
 }
 
-// What an id keeps that has progress: a member all of it, with its mark, and anybody else nothing.
+// The progress that an id keeps: a member keeps all, and is marked as a learner or not; any other id keeps none.
 fn kept<S: MemberSet>(
     config: &Config<S>,
     id: u64,
@@ -449,7 +448,7 @@ fn kept<S: MemberSet>(
     }
 }
 
-// Puts an id that is there into a set.
+// Adds an id to a set if it is there.
 fn insert_if<S: MemberSet>(set: &mut S, id: u64, there: bool) -> Result<(), NoMemory>
     ensures { OnOk result (S.ids set.new ≡ (if there then with_id (S.ids set.old) id else S.ids set.old)) }
 {
@@ -459,7 +458,7 @@ fn insert_if<S: MemberSet>(set: &mut S, id: u64, there: bool) -> Result<(), NoMe
     Ok(())
 }
 
-// Puts an id with its progress behind the others, where it has any.
+// Appends an id with its progress, if it has any.
 fn push_entry(
     members: &mut SmallVec<(u64, Progress), 1>,
     id: u64,

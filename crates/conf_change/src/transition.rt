@@ -1,24 +1,25 @@
-//! Which of the three changes a list of changes takes.
+//! Which step etcd takes for a list of changes.
 ghost use Rattle.std.specs.Prelude.{◌≡◌};
 ghost use Rattle.conf_change.specs.Transition.{step_kind_of};
 
 use crate::change::Change;
 use crate::step::StepKind;
 
-/// How a list of changes is taken (etcd's `raftpb.ConfChangeTransition`).
+/// How a list of changes is applied (etcd's `raftpb.ConfChangeTransition`).
 #[derive(Clone, Copy, Debug, PartialEq, Eq)]
 pub enum Transition {
-    /// One voter at a time where the list allows it, else by a joint configuration that is left by itself.
+    /// No change leaves a joint configuration, one change is a simple step, and more enter a joint configuration that is left
+    /// automatically.
     Auto,
-    /// Always by a joint configuration, which is left by itself.
+    /// Always by a joint configuration, which is left automatically.
     Implicit,
-    /// Always by a joint configuration, which is left where it is asked.
+    /// Always by a joint configuration, which is left by an explicit step.
     Explicit,
 }
 
-/// The change that a list takes: no change and Auto leaves; else more than one change, or a transition that is not Auto,
-/// enters, with auto-leave unless it is Explicit; else it is simple (etcd's `raftpb.ConfChangeV2`). Each change of the
-/// list counts, also one of the id 0, an update or a repeated one.
+/// The kind of step of a list of changes: Auto without a change leaves a joint configuration; more than one change, or a
+/// transition other than Auto, enters one, with auto-leave unless it is Explicit; else the step is simple (etcd's
+/// `raftpb.ConfChangeV2`). Each change of the list counts, also one of the id 0, an update or a repeated one.
 pub fn taken(transition: Transition, changes: &[Change]) -> StepKind
     ensures { result ≡ step_kind_of transition changes.now }
 {

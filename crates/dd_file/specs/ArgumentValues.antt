@@ -1,4 +1,4 @@
--- An argument as it is kept, and the values of it that are left while they are walked.
+-- Arguments as they are stored, and the values that an iterator has left.
 use Rattle.std.specs.Prelude.{ℕ, Bool, true, ◌&&◌, ◌==◌, List, [], ◌∷◌, map, length, unwrap_or, is_some}
 use Rattle.std.specs.List.{list_any}
 use Rattle.ascii_text.specs.WhiteSpace.{trimmed}
@@ -7,20 +7,20 @@ use Rattle.dd_file.specs.DirectiveLine.{ArgumentText, is_closing, cut_at_commas,
 use Rattle.dd_file.specs.declared.values.Left.{Left}
 use Rattle.dd_file.specs.declared.values.Left.TheVariants.{Nothing, Plain, Listed}
 
--- whether a word says an argument
+-- whether a token is an argument
 abbrev pub is_argument : List ℕ → Bool
 is_argument token = is_some (argument_of token)
 
--- the argument that it says then
+-- the argument of such a token
 abbrev pub argument_in : List ℕ → ArgumentText
 argument_in token = unwrap_or (argument_of token) (with_key [] [])
 
--- whether a text is nothing, or a byte with values behind it
+-- whether a text is empty, or a byte followed by values
 abbrev pub has_values : List ℕ → Bool
 has_values [] = true
 has_values (b ∷ text) = is_some (values_of text)
 
--- the values that it says then
+-- the values of such a text
 abbrev pub values_after : List ℕ → List (List ℕ)
 values_after [] = []
 values_after (b ∷ text) = unwrap_or (values_of text) []
@@ -29,7 +29,7 @@ values_after (b ∷ text) = unwrap_or (values_of text) []
 abbrev pub ends_at_closing : List ℕ → Bool
 ends_at_closing inside = list_any is_closing inside && (length (suffix is_closing inside) == 0)
 
--- the values that are left
+-- the remaining values
 abbrev pub values_left : Left → List ℕ → List (List ℕ)
 values_left Nothing rest = []
 values_left Plain rest = rest ∷ []

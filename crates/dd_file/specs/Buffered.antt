@@ -1,4 +1,4 @@
--- What the bytes that are held say without a read.
+-- Lines and items that are buffered, so that they are returned without a read.
 use Rattle.std.specs.Prelude.{◌≡◌, ◌≤◌, ◌+◌, ℕ, Bool, false, List, length, drop, map, filter, Option, Some, None, Result}
 use Rattle.std.specs.List.{list_any}
 use Rattle.ascii_text.specs.Lines.{full_lines, line_of, is_whole}
@@ -9,37 +9,37 @@ use Rattle.dd_file.specs.ReaderState.{ReaderState}
 use Rattle.dd_file.specs.Answer.{ReadsOn}
 use Rattle.dd_file.specs.declared.fault.FileFault.{FileFault}
 
--- no fault came and the end was not met, and what is held does not pass the limit
+-- no error was returned, the end was not reached, and the buffered bytes do not exceed the limit
 pub record CanReadBuffered (state : ReaderState) : Type 0 where
   pub faultless : state.fault ≡ None
   pub unended : state.is_ended ≡ false
   pub limit : state.position.bytes + length state.buffered ≤ longest_input
 
--- the state after so many lines of so many of the bytes that were held
+-- the state after these lines and bytes of the buffer were returned
 abbrev pub passed : ReaderState → ℕ → ℕ → ReaderState
 passed state lines bytes = record state {
   buffered = drop bytes state.buffered;
   position = record { lines = state.position.lines + lines; bytes = state.position.bytes + bytes };
 }
 
--- the lines of some bytes that have their newline
+-- the lines of the bytes that end in a newline
 abbrev pub whole_lines : List ℕ → List (List ℕ)
 whole_lines bytes = map line_of (filter is_whole (full_lines bytes))
 
--- a line is in hand where a newline is
+-- a line is buffered if a newline is
 abbrev pub is_line_buffered : Position → List ℕ → Bool
 is_line_buffered position buffered = list_any is_whole (full_lines buffered)
 
--- it ends in its last line, so that no line behind could change it
+-- there is an item, and no later line could change it
 abbrev pub is_ended_item : Option FirstItem → Bool
 is_ended_item None = false
 is_ended_item (Some item) = item.is_ended
 
--- an item, or its fault, is in hand where it ends in the whole lines that are
+-- an item or its error is buffered if the whole lines of the buffer end it
 abbrev pub is_item_buffered : Position → List ℕ → Bool
 is_item_buffered position buffered = is_ended_item (first_of (position.lines + 1) (whole_lines buffered))
 
--- A call that asks no reader. It answers what comes next, or nothing where nothing is in hand.
+-- A call that does not read: it returns the next item or line if one is buffered, and else none.
 abbrev pub BufferedReadsOn : {R X A : Type 0} → (R → Option (List ℕ)) → (R → Bool) → (X → A) → (Position → List ℕ → Next A) → (Position → FileFault → Type 0) → (Position → List ℕ → Bool) →
     ReaderState → ReaderState → R → Option (Result (Option X) FileFault) → Type 0
 BufferedReadsOn remaining has_failed view next IsFault is_buffered old new reader None = (new ≡ old) × (CanReadBuffered old → is_buffered old.position old.buffered ≡ false)

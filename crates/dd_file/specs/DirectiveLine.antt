@@ -1,4 +1,4 @@
--- The text of a directive: a command and its arguments.
+-- The grammar of a directive line: a command and its arguments.
 use Rattle.std.specs.Prelude.{ℕ, suc, Bool, true, false, not, ◌&&◌, ◌||◌, List, [], ◌∷◌, ◌==◌, length, map, filter, Option, Some, None, option_map, if◌then◌else◌, codes, bytes_eq}
 use Rattle.std.specs.List.{list_all, list_any}
 use Rattle.std.specs.Char.{is_ascii_alphanumeric}
@@ -31,7 +31,7 @@ is_equals b = b == 61
 abbrev pub is_comma : ℕ → Bool
 is_comma b = b == 44
 
--- the byte goes to the first of some words, or is the space before them
+-- the byte is added to the first token, or separates a new one from it
 abbrev pub split_or_prepend : Bool → ℕ → List (List ℕ) → List (List ℕ)
 split_or_prepend true b tokens = [] ∷ tokens
 split_or_prepend false b [] = (b ∷ []) ∷ []
@@ -51,7 +51,7 @@ abbrev pub token_len : Bool → List ℕ → ℕ
 token_len inside [] = 0
 token_len inside (b ∷ bs) = if is_space b && not inside then 0 else suc (token_len (inside_after inside b) bs)
 
--- the words of a text: white space between parentheses parts none
+-- the tokens of a text, separated by white space that is not between parentheses
 abbrev pub tokens_of : List ℕ → List (List ℕ)
 tokens_of text = filter (λ token. not (length token == 0)) (cut_at_spaces false text)
 
@@ -59,7 +59,7 @@ tokens_of text = filter (λ token. not (length token == 0)) (cut_at_spaces false
 abbrev pub is_key_byte : ℕ → Bool
 is_key_byte b = is_ascii_alphanumeric b || list_any (λ c. b == c) (codes "-_/,.")
 
--- a word of such bytes
+-- a key: one or more key bytes
 abbrev pub is_key : List ℕ → Bool
 is_key token = not (length token == 0) && list_all is_key_byte token
 
@@ -72,11 +72,11 @@ abbrev pub cut_at_commas : List ℕ → List (List ℕ)
 cut_at_commas [] = [] ∷ []
 cut_at_commas (b ∷ bs) = split_or_prepend (is_comma b) b (cut_at_commas bs)
 
--- the values between parentheses: white space alone has none
+-- the values between parentheses; white space alone has none
 abbrev pub listed : List ℕ → List (List ℕ)
 listed text = if is_blank text then [] else map trimmed (cut_at_commas text)
 
--- the values that stand behind `=`: a list in parentheses, or one plain value
+-- the values after `=`: a list in parentheses, or one plain value
 abbrev pub values_of : List ℕ → Option (List (List ℕ))
 values_of [] = Some ([] ∷ [])
 values_of (b ∷ bs) =
@@ -87,19 +87,19 @@ values_of (b ∷ bs) =
 abbrev pub with_key : List ℕ → List (List ℕ) → ArgumentText
 with_key key values = record { key = key; values = values }
 
--- what a word says as an argument: a key alone, or a key, `=` and values
+-- the argument that a token parses to: a key alone, or a key, `=` and values
 abbrev pub argument_of : List ℕ → Option ArgumentText
 argument_of token =
     if is_key token then Some (with_key token [])
     else (if is_key (up_to is_equals token) then option_map (with_key (up_to is_equals token)) (values_of (suffix is_equals token)) else None)
 
--- an argument before others, if all are there
+-- an argument before others, if all are valid
 abbrev pub before_others : Option ArgumentText → Option (List ArgumentText) → Option (List ArgumentText)
 before_others (Some argument) (Some others) = Some (argument ∷ others)
 before_others (Some argument) None = None
 before_others None others = None
 
--- what each word says, if each says something
+-- the arguments that the tokens parse to, if all are valid
 abbrev pub arguments_of : List (List ℕ) → Option (List ArgumentText)
 arguments_of [] = Some []
 arguments_of (token ∷ tokens) = before_others (argument_of token) (arguments_of tokens)
@@ -112,12 +112,12 @@ has_keys arguments = list_all (λ argument. is_key argument.key) arguments
 abbrev pub is_command_name : List ℕ → Bool
 is_command_name token = is_key token && not (bytes_eq token (codes "subtest"))
 
--- the command and the arguments of the words
+-- the command and the arguments that the tokens parse to
 abbrev pub command_of_tokens : List (List ℕ) → Option CommandText
 command_of_tokens [] = None
 command_of_tokens (token ∷ tokens) =
     if is_command_name token then option_map (λ arguments. record { name = token; arguments = arguments }) (arguments_of tokens) else None
 
--- what a text says as a directive
+-- the command that a directive line parses to
 abbrev pub command_of : List ℕ → Option CommandText
 command_of text = command_of_tokens (tokens_of text)

@@ -11,8 +11,8 @@ use Rattle.dd_file.specs.declared.item.Item.TheVariants.{Comment, Blank}
 use Rattle.dd_file.specs.declared.fault.FileFault.{FileFault}
 use Rattle.dd_file.specs.declared.fault.FileFault.TheVariants.{Read, NoMemory, BadDirective, AfterDouble, UnclosedDouble, InputTooLong}
 
--- The number of its first line, its parts so far, how many lines it has, and what the next line may be. The phase has the
--- command of a directive.
+-- An item so far: the number of its first line, its parts, how many lines it has, and its phase, which has the command of a
+-- directive.
 pub record DraftText : Type 0 where
   pub line : ℕ
   pub directive_lines : List (List ℕ)
@@ -21,20 +21,20 @@ pub record DraftText : Type 0 where
   pub count : ℕ
   pub phase : Phase
 
--- no line was read yet
+-- an item without lines yet
 abbrev pub blank_draft : ℕ → DraftText
 blank_draft line = record { line = line; directive_lines = []; input = []; expected = []; count = 0; phase = Begin }
 
--- the phase after a head, by its command
+-- the phase after directive lines, by their command
 abbrev pub phase_of_command : Option CommandText → Phase
 phase_of_command None = NoCommand
 phase_of_command (Some command) = Input command
 
--- the phase after a head, by its text; white space alone is no directive
+-- the phase after directive lines, by their text; white space alone is a blank
 abbrev pub phase_after_directive_line : List ℕ → Phase
 phase_after_directive_line text = if is_blank text then BlankLines else phase_of_command (command_of text)
 
--- one line more, and the phase after it
+-- one more line is counted, and the phase is this
 abbrev pub counted : DraftText → Phase → DraftText
 counted draft phase = record draft { count = draft.count + 1; phase = phase }
 
@@ -53,7 +53,7 @@ is_done (Pair command) = false
 is_done (Complete command) = true
 is_done AfterPair = true
 
--- the directive of what was read, or another front where there is a pair or a blank line
+-- the item after a separator: its expected output is in double dashes if another line of dashes follows
 abbrev pub after_separator : DraftText → List (List ℕ) → CommandText → FirstItem
 after_separator draft more command =
     if begins_with_dashes more then in_double draft.line command draft.directive_lines draft.input (drop 1 more) else in_single draft.line command draft.directive_lines draft.input more
@@ -62,7 +62,7 @@ after_separator draft more command =
 abbrev pub drafted : DraftText → CommandText → Item
 drafted draft command = directive draft.line command draft.directive_lines draft.input draft.expected
 
--- what the lines so far begin with, if these lines follow
+-- the item of the lines so far if these lines follow, by phase
 abbrev pub first_item_in : Phase → DraftText → List (List ℕ) → Option FirstItem
 first_item_in Begin draft more = first_of draft.line more
 first_item_in CommentLine draft more = Some (first_item (Ok (Comment draft.directive_lines)) draft.count true)
@@ -77,7 +77,7 @@ first_item_in (Pair command) draft more = Some (after_pair draft.line draft.coun
 first_item_in (Complete command) draft more = Some (first_item (Ok (drafted draft command)) draft.count true)
 first_item_in AfterPair draft more = Some (first_item (Err (AfterDouble (draft.line + (draft.count - 1)))) draft.count true)
 
--- the same from its own phase on
+-- the item of the lines so far if these lines follow
 abbrev pub first_item_of : DraftText → List (List ℕ) → Option FirstItem
 first_item_of draft more = first_item_in draft.phase draft more
 
@@ -92,7 +92,7 @@ ends_in_dashes [] = false
 ends_in_dashes (line ∷ []) = is_dashes line
 ends_in_dashes (line ∷ next ∷ lines) = ends_in_dashes (next ∷ lines)
 
--- nothing in the parts so far ends them, and each line is counted
+-- the parts so far fit the phase: nothing in them ends them, and each line is counted
 abbrev pub FitsIn : Phase → DraftText → Type 0
 FitsIn Begin draft = (draft.directive_lines ≡ []) × (draft.input ≡ []) × (draft.expected ≡ []) × (draft.count ≡ 0)
 FitsIn CommentLine draft = draft.input ≡ []
@@ -107,28 +107,28 @@ FitsIn (Pair command) draft = draft.count ≡ length draft.directive_lines + len
 FitsIn (Complete command) draft = ⊤
 FitsIn AfterPair draft = 1 < draft.count
 
--- the same of its own phase
+-- the parts so far fit the phase of the draft
 abbrev pub Fits : DraftText → Type 0
 Fits draft = FitsIn draft.phase draft
 
--- One more line was taken in, from this phase on: with it the lines begin with what they began with before.
+-- One more line was added: the item of the lines so far is the same as before if that line followed.
 pub record AddsIn (phase : Phase) (old new : DraftText) (line : List ℕ) : Type 0 where
   pub fits : Fits new
   pub first_item : (more : List (List ℕ)) → first_item_of new more ≡ first_item_in phase old (line ∷ more)
   pub count : new.count ≡ old.count + 1
   pub first : new.line ≡ old.line
 
--- what was found, if there is something
+-- the result for an item or its error
 abbrev pub item_result : Result Item FileFault → Result (Option Item) FileFault
 item_result (Ok item) = Ok (Some item)
 item_result (Err fault) = Err fault
 
--- what was found in a front, if there is one
+-- the result for the item of some lines, if there is one
 abbrev pub result_of_first : Option FirstItem → Result (Option Item) FileFault
 result_of_first None = Ok None
 result_of_first (Some item) = item_result item.result
 
--- a fault that the lines from number n on may have
+-- an error that an item from line n on may have
 abbrev pub IsDraftFault : ℕ → FileFault → Type 0
 IsDraftFault n Read = ⊥
 IsDraftFault n NoMemory = ⊤
@@ -137,7 +137,7 @@ IsDraftFault n (BadDirective line) = line ≡ n
 IsDraftFault n (AfterDouble line) = n < line
 IsDraftFault n (UnclosedDouble line) = line ≡ n
 
--- the fault of a line as that of the item that begins at number n
+-- an error of a line as that of the item that begins at line n
 abbrev pub at_line : ℕ → FileFault → FileFault
 at_line n Read = Read
 at_line n NoMemory = NoMemory

@@ -1,4 +1,4 @@
--- The bytes of a line, with its newline, as they are read.
+-- A full line, while it is read in parts.
 use Rattle.std.specs.Prelude.{◌≡◌, ◌≤◌, ◌<◌, ◌+◌, ℕ, true, ◌⊎◌, List, [], ◌++◌, length, Option, ⊤}
 use Rattle.std.specs.Io.KnownBytes.{Consumes}
 use Rattle.ascii_text.specs.Lines.{first_len, is_whole}
@@ -7,8 +7,8 @@ use Rattle.dd_file.specs.ReaderState.{ReaderState}
 use Rattle.dd_file.specs.declared.fault.FileFault.{FileFault}
 use Rattle.dd_file.specs.declared.fault.FileFault.TheVariants.{Read, NoMemory, BadDirective, AfterDouble, UnclosedDouble, InputTooLong}
 
--- What was held and what a reader gave is a part of a line, which has no newline but at its end, and the bytes that are
--- held then.
+-- The bytes that were buffered and those that were read are a part of a line, which has no newline except at its end, and the
+-- bytes that are buffered then.
 pub record PartRead (buffered rest : List ℕ) (before after : Option (List ℕ)) (part : List ℕ) : Type 0 where
   pub given : List ℕ
   pub consumed : Consumes before after given
@@ -23,7 +23,7 @@ pub record FullLineRead (old new : ReaderState) (before after : Option (List ℕ
   pub fits : old.position.bytes + length full_line ≤ longest_input
   pub done : (is_whole full_line ≡ true) ⊎ ((new.is_ended ≡ true) × (new.buffered ≡ []))
 
--- A part of a line was read that passes the limit.
+-- A part of a line was read that exceeds the limit.
 pub record LongRead (old new : ReaderState) (before after : Option (List ℕ)) (line : ℕ) : Type 0 where
   pub full_line : List ℕ
   pub part : PartRead old.buffered new.buffered before after full_line

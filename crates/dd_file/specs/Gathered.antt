@@ -1,4 +1,4 @@
--- What a sink that gathers blocks holds.
+-- A sink that gathers blocks.
 use Rattle.std.specs.Prelude.{◌≡◌, ℕ, List, [], Option, drop}
 use Rattle.std.specs.Io.KnownBytes.{append_known}
 use Rattle.dd_file.specs.declared.blocks.Blocks.{Blocks}
@@ -7,14 +7,14 @@ use Rattle.dd_file.specs.declared.blocks.Blocks.{Blocks}
 abbrev pub gathering_writer : {W : Type 0} → Blocks W → W
 gathering_writer blocks = blocks.writer
 
--- the bytes that are not yet written on
+-- the buffered bytes, which are not flushed yet
 abbrev pub waiting_bytes : {W : Type 0} → Blocks W → List ℕ
 waiting_bytes blocks = drop blocks.written blocks.block.items
 
--- each byte so far was written on
+-- all bytes so far are flushed
 abbrev pub NothingWaits : {W : Type 0} → Blocks W → Type 0
 NothingWaits blocks = waiting_bytes blocks ≡ []
 
--- all bytes so far: those that the writer holds, where they are known, and those that wait
+-- all bytes so far: those that were written to the writer, if they are known, and the buffered ones
 abbrev pub gathered_bytes : {W : Type 0} → (W → Option (List ℕ)) → Blocks W → Option (List ℕ)
 gathered_bytes contents blocks = append_known (contents blocks.writer) (waiting_bytes blocks)

@@ -5,17 +5,17 @@ use Rattle.dd_file.specs.Reading.{Next, Found}
 use Rattle.dd_file.specs.ReaderState.{ReaderState}
 use Rattle.dd_file.specs.Answer.{Agrees, MovesOn}
 
--- the items are the next ones, in order, from a place and bytes to a later place and the bytes from there on
+-- the items are the next ones, in order, from one position and its bytes to a later one and its bytes
 abbrev pub ReadsTo : {A : Type 0} → (Position → List ℕ → Next A) → Position → List ℕ → List A → Position → List ℕ → Type 0
 ReadsTo next position bytes [] now rest = (now ≡ position) × (rest ≡ bytes)
 ReadsTo next position bytes (item ∷ items) now rest = (suffix : Position) × (left : List ℕ) × (next position bytes ≡ Found item suffix left) × ReadsTo next suffix left items now rest
 
--- each item has a byte at least
+-- each item has at least one byte
 abbrev pub TakesBytes : {A : Type 0} → (Position → List ℕ → Next A) → Type 0
 TakesBytes {A} next = (position suffix : Position) (bytes left : List ℕ) (item : A) → next position bytes ≡ Found item suffix left → length left < length bytes
 
--- The items that calls gave so far, from a state and a reader to those after the calls, are the next ones of each input
--- that agrees with what was read.
+-- The items that calls have returned so far, from one state and reader to the ones after the calls, are the next ones of each
+-- input that agrees with what was read.
 pub record GivenSoFar {R A : Type 0} (remaining : R → Option (List ℕ)) (next : Position → List ℕ → Next A) (old now : ReaderState) (before after : R) (items : List A) : Type 0 where
   pub moves : MovesOn remaining old now before after
   pub read : (input more : List ℕ) → Agrees old (remaining before) (remaining after) input more → ReadsTo next old.position input items now.position (now.buffered ++ more)

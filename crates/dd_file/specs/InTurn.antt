@@ -1,4 +1,4 @@
--- What calls that read or write one after another say together.
+-- Two calls that read or write, one after the other.
 use Rattle.std.specs.Prelude.{◌≡◌, ℕ, true, ◌⊎◌, List, ◌++◌, Option}
 use Rattle.std.specs.Io.KnownBytes.{Appends, IsAtEnd}
 use Rattle.dd_file.specs.Device.{AppendsPart, LosesPrefix}
@@ -6,42 +6,42 @@ use Rattle.dd_file.specs.ReaderState.{ReaderState}
 use Rattle.dd_file.specs.RewriterState.{Continues, BreaksOff}
 use Rattle.dd_file.specs.Answer.{Agrees}
 
--- what two calls took is taken at once
+-- what two calls consumed is one prefix
 abbrev pub TakenInTurn : Type 0
 TakenInTurn = (before between after : Option (List ℕ)) → LosesPrefix before between → LosesPrefix between after → LosesPrefix before after
 
--- An input that agrees with what two calls read agrees with what the first one read, and what is held then, with what
--- comes behind it, agrees with what the second one read.
+-- An input that agrees with what two calls read agrees with what the first one read; and what is buffered after that call,
+-- followed by the rest, agrees with what the second one read.
 pub record AgreesInTurn (old mid : ReaderState) (before between after : Option (List ℕ)) (input more : List ℕ) : Type 0 where
   pub suffix : List ℕ
   pub first : Agrees old before between input suffix
   pub second : Agrees mid between after (mid.buffered ++ suffix) more
 
--- what two calls read agrees in turn
+-- an input that agrees with two calls agrees with each in turn
 abbrev pub ReadInTurn : Type 0
 ReadInTurn = (old mid : ReaderState) (before between after : Option (List ℕ)) (input more : List ℕ) → LosesPrefix before between → LosesPrefix between after →
     (mid.is_ended ≡ true → (old.is_ended ≡ true) ⊎ IsAtEnd between) → Agrees old before after input more → AgreesInTurn old mid before between after input more
 
--- bytes that are appended one part after another
+-- bytes that are appended in two parts
 abbrev pub AppendedInTurn : Type 0
 AppendedInTurn = (old mid new : Option (List ℕ)) (xs ys : List ℕ) → Appends old mid xs → Appends mid new ys → Appends old new (xs ++ ys)
 
--- .. and are cut short in the first part, or in the second
+-- bytes that are appended in two parts, cut short in the first
 abbrev pub CutInFirst : Type 0
 CutInFirst = (old new : Option (List ℕ)) (xs ys : List ℕ) → AppendsPart old new xs → AppendsPart old new (xs ++ ys)
 
--- .. in the second part
+-- bytes that are appended in two parts, cut short in the second
 abbrev pub CutInSecond : Type 0
 CutInSecond = (old mid new : Option (List ℕ)) (xs ys : List ℕ) → Appends old mid xs → AppendsPart mid new ys → AppendsPart old new (xs ++ ys)
 
--- a script that is written again part by part
+-- a script that is rewritten in two parts
 abbrev pub ContinuesInTurn : Type 0
 ContinuesInTurn = (a b c : ℕ) (old mid new : Option (List ℕ)) (xs ys : List ℕ) → Continues a b old mid xs → Continues b c mid new ys → Continues a c old new (xs ++ ys)
 
--- .. and breaks off in the first part, or in the second
+-- a script that is rewritten in two parts, cut short in the first
 abbrev pub BreaksInFirst : Type 0
 BreaksInFirst = (a : ℕ) (old new : Option (List ℕ)) (xs ys : List ℕ) → BreaksOff a old new xs → BreaksOff a old new (xs ++ ys)
 
--- .. in the second part
+-- a script that is rewritten in two parts, cut short in the second
 abbrev pub BreaksInSecond : Type 0
 BreaksInSecond = (a b : ℕ) (old mid new : Option (List ℕ)) (xs ys : List ℕ) → Continues a b old mid xs → BreaksOff b mid new ys → BreaksOff a old new (xs ++ ys)

@@ -1,4 +1,4 @@
--- Laws of scripts: told by what comes next, written again, and joined.
+-- Laws of scripts: their next item, rewriting, and joining.
 use Rattle.std.specs.Prelude.{◌≡◌, ℕ, ◌+◌, ◌≤◌, Bool, true, false, not, ◌==◌, nat_lt, List, [], ◌∷◌, ◌++◌, length, drop, map, flat_map, Option, Some, option_map, None, Result, Ok, Err, ⊤, if◌then◌else◌}
 use Rattle.std.specs.List.{list_all, list_any}
 use Rattle.ascii_text.specs.Lines.{newline, lines_of}
@@ -14,11 +14,11 @@ use Rattle.dd_file.specs.declared.item.Item.TheVariants.{Comment, Blank, Directi
 use Rattle.dd_file.specs.declared.fault.FileFault.{FileFault}
 use Rattle.dd_file.specs.declared.fault.FileFault.TheVariants.{Read, NoMemory, BadDirective, AfterDouble, UnclosedDouble, InputTooLong}
 
--- What is read from a place on is told by what comes next: nothing, something and what is read behind it, or a fault.
+-- The items from a position on are none at the end, the next item and those after it, or an error.
 abbrev pub ItemsByNext : Type 0
 ItemsByNext = (position : Position) (bytes : List ℕ) → items_from position bytes ≡ followed items_from (next_item longest_input position bytes)
 
--- the same of lines
+-- The lines from a position on are none at the end, the next line and those after it, or an error.
 abbrev pub LinesByNext : Type 0
 LinesByNext = (position : Position) (bytes : List ℕ) → lines_from position bytes ≡ followed lines_from (next_line longest_input position bytes)
 
@@ -26,11 +26,11 @@ LinesByNext = (position : Position) (bytes : List ℕ) → lines_from position b
 abbrev pub is_line : List ℕ → Bool
 is_line bytes = list_all (λ b. not (b == 10)) bytes
 
--- the same lines but for white space at their ends
+-- the lines are the same except for white space at their ends
 abbrev pub SameButEnds : List (List ℕ) → List (List ℕ) → Type 0
 SameButEnds lines others = map without_trailing_space lines ≡ map without_trailing_space others
 
--- the directive again, from line n on and with this output expected
+-- the directive was read back, at line n and with this expected output
 pub record IsSameDirective (n : ℕ) (output : List ℕ) (directive again : DirectiveText) : Type 0 where
   pub line : again.line ≡ n
   pub command : again.command ≡ directive.command
@@ -39,22 +39,22 @@ pub record IsSameDirective (n : ℕ) (output : List ℕ) (directive again : Dire
   pub expected : again.expected ≡ output
   pub raw_lines : SameButEnds again.raw_lines directive.raw_lines
 
--- the item again, from line n on, a directive with this output expected
+-- the item was read back, at line n; a directive has this expected output
 abbrev pub IsSameItem : ℕ → List ℕ → Item → Item → Type 0
 IsSameItem n output (Comment lines) again = (others : List (List ℕ)) × (again ≡ Comment others) × SameButEnds others lines
 IsSameItem n output (Blank lines) again = (others : List (List ℕ)) × (again ≡ Blank others) × SameButEnds others lines
 IsSameItem n output (Directive directive) again = (other : DirectiveText) × (again ≡ Directive other) × IsSameDirective n output directive other
 
--- An item of a script, written with an output that was found, is read again as that item, whatever lines follow, and
--- leaves those lines.
+-- An item of a script that is written with an actual output is read back as that item, whatever lines follow, and those lines
+-- are left.
 abbrev pub WrittenItem : Type 0
 WrittenItem =
     (n m count : ℕ) (is_ended : Bool) (lines more : List (List ℕ)) (item : Item) (output : List ℕ) →
     list_all is_line lines ≡ true → is_output output ≡ true → first_of n lines ≡ Some (first_item (Ok item) count is_ended) →
     (again : Item) × (first_of m (lines_of (entry_text item output) ++ more) ≡ Some (first_item (Ok again) (length (lines_of (entry_text item output))) true)) × IsSameItem m output item again
 
--- The entries are read again item by item, each with what was found as what is expected. A blank of one empty line at the
--- end may be gone.
+-- The entries are read back item by item, each with its actual output as the expected one. A blank of one empty line at the
+-- end may be missing.
 pub data AreReadAgain : List Entry → List Item → Type 0 where
   AreOver : AreReadAgain [] []
   LastIsRemoved : (output : List ℕ) → AreReadAgain (entry (Blank ([] ∷ [])) output ∷ []) []
@@ -69,7 +69,7 @@ ends_in_long_blank (Blank lines ∷ []) = nat_lt 1 (length lines)
 ends_in_long_blank (Directive directive ∷ []) = false
 ends_in_long_blank (item ∷ next ∷ items) = ends_in_long_blank (next ∷ items)
 
--- an item that the grammar gives for some lines
+-- an item of the grammar: the first item of some lines
 pub record IsGiven (item : Item) : Type 0 where
   pub number : ℕ
   pub lines : List (List ℕ)
@@ -78,24 +78,24 @@ pub record IsGiven (item : Item) : Type 0 where
   pub is_ended : Bool
   pub first : first_of number lines ≡ Some (first_item (Ok item) count is_ended)
 
--- items that the grammar gives
+-- items of the grammar
 abbrev pub AreGiven : List Item → Type 0
 AreGiven [] = ⊤
 AreGiven (item ∷ items) = IsGiven item × AreGiven items
 
--- The items of a script, those before its fault where it has one, are given by the grammar.
+-- The items of a script, up to its error if it has one, are items of the grammar.
 abbrev pub ItemsAreGiven : Type 0
 ItemsAreGiven = (input : List ℕ) → AreGiven (script_of input).items
 
--- The grammar gives a directive with a head of one line, lines of input, and no output expected.
+-- A directive with one directive line, lines of input and no expected output is an item of the grammar.
 abbrev pub DirectiveIsGiven : Type 0
 DirectiveIsGiven =
     (n : ℕ) (line : List ℕ) (input : List (List ℕ)) (command : CommandText) →
     is_comment line ≡ false → is_blank line ≡ false → is_continued line ≡ false → command_of (trimmed line) ≡ Some command →
     list_any is_separator input ≡ false → list_all is_line (line ∷ input) ≡ true → IsGiven (directive n command (line ∷ []) input [])
 
--- Items that the grammar gives, written with outputs that were found, are read again, and without a fault. (Where they end
--- in a blank of several lines, the newline that is dropped may leave a lone backslash on the last line.)
+-- Items of the grammar that are written with actual outputs are read back without an error. (If they end in a blank of several
+-- lines, the newline that is dropped may leave a lone backslash on the last line.)
 abbrev pub WrittenScript : Type 0
 WrittenScript =
     (entries : List Entry) →
@@ -114,33 +114,33 @@ item_has_keys (Directive directive) = has_keys directive.arguments
 abbrev pub ItemsHaveKeys : Type 0
 ItemsHaveKeys = (input : List ℕ) → list_all item_has_keys (script_of input).items ≡ true
 
--- an item that is no directive, or a directive with its separator
+-- a comment, a blank, or a directive with its separator
 abbrev pub has_separator : ℕ → Result Item FileFault → Bool
 has_separator count (Ok item) = if is_directive item then nat_lt (length (raw_lines_of item)) count else true
 has_separator count (Err fault) = false
 
--- The lines from number n on are complete: they are items without fault, and each directive has its separator.
+-- The lines from number n on are complete: they are items without an error, and each directive has its separator.
 pub data IsComplete : ℕ → List (List ℕ) → Type 0 where
   Done : (n : ℕ) → IsComplete n []
   More : (n : ℕ) (lines : List (List ℕ)) (item : FirstItem) → first_of n lines ≡ Some item → has_separator item.count item.result ≡ true →
       IsComplete (n + item.count) (drop item.count lines) → IsComplete n lines
 
--- complete, told by what the lines begin with: nothing, an item with its separator before complete lines, or a fault
+-- complete by the first item of the lines: it has its separator and complete lines follow; an error is not complete
 abbrev pub IsCompleteWith : ℕ → List (List ℕ) → ℕ → Result Item FileFault → Type 0
 IsCompleteWith n lines count (Ok item) = (has_separator count (Ok item) ≡ true) × IsComplete (n + count) (drop count lines)
 IsCompleteWith n lines count (Err fault) = ⊥
 
--- the same of what lines begin with, if there are any
+-- complete by the first item of the lines, if there is one
 abbrev pub IsCompleteBy : ℕ → List (List ℕ) → Option FirstItem → Type 0
 IsCompleteBy n lines None = ⊤
 IsCompleteBy n lines (Some item) = IsCompleteWith n lines item.count item.result
 
--- whether lines are complete is given by what they begin with
+-- lines are complete exactly if they are complete by their first item
 abbrev pub CompleteByFirst : Type 0
 CompleteByFirst = (n : ℕ) (lines : List (List ℕ)) →
     (IsComplete n lines → IsCompleteBy n lines (first_of n lines)) × (IsCompleteBy n lines (first_of n lines) → IsComplete n lines)
 
--- the directive so many lines further down
+-- the directive, this many lines further down
 abbrev pub moved : ℕ → DirectiveText → DirectiveText
 moved lines directive = record directive { line = lines + directive.line }
 
@@ -154,7 +154,7 @@ directive_in (Directive directive) = directive ∷ []
 abbrev pub directives_of : List Item → List DirectiveText
 directives_of items = flat_map directive_in items
 
--- the fault so many lines further down
+-- the error, this many lines further down
 abbrev pub moved_fault : ℕ → FileFault → FileFault
 moved_fault lines Read = Read
 moved_fault lines NoMemory = NoMemory
@@ -163,8 +163,8 @@ moved_fault lines (AfterDouble line) = AfterDouble (lines + line)
 moved_fault lines (UnclosedDouble line) = UnclosedDouble (lines + line)
 moved_fault lines (InputTooLong line) = InputTooLong (lines + line)
 
--- Of a complete script, two newlines and any text the directives are those of the script and then those of the text,
--- and the fault is the text's.
+-- The directives of a complete script, two newlines and any text are those of the script and then those of the text, and the
+-- error is that of the text.
 abbrev pub JoinedItems : Type 0
 JoinedItems =
     (script text : List ℕ) → IsComplete 1 (lines_of script) → length ((script ++ newline ++ newline) ++ text) ≤ longest_input →

@@ -1,7 +1,7 @@
--- A place in an input.
+-- A position in an input.
 use Rattle.std.specs.Prelude.{ℕ, ◌-◌, ◌^◌}
 
--- how many lines and bytes of the input came before
+-- a position: how many lines and bytes of the input are before it
 pub record Position : Type 0 where
   pub lines : ℕ
   pub bytes : ℕ
@@ -10,10 +10,10 @@ pub record Position : Type 0 where
 abbrev pub start : Position
 start = record { lines = 0; bytes = 0 }
 
--- the most bytes that an input may have
+-- the greatest length of an input in bytes
 abbrev pub longest_input : ℕ
 longest_input = 2 ^ 30 - 1
 
--- the most bytes that are read ahead of what is given out
+-- the greatest number of bytes that are read ahead of what was returned
 abbrev pub longest_lookahead : ℕ
 longest_lookahead = 4096

@@ -1,4 +1,4 @@
--- What a rewriter keeps from call to call, and what its writer then holds.
+-- The state of a rewriter, and the text that its writer got.
 use Rattle.std.specs.Prelude.{◌≡◌, ◌⊎◌, ℕ, Bool, true, List, ◌++◌, Option, Result, IsErr, OnOk, OnErr}
 use Rattle.std.specs.Io.KnownBytes.{Appends}
 use Rattle.ascii_text.specs.Lines.{without_last}
@@ -13,29 +13,29 @@ pub record RewriterState : Type 0 where
   pub stage : Stage
   pub newlines : ℕ
 
--- an item may be kept, or the end written
+-- an item may be written, or the end
 abbrev pub CanKeep : RewriterState → Type 0
 CanKeep state = (state.stage ≡ Ready) ⊎ (state.stage ≡ Failed)
 
--- an output is wanted
+-- an output is expected next
 abbrev pub IsOutputNext : RewriterState → Type 0
 IsOutputNext state = (state.stage ≡ NeedsOutput) ⊎ (state.stage ≡ Failed)
 
--- What the writer gained since the start is a front part of the whole script, whatever follows this text in it.
+-- What was written since the start is a prefix of the whole script, whatever follows this text in it.
 abbrev pub HasBegun : Option (List ℕ) → Option (List ℕ) → List ℕ → Type 0
 HasBegun start now text = (rest : List ℕ) → AppendsPart start now (without_double_end (text ++ rest))
 
--- The writer gained this text since the start. A newline at its end is held back, since the script may end there.
+-- This text was written since the start, except that a newline at its end is held back, since the script may end there.
 pub record HasWritten (newlines : ℕ) (start now : Option (List ℕ)) (text : List ℕ) : Type 0 where
   pub counted : newlines ≡ newlines_at_end text
   pub gained : Appends start now (without_last 10 text)
   pub begun : HasBegun start now text
 
--- a call that writes more behind any text so far, and then counts so many newlines
+-- a call that writes more after any text so far, and counts the newlines at its end
 abbrev pub Continues : ℕ → ℕ → Option (List ℕ) → Option (List ℕ) → List ℕ → Type 0
 Continues newlines count old new more = (start : Option (List ℕ)) (text : List ℕ) → HasWritten newlines start old text → HasWritten count start new (text ++ more)
 
--- a call that breaks off while it writes more
+-- a call that is cut short while it writes more
 abbrev pub BreaksOff : ℕ → Option (List ℕ) → Option (List ℕ) → List ℕ → Type 0
 BreaksOff newlines old new more = (start : Option (List ℕ)) (text : List ℕ) → HasWritten newlines start old text → HasBegun start new (text ++ more)
 
@@ -43,19 +43,20 @@ BreaksOff newlines old new more = (start : Option (List ℕ)) (text : List ℕ) 
 abbrev pub Finishes : ℕ → Option (List ℕ) → Option (List ℕ) → Type 0
 Finishes newlines old new = (start : Option (List ℕ)) (text : List ℕ) → HasWritten newlines start old text → Appends start new (without_double_end text)
 
--- a call that breaks off while it ends the script
+-- a call that is cut short while it ends the script
 abbrev pub FinishesPart : ℕ → Option (List ℕ) → Option (List ℕ) → Type 0
 FinishesPart newlines old new = (start : Option (List ℕ)) (text : List ℕ) → HasWritten newlines start old text → AppendsPart start new (without_double_end text)
 
--- A call of a rewriter, from one state and writer to the next: if it succeeds the rewriter is at this stage. A fault stays.
+-- A call of a rewriter, from one state and writer to the next: if it succeeds the rewriter is at this stage. An error is
+-- permanent.
 pub record Writes {W X : Type 0} (has_failed : W → Bool) (old new : RewriterState) (before after : W) (next : Stage) (Written WrittenPart : Type 0) (result : Result X WriteFault) : Type 0 where
   pub written : OnOk result Written
   pub part : OnErr result WrittenPart
   pub stage : OnOk result (new.stage ≡ next)
   pub fault : OnErr result (new.stage ≡ Failed)
-  -- no writer is asked again
+  -- the writer is not called again
   pub again : old.stage ≡ Failed → IsErr result × (after ≡ before)
-  -- a fault comes only after a failed write, in this call or before it; without a fault no write failed in it
+  -- an error comes only after a failed write, in this call or before it; without an error no write failed in it
   pub failed : OnErr result ((old.stage ≡ Failed) ⊎ (has_failed after ≡ true))
   pub sound : OnOk result (has_failed after ≡ has_failed before)
 

@@ -1,4 +1,4 @@
--- A script as it is written, with what was found in the place of what was expected.
+-- A rewritten script: the actual outputs replace the expected ones.
 use Rattle.std.specs.Prelude.{ℕ, Bool, true, false, not, ◌&&◌, ◌||◌, List, [], ◌∷◌, ◌++◌, ◌==◌, nat_eq, length, flat_map, if◌then◌else◌, codes}
 use Rattle.std.specs.List.{list_all, list_any, ends_with}
 use Rattle.ascii_text.specs.Lines.{newline, full_lines, lines_of, text_of, without_last}
@@ -7,7 +7,7 @@ use Rattle.dd_file.specs.Script.{is_dashes}
 use Rattle.dd_file.specs.declared.item.Item.{Item}
 use Rattle.dd_file.specs.declared.item.Item.TheVariants.{Comment, Blank, Directive}
 
--- the lines of an item, of a directive those up to its separator
+-- the raw lines of an item; those of a directive end before its separator
 abbrev pub raw_lines_of : Item → List (List ℕ)
 raw_lines_of (Comment lines) = lines
 raw_lines_of (Blank lines) = lines
@@ -19,7 +19,7 @@ is_directive (Comment lines) = false
 is_directive (Blank lines) = false
 is_directive (Directive directive) = true
 
--- what is written of an item before its output
+-- the raw lines as they are written
 abbrev pub kept_text : Item → List ℕ
 kept_text item = text_of (raw_lines_of item)
 
@@ -31,21 +31,21 @@ dashes = codes "----" ++ newline
 abbrev pub has_blank_line : List ℕ → Bool
 has_blank_line text = list_any is_blank (lines_of text)
 
--- what stands before an output, and behind it: double dashes where it has a blank line, and an empty line
+-- what is written before an output: its separator, in double dashes if the output has a blank line
 abbrev pub opening : Bool → List ℕ
 opening true = dashes ++ dashes
 opening false = dashes
 
--- what comes after an output
+-- what is written after an output: the closing dashes of a double separator, and an empty line
 abbrev pub closing : Bool → List ℕ
 closing true = (dashes ++ dashes) ++ newline
 closing false = newline
 
--- an output behind its separator
+-- an output with its separator
 abbrev pub output_text : List ℕ → List ℕ
 output_text output = (opening (has_blank_line output) ++ output) ++ closing (has_blank_line output)
 
--- a line that can stand in an output: not four dashes, and no carriage return at its end
+-- a line that an output may have: not four dashes, and no carriage return at its end
 abbrev pub is_output_line : List ℕ → Bool
 is_output_line line = not (is_dashes line || ends_with nat_eq line (13 ∷ []))
 
@@ -53,15 +53,15 @@ is_output_line line = not (is_dashes line || ends_with nat_eq line (13 ∷ []))
 abbrev pub is_output : List ℕ → Bool
 is_output text = (length text == 0 || ends_with nat_eq text newline) && list_all (λ full_line. is_output_line (without_last 10 full_line)) (full_lines text)
 
--- an item with the output that was found, which only a directive has
+-- an item with its actual output, which only a directive has
 abbrev pub entry_text : Item → List ℕ → List ℕ
 entry_text item output = kept_text item ++ (if is_directive item then output_text output else [])
 
--- the text without its last newline where it ends in two
+-- the text without its last newline if it ends in two
 abbrev pub without_double_end : List ℕ → List ℕ
 without_double_end text = if ends_with nat_eq text (newline ++ newline) then without_last 10 text else text
 
--- an item, and what was found where it is a directive
+-- an item with its actual output
 pub record Entry : Type 0 where
   pub item : Item
   pub output : List ℕ
@@ -70,7 +70,7 @@ pub record Entry : Type 0 where
 abbrev pub entry : Item → List ℕ → Entry
 entry item output = record { item = item; output = output }
 
--- a script that is written again
+-- the text of a rewritten script
 abbrev pub rewritten_text : List Entry → List ℕ
 rewritten_text entries = without_double_end (flat_map (λ entry. entry_text entry.item entry.output) entries)
 

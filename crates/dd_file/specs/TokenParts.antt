@@ -1,17 +1,17 @@
--- The first word of a text, and the values in it.
+-- The first token of a text.
 use Rattle.std.specs.Prelude.{ℕ, Bool, true, false, not, ◌||◌, List, [], ◌∷◌, take}
 use Rattle.ascii_text.specs.WhiteSpace.{is_space}
 use Rattle.dd_file.specs.DirectiveLine.{is_opening, is_closing, token_len}
 
--- the byte may stand in a value without parentheses round it
+-- whether a plain value, one without parentheses around it, may have the byte
 abbrev pub is_plain_byte : ℕ → Bool
 is_plain_byte b = not (is_space b || (is_opening b || is_closing b))
 
--- no word goes on at the front of the text
+-- the text is empty or begins with white space, so that a token before it ends
 abbrev pub ends_token : List ℕ → Bool
 ends_token [] = true
 ends_token (b ∷ bs) = is_space b
 
--- the word that the text begins with
+-- the token that the text begins with
 abbrev pub first_token : List ℕ → List ℕ
 first_token text = take (token_len false text) text

@@ -15,7 +15,7 @@ fn is_key_byte(b: u8) -> bool
     b.is_ascii_alphanumeric() || matches!(b, b'-' | b'_' | b'/' | b',' | b'.')
 }
 
-/// How many bytes that a key may have come first.
+/// The length of the longest prefix of key bytes.
 pub(crate) fn key_len(token: &[u8]) -> usize
     ensures len { result ≡ prefix_len is_key_byte token.now }
     ensures within { result ≤ length token.now }
@@ -23,7 +23,7 @@ pub(crate) fn key_len(token: &[u8]) -> usize
     token.iter().take_while(|b| is_key_byte(**b)).count()
 }
 
-/// How many bytes that a value without parentheses round it may have come first.
+/// The length of the longest prefix of bytes that a plain value may have.
 fn plain_len(text: &[u8]) -> usize
     ensures len { result ≡ prefix_len is_plain_byte text.now }
     ensures within { result ≤ length text.now }
@@ -31,14 +31,14 @@ fn plain_len(text: &[u8]) -> usize
     text.iter().take_while(|b| is_plain_byte(**b)).count()
 }
 
-/// Whether a value without parentheses round it may have the byte: no white space, and no parenthesis.
+/// Whether a plain value, one without parentheses around it, may have the byte: no white space and no parenthesis.
 fn is_plain_byte(b: u8) -> bool
     ensures { result ≡ is_plain_byte b }
 {
     !(is_space(b) || b == b'(' || b == b')')
 }
 
-/// Whether no more of a word stands at a place of a text: the text ends there, or white space follows.
+/// Whether a token ends at this position: the text ends there, or white space follows.
 pub(crate) fn ends_token(text: &[u8], position: usize) -> bool
     requires { position ≤ length text.now }
     ensures { result ≡ ends_token (drop position text.now) }
@@ -49,7 +49,7 @@ pub(crate) fn ends_token(text: &[u8], position: usize) -> bool
     }
 }
 
-/// How long a list in parentheses is, by what stands behind the first one. None where more of its word follows, or none closes it.
+/// The length of a list in parentheses without its opening one. `None` if it is not closed, or its token goes on after it.
 fn listed_len(inside: &[u8]) -> Option<usize>
     ensures { MatchOption result (is_some (values_of (first_token (40 ∷ inside.now))) ≡ false)
         (λ len. (len + 1 ≡ token_len false (40 ∷ inside.now)) × (is_some (values_of (first_token (40 ∷ inside.now))) ≡ true)) }
@@ -64,8 +64,8 @@ fn listed_len(inside: &[u8]) -> Option<usize>
     Some(position + 1)
 }
 
-/// How long the values are that a text begins with, as they may stand behind `=`: a list in parentheses, or one plain
-/// value. None where its first word says no values.
+/// The length of the values that a text begins with, as they follow `=`: a list in parentheses, or one plain value.
+/// `None` if the first token is neither.
 fn values_len(text: &[u8]) -> Option<usize>
     ensures { MatchOption result (is_some (values_of (first_token text.now)) ≡ false)
         (λ len. (len ≡ token_len false text.now) × (is_some (values_of (first_token text.now)) ≡ true)) }
@@ -83,8 +83,7 @@ fn values_len(text: &[u8]) -> Option<usize>
     Some(len)
 }
 
-/// How long the first word of a text is that begins with one, where it says an argument: a key alone, or a key, `=` and
-/// values. So much of the text is the key.
+/// The length of the leading argument, if it is valid: a key alone, or a key, `=` and values. `key_len` is that of its key.
 pub(crate) fn argument_len(text: &[u8], key_len: usize) -> Option<usize>
     requires { key_len ≡ prefix_len is_key_byte text.now }
     ensures argument { MatchOption result (argument_of (first_token text.now) ≡ None)

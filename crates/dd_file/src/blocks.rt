@@ -1,4 +1,4 @@
-//! Gathering what is written into blocks, so that a program makes one system call a block and not one a line.
+//! A buffered writer: small writes are gathered into blocks, so a program makes one system call per block, not per line.
 ghost use Rattle.std.specs.Prelude.{◌≡◌, ◌≤◌, ◌<◌, ◌+◌, ◌++◌, ◌||◌, IsErr, is_err, OnOk, IfOk, true, [], length, vec_len, vec_capacity};
 ghost use Rattle.std.specs.Io.{WritesAtMost};
 ghost use Rattle.std.specs.Io.KnownBytes.{Appends, Keeps, WriteAppends};
@@ -12,13 +12,13 @@ use std::alloc::{AllocError, Global};
 
 const BLOCK_BYTES: usize = 16_384;
 
-/// A sink that keeps what it is given until it has a block of 16,384 bytes, and then writes that on. Whoever is done
-/// calls `flush`. After a fault it asks its writer no more.
+/// A sink that buffers what is written until it has a block of 16,384 bytes, and then writes the block. Call `flush` at
+/// the end. After an error the writer is not called again.
 #[derive(Drop)]
 pub struct Blocks<W> {
     writer: W,
     block: Vec<u8>,
-    /// How many bytes of the block are written on already, where a fault came in between.
+    /// How many bytes of the block are written already, if an error came in between.
     written: usize,
     ghost written_within: { written ≤ vec_len block },
     ghost block_within: { vec_len block ≤ 16384 },
@@ -28,7 +28,7 @@ pub struct Blocks<W> {
 impl<W: Sink> Blocks<W> {
     ghost use Rattle.dd_file.specs.Gathered.{gathering_writer, waiting_bytes, NothingWaits};
 
-    /// Takes the memory of one block. Without it the writer is dropped.
+    /// A sink with an empty block. If memory runs out, the writer is dropped.
     pub fn new(alloc: Global, writer: W) -> Result<Blocks<W>, AllocError>
     where
         W: Drop,
@@ -43,7 +43,7 @@ impl<W: Sink> Blocks<W> {
         })
     }
 
-    /// Writes on what waits, and has room for a block then.
+    /// Flushes the block to the writer.
     fn flush_block(&mut self) -> Result<(), DeviceFault>
         ensures bytes { Keeps (⟦<Blocks<W> as Sink>⟧.contents self.old) (⟦<Blocks<W> as Sink>⟧.contents self.new) }
         ensures ok { OnOk result (NothingWaits self.new) }
@@ -67,8 +67,8 @@ impl<W: Sink> Blocks<W> {
         Ok(())
     }
 
-    /// Takes a front part of bytes that the block has no room for, and writes the block on first where it is full. Behind it,
-    /// bytes that would fill another block are written as they are, without a copy.
+    /// Writes a prefix of bytes that do not fit into the block. A full block is flushed first; then bytes that would fill a
+    /// block themselves are written directly.
     #[cold]
     fn write_part(&mut self, bytes: &[u8]) -> Result<usize, DeviceFault>
         requires { 0 < length bytes.now }
@@ -87,15 +87,15 @@ impl<W: Sink> Blocks<W> {
         Ok(count)
     }
 
-    /// Writes on what waits.
+    /// Flushes the block to the writer.
     pub fn flush(&mut self) -> Result<(), WriteFault>
         ensures bytes { Keeps (⟦<Blocks<W> as Sink>⟧.contents self.old) (⟦<Blocks<W> as Sink>⟧.contents self.new) }
         ensures ok { OnOk result (NothingWaits self.new) }
-        // What waited was written on from its front, as far as the writer took it.
+        // The writer got a prefix of the bytes that were buffered.
         ensures part { AppendsPart (W.contents (gathering_writer self.old)) (W.contents (gathering_writer self.new)) (waiting_bytes self.old) }
-        // A fault stays, and the writer is not asked again.
+        // An error is permanent, and the writer is not called again.
         ensures again { W.has_failed (gathering_writer self.old) ≡ true → IsErr result × (self.new ≡ self.old) }
-        // The writer has failed exactly if it had failed before, or a fault is returned.
+        // The writer has failed exactly if it had failed before, or an error is returned.
         ensures failed { W.has_failed (gathering_writer self.new) ≡ (W.has_failed (gathering_writer self.old) || is_err result) }
     {
         match self.flush_block() {
@@ -104,7 +104,7 @@ impl<W: Sink> Blocks<W> {
         }
     }
 
-    /// The writer. What still waits is lost: call `flush` before.
+    /// The writer. Bytes that are still buffered are lost: call `flush` before.
     pub fn into_inner(self) -> W
         ensures writer { result ≡ gathering_writer self }
         ensures part { Appends (W.contents result) (⟦<Blocks<W> as Sink>⟧.contents self) (waiting_bytes self) }

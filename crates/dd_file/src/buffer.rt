@@ -1,4 +1,4 @@
-//! Bytes that are read ahead.
+//! The buffer of bytes that are read ahead.
 ghost use Rattle.std.specs.Prelude.{◌≡◌, ◌≤◌, ◌==◌, ◌++◌, ◌||◌, [], length, take, drop, is_ok, is_err, if◌then◌else◌, IfOk, OnOk, MatchResult};
 ghost use Rattle.std.specs.Io.KnownBytes.{Consumes, IsAtEnd, Keeps};
 ghost use Rattle.dd_file.specs.Position.{longest_lookahead};
@@ -10,10 +10,10 @@ use ascii_text::lines::first_line_len;
 use std::alloc::{AllocError, Global};
 use std::marker::Model;
 
-/// The most bytes that are read ahead of what is given out.
+/// The greatest number of bytes that are read ahead of what was returned.
 const LOOKAHEAD: usize = 4096;
 
-/// What a read gave and nobody took yet.
+/// The unread bytes: those that were read from a source and not yet returned.
 #[derive(Drop)]
 pub(crate) struct Buffer {
     bytes: Vec<u8>,
@@ -48,14 +48,14 @@ impl Buffer {
         self.start == self.end
     }
 
-    /// What it holds.
+    /// The buffered bytes.
     pub(crate) fn buffered(&self) -> &[u8]
         ensures { result.now ≡ self.now }
     {
         &self.bytes[self.start..self.end]
     }
 
-    /// Gives out so many bytes from the front of what it holds.
+    /// Drops the first `count` buffered bytes.
     pub(crate) fn pass(&mut self, count: usize)
         requires { count ≤ length self.old }
         ensures { self.new ≡ drop count self.old }
@@ -63,7 +63,7 @@ impl Buffer {
         self.start += count;
     }
 
-    /// Holds what one read gives in place of what it held.
+    /// Replaces the buffered bytes by those of one read.
     pub(crate) fn fill<R: Source>(&mut self, reader: &mut R) -> Result<(), DeviceFault>
         ensures bound { length self.new ≤ longest_lookahead }
         ensures bytes { MatchResult result
@@ -77,7 +77,7 @@ impl Buffer {
         Ok(())
     }
 
-    /// Moves the bytes up to the first newline, with it, behind a line so far.
+    /// Moves the bytes up to the first newline, inclusive, to the end of a line.
     pub(crate) fn move_line(&mut self, line: &mut Vec<u8>) -> Result<(), AllocError>
         ensures line { OnOk result (line.new.items ≡ line.old.items ++ take (first_len self.old) self.old) }
         ensures rest { self.new ≡ (if is_ok result then drop (first_len self.old) self.old else self.old) }

@@ -10,7 +10,7 @@ use smallvec::SmallVec;
 use std::alloc::{AllocError, Global};
 use std::marker::Model;
 
-/// The name of a command: a short one takes no memory.
+/// The name of a command.
 pub(crate) type Name = SmallVec<u8, 16>;
 
 /// A command and its arguments.
@@ -31,8 +31,7 @@ impl Model for Command {
     ghost invariant = { λ a. has_keys a.arguments.items ≡ true };
 }
 
-/// How long the first word of a text is that begins with one, where it can be a command: a key, and not `subtest`, which
-/// begins no directive.
+/// The length of the leading command name, if it is valid: a key other than `subtest`, which begins no directive.
 fn name_len(text: &[u8]) -> Option<usize>
     ensures { MatchOption result (is_command_name (first_token text.now) ≡ false)
         (λ len. (len ≡ token_len false text.now) × (is_command_name (first_token text.now) ≡ true)) }
@@ -50,7 +49,7 @@ fn name_len(text: &[u8]) -> Option<usize>
     Some(len)
 }
 
-/// What the words of a text say as arguments, if each says one.
+/// Parses the tokens of a text as arguments; `None` if one of them is not an argument.
 fn parse_arguments(alloc: Global, text: &[u8]) -> Result<Option<Vec<Argument>>, AllocError>
     ensures { IfOk result (λ found. option_map (λ arguments. arguments.items) found ≡ arguments_of (tokens_of text.now)) }
 {
@@ -68,7 +67,7 @@ fn parse_arguments(alloc: Global, text: &[u8]) -> Result<Option<Vec<Argument>>, 
     Ok(Some(arguments))
 }
 
-/// What a text says as a directive, or nothing where it is none.
+/// Parses a directive line; `None` if it is not valid.
 pub(crate) fn parse_command(alloc: Global, text: &[u8]) -> Result<Option<Command>, AllocError>
     ensures { IfOk result (λ found. found ≡ command_of text.now) }
 {

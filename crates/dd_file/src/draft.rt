@@ -16,14 +16,14 @@ use std::alloc::{AllocError, Global};
 use std::marker::Model;
 use std::mem::replace;
 
-/// The lines of an item so far, by the parts that they belong to. Separators are no part.
+/// The lines of an item so far, by the parts that they belong to. Separators belong to none.
 #[derive(Drop)]
 pub(crate) struct Draft {
     alloc: Global,
     line: usize,
-    /// The lines of the head, and then those of the input.
+    /// The directive lines, and then the lines of the input.
     raw_lines: RawLines,
-    /// How many of them are of the head.
+    /// How many of them are directive lines.
     directive_line_count: usize,
     expected: RawLines,
     count: usize,
@@ -49,7 +49,7 @@ impl Model for Draft {
 }
 
 impl Draft {
-    /// An item that will begin at this line, counted from 1. Its lines are read into the memory of these.
+    /// An item without lines yet, which begins at this line, counted from 1. The memory of `raw_lines` is reused.
     pub(crate) fn new(alloc: Global, line: usize, raw_lines: RawLines) -> Draft
         requires { raw_lines ≡ [] }
         ensures { result ≡ blank_draft line }
@@ -79,7 +79,7 @@ impl Draft {
         Ok(self.phase.is_done())
     }
 
-    /// Keeps a line where it belongs, and returns the phase after it.
+    /// Adds a line to the part that it belongs to, and returns the phase after it.
     fn next_phase(&mut self, phase: Phase, line: &[u8]) -> Result<Phase, AllocError>
         requires fits { FitsIn phase self.old }
         requires open_end { is_done phase ≡ false }
@@ -97,7 +97,7 @@ impl Draft {
         }
     }
 
-    /// Keeps a line of the head.
+    /// Adds a directive line.
     fn keep_directive_line(&mut self, line: &[u8]) -> Result<(), AllocError>
         requires { self.old.input ≡ [] }
         ensures { OnOk result (self.new ≡ record self.old { directive_lines = self.old.directive_lines ++ line.now ∷ [] }) }
@@ -107,7 +107,7 @@ impl Draft {
         Ok(())
     }
 
-    /// Keeps a line of the input.
+    /// Adds a line of the input.
     fn keep_input(&mut self, line: &[u8]) -> Result<(), AllocError>
         ensures { OnOk result (self.new ≡ record self.old { input = self.old.input ++ line.now ∷ [] }) }
     {
@@ -129,7 +129,7 @@ impl Draft {
         }
     }
 
-    /// A head is complete with the first line that is not continued.
+    /// The directive lines end with the first one that is not continued.
     fn add_directive_line(&mut self, line: &[u8]) -> Result<Phase, AllocError>
         requires begins { begins_directive (self.old.directive_lines ++ line.now ∷ []) ≡ true }
         requires continued { list_all is_continued self.old.directive_lines ≡ true }
@@ -208,7 +208,7 @@ impl Draft {
         }
     }
 
-    /// A fault of the lines as that of the item.
+    /// An error of the lines as that of the item.
     pub(crate) fn fault_at(&self, fault: FileFault) -> FileFault
         ensures { result ≡ at_line self.now.line fault }
     {
@@ -218,8 +218,7 @@ impl Draft {
         }
     }
 
-    /// The item that the lines so far are where no further line belongs to it, or its fault.
-    // Written out where it is called, so that its parts are moved once.
+    /// The item of the lines so far if no further line comes, or its error.
     #[inline(always)]
     pub(crate) fn finish(self) -> Result<Option<Item>, FileFault>
         requires fits { Fits self }
@@ -251,11 +250,17 @@ impl Draft {
             | Phase::Complete(command) => command,
         };
         let expected = expected.into_text();
-        Ok(Some(Item::Directive(Directive::new(line, command, raw_lines, directive_line_count, expected))))
+        Ok(Some(Item::Directive(Directive::new(
+            line,
+            command,
+            raw_lines,
+            directive_line_count,
+            expected,
+        ))))
     }
 }
 
-/// The phase after a head with this text: it has a command, nothing or neither.
+/// The phase after directive lines with this text, which may be blank, have a command, or be invalid.
 fn phase_after_directive_line(alloc: Global, text: &[u8]) -> Result<Phase, AllocError>
     ensures { IfOk result (λ phase. phase ≡ phase_after_directive_line text.now) }
 {

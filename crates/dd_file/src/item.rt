@@ -16,9 +16,9 @@ use std::marker::Model;
 /// An argument of a directive: a key and its values.
 #[derive(Drop)]
 pub struct Argument {
-    /// The word that says it. A short one takes no memory.
+    /// Its token.
     token: SmallVec<u8, 32>,
-    /// How much of it is the key.
+    /// The length of its key.
     key_len: usize,
 }
 
@@ -41,7 +41,7 @@ impl Argument {
     ghost use Rattle.dd_file.specs.ArgumentValues.{is_argument, argument_in};
     ghost use Rattle.dd_file.specs.DirectiveLine.{is_key_byte};
 
-    /// The argument that a word says, of which the key comes first.
+    /// The argument of a token, which begins with a key of this length.
     pub(crate) fn new(alloc: Global, token: &[u8], key_len: usize) -> Result<Argument, AllocError>
         requires parses { is_argument token.now ≡ true }
         requires key { key_len ≡ prefix_len is_key_byte token.now }
@@ -53,21 +53,21 @@ impl Argument {
         })
     }
 
-    /// What stands before the `=`, or the whole of an argument without values. It is never empty (datadriven's `CmdArg.Key`).
+    /// Its key: what is before the `=`, or all of an argument without values. It is never empty (datadriven's `CmdArg.Key`).
     pub fn key(&self) -> &[u8]
         ensures { result.now ≡ self.now.key }
     {
         &self.token.as_slice()[..self.key_len]
     }
 
-    /// Its values, one after another (datadriven's `CmdArg.Vals`).
+    /// Its values (datadriven's `CmdArg.Vals`).
     pub fn values(&self) -> Values<'_>
         ensures { result ≡ self.now.values }
     {
         Values::after_key(self.token.as_slice().split_at(self.key_len).1)
     }
 
-    /// The value at a place, counted from 0. The values before it are passed over.
+    /// The value at an index, counted from 0. It takes time linear in the length of the argument.
     pub fn value(&self, i: usize) -> Option<&[u8]>
         ensures { option_map (λ value. value.now) result ≡ slice_get self.now.values i }
     {
@@ -85,9 +85,9 @@ pub struct Directive {
     line: usize,
     command: Name,
     arguments: Vec<Argument>,
-    /// The lines of its head, and then those of its input.
+    /// The directive lines, and then the lines of the input.
     raw_lines: RawLines,
-    /// Where its input begins in their text, and where it ends.
+    /// Where its trimmed input begins and ends in their text.
     input_start: usize,
     input_end: usize,
     expected: Vec<u8>,
@@ -114,8 +114,8 @@ impl Model for Directive {
 }
 
 impl Directive {
-    /// The directive that begins at a line, counted from 1. The first `heads` of its raw lines are its head, and the
-    /// others its input.
+    /// The directive that begins at this line, counted from 1. Its raw lines are `directive_line_count` directive lines, and
+    /// then the lines of its input.
     #[inline(always)]
     pub(crate) fn new(
         line: usize,
@@ -151,28 +151,28 @@ impl Directive {
         }
     }
 
-    /// The number of its first line, counted from 1.
+    /// The line at which it begins, counted from 1.
     pub fn line(&self) -> usize
         ensures { result ≡ self.now.line }
     {
         self.line
     }
 
-    /// The first word of its head, never empty (datadriven's `TestData.Cmd`).
+    /// Its command, never empty (datadriven's `TestData.Cmd`).
     pub fn command(&self) -> &[u8]
         ensures { result.now ≡ self.now.command }
     {
         self.command.as_slice()
     }
 
-    /// The argument at a place, counted from 0.
+    /// The argument at an index, counted from 0.
     pub fn arg(&self, i: usize) -> Option<&Argument>
         ensures { option_map (λ argument. argument.now) result ≡ slice_get self.now.arguments i }
     {
         self.arguments.get(i)
     }
 
-    /// The arguments, in the order in which they stand.
+    /// The arguments, in the order of the directive line.
     pub fn arguments(&self) -> &[Argument]
         ensures arguments { result.now ≡ self.now.arguments }
         ensures keys { has_keys self.now.arguments ≡ true }
@@ -180,14 +180,14 @@ impl Directive {
         self.arguments.as_slice()
     }
 
-    /// What stands between its head and its separator, without white space at the two ends (datadriven's `TestData.Input`).
+    /// Its input: what is between its directive line and its separator, trimmed (datadriven's `TestData.Input`).
     pub fn input(&self) -> &[u8]
         ensures { result.now ≡ self.now.input }
     {
         &self.raw_lines.text()[self.input_start..self.input_end]
     }
 
-    /// What stands behind its separator: whole lines, or nothing (datadriven's `TestData.Expected`).
+    /// The expected output, whole lines or nothing (datadriven's `TestData.Expected`).
     pub fn expected(&self) -> &[u8]
         ensures { result.now ≡ self.now.expected }
     {
@@ -202,22 +202,22 @@ pub enum Item {
     Comment(RawLines),
     /// Lines of white space alone.
     Blank(RawLines),
-    /// A command, and what it is expected to answer.
+    /// A command with its input and its expected output.
     Directive(Directive),
 }
 
 impl Item {
     ghost use Rattle.dd_file.specs.Rewritten.{raw_lines_of, kept_text, is_directive};
 
-    /// A comment of one line, kept in the memory that it has.
+    /// A comment of one line.
     pub fn comment(alloc: Global, line: Vec<u8>) -> Result<Item, AllocError>
         ensures { IfOk result (λ item. item ≡ Item.Comment (line.items ∷ [])) }
     {
         Ok(Item::Comment(RawLines::of_line(alloc, line)?))
     }
 
-    /// The directive that a line says, as the first line of a script, with lines of input and no output expected; none
-    /// where the line says no command.
+    /// The directive of a directive line, as the first line of a script, with lines of input and no expected output; `None`
+    /// if the line is not valid.
     pub fn directive(
         alloc: Global,
         line: Vec<u8>,
@@ -235,7 +235,7 @@ impl Item {
         Ok(Some(Item::Directive(Directive::new(1, command, lines, 1, expected))))
     }
 
-    /// The line at a place, counted from 0: a line of the item, of a directive one before its separator.
+    /// The raw line at an index, counted from 0. The raw lines of a directive end before its separator.
     pub fn raw_line(&self, i: usize) -> Option<&[u8]>
         ensures { option_map (λ line. line.now) result ≡ slice_get (raw_lines_of self.now) i }
     {
@@ -246,7 +246,7 @@ impl Item {
         }
     }
 
-    /// Those lines, each with a newline.
+    /// The raw lines, each with a newline.
     pub(crate) fn raw_text(&self) -> &[u8]
         ensures { result.now ≡ kept_text self.now }
     {
@@ -257,7 +257,7 @@ impl Item {
         }
     }
 
-    /// Those lines, and nothing else of the item.
+    /// The raw lines, without the rest of the item.
     #[inline(always)]
     pub(crate) fn into_raw_lines(self) -> RawLines
         ensures { result ≡ raw_lines_of self }

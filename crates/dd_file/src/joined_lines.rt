@@ -1,4 +1,4 @@
-//! Lines as one text.
+//! Continued directive lines as one text.
 ghost use Rattle.std.specs.Prelude.{◌≡◌, IfOk};
 ghost use Rattle.dd_file.specs.Script.{joined};
 
@@ -7,7 +7,7 @@ use ascii_text::lines::without_end;
 use ascii_text::white_space::trimmed;
 use std::alloc::{AllocError, Global};
 
-/// The lines of a head as one text: each is trimmed, and a space stands for the backslash before the next.
+/// The directive lines as one text: each is trimmed, and the backslash at the end of a continued one is replaced by a space.
 pub(crate) fn joined(alloc: Global, lines: &RawLines) -> Result<Vec<u8>, AllocError>
     ensures { IfOk result (λ text. text.items ≡ joined lines.now) }
 {

@@ -1,4 +1,4 @@
-//! Laws of scripts, for whoever writes them again or joins them, and of what is read and written part by part.
+//! Laws of scripts that are rewritten or joined, and of what is read and written part by part.
 ghost use Rattle.std.specs.Prelude.{◌≡◌};
 ghost use Rattle.dd_file.specs.Gathered.{gathering_writer, NothingWaits};
 ghost use Rattle.dd_file.specs.InTurn.{TakenInTurn, ReadInTurn, AppendedInTurn, CutInFirst, CutInSecond, ContinuesInTurn, BreaksInFirst, BreaksInSecond};
@@ -7,43 +7,42 @@ ghost use Rattle.dd_file.specs.Laws.{ItemsByNext, LinesByNext, WrittenItem, Item
 use crate::blocks::Blocks;
 use crate::device::Sink;
 
-/// The items of a script from a place on are told by what comes next.
+/// The items of a script from a position on are the next one and the items after it.
 pub fn items_by_next()
     ensures { ItemsByNext }
 {}
 
-/// The lines of an input from a place on are told by what comes next.
+/// The lines of an input from a position on are the next one and the lines after it.
 pub fn lines_by_next()
     ensures { LinesByNext }
 {}
 
-/// An item that was written with what was found is read again as that item, whatever lines follow it.
+/// An item that was written with its actual output is read back as that item, whatever lines follow it.
 pub fn written_item()
     ensures { WrittenItem }
 {}
 
-/// The items of a script, up to its fault, are items that the grammar gives.
+/// The items of a script, up to its error, are items of the grammar.
 pub fn items_are_given()
     ensures { ItemsAreGiven }
 {}
 
-/// A directive of one line, with lines of input and no output expected, is an item that the grammar gives.
+/// A directive of one line, with lines of input and no expected output, is an item of the grammar.
 pub fn directive_is_given()
     ensures { DirectiveIsGiven }
 {}
 
-/// Items that the grammar gives are read again as they were, where they are written with outputs that were found. An empty
-/// line at the end may be gone.
+/// Items of the grammar that are written with actual outputs are read back. An empty line at the end may be missing.
 pub fn written_script()
     ensures { WrittenScript }
 {}
 
-/// The keys of the arguments of each directive of a script are keys.
+/// The argument keys of each directive of a script are keys of the grammar.
 pub fn items_have_keys()
     ensures { ItemsHaveKeys }
 {}
 
-/// Whether lines are complete is told by what they begin with.
+/// Lines are complete exactly if their first item is, and the lines after it.
 pub fn complete_by_first()
     ensures { CompleteByFirst }
 {}
@@ -53,7 +52,7 @@ pub fn joined_items()
     ensures { JoinedItems }
 {}
 
-/// What two calls of a reader take, and what an input that agrees with both of them says of each.
+/// Two calls of a reader, one after the other: what they consume together, and the inputs that agree with both.
 pub fn read_in_turn()
     ensures taken { TakenInTurn }
     ensures agrees { ReadInTurn }
@@ -66,14 +65,14 @@ pub fn appended_in_turn()
     ensures second { CutInSecond }
 {}
 
-/// What a rewriter writes in two parts, whole or broken off.
+/// What a rewriter writes in two parts, whole or cut short.
 pub fn rewritten_in_turn()
     ensures whole { ContinuesInTurn }
     ensures first { BreaksInFirst }
     ensures second { BreaksInSecond }
 {}
 
-/// Where nothing waits, blocks hold what their writer holds.
+/// If nothing is buffered, the bytes written to the blocks are those of their writer.
 pub fn nothing_waits<W: Sink>()
     ensures { (blocks : Blocks W) → NothingWaits blocks → ⟦<Blocks<W> as Sink>⟧.contents blocks ≡ W.contents (gathering_writer blocks) }
 {}

@@ -14,7 +14,7 @@
 //!                                     the blank line that ends the item
 //! ```
 //!
-//! Output that has blank lines stands between two pairs of `----` lines. A directive line that ends in a backslash goes on
+//! Output with blank lines is written between two pairs of `----` lines. A directive line that ends in a backslash goes on
 //! in the next line.
 //!
 //! [`reader`](crate::reader) reads items from a source, and takes at most 4,096 bytes beyond the item that it returns.
@@ -40,6 +40,6 @@ pub mod reader;
 pub mod rewriter;
 mod room;
 pub mod stage;
-mod values;
 mod tokens;
+mod values;
 pub mod writing;

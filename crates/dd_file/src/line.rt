@@ -3,7 +3,7 @@ ghost use Rattle.std.specs.Prelude.{◌≡◌};
 
 use std::marker::Model;
 
-/// A line, without what ended it. Its value is the list of its bytes.
+/// A line without its newline. Its value is the list of its bytes.
 #[derive(Drop)]
 pub struct Line {
     bytes: Vec<u8>,

@@ -1,4 +1,4 @@
-//! What a line of a script is, looked at alone.
+//! The kinds of lines of a script.
 ghost use Rattle.std.specs.Prelude.{◌≡◌};
 ghost use Rattle.dd_file.specs.Script.{is_comment, is_continued, is_separator, is_dashes};
 
@@ -18,7 +18,7 @@ pub(crate) fn is_continued(line: &[u8]) -> bool
     trimmed(line).ends_with(b"\\")
 }
 
-/// Whether the line is four dashes with white space round them, which part a directive from its expected output.
+/// Whether the line is four dashes and any white space around them: the separator of a directive.
 pub(crate) fn is_separator(line: &[u8]) -> bool
     ensures { result ≡ is_separator line.now }
 {

@@ -12,11 +12,11 @@ use crate::buffer::Buffer;
 use crate::device::Source;
 use crate::fault::FileFault;
 use crate::line::Line;
-use ascii_text::lines::{is_whole, line_of, first_line_len, without_end};
+use ascii_text::lines::{first_line_len, is_whole, line_of, without_end};
 use std::alloc::Global;
 use std::marker::Model;
 
-/// The most bytes that an input may have.
+/// The greatest length of an input in bytes.
 const LONGEST_INPUT: usize = 0x3fff_ffff;
 
 /// Reads the lines of an input.
@@ -46,7 +46,7 @@ impl Model for Lines {
 }
 
 impl Lines {
-    /// A reader of lines that has read nothing yet.
+    /// A reader at the beginning of its input.
     pub fn new(alloc: Global) -> Result<Lines, FileFault>
         ensures fresh { IfOk result (λ lines. lines ≡ fresh) }
         ensures memory { IsOkUnless result FileFault.NoMemory }
@@ -62,9 +62,9 @@ impl Lines {
         })
     }
 
-    /// The next line, without its newline and one carriage return before it; none at the end and from then on. After
-    /// a fault it answers that fault again: `InputTooLong` for an input of 2^30 bytes or more, `Read` where a read
-    /// failed, or `NoMemory`.
+    /// The next line, without its newline and one carriage return before it; `None` at the end and from then on. The
+    /// errors are `InputTooLong` for an input of 2^30 bytes or more, `Read` if a read failed, and `NoMemory`. An error is
+    /// permanent: later calls return it again.
     pub fn next<R: Source>(&mut self, reader: &mut R) -> Result<Option<Line>, FileFault>
         ensures { ReadsOn R.remaining R.has_failed (λ line. line) (next_line longest_input) IsLineFault self.old self.new reader.old reader.new result }
     {
@@ -84,9 +84,12 @@ impl Lines {
         }
     }
 
-    /// The next line where its newline is in hand, so that no reader is asked. Nothing is done where what is held does
-    /// not tell: it has no newline, or the end was met or a fault, or the limit may be passed in it (own).
-    pub fn next_buffered<R: Source>(&mut self, reader: &R) -> Option<Result<Option<Line>, FileFault>>
+    /// The next line if it is buffered, so that nothing is read. `None`, and nothing changes, if no newline is buffered, the
+    /// end was reached, an error was returned, or the buffered bytes may exceed the limit (own).
+    pub fn next_buffered<R: Source>(
+        &mut self,
+        reader: &R,
+    ) -> Option<Result<Option<Line>, FileFault>>
         ensures { BufferedReadsOn R.remaining R.has_failed (λ line. line) (next_line longest_input) IsLineFault is_line_buffered self.old self.new reader.now result }
     {
         let _ = reader;
@@ -111,7 +114,7 @@ impl Lines {
         }
     }
 
-    /// Whether what is held is told line by line: there is no fault, the end was not met, and the limit is not passed in it.
+    /// Whether buffered lines may be returned: no error was returned, the end was not reached, and the limit is not exceeded.
     pub(crate) fn can_read_buffered(&self) -> bool
         ensures ready { result ≡ true → CanReadBuffered self.now }
         ensures not_ready { CanReadBuffered self.now → result ≡ true }
@@ -122,14 +125,14 @@ impl Lines {
             && self.buffer.buffered().len() <= LONGEST_INPUT - self.bytes
     }
 
-    /// The bytes that are held.
+    /// The buffered bytes.
     pub(crate) fn buffered(&self) -> &[u8]
         ensures { result.now ≡ self.now.buffered }
     {
         self.buffer.buffered()
     }
 
-    /// Gives out so many lines of so many bytes of what is held.
+    /// Counts these lines and bytes as returned, and drops the bytes from the buffer.
     pub(crate) fn pass(&mut self, lines: usize, bytes: usize)
         requires buffered { bytes ≤ length self.old.buffered }
         requires some { lines ≤ bytes }
@@ -141,7 +144,7 @@ impl Lines {
         self.bytes += bytes;
     }
 
-    /// Whether the end was met, and so everything before it was given out.
+    /// Whether the end was reached and everything before it was returned.
     pub(crate) fn is_over(&self) -> bool
         ensures ended { result ≡ self.now.is_ended }
         ensures empty { self.now.is_ended ≡ true → self.now.buffered ≡ [] }
@@ -152,7 +155,7 @@ impl Lines {
         self.is_ended
     }
 
-    /// How many lines were given out.
+    /// How many lines were returned.
     pub(crate) fn count(&self) -> usize
         ensures count { result ≡ self.now.position.lines }
         ensures limit { self.now.position.lines ≤ longest_input }
@@ -160,7 +163,7 @@ impl Lines {
         self.lines
     }
 
-    /// Reads the bytes of the next line with its newline, or what is left at the end.
+    /// Reads the next full line, or what is left at the end.
     fn read_line<R: Source>(&mut self, reader: &mut R) -> Result<Vec<u8>, FileFault>
         requires faultless { self.old.fault ≡ None }
         requires unended { self.old.is_ended ≡ false }
@@ -187,7 +190,7 @@ impl Lines {
         }
     }
 
-    /// Counts the piece that was read, and answers its line.
+    /// Counts a full line that was read, and returns its line.
     fn take_line(&mut self, mut full_line: Vec<u8>) -> Option<Line>
         requires { self.old.position.bytes + vec_len full_line ≤ longest_input }
         ensures { MatchOption result

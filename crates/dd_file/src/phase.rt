@@ -4,7 +4,7 @@ ghost use Rattle.dd_file.specs.Draft.{is_done};
 
 use crate::command::Command;
 
-/// What an item is so far, and with it what its next line may be. From the end of its head on, a directive has its command.
+/// What an item is so far, which decides what its next line may be. After its directive lines, a directive has its command.
 #[derive(Drop)]
 pub(crate) enum Phase {
     /// It has no line yet.
@@ -13,11 +13,11 @@ pub(crate) enum Phase {
     CommentLine,
     /// It is blank lines.
     BlankLines,
-    /// Each line of its head so far is continued.
+    /// It has directive lines so far, all of them continued.
     DirectiveLines,
-    /// Its head has no command.
+    /// Its directive lines are not valid.
     NoCommand,
-    /// Its head is complete, and lines of its input come.
+    /// Its directive lines are complete, and lines of its input come.
     Input(Command),
     /// The last line was the separator.
     Separator(Command),

@@ -1,4 +1,4 @@
-//! Lines that lie in one text.
+//! Lines that are stored in one text.
 ghost use Rattle.std.specs.Prelude.{◌≡◌, ◌≤◌, ◌<◌, ◌+◌, ◌-◌, ◌^◌, [], ◌∷◌, ◌++◌, length, take, drop, map, option_map, slice_get, slice_index_or, IfOk, OnOk, OnErr};
 ghost use Rattle.ascii_text.specs.Lines.{text_of};
 
@@ -8,12 +8,12 @@ use std::alloc::{AllocError, Global};
 use std::marker::Model;
 use std::mem::replace;
 
-/// Lines, without what ended them.
+/// Lines without their newlines, stored in one text.
 #[derive(Drop)]
 pub struct RawLines {
     /// The lines, each with a newline.
     text: Vec<u8>,
-    /// The places of those newlines.
+    /// The positions of those newlines.
     ends: SmallVec<usize, 4>,
 }
 
@@ -38,7 +38,7 @@ impl RawLines {
         }
     }
 
-    /// No lines, which will lie in the memory of this text. That is taken out of it.
+    /// No lines, with the memory of this empty text, which is taken out of it.
     pub(crate) fn over(alloc: Global, text: &mut Vec<u8>) -> RawLines
         requires { text.old.items ≡ [] }
         ensures lines { result ≡ [] }
@@ -50,7 +50,7 @@ impl RawLines {
         }
     }
 
-    /// One line, in the memory that it has.
+    /// One line, reusing its memory.
     pub(crate) fn of_line(alloc: Global, line: Vec<u8>) -> Result<RawLines, AllocError>
         ensures { IfOk result (λ lines. lines ≡ line.items ∷ []) }
     {
@@ -61,7 +61,7 @@ impl RawLines {
         Ok(RawLines { text, ends })
     }
 
-    /// Adds a copy of a line behind the others.
+    /// Appends a copy of a line.
     pub(crate) fn push(&mut self, line: &[u8]) -> Result<(), AllocError>
         ensures ok { OnOk result (self.new ≡ self.old ++ line.now ∷ []) }
         ensures err { OnErr result (self.new ≡ self.old) }
@@ -74,7 +74,7 @@ impl RawLines {
         Ok(())
     }
 
-    /// Adds a copy of each of some lines behind the others.
+    /// Appends a copy of each of these lines.
     pub(crate) fn push_all(&mut self, lines: &[Vec<u8>]) -> Result<(), AllocError>
         ensures { OnOk result (self.new ≡ self.old ++ map (λ line. line.items) lines.now) }
     {
@@ -91,7 +91,7 @@ impl RawLines {
         self.ends.len()
     }
 
-    /// The line at a place, counted from 0.
+    /// The line at an index, counted from 0.
     pub fn get(&self, i: usize) -> Option<&[u8]>
         ensures { option_map (λ line. line.now) result ≡ slice_get self.now i }
     {
@@ -115,7 +115,7 @@ impl RawLines {
         self.text.as_slice()
     }
 
-    /// The lines behind the first few, each with a newline.
+    /// The lines after the first `count`, each with a newline.
     pub(crate) fn text_after(&self, count: usize) -> &[u8]
         requires { count ≤ length self.now }
         ensures { result.now ≡ text_of (drop count self.now) }
@@ -123,7 +123,7 @@ impl RawLines {
         self.text().split_at(self.start(count)).1
     }
 
-    /// Keeps the first few lines.
+    /// Keeps the first `count` lines.
     pub(crate) fn truncate(&mut self, count: usize)
         requires { count ≤ length self.old }
         ensures { self.new ≡ take count self.old }
@@ -140,7 +140,7 @@ impl RawLines {
         text
     }
 
-    /// Where the line at a place begins in the text, or would begin behind the last.
+    /// Where the line at an index begins in the text, or where one after the last would begin.
     fn start(&self, i: usize) -> usize
         requires { i ≤ length self.now }
         ensures position { result ≡ length (text_of (take i self.now)) }
@@ -152,7 +152,7 @@ impl RawLines {
         self.end(i - 1) + 1
     }
 
-    /// Where the line at a place ends in the text.
+    /// Where the line at an index ends in the text.
     fn end(&self, i: usize) -> usize
         requires { i < length self.now }
         ensures position { result ≡ length (text_of (take i self.now)) + length (slice_index_or self.now i []) }

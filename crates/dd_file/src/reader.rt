@@ -12,7 +12,7 @@ use crate::fault::FileFault;
 use crate::item::Item;
 use crate::lines::Lines;
 use crate::raw_lines::RawLines;
-use ascii_text::lines::{is_whole, line_of, first_line_len};
+use ascii_text::lines::{first_line_len, is_whole, line_of};
 use std::alloc::Global;
 use std::marker::Model;
 
@@ -22,7 +22,7 @@ pub struct Reader {
     alloc: Global,
     lines: Lines,
     fault: Option<FileFault>,
-    /// No text, in the memory of one that is done with.
+    /// An empty buffer, whose memory the raw lines of the next item reuse.
     text_buffer: Vec<u8>,
 }
 
@@ -38,7 +38,7 @@ impl Model for Reader {
 }
 
 impl Reader {
-    /// A reader of items that has read nothing yet.
+    /// A reader at the beginning of its script.
     pub fn new(alloc: Global) -> Result<Reader, FileFault>
         ensures fresh { IfOk result (λ reading. reading ≡ fresh) }
         ensures memory { IsOkUnless result FileFault.NoMemory }
@@ -51,8 +51,9 @@ impl Reader {
         })
     }
 
-    /// The next item; none at the end and from then on. After a fault it answers that fault again: what is wrong with
-    /// the script, `InputTooLong` for an input of 2^30 bytes or more, `Read` where a read failed, or `NoMemory`.
+    /// The next item; `None` at the end and from then on. The errors are those of the script's syntax, `InputTooLong` for an
+    /// input of 2^30 bytes or more, `Read` if a read failed, and `NoMemory`. An error is permanent: later calls return it
+    /// again.
     pub fn next<R: Source>(&mut self, reader: &mut R) -> Result<Option<Item>, FileFault>
         ensures { ReadsOn R.remaining R.has_failed (λ item. item) (next_item longest_input) IsItemFault self.old self.new reader.old reader.new result }
     {
@@ -69,11 +70,13 @@ impl Reader {
         found
     }
 
-    /// The next item where all its lines are in hand, so that no reader is asked. Nothing is done where what is held
-    /// does not tell: no item ends in it, or the end was met or a fault, or the limit may be passed in it (own).
-    // Written out where it is called, as what it calls is, so that an item is built where it stays.
+    /// The next item if all its lines are buffered, so that nothing is read. `None`, and nothing changes, if no item ends in
+    /// the buffered bytes, the end was reached, an error was returned, or the buffered bytes may exceed the limit (own).
     #[inline(always)]
-    pub fn next_buffered<R: Source>(&mut self, reader: &R) -> Option<Result<Option<Item>, FileFault>>
+    pub fn next_buffered<R: Source>(
+        &mut self,
+        reader: &R,
+    ) -> Option<Result<Option<Item>, FileFault>>
         ensures { BufferedReadsOn R.remaining R.has_failed (λ item. item) (next_item longest_input) IsItemFault is_item_buffered self.old self.new reader.now result }
     {
         if !self.can_read_buffered() {
@@ -85,7 +88,7 @@ impl Reader {
         Some(answer)
     }
 
-    /// Takes back an item that is done with, so that a later one is read into its memory (own).
+    /// Gives back an item that is no longer used. Its memory is reused for a later one (own).
     #[inline(always)]
     pub fn reuse(&mut self, item: Item)
         ensures { self.new ≡ self.old }
@@ -95,7 +98,7 @@ impl Reader {
         self.text_buffer = text;
     }
 
-    /// Whether what is held is told item by item: there is no fault, the end was not met, and the limit is not passed in it.
+    /// Whether buffered items may be returned: no error was returned, the end was not reached, and the limit is not exceeded.
     fn can_read_buffered(&self) -> bool
         ensures ready { result ≡ true → CanReadBuffered self.now }
         ensures not_ready { CanReadBuffered self.now → result ≡ true }
@@ -105,7 +108,7 @@ impl Reader {
     }
 }
 
-/// The fault of an answer, if it is one.
+/// The error of a result, if it is one.
 fn fault_in(found: &Result<Option<Item>, FileFault>) -> Option<FileFault>
     ensures { result ≡ fault_of found.now }
 {
@@ -115,7 +118,7 @@ fn fault_in(found: &Result<Option<Item>, FileFault>) -> Option<FileFault>
     }
 }
 
-/// Reads the lines of one item into the memory of these, and no further.
+/// Reads the lines of one item, and none after them. The memory of `raw_lines` is reused.
 fn read_item<R: Source>(
     alloc: Global,
     raw_lines: RawLines,
@@ -143,7 +146,7 @@ fn read_item<R: Source>(
     }
 }
 
-/// Reads the lines of one item into the memory of these, off what is held, where all of them are there. Else nothing is taken.
+/// The next item if all its lines are buffered; else nothing is consumed. The memory of `raw_lines` is reused.
 #[inline(always)]
 fn buffered_item<R: Source>(
     alloc: Global,

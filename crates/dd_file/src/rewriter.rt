@@ -1,4 +1,4 @@
-//! Writing a script again, with what was found.
+//! Rewriting a script with its actual outputs.
 ghost use Rattle.std.specs.Prelude.{◌≡◌, ℕ, List, [], ◌∷◌, ◌++◌, ◌==◌, Option, IsOk, IsErr, OnOk, OnErr, IfOk, true, false, map, if◌then◌else◌};
 ghost use Rattle.std.specs.Io.KnownBytes.{Appends};
 ghost use Rattle.ascii_text.specs.Lines.{newline, text_of, without_last};
@@ -25,7 +25,7 @@ fn count_newline(newlines: u8, byte: u8) -> u8
     if newlines == 0 { 1 } else { 2 }
 }
 
-/// How many newlines end a text after more bytes, of which the last two tell.
+/// How many newlines end a text after more bytes. The last two bytes decide.
 fn count_newlines(newlines: u8, bytes: &[u8]) -> u8
     ensures { (text : List ℕ) → newlines ≡ newlines_at_end text → result ≡ newlines_at_end (text ++ bytes.now) }
 {
@@ -38,14 +38,14 @@ fn count_newlines(newlines: u8, bytes: &[u8]) -> u8
     }
 }
 
-/// The newline that is written at the end, where it was held back and none stands before it.
+/// The newline that is written at the end: the one that was held back, unless another newline is before it.
 fn last_newline(newlines: u8) -> &'static [u8]
     ensures { result.now ≡ (if newlines == 1 then newline else []) }
 {
     if newlines == 1 { b"\n" } else { b"" }
 }
 
-/// Writes the newline that is held back where so many end the text.
+/// Writes the newline that was held back, if this many newlines end the text.
 fn write_pending_newline<W: Sink>(writer: &mut W, newlines: u8) -> Result<(), WriteFault>
     ensures ok { OnOk result (Appends (W.contents writer.old) (W.contents writer.new) (if newlines == 0 then [] else newline)) }
     ensures err { OnErr result (AppendsPart (W.contents writer.old) (W.contents writer.new) (if newlines == 0 then [] else newline)) }
@@ -58,7 +58,8 @@ fn write_pending_newline<W: Sink>(writer: &mut W, newlines: u8) -> Result<(), Wr
     write_all(writer, b"\n")
 }
 
-/// Writes more text behind so many newlines, holds a newline at its end back, and answers how many end it then.
+/// Writes more text after a text that ends in this many newlines. A newline at its end is held back. Returns how many
+/// newlines end the text then.
 fn write_text<W: Sink>(writer: &mut W, newlines: u8, text: &[u8]) -> Result<u8, WriteFault>
     ensures ok { IfOk result (λ count. Continues newlines count (W.contents writer.old) (W.contents writer.new) text.now) }
     ensures err { OnErr result (BreaksOff newlines (W.contents writer.old) (W.contents writer.new) text.now) }
@@ -87,8 +88,7 @@ fn needs_double(text: &[u8]) -> bool
     false
 }
 
-/// What is written before an output, in double dashes or not: the newline that is held back where so many end the text,
-/// and the dashes.
+/// What is written before an output: the newline that was held back, and the single or double dashes.
 fn before_output(newlines: u8, double: bool) -> &'static [u8]
     ensures { result.now ≡ (if newlines == 0 then [] else newline) ++ opening double }
 {
@@ -102,14 +102,14 @@ fn before_output(newlines: u8, double: bool) -> &'static [u8]
     }
 }
 
-/// What stands behind an output, in double dashes or not.
+/// What is written after an output: double dashes if it began with them, and an empty line.
 fn after_output(double: bool) -> &'static [u8]
     ensures { result.now ≡ closing double }
 {
     if double { b"----\n----\n\n" } else { b"\n" }
 }
 
-/// Writes an output between dashes, double ones or not, behind so many newlines, and holds the newline at its end back.
+/// Writes an output after single dashes or between double ones. The newline at its end is held back.
 fn write_output<W: Sink>(
     writer: &mut W,
     newlines: u8,
@@ -130,7 +130,8 @@ fn write_output<W: Sink>(
     Ok(count_newlines(count_newlines(1, text), suffix))
 }
 
-/// Writes a script again. The last newline of the text so far is held back until more text comes.
+/// Writes a script with its actual outputs. The last newline so far is held back until more text comes, since a script that
+/// ends in two newlines is written with one.
 #[derive(Drop)]
 pub struct Rewriter {
     stage: Stage,
@@ -146,7 +147,7 @@ impl Model for Rewriter {
 }
 
 impl Rewriter {
-    /// A rewriter that has written nothing yet.
+    /// A rewriter at the beginning of its script.
     pub fn new() -> Rewriter
         ensures stage { result.stage ≡ Stage.Ready }
         ensures nothing { (start : Option (List ℕ)) → HasWritten result.newlines start start [] }
@@ -157,8 +158,12 @@ impl Rewriter {
         }
     }
 
-    /// Ends a call that wrote: keeps how many newlines end the text then and goes on to this stage, or fails for good.
-    fn finish_call(&mut self, written: Result<u8, WriteFault>, stage: Stage) -> Result<(), WriteFault>
+    /// Ends a call that wrote: counts the newlines at the end of the text and enters this stage, or fails permanently.
+    fn finish_call(
+        &mut self,
+        written: Result<u8, WriteFault>,
+        stage: Stage,
+    ) -> Result<(), WriteFault>
         ensures ok { IfOk written (λ count. IsOk result × (self.new ≡ record { stage = stage; newlines = count })) }
         ensures err { OnErr written (IsErr result × (self.new ≡ record self.old { stage = Stage.Failed })) }
     {
@@ -175,7 +180,7 @@ impl Rewriter {
         }
     }
 
-    /// Writes the lines of an item, of a directive those up to its separator. After a directive comes what was found.
+    /// Writes the raw lines of an item. After a directive, its actual output is written by `found`.
     pub fn keep<W: Sink>(&mut self, writer: &mut W, item: &Item) -> Result<(), WriteFault>
         requires { CanKeep self.old }
         ensures { WritesMore W.contents W.has_failed self.old self.new writer.old writer.new (if is_directive item.now then Stage.NeedsOutput else Stage.Ready) (kept_text item.now) result }
@@ -192,7 +197,7 @@ impl Rewriter {
         self.finish_call(written, next)
     }
 
-    /// Writes what was found for the directive that was kept last.
+    /// Writes the actual output of the directive that was kept last.
     pub fn found<W: Sink>(&mut self, writer: &mut W, text: &[u8]) -> Result<(), WriteFault>
         requires output_next { IsOutputNext self.old }
         requires output { self.old.stage ≡ Stage.NeedsOutput → is_output text.now ≡ true }
@@ -206,8 +211,7 @@ impl Rewriter {
         self.finish_call(written, Stage::Ready)
     }
 
-    /// Writes what was found for the directive that was kept last, as `found` does, where no line of it is blank; so it is
-    /// not looked through for one (own).
+    /// As `found`, for an output without blank lines, which is not searched for one (own).
     pub fn found_without_blanks<W: Sink>(
         &mut self,
         writer: &mut W,
@@ -225,7 +229,7 @@ impl Rewriter {
         self.finish_call(written, Stage::Ready)
     }
 
-    /// Writes the newline that is held back, unless the text ends in two.
+    /// Ends the script: writes the newline that was held back, unless the text ends in two.
     pub fn end<W: Sink>(&mut self, writer: &mut W) -> Result<(), WriteFault>
         requires { CanKeep self.old }
         ensures { WritesEnd W.contents W.has_failed self.old self.new writer.old writer.new result }

@@ -1,12 +1,12 @@
-//! Vectors of bytes that have room.
+//! Vectors of bytes with reserved capacity.
 ghost use Rattle.std.specs.Prelude.{◌≡◌, ◌≤◌, ◌+◌, ◌++◌, length, OnOk, vec_len, vec_capacity};
 
 use std::alloc::AllocError;
 
-/// The least room that is made: most items need no more.
+/// The smallest capacity that is reserved, enough for most items.
 const LEAST_ROOM: usize = 128;
 
-/// Makes room for so many bytes more.
+/// Reserves capacity for `more` bytes.
 pub(crate) fn make_room(bytes: &mut Vec<u8>, more: usize) -> Result<(), AllocError>
     ensures items { bytes.new.items ≡ bytes.old.items }
     ensures room { OnOk result (vec_len bytes.old + more ≤ vec_capacity bytes.new) }
@@ -17,7 +17,7 @@ pub(crate) fn make_room(bytes: &mut Vec<u8>, more: usize) -> Result<(), AllocErr
     bytes.reserve(more)
 }
 
-/// Appends to a vector that has room.
+/// Appends to a vector that has the capacity.
 pub(crate) fn append(bytes: &mut Vec<u8>, more: &[u8])
     requires { vec_len bytes.old + length more.now ≤ vec_capacity bytes.old }
     ensures items { bytes.new.items ≡ bytes.old.items ++ more.now }

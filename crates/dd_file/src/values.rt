@@ -1,21 +1,21 @@
-//! The values of an argument, one after another.
+//! An iterator over the values of an argument.
 
 use ascii_text::position::position_of;
 use ascii_text::white_space::{is_blank, trimmed};
 use std::marker::Model;
 
-/// What stands where the next value begins.
+/// What the rest of an argument is.
 #[derive(Clone, Copy, Debug)]
 enum Left {
     /// No value.
     Nothing,
-    /// One value, as it stands.
+    /// One plain value.
     Plain,
     /// Values of a list, with commas between them.
     Listed,
 }
 
-/// The values of an argument that are left, in the order in which they stand.
+/// The remaining values of an argument, in order.
 #[derive(Drop)]
 pub struct Values<'a> {
     rest: &'a [u8],
@@ -35,7 +35,7 @@ impl<'a> Values<'a> {
     ghost use Rattle.std.specs.Prelude.{◌≡◌, true, [], ◌∷◌, length, MatchOption};
     ghost use Rattle.dd_file.specs.ArgumentValues.{has_values, values_after};
 
-    /// The values that stand behind a key: none, one plain value behind `=`, or a list in parentheses there.
+    /// The values after a key: none, or after `=` one plain value or a list in parentheses.
     pub(crate) fn after_key(text: &'a [u8]) -> Values<'a>
         requires { has_values text.now ≡ true }
         ensures { result ≡ values_after text.now }
@@ -61,7 +61,7 @@ impl<'a> Values<'a> {
         Values { rest, left }
     }
 
-    /// The next value; none where none is left.
+    /// The next value, if there is one.
     pub fn next(&mut self) -> Option<&'a [u8]>
         ensures { MatchOption result ((self.old ≡ []) × (self.new ≡ [])) (λ value. self.old ≡ value.now ∷ self.new) }
     {

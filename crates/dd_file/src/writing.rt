@@ -1,4 +1,4 @@
-//! Writing bytes whole to a sink.
+//! Writing all of some bytes to a sink.
 ghost use Rattle.std.specs.Prelude.{◌≡◌, ◌≤◌, ◌<◌, ◌||◌, ◌==◌, nat_lt, ℕ, List, [], Option, IsOk, OnOk, OnErr, true, length, take};
 ghost use Rattle.std.specs.Io.KnownBytes.{Appends};
 ghost use Rattle.dd_file.specs.Device.{AppendsPart};
@@ -6,7 +6,7 @@ ghost use Rattle.dd_file.specs.Device.{AppendsPart};
 use crate::device::Sink;
 use crate::fault::WriteFault;
 
-/// Writes some bytes by one call, and answers how many of them were taken: none only where the write failed.
+/// Writes by one call, and returns how many bytes were written: 0 only if the write failed.
 fn write_once<W: Sink>(writer: &mut W, bytes: &[u8]) -> usize
     requires { 0 < length bytes.now }
     ensures bound { result ≤ length bytes.now }
@@ -19,7 +19,8 @@ fn write_once<W: Sink>(writer: &mut W, bytes: &[u8]) -> usize
     }
 }
 
-/// Goes on with bytes of which so many are written until all are or a write fails, and answers how many are.
+/// Writes the bytes after the first `first_count`, until all are written or a write fails. Returns how many of all are
+/// written.
 #[cold]
 fn write_rest<W: Sink>(writer: &mut W, bytes: &[u8], first_count: usize) -> usize
     requires { first_count ≤ length bytes.now }
@@ -38,8 +39,7 @@ fn write_rest<W: Sink>(writer: &mut W, bytes: &[u8], first_count: usize) -> usiz
     written
 }
 
-/// Writes bytes from their front on until all are written or a write fails, and answers how many were written.
-// Mostly it copies a few bytes into a block, which takes less than a call.
+/// Writes until all bytes are written or a write fails, and returns how many were written.
 #[inline(always)]
 pub(crate) fn write_prefix<W: Sink>(writer: &mut W, bytes: &[u8]) -> usize
     ensures bound { result ≤ length bytes.now }
@@ -57,13 +57,13 @@ pub(crate) fn write_prefix<W: Sink>(writer: &mut W, bytes: &[u8]) -> usize
     write_rest(writer, bytes, count)
 }
 
-/// Writes the whole of some bytes, part by part, and takes no memory. A fault is the writer's own, or that it took no
-/// byte; the writer then holds a front part of the bytes, and none is written a second time.
+/// Writes all of the bytes. It fails if the writer fails or takes no byte. Then a prefix of the bytes is written, and no byte
+/// is written twice.
 #[inline(always)]
 pub fn write_all<W: Sink>(writer: &mut W, bytes: &[u8]) -> Result<(), WriteFault>
     ensures ok { OnOk result (Appends (W.contents writer.old) (W.contents writer.new) bytes.now) }
     ensures err { OnErr result (AppendsPart (W.contents writer.old) (W.contents writer.new) bytes.now) }
-    // After a fault the writer has failed, and without one no write failed in this call.
+    // After an error the writer has failed; without one no write failed in this call.
     ensures failed { OnErr result (W.has_failed writer.new ≡ true) }
     ensures sound { OnOk result (W.has_failed writer.new ≡ W.has_failed writer.old) }
     ensures nothing { bytes.now ≡ [] → IsOk result × (writer.new ≡ writer.old) }

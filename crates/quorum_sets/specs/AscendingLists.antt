@@ -1,4 +1,4 @@
--- Rising lists of ids, and the places in them.
+-- Ascending lists of ids, and positions in them.
 use Rattle.std.specs.Prelude.{◌≡◌, ℕ, ◌<◌, ◌≤◌, List, length, slice_index}
 use Rattle.smallvec.specs.SmallVec.{SmallVec}
 
@@ -6,17 +6,17 @@ use Rattle.smallvec.specs.SmallVec.{SmallVec}
 abbrev pub IsAscending : List ℕ → Type 0
 IsAscending list = (i j : ℕ) → i < j → j < length list → slice_index list i < slice_index list j
 
--- what the list of a set is: it rises, and at least eight ids fit
+-- the list of a set: it is ascending and has room for at least eight ids
 pub record IsIdList (list : SmallVec ℕ) : Type 0 where
   pub ascends : IsAscending list.items
   pub room : 8 ≤ list.capacity
 
--- the id stands at this place
+-- the list has the id at this position
 pub record IsAtPosition (list : List ℕ) (id position : ℕ) : Type 0 where
   pub within : position < length list
   pub there : slice_index list position ≡ id
 
--- the id goes to this place: those before it are below, and those from it on are above
+-- the position at which the id is inserted: ids before it are smaller, and ids from it on are greater
 pub record IsInsertionPoint (list : List ℕ) (id position : ℕ) : Type 0 where
   pub within : position ≤ length list
   pub below : (k : ℕ) → k < position → slice_index list k < id

@@ -9,15 +9,15 @@ use Rattle.quorum_sets.specs.Voters.{Voters}
 abbrev pub Acks : Type 0
 Acks = finite.FinMap nat_cmp ℕ
 
--- the index that the id acknowledged; 0 where it is unknown
+-- the index that the id acknowledged, 0 if it is unknown
 abbrev pub acked_index : Acks → ℕ → ℕ
 acked_index acks id = unwrap_or (finite.get acks id) 0
 
--- those of the ids of a set, in ascending order of the ids
+-- the acknowledged indexes of the ids of a set, in ascending order of the ids
 abbrev pub acked_indexes : Ids → Acks → List ℕ
 acked_indexes ids acks = map (acked_index acks) (ascending ids)
 
--- the greatest index; it is what the empty set commits
+-- the greatest index, which the empty set commits
 abbrev pub greatest_index : ℕ
 greatest_index = 2 ^ 64 - 1
 
@@ -40,7 +40,7 @@ abbrev pub committed_index : Ids → Acks → ℕ
 committed_index ids acks =
     if is_empty ids then greatest_index else fold max 0 (filter (is_reached ids acks) (acked_indexes ids acks))
 
--- k is the smaller of what the two sets have committed
+-- k is the smaller of the committed indexes of the two sets
 pub record IsJointCommitted (voters : Voters) (acks : Acks) (k : ℕ) : Type 0 where
   pub of_incoming : ℕ
   pub of_outgoing : ℕ

@@ -9,7 +9,7 @@ use Rattle.std.specs.FinMap as finite
 abbrev pub Ids : Type 0
 Ids = FinSet nat_cmp
 
--- the set without ids
+-- the empty set
 abbrev pub no_ids : Ids
 no_ids = finite.empty
 
@@ -17,11 +17,11 @@ no_ids = finite.empty
 abbrev pub has : Ids → ℕ → Bool
 has ids id = is_some (finite.get ids id)
 
--- the set and this id
+-- the set with this id added
 abbrev pub with_id : Ids → ℕ → Ids
 with_id ids id = finite.insert ids id tt
 
--- the set without this id
+-- the set with this id removed
 abbrev pub without_id : Ids → ℕ → Ids
 without_id ids id = finite.remove ids id
 
@@ -33,15 +33,15 @@ ascending ids = finite.keys ids
 abbrev pub size : Ids → ℕ
 size ids = length (ascending ids)
 
--- the set of the ids that a list has
+-- the set of the ids of a list
 abbrev pub ids_of : List ℕ → Ids
 ids_of list = finite.from_entries (map (λ id. (id, tt)) list)
 
--- the ids of both sets
+-- the union of two sets
 abbrev pub union : Ids → Ids → Ids
 union a b = ids_of (ascending a ++ ascending b)
 
--- those ids of a list that pass a test
+-- the ids of a list that pass a test
 abbrev pub ids_where : (ℕ → Bool) → List ℕ → Ids
 ids_where test list = ids_of (filter test list)
 
@@ -53,10 +53,10 @@ count_of test ids = count_by test (ascending ids)
 abbrev pub on_most : (ℕ → Bool) → Ids → Bool
 on_most test ids = nat_lt (size ids) (2 * count_of test ids)
 
--- whether the set has no id
+-- whether the set is empty
 abbrev pub is_empty : Ids → Bool
 is_empty ids = nat_eq (size ids) 0
 
--- how many ids are in just one of the sets
+-- how many ids are in exactly one of the sets
 abbrev pub difference_count : Ids → Ids → ℕ
 difference_count a b = count_of (λ id. not (has b id)) a + count_of (λ id. not (has a id)) b

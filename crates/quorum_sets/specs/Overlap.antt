@@ -1,4 +1,4 @@
--- What two pairs of voter sets share while one gives way to the other.
+-- The overlap of the quorums of two pairs of voter sets, before and after a change.
 use Rattle.std.specs.Prelude.{◌≡◌, ℕ, ◌≤◌, false, IsTrue, Option, IsSome, IfSome, IfNone, OnSome}
 use Rattle.quorum_sets.specs.Ids.{Ids, has, is_empty}
 use Rattle.quorum_sets.specs.Voters.{Voters, is_quorum, AreNeighbours}
@@ -11,7 +11,7 @@ pub record IsCommon (first second : Ids) (id : ℕ) : Type 0 where
   pub in_first : IsTrue (has first id)
   pub in_second : IsTrue (has second id)
 
--- the least id in both sets
+-- the smallest id in both sets
 pub record IsLeastCommon (first second : Ids) (id : ℕ) : Type 0 where
   pub common : IsCommon first second id
   pub least : (other : ℕ) → IsCommon first second other → id ≤ other
@@ -30,7 +30,7 @@ pub record CarriesOn (acks : Acks) (votes : Votes) (index id : ℕ) : Type 0 whe
   pub acknowledged : index ≤ acked_index acks id
   pub voted : IsTrue (is_yes votes id)
 
--- the answer is the least id of both sets where they are quorums, and none where they are not or have no id in common; quorums of neighbours have one
+-- the answer is the smallest id that two quorums share; it is none if one of the sets is not a quorum or they share no id; quorums of neighbours share one
 pub record IsSharedMember (before after : Voters) (first second : Ids) (answer : Option ℕ) : Type 0 where
   pub quorums : OnSome answer (AreQuorums before after first second)
   pub least : IfSome answer (IsLeastCommon first second)
@@ -44,7 +44,7 @@ pub record CommitsAndWins (one other : Voters) (acks : Acks) (votes : Votes) (in
   pub committed : index ≤ joint_committed_index one acks
   pub won : joint_vote_result other votes ≡ VoteWon
 
--- whatever index the first pair has committed, whoever wins the vote of the second has a yes of an id that acknowledged it
+-- if the first pair has committed an index and a vote of the second is won, then some id voted yes and has acknowledged the index
 abbrev pub CommittedMeetsWon : Voters → Voters → Type 0
 CommittedMeetsWon one other = (acks : Acks) (votes : Votes) (index : ℕ) → CommitsAndWins one other acks votes index → (id : ℕ) × CarriesOn acks votes index id
 

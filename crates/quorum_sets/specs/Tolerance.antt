@@ -1,47 +1,47 @@
--- How many ids may be down while a pair of voter sets keeps a quorum.
+-- How many ids may be down while a pair of voter sets still has a quorum.
 use Rattle.std.specs.Prelude.{ℕ, ◌-◌, ◌≤◌, min, Bool, not, ◌++◌, nat_le, Option, Some, None, IfSome, IfNone, IsTrue, if◌then◌else◌}
 use Rattle.quorum_sets.specs.Ids.{Ids, has, ascending, size, union, ids_where, count_of, is_empty}
 use Rattle.quorum_sets.specs.Voters.{Voters, majority, is_quorum}
 
--- ---- by trying every set of ids
--- the voters of both sets that are not among these ids
+-- ---- over every set of ids
+-- the voters of both sets other than these ids
 abbrev pub voters_without : Voters → Ids → Ids
 voters_without voters away = ids_where (λ id. not (has away id)) (ascending voters.incoming ++ ascending voters.outgoing)
 
--- whether the voters that are not among these ids are a quorum
+-- whether the voters other than these ids are a quorum
 abbrev pub commits_without : Voters → Ids → Bool
 commits_without voters away = is_quorum voters (voters_without voters away)
 
--- whichever ids are down beside the uncounted ones, at most k of them, the other voters are a quorum
+-- whenever at most k ids are down beside the uncounted ones, the other voters are still a quorum
 abbrev pub Endures : Voters → Ids → ℕ → Type 0
 Endures voters uncounted k = (down : Ids) → size down ≤ k → IsTrue (commits_without voters (union down uncounted))
 
--- the answer is the greatest number of ids that may be down, or none where the others are no quorum even with none down
+-- the answer is the greatest number of ids that may be down, or none if the other voters are not a quorum even with none down
 pub record IsMostDown (voters : Voters) (uncounted : Ids) (answer : Option ℕ) : Type 0 where
   pub endured : IfSome answer (Endures voters uncounted)
   pub greatest : IfSome answer (λ k. (other : ℕ) → Endures voters uncounted other → other ≤ k)
   pub none : IfNone answer (¬ Endures voters uncounted 0)
 
 -- ---- by counting
--- how many more than a majority the counted ids of a set are
+-- by how many the counted ids of a set exceed a majority, or none if they are not one
 abbrev pub surplus : Ids → Ids → Option ℕ
 surplus ids uncounted =
     let counted = count_of (λ id. not (has uncounted id)) ids in
     if nat_le (majority (size ids)) counted then Some (counted - majority (size ids)) else None
 
--- the smaller number, if there are two
+-- the smaller of two numbers, or the only one
 abbrev pub least : Option ℕ → Option ℕ → Option ℕ
 least (Some a) (Some b) = Some (min a b)
 least (Some a) None = None
 least None other = None
 
--- the least surplus of the voter sets; outgoing voters matter only where there are some
+-- the smallest surplus of the voter sets; an empty set of outgoing voters does not count
 abbrev pub may_be_down : Voters → Ids → Option ℕ
 may_be_down voters uncounted =
     if is_empty voters.outgoing then surplus voters.incoming uncounted
     else least (surplus voters.incoming uncounted) (surplus voters.outgoing uncounted)
 
--- the least of n - (n/2 + 1) over the voter sets, of which the outgoing one may be empty
+-- the smallest n - (n/2 + 1) over the voter sets; an empty set of outgoing voters does not count
 abbrev pub least_minority : Voters → ℕ
 least_minority voters =
     let of_incoming = size voters.incoming - majority (size voters.incoming) in

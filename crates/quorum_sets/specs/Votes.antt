@@ -8,11 +8,11 @@ use Rattle.quorum_sets.specs.Voters.{Voters}
 use Rattle.quorum_sets.specs.declared.voting.VoteResult.{VoteResult}
 use Rattle.quorum_sets.specs.declared.voting.VoteResult.TheVariants.{VotePending, VoteLost, VoteWon}
 
--- what each id said, if it voted
+-- the votes, by id
 abbrev pub Votes : Type 0
 Votes = finite.FinMap nat_cmp Bool
 
--- what a map of votes says
+-- the votes in a map
 abbrev pub votes_in : BTreeMap ℕ Bool → Votes
 votes_in map = finite.from_entries map.entries
 
@@ -24,11 +24,11 @@ is_yes votes id = unwrap_or (finite.get votes id) false
 abbrev pub may_be_yes : Votes → ℕ → Bool
 may_be_yes votes id = unwrap_or (finite.get votes id) true
 
--- the set is empty, or more than half said yes
+-- the set is empty, or more than half voted yes
 abbrev pub is_won : Ids → Votes → Bool
 is_won ids votes = is_empty ids || on_most (is_yes votes) ids
 
--- the set has ids, and not more than half can still be yes
+-- the set is not empty, and not more than half can still vote yes
 abbrev pub is_lost : Ids → Votes → Bool
 is_lost ids votes = not (is_empty ids || on_most (may_be_yes votes) ids)
 
@@ -37,13 +37,13 @@ abbrev pub vote_result : Ids → Votes → VoteResult
 vote_result ids votes =
     if is_won ids votes then VoteWon else (if is_lost ids votes then VoteLost else VotePending)
 
--- won where both sets are won, lost where one is lost, and else pending
+-- won if both sets are won, lost if one is lost, else pending
 abbrev pub joint_vote_result : Voters → Votes → VoteResult
 joint_vote_result voters votes =
     if is_won voters.incoming votes && is_won voters.outgoing votes then VoteWon
     else (if is_lost voters.incoming votes || is_lost voters.outgoing votes then VoteLost else VotePending)
 
--- the result of two votes that have both to be won
+-- the result of two votes that must both be won
 abbrev pub both : VoteResult → VoteResult → VoteResult
 both VoteWon other = other
 both VoteLost other = VoteLost

@@ -5,13 +5,12 @@ ghost use Rattle.quorum_sets.specs.Committed.{Acks};
 
 use std::collections::BTreeMap;
 
-/// Who has acknowledged which index: a finite map from ids to indexes, however it is kept. It is
-/// `AckedIndexer` of etcd's package `quorum`.
+/// The acknowledged indexes: a finite map from ids to indexes (`AckedIndexer` of etcd's package `quorum`).
 pub trait AckSource {
     /// The acknowledged indexes, by id.
     ghost acks: { Self → Acks };
 
-    /// The index that the id acknowledged, or `None` where it is not known.
+    /// The index that the id acknowledged, or `None` if it is unknown.
     fn acked(&self, id: u64) -> Option<u64>
         ensures { result ≡ finite.get (acks self.now) id };
 }

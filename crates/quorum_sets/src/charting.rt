@@ -1,4 +1,4 @@
-//! The chart of who has acknowledged which index, for a reader. Its form is own.
+//! The chart of the acknowledged indexes. Its form is own.
 ghost use Rattle.std.specs.Prelude.{◌≡◌, ◌<◌, ◌≤◌, ◌^◌, ◌++◌, ℕ, List, length, flat_map, IfOk, OnOk, OnErr};
 ghost use Rattle.std.specs.List.{Contains};
 ghost use Rattle.ascii_text.specs.Append.{Extends};
@@ -17,8 +17,8 @@ use smallvec::SmallVec;
 use std::alloc::Global;
 
 /// Appends the chart of a set: a line for each id, in ascending order, with a bar and the index that it acknowledged.
-/// The bar is as wide as there are ids with a smaller index, and left out where a lesser id has the same. An unknown
-/// index counts as 0, and has `?` in place of a bar. Each line ends with a newline. The empty set has a text without one.
+/// The width of the bar is the number of ids with a smaller index, or 0 if a smaller id has the same index. An unknown
+/// index counts as 0 and is drawn as `?`. Each line ends with a newline; the text of the empty set does not.
 pub fn chart<S: MemberSet, A: AckSource>(
     text: &mut Vec<u8>,
     set: &S,
@@ -62,7 +62,7 @@ fn append_chart<A: AckSource>(text: &mut Vec<u8>, ids: &[u64], acks: &A) -> Resu
     append_rows(text, ids, acks, ranking.as_slice())
 }
 
-// The ids, each after the index that it acknowledged, in order. An unknown index counts as 0.
+// The ids sorted by the index that they acknowledged, and then by id. An unknown index counts as 0.
 fn ranked<A: AckSource>(alloc: Global, ids: &[u64], acks: &A) -> Result<Vec<(u64, u64)>, NoMemory>
     ensures { IfOk result (λ rows. IsRanking ids.now (A.acks acks.now) rows.items) }
 {
@@ -93,7 +93,7 @@ fn append_rows<A: AckSource>(
     Ok(())
 }
 
-// How many ids have acknowledged less than this one of them, or 0 if a lesser id has acknowledged the same.
+// The number of ids with a smaller index than this one, or 0 if a smaller id has the same index.
 fn width_of_bar(ranking: &[(u64, u64)], index: u64, id: u64) -> usize
     ensures width { (ids : List ℕ) (acks : Acks) → IsRanking ids acks ranking.now → Contains ids id
         → index ≡ acked_index acks id → result ≡ bar_width ids acks id }
@@ -148,7 +148,7 @@ fn append_bar(
     append_times(text, b' ', n - bars)
 }
 
-// Appends a number, right-aligned in five places.
+// Appends a number, right-aligned in five columns.
 fn append_in_five_columns(text: &mut Vec<u8>, number: u64) -> Result<(), NoMemory>
     ensures ok { OnOk result (text.new.items ≡ text.old.items ++ in_five_columns number) }
     ensures extends { Extends text.old.items text.new.items }

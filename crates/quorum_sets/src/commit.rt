@@ -11,9 +11,9 @@ use ascii_text::NoMemory;
 use smallvec::SmallVec;
 use std::alloc::Global;
 
-/// The committed index of a set: the greatest index that more than half of its ids have
-/// acknowledged, where an unknown index counts as 0. The empty set commits the greatest `u64`. It is
-/// `CommittedIndex` of etcd's package `quorum`, and takes memory only above 8 ids.
+/// The committed index of a set: the greatest index that more than half of its ids have acknowledged
+/// (`CommittedIndex` of etcd's package `quorum`). An unknown index counts as 0. The empty set commits the greatest `u64`.
+/// Allocates only for more than 8 ids.
 pub fn committed<S: MemberSet, A: AckSource>(
     alloc: Global,
     set: &S,
@@ -28,8 +28,7 @@ pub fn committed<S: MemberSet, A: AckSource>(
     Ok(majority_index(indexes.as_mut_slice()))
 }
 
-/// The smaller of the committed indexes of a pair of sets. It takes memory only where one of them
-/// has more than 8 ids.
+/// The smaller of the committed indexes of a pair of sets. Allocates only if one of them has more than 8 ids.
 pub fn joint_committed<S: MemberSet, A: AckSource>(
     alloc: Global,
     incoming: &S,
@@ -46,8 +45,7 @@ pub fn joint_committed<S: MemberSet, A: AckSource>(
     Ok(first.min(second))
 }
 
-// Fills an empty list with the acknowledged index of each id of the set. Its memory is taken before the walk. The list is the
-// caller's, since one that is returned is copied.
+// Fills an empty list with the acknowledged index of each id of the set.
 fn gather<S: MemberSet, A: AckSource>(
     indexes: &mut SmallVec<u64, 8>,
     set: &S,
@@ -67,7 +65,7 @@ fn gather<S: MemberSet, A: AckSource>(
     Ok(())
 }
 
-// The index at the place of the majority, counted from the top. It leaves the indexes sorted.
+// The index that a majority has reached: the one at position n - (n/2 + 1) of the sorted indexes. It leaves them sorted.
 fn majority_index(indexes: &mut [u64]) -> u64
     ensures of_none { length indexes.old ≡ 0 → result ≡ greatest_index }
     ensures reached { 0 < length indexes.old → length indexes.old < 2 * count_by (nat_le result) indexes.old }

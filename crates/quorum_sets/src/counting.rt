@@ -1,4 +1,4 @@
-//! Counting the ids of a set that pass a test, as a quorum wants it.
+//! Counting the ids of a set that pass a test.
 ghost use Rattle.std.specs.Prelude.{◌≡◌, ℕ, Bool};
 ghost use Rattle.quorum_sets.specs.Ids.{count_of, on_most};
 ghost use Rattle.quorum_sets.specs.Counting.{Decides};
@@ -6,7 +6,7 @@ ghost use Rattle.quorum_sets.specs.Counting.{Decides};
 use crate::majority::quorum;
 use crate::member_set::MemberSet;
 
-/// How many ids pass the test, which is asked of each once, in ascending order.
+/// How many ids pass the test.
 pub fn count_where<S: MemberSet, F: Fn(u64) -> bool>(set: &S, test: F) -> usize
     requires { F.IsAlwaysCallable test }
     ensures { (passes : ℕ → Bool) → Decides (F.post test) passes → result ≡ count_of passes (S.ids set.now) }

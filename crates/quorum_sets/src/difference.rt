@@ -5,8 +5,8 @@ ghost use Rattle.quorum_sets.specs.Ids.{has, size, count_of, difference_count};
 use crate::lookup::has_next;
 use crate::member_set::MemberSet;
 
-/// How many ids are in just one of the sets, or the greatest `usize` where that is less. It is
-/// `symdiff` of etcd's package `confchange`.
+/// How many ids are in exactly one of the sets, saturating at the greatest `usize` (`symdiff` of etcd's package
+/// `confchange`).
 pub fn symdiff<S: MemberSet>(a: &S, b: &S) -> usize
     ensures { result ≡ min (difference_count (S.ids a.now) (S.ids b.now)) (2 ^ 64 - 1) }
 {
@@ -14,7 +14,7 @@ pub fn symdiff<S: MemberSet>(a: &S, b: &S) -> usize
     (a.len() - common).saturating_add(b.len() - common)
 }
 
-// How many ids are in both sets: one walk over both, in rising order.
+// How many ids are in both sets.
 fn common_count<S: MemberSet>(a: &S, b: &S) -> usize
     ensures count { result ≡ count_of (has (S.ids b.now)) (S.ids a.now) }
     ensures within { result ≤ size (S.ids a.now) }

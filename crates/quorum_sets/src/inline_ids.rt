@@ -1,4 +1,4 @@
-//! A set of ids as a sorted list, which lies in the value while it is short.
+//! A set of ids as a sorted list.
 ghost use Rattle.std.specs.Prelude.{◌≡◌, ◌<◌, ◌≤◌, true, not, length, insert, remove, IfOk, OnOk, OnErr, IsOk, MatchResult};
 ghost use Rattle.quorum_sets.specs.Ids.{no_ids, has, with_id, size, ids_of};
 ghost use Rattle.smallvec.specs.SmallVec.{small_vec_len, HasRoomFor};
@@ -10,7 +10,7 @@ use smallvec::SmallVec;
 use std::alloc::Global;
 use std::marker::Model;
 
-/// A set of ids over a sorted list. Up to 8 ids take no memory. `at` and `len` take constant time, and `contains` a binary
+/// A set of ids as a sorted list. Up to 8 ids take no heap memory. `at` and `len` take constant time, and `contains` a binary
 /// search.
 #[derive(Drop)]
 pub struct InlineIds {
@@ -71,7 +71,6 @@ impl MemberSet for InlineIds {
         ensures few { size other.now ≤ 8 → IsOk result }
     {
         self.list.clear();
-        // To copy nothing takes time too.
         if !other.list.is_empty() {
             self.list.extend_from_slice(other.list.as_slice())?;
         }
@@ -112,7 +111,7 @@ impl MemberSet for InlineIds {
     }
 }
 
-// Whether each id is below the next.
+// Whether the list is strictly ascending.
 fn is_ascending(list: &[u64]) -> bool
     ensures { result ≡ true → IsAscending list.now }
 {
@@ -124,7 +123,7 @@ fn is_ascending(list: &[u64]) -> bool
     true
 }
 
-// Puts the ids in rising order, each once.
+// Sorts the ids and removes repeats.
 fn make_ascending(list: &mut SmallVec<u64, 8>)
     ensures ascends { IsAscending list.new.items }
     ensures same { ids_of list.new.items ≡ ids_of list.old.items }
@@ -134,7 +133,7 @@ fn make_ascending(list: &mut SmallVec<u64, 8>)
     list.dedup();
 }
 
-// The index of the id in a rising list, or else the index where it is to be inserted.
+// The position of the id in an ascending list, or the one at which it is to be inserted.
 fn position_of(list: &[u64], id: u64) -> Result<usize, usize>
     requires { IsAscending list.now }
     ensures { MatchResult result (λ position. IsAtPosition list.now id position) (λ position. IsInsertionPoint list.now id position) }

@@ -1,4 +1,4 @@
-//! The ids of two sets.
+//! The union of two sets.
 ghost use Rattle.std.specs.Prelude.{◌≡◌, ◌++◌, IfOk, OnOk};
 ghost use Rattle.quorum_sets.specs.Ids as spec;
 ghost use Rattle.quorum_sets.specs.Ids.{ascending};
@@ -7,7 +7,7 @@ use crate::member_set::MemberSet;
 use ascii_text::NoMemory;
 use smallvec::SmallVec;
 
-/// The ids of both sets.
+/// The union of two sets.
 pub fn union<S: MemberSet>(a: &S, b: &S) -> Result<S, NoMemory>
     ensures { IfOk result (λ both. S.ids both ≡ spec.union (S.ids a.now) (S.ids b.now)) }
 {
@@ -18,7 +18,7 @@ pub fn union<S: MemberSet>(a: &S, b: &S) -> Result<S, NoMemory>
     S::of_list(alloc, ids.as_slice())
 }
 
-// Adds the ids of a set, in ascending order.
+// Appends the ids of a set, in ascending order.
 pub(crate) fn add_ids<S: MemberSet>(ids: &mut SmallVec<u64, 16>, set: &S) -> Result<(), NoMemory>
     ensures { OnOk result (ids.new.items ≡ ids.old.items ++ ascending (S.ids set.now)) }
 {

@@ -10,8 +10,8 @@ ghost use Rattle.quorum_sets.specs.Committed.{Acks, IsCommitted, committed_index
 ghost use Rattle.quorum_sets.specs.Overlap.{QuorumsMeet, CommittedMeetsWon};
 ghost use Rattle.quorum_sets.specs.Tolerance.{IsMostDown, commits_without, may_be_down, least_minority};
 
-/// What the words on a set of ids say member by member: which ids a set has after a change, which
-/// two sets have together, that a set's list has just its ids and rises strictly, and that two sets with the same ids are equal.
+/// The operations on a set of ids, member by member: which ids a set has after a change, which two sets have together, that
+/// a set's list has exactly its ids and is strictly ascending, and that two sets with the same ids are equal.
 pub fn sets_by_member()
     ensures empty { (id : ℕ) → has no_ids id ≡ false }
     ensures with_one { (ids : Ids) (new id : ℕ) → has (with_id ids new) id ≡ ((id == new) || has ids id) }
@@ -22,28 +22,27 @@ pub fn sets_by_member()
     ensures equal { (one other : Ids) → ((id : ℕ) → has one id ≡ has other id) → one ≡ other }
 {}
 
-/// The committed index is the one number that fits its description by counting.
+/// The committed index is the one number that satisfies its definition by counting.
 pub fn committed_by_counting()
     ensures fits { (ids : Ids) (acks : Acks) → IsCommitted ids acks (committed_index ids acks) }
     ensures alone { (ids : Ids) (acks : Acks) (k : ℕ) → IsCommitted ids acks k → k ≡ committed_index ids acks }
 {}
 
-/// Where two pairs of voter sets are neighbours, each quorum of one shares an id with each quorum of the other.
+/// If two pairs of voter sets are neighbours, each quorum of one shares an id with each quorum of the other.
 pub fn neighbours_overlap()
     ensures before { (before after : Voters) → AreNeighbours before after → QuorumsMeet before after }
     ensures after { (before after : Voters) → AreNeighbours before after → QuorumsMeet after before }
 {}
 
-/// Where two pairs of voter sets are neighbours and one of them has committed an index, each vote that is won on the other
-/// has a yes of an id that acknowledged that index.
+/// If two pairs of voter sets are neighbours and one of them has committed an index, then some id that voted yes in a vote
+/// won on the other has acknowledged that index.
 pub fn committed_meets_won()
     ensures before { (before after : Voters) → AreNeighbours before after → CommittedMeetsWon before after }
     ensures after { (before after : Voters) → AreNeighbours before after → CommittedMeetsWon after before }
 {}
 
-/// The number of ids that may be down, found by trying every set of ids, is the one that counting gives: the least surplus
-/// over a majority. Where every id counts, it is the least of n - (n/2 + 1) over the voter sets that have ids. Without incoming
-/// voters nothing commits.
+/// The number of ids that may be down, defined over every set of ids, is the smallest surplus over a majority. If every id
+/// counts, it is the smallest n - (n/2 + 1) over the voter sets that have ids. Without incoming voters nothing commits.
 pub fn most_down_by_counting()
     ensures fits { (voters : Voters) (uncounted : Ids) → IsMostDown voters uncounted (may_be_down voters uncounted) }
     ensures alone { (voters : Voters) (uncounted : Ids) (answer : Option ℕ) → IsMostDown voters uncounted answer → answer ≡ may_be_down voters uncounted }

@@ -6,7 +6,7 @@
 //!
 //! ```text
 //! (1 2 3)            1 2 is a quorum, and so is any other pair
-//! (2 3 4)&&(1 2 3)   2 3 is a quorum, and so is 1 2 4; 1 4 is none, since it is a majority of neither set
+//! (2 3 4)&&(1 2 3)   2 3 is a quorum, and so is 1 2 4; 1 4 is not, since it is a majority of neither set
 //! ```
 //!
 //! Both decisions of Raft count to a quorum. The committed index is the greatest one that a quorum has acknowledged, and a

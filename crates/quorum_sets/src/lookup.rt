@@ -1,12 +1,11 @@
-//! Looking ids up one after another, in rising order.
+//! Lookup of ids one after another, in ascending order.
 ghost use Rattle.std.specs.Prelude.{◌≡◌, ℕ, ◌<◌, ◌≤◌, true, false, get_or};
 ghost use Rattle.quorum_sets.specs.Ids.{has, ascending, size};
 
 use crate::member_set::MemberSet;
 
-/// Whether the set has the id. It is looked for at the place and behind it, to where the place moves; so a walk over ids in
-/// rising order passes the set once. An id that is not above those before the place is searched for, and nothing else
-/// rests on the place.
+/// Whether the set has the id. The search begins at `position` and leaves it where it ended, so ascending ids are looked up
+/// in one pass over the set. The position is only a hint: an id below it is found too.
 #[inline(always)]
 pub fn has_next<S: MemberSet>(set: &S, position: &mut usize, id: u64) -> bool
     ensures { result ≡ has (S.ids set.now) id }
@@ -20,7 +19,7 @@ pub fn has_next<S: MemberSet>(set: &S, position: &mut usize, id: u64) -> bool
     set.contains(id)
 }
 
-// Moves the place to the first id from there on that is not below this one, and tells whether it is this one.
+// Advances the position to the first id from there on that is not below this one. Returns whether it is this one.
 #[inline(always)]
 fn seek<S: MemberSet>(set: &S, position: &mut usize, id: u64) -> bool
     ensures found { result ≡ true → has (S.ids set.now) id ≡ true }
@@ -39,7 +38,7 @@ fn seek<S: MemberSet>(set: &S, position: &mut usize, id: u64) -> bool
     false
 }
 
-// Whether the id is seen to be above those before the place.
+// Whether the id is known to be above all ids before the position.
 fn is_above<S: MemberSet>(set: &S, position: usize, id: u64) -> bool
     ensures { result ≡ true → (k : ℕ) → k < position → get_or (ascending (S.ids set.now)) k 0 < id }
 {

@@ -5,7 +5,7 @@ ghost use Rattle.quorum_sets.specs.Voters.{majority, pair, is_quorum};
 use crate::counting::most_pass;
 use crate::member_set::MemberSet;
 
-/// How many of `n` voters are a majority: more than half of them, and at least one.
+/// The size of a majority of `n` voters: more than half of them, and at least one.
 pub fn quorum(n: usize) -> usize
     ensures { result ≡ majority n }
 {

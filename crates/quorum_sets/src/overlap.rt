@@ -1,4 +1,4 @@
-//! What two quorums share.
+//! The overlap of two quorums.
 ghost use Rattle.std.specs.Prelude.{◌≡◌, ℕ, IfSome, IfNone};
 ghost use Rattle.quorum_sets.specs.Voters.{pair};
 ghost use Rattle.quorum_sets.specs.Overlap.{IsCommon, IsLeastCommon, IsSharedMember};
@@ -6,9 +6,9 @@ ghost use Rattle.quorum_sets.specs.Overlap.{IsCommon, IsLeastCommon, IsSharedMem
 use crate::majority::is_quorum;
 use crate::member_set::MemberSet;
 
-/// The least id in both sets, where the first is a quorum of the pair of incoming and outgoing voters `before` and the
-/// second a quorum of the pair `after`; else `None`. Where the pairs are neighbours there is one (own; that quorums
-/// overlap is from Ongaro's dissertation, 4.1 and 4.3).
+/// The smallest id that a quorum of the pair `before` and a quorum of the pair `after` share; `None` if one of the sets is
+/// not a quorum or they share none. Quorums of neighbouring pairs always share one (own; that quorums overlap is from
+/// Ongaro's dissertation, 4.1 and 4.3). A pair is the incoming and the outgoing voters.
 pub fn common_member<S: MemberSet>(
     before: (&S, &S),
     after: (&S, &S),
@@ -26,7 +26,7 @@ pub fn common_member<S: MemberSet>(
     }
 }
 
-// The least id in both sets, found in one walk in ascending order.
+// The smallest id in both sets.
 fn least_common<S: MemberSet>(a: &S, b: &S) -> Option<u64>
     ensures least { IfSome result (IsLeastCommon (S.ids a.now) (S.ids b.now)) }
     ensures none { IfNone result ((id : ℕ) → ¬ IsCommon (S.ids a.now) (S.ids b.now) id) }

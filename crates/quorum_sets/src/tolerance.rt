@@ -7,10 +7,9 @@ use crate::counting::count_where;
 use crate::majority::quorum;
 use crate::member_set::MemberSet;
 
-/// The greatest number of ids that may be down, whichever they are, so that the other voters are still a quorum of the pair of
-/// incoming and outgoing voters. The uncounted ids, as those of members whose logs are still empty, are no help to a quorum
-/// whether they are down or not. `None` if the other voters are no quorum even with none down (own; quorums are those of
-/// Ongaro's dissertation, 4.3).
+/// The greatest number of ids that may be down, whichever they are, while the other voters are still a quorum of the pair of
+/// incoming and outgoing voters. Uncounted ids, such as members whose logs are still empty, never count towards a quorum.
+/// `None` if the other voters are not a quorum even with none down (own; quorums are those of Ongaro's dissertation, 4.3).
 pub fn may_be_down<S: MemberSet>(voters: (&S, &S), uncounted: &S) -> Option<usize>
     ensures most { IsMostDown (pair (S.ids voters.entry.0.now) (S.ids voters.entry.1.now)) (S.ids uncounted.now) result }
     ensures counted { result ≡ may_be_down (pair (S.ids voters.entry.0.now) (S.ids voters.entry.1.now)) (S.ids uncounted.now) }
@@ -23,15 +22,15 @@ pub fn may_be_down<S: MemberSet>(voters: (&S, &S), uncounted: &S) -> Option<usiz
     Some(of_incoming.min(surplus(outgoing, uncounted)?))
 }
 
-/// Whether the voters that are not among these ids are a quorum of the pair of incoming and outgoing voters. They commit while
-/// these ids are away: down, or with an empty log (own).
+/// Whether the voters other than these ids are a quorum of the pair of incoming and outgoing voters, so that they commit
+/// while these ids are away: down, or with an empty log (own).
 pub fn commits_without<S: MemberSet>(voters: (&S, &S), away: &S) -> bool
     ensures { result ≡ commits_without (pair (S.ids voters.entry.0.now) (S.ids voters.entry.1.now)) (S.ids away.now) }
 {
     may_be_down(voters, away).is_some()
 }
 
-// How many more than a majority the counted ids of the set are.
+// By how many the counted ids of the set exceed a majority; `None` if they are not one.
 fn surplus<S: MemberSet>(set: &S, uncounted: &S) -> Option<usize>
     ensures { result ≡ surplus (S.ids set.now) (S.ids uncounted.now) }
 {

@@ -9,7 +9,7 @@ use std::alloc::Global;
 use std::collections::BTreeSet;
 use std::marker::Model;
 
-/// A set of ids over a `BTreeSet`. Its `at` walks the tree up to the place.
+/// A set of ids over a `BTreeSet`. Its `at` takes linear time.
 #[derive(Drop)]
 pub struct TreeIds {
     tree: BTreeSet<u64>,
@@ -82,7 +82,7 @@ impl MemberSet for TreeIds {
     }
 }
 
-// The key at a place, in ascending order.
+// The key at a position, in ascending order.
 fn key_at(tree: &BTreeSet<u64>, position: usize) -> Option<u64>
     ensures key { result ≡ slice_get tree.now.keys position }
     ensures ordered { IsOrdered nat_cmp tree.now }

@@ -1,16 +1,16 @@
-//! What each server said in a vote.
+//! The votes that servers have cast.
 ghost use Rattle.std.specs.Prelude.{◌≡◌};
 ghost use Rattle.std.specs.FinMap as finite;
 ghost use Rattle.quorum_sets.specs.Votes.{Votes, votes_in};
 
 use std::collections::BTreeMap;
 
-/// Who has voted what: a finite map from ids to votes, however it is kept.
+/// The votes: a finite map from ids to yes or no.
 pub trait VoteSource {
     /// The votes, by id.
     ghost votes: { Self → Votes };
 
-    /// What the id said, or `None` where it has not voted.
+    /// The vote of the id, or `None` if it has not voted.
     fn voted(&self, id: u64) -> Option<bool>
         ensures { result ≡ finite.get (votes self.now) id };
 }

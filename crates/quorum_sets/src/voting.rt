@@ -8,14 +8,14 @@ use crate::majority::quorum;
 use crate::member_set::MemberSet;
 use crate::vote_source::VoteSource;
 
-/// How a vote stands.
+/// The result of a vote (etcd's `quorum.VoteResult`).
 #[derive(Clone, Copy, Debug, PartialEq, Eq)]
 pub enum VoteResult {
-    /// Neither won nor lost: it hangs on ids that have not voted.
+    /// Neither won nor lost: it depends on ids that have not voted.
     VotePending,
-    /// Not more than half can still say yes.
+    /// Not more than half can still vote yes.
     VoteLost,
-    /// More than half said yes, or there is nobody to ask.
+    /// More than half voted yes, or the set is empty.
     VoteWon,
 }
 
@@ -37,14 +37,14 @@ pub fn vote<S: MemberSet, V: VoteSource>(set: &S, votes: &V) -> VoteResult
     }
 }
 
-// How many ids of a set said yes, and how many said yes or have not voted.
+// How many ids of a set voted yes, and how many voted yes or have not voted.
 #[derive(Clone, Copy)]
 struct Tally {
     yes_votes: usize,
     possible_yes_votes: usize,
 }
 
-// Asks each id once, and counts for both. No branch is taken by what it said.
+// Counts the votes of a set.
 fn count_votes<S: MemberSet, V: VoteSource>(set: &S, votes: &V) -> Tally
     ensures yes_votes { result.yes_votes ≡ count_of (is_yes (V.votes votes.now)) (S.ids set.now) }
     ensures possible_yes_votes { result.possible_yes_votes ≡ count_of (may_be_yes (V.votes votes.now)) (S.ids set.now) }
@@ -64,14 +64,14 @@ fn count_votes<S: MemberSet, V: VoteSource>(set: &S, votes: &V) -> Tally
     }
 }
 
-/// The result of the vote of a pair of sets: won where both are, lost where one is, else pending.
+/// The result of the vote of a pair of sets: won if both are won, lost if one is lost, else pending.
 pub fn joint_vote<S: MemberSet, V: VoteSource>(incoming: &S, outgoing: &S, votes: &V) -> VoteResult
     ensures { result ≡ joint_vote_result (pair (S.ids incoming.now) (S.ids outgoing.now)) (V.votes votes.now) }
 {
     both(vote(incoming, votes), vote(outgoing, votes))
 }
 
-// The result of two votes that have both to be won.
+// The result of two votes that must both be won.
 fn both(first: VoteResult, second: VoteResult) -> VoteResult
     ensures { result ≡ both first second }
 {
