@@ -74,54 +74,54 @@ rows-all ids n rows has all = record {
 }
 
 -- ---- the first row of an id
--- the rows of smaller ids are those before the index `place`
+-- the rows of smaller ids are those before the index `start`
 abbrev pub Parts : ℕ → List (ℕ × ℕ) → ℕ → Type 0
-Parts id rows place = IsPartitionPoint (λ r. nat_lt r.0 id ≡ true) (λ r. nat_lt r.0 id ≡ false) rows place
+Parts id rows start = IsPartitionPoint (λ r. nat_lt r.0 id ≡ true) (λ r. nat_lt r.0 id ≡ false) rows start
 
-from_place : (id : ℕ) (rows : List (ℕ × ℕ)) (place j : ℕ) (d : ℕ × ℕ) → Parts id rows place → j < length rows → id ≤ (get_or rows j d).0 → place ≤ j
-from_place id rows place j d parted within enough = elim (cases_lt j place) [
+from_place : (id : ℕ) (rows : List (ℕ × ℕ)) (start j : ℕ) (d : ℕ × ℕ) → Parts id rows start → j < length rows → id ≤ (get_or rows j d).0 → start ≤ j
+from_place id rows start j d parted within enough = elim (cases_lt j start) [
   | inl before ↦ let less = ltb-true _ id (parted.0 j d (omega arith) before) in absurd (omega arith)
   | inr after ↦ after
 ]
 
--- the row at `place` has the id, and no greater index than this one of its indexes
-pub record HasFirst (id index place : ℕ) (rows : List (ℕ × ℕ)) (d : ℕ × ℕ) : Type 0 where
-  pub within : place < length rows
-  pub id_is : (get_or rows place d).0 ≡ id
-  pub index_below : (get_or rows place d).1 ≤ index
+-- the row at `start` has the id, and no greater index than this one of its indexes
+pub record HasFirst (id index start : ℕ) (rows : List (ℕ × ℕ)) (d : ℕ × ℕ) : Type 0 where
+  pub within : start < length rows
+  pub id_is : (get_or rows start d).0 ≡ id
+  pub index_below : (get_or rows start d).1 ≤ index
 
-has_first : (ids : List ℕ) (rows : List (ℕ × ℕ)) (id index place : ℕ) → IsIndex ids rows → Parts id rows place → slice_get ids index ≡ Some id → HasFirst id index place rows (id, index)
-has_first ids rows id index place is parted there =
+has_first : (ids : List ℕ) (rows : List (ℕ × ℕ)) (id index start : ℕ) → IsIndex ids rows → Parts id rows start → slice_get ids index ≡ Some id → HasFirst id index start rows (id, index)
+has_first ids rows id index start is parted there =
     let d : ℕ × ℕ = (id, index) in
     let row = is.rows_are.all_rows index id there in
     let id_there : (get_or rows row.0 d).0 ≡ id = ap (λ r. r.0) row.2 in
     let index_there : (get_or rows row.0 d).1 ≡ index = ap (λ r. r.1) row.2 in
-    let before = from_place id rows place row.0 d parted row.1 (omega arith) in
-    let order = row_order rows is.ascends place row.0 d before row.1 in
-    let not_less = ltb-false _ id (parted.1 place d (omega arith) (omega arith)) in
-    let same : (get_or rows place d).0 ≡ id = omega arith in
+    let before = from_place id rows start row.0 d parted row.1 (omega arith) in
+    let order = row_order rows is.ascends start row.0 d before row.1 in
+    let not_less = ltb-false _ id (parted.1 start d (omega arith) (omega arith)) in
+    let same : (get_or rows start d).0 ≡ id = omega arith in
     record {
       within = omega arith;
       id_is = same;
       index_below = (let low = order.1 (id_there ∙ sym same) in omega arith);
     }
 
-pub index-first : (ids : List ℕ) (rows : List (ℕ × ℕ)) (id place : ℕ) (row : ℕ × ℕ) → IsIndex ids rows → Parts id rows place → slice_get rows place ≡ Some row → row.0 ≡ id → IsFirstIndex ids id row.1
-index-first ids rows id place row is parted at same =
-    let within = slice_get_within rows place row at in
-    let here : (d : ℕ × ℕ) → get_or rows place d ≡ row = λ d. get_or_from_slice_get rows place row d at in
+pub index-first : (ids : List ℕ) (rows : List (ℕ × ℕ)) (id start : ℕ) (row : ℕ × ℕ) → IsIndex ids rows → Parts id rows start → slice_get rows start ≡ Some row → row.0 ≡ id → IsFirstIndex ids id row.1
+index-first ids rows id start row is parted at same =
+    let within = slice_get_within rows start row at in
+    let here : (d : ℕ × ℕ) → get_or rows start d ≡ row = λ d. get_or_from_slice_get rows start row d at in
     record {
-      there = (λ i. slice_get ids (sym (here row) i).1) ∙ is.rows_are.true_rows place row within ∙ ap (λ (r : ℕ × ℕ). Some r.0) (here row) ∙ ap Some same;
+      there = (λ i. slice_get ids (sym (here row) i).1) ∙ is.rows_are.true_rows start row within ∙ ap (λ (r : ℕ × ℕ). Some r.0) (here row) ∙ ap Some same;
       none_before = λ k less there.
-          let first = has_first ids rows id k place is parted there in
-          let index : (get_or rows place (id, k)).1 ≡ row.1 = ap (λ (r : ℕ × ℕ). r.1) (here (id, k)) in
+          let first = has_first ids rows id k start is parted there in
+          let index : (get_or rows start (id, k)).1 ≡ row.1 = ap (λ (r : ℕ × ℕ). r.1) (here (id, k)) in
           absurd (omega (arith, first.index_below));
     }
 
-pub index-absent : (ids : List ℕ) (rows : List (ℕ × ℕ)) (id place : ℕ) → IsIndex ids rows → Parts id rows place → ((row : ℕ × ℕ) → slice_get rows place ≡ Some row → row.0 ≢ id) → IsAbsent ids id
-index-absent ids rows id place is parted other index there =
-    let first = has_first ids rows id index place is parted there in
-    other (get_or rows place (id, index)) (slice_get-get_or rows place (id, index) first.within) first.id_is
+pub index-absent : (ids : List ℕ) (rows : List (ℕ × ℕ)) (id start : ℕ) → IsIndex ids rows → Parts id rows start → ((row : ℕ × ℕ) → slice_get rows start ≡ Some row → row.0 ≢ id) → IsAbsent ids id
+index-absent ids rows id start is parted other index there =
+    let first = has_first ids rows id index start is parted there in
+    other (get_or rows start (id, index)) (slice_get-get_or rows start (id, index) first.within) first.id_is
 
 -- ---- whether an id of a list is there before
 first-not_before : (ids : List ℕ) (id index : ℕ) → IsFirstIndex ids id index → list_any (λ other. id == other) (take index ids) ≡ false

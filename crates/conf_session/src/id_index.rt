@@ -52,8 +52,8 @@ impl IdIndex {
         ensures { MatchOption result (IsAbsent self.now id) (IsFirstIndex self.now id) }
     {
         let rows = self.rows.as_slice();
-        let place = rows.partition_point(|row| row.0 < id);
-        match rows.get(place) {
+        let start = rows.partition_point(|row| row.0 < id);
+        match rows.get(start) {
             Some((found, index)) if *found == id => Some(*index),
             _ => None,
         }

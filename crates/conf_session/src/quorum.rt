@@ -56,8 +56,8 @@ fn push_each_once(each: &mut Vec<u64>, index: &IdIndex) -> Result<(), NoMemory>
     ensures { OnOk result (each.new.items ≡ each_once index.now) }
 {
     let ids = index.ids();
-    for (place, id) in ids.iter().enumerate() {
-        if index.is_first(place, *id) {
+    for (position, id) in ids.iter().enumerate() {
+        if index.is_first(position, *id) {
             each.push(*id)?;
         }
     }

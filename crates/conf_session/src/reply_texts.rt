@@ -186,8 +186,8 @@ pub(crate) fn usual_room(tracker: &Tracker<SessionIds>) -> usize {
 fn append_members(tracker: &Tracker<SessionIds>, text: &mut Vec<u8>) -> Result<(), NoMemory>
     ensures { OnOk result (text.new.items ≡ text.old.items ++ member_lines tracker.now) }
 {
-    for place in 0..tracker.member_count() {
-        if let Some((id, progress)) = tracker.member_at(place) {
+    for index in 0..tracker.member_count() {
+        if let Some((id, progress)) = tracker.member_at(index) {
             append_member(text, id, progress)?;
         }
     }

@@ -122,8 +122,8 @@ impl Values {
         ensures bad { IfOk result (λ bad. option_map (λ key. key.now) bad ≡ bad_argument parameters.now arguments.now) }
         ensures values { IfOk result (λ bad. bad ≡ None → self.new ≡ spec.values_in arguments.now) }
     {
-        for (place, argument) in arguments.iter().enumerate() {
-            if has_key(&arguments[..place], argument.key()) || !self.take(parameters, argument)? {
+        for (index, argument) in arguments.iter().enumerate() {
+            if has_key(&arguments[..index], argument.key()) || !self.take(parameters, argument)? {
                 return Ok(Some(argument.key()));
             }
         }

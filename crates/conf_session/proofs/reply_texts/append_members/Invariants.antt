@@ -4,5 +4,5 @@ use Rattle.std.specs.FinMap as finite
 use Rattle.conf_session.specs.ReplyTexts.{member_line}
 use Rattle.conf_session.proofs.reply_texts.append_members.Given as goal
 
-abbrev pub invariant-loop-place : goal.invariant-loop-place
-invariant-loop-place l = l.text.items ≡ l.initial.text.items ++ flat_map member_line (take l.place (finite.entries l.tracker.progress))
+abbrev pub invariant-loop-index : goal.invariant-loop-index
+invariant-loop-index l = l.text.items ≡ l.initial.text.items ++ flat_map member_line (take l.index (finite.entries l.tracker.progress))

@@ -11,22 +11,22 @@ returns-in-Some c =
     let ids = c.args.self.now in
     let rows = c.as_slice-rows.result.now in
     let id = c.args.id in
-    let place = c.partition_point-place.result in
+    let start = c.partition_point-start.result in
     let index : IsIndex ids rows = subst (λ (xs : List ℕ). IsIndex xs rows) c.self.view_is (subst (IsIndex c.self.inside.ids.items) (sym c.as_slice-rows.ensures.value) c.self.invariant) in
-    let parted = IsPartitionPoint-from_clause (λ r. nat_lt r.0 id) _ _ c.partition_point-place.ensures.partitioned (index-partitioned ids rows id index) (λ a r q k. search rules) in
-    let row : slice_get rows place ≡ Some c.in-Some.field-0.now = sym (item-copied rows place c.get.result c.get.ensures.lookup) ∙ ap option_copied c.in-Some.is in
-    index-first ids rows id place c.in-Some.field-0.now index parted row c.if-found-id.true
+    let parted = IsPartitionPoint-from_clause (λ r. nat_lt r.0 id) _ _ c.partition_point-start.ensures.partitioned (index-partitioned ids rows id index) (λ a r q k. search rules) in
+    let row : slice_get rows start ≡ Some c.in-Some.field-0.now = sym (item-copied rows start c.get.result c.get.ensures.lookup) ∙ ap option_copied c.in-Some.is in
+    index-first ids rows id start c.in-Some.field-0.now index parted row c.if-found-id.true
 
 pub returns-in_default : goal.returns-in_default
 returns-in_default c =
     let ids = c.args.self.now in
     let rows = c.as_slice-rows.result.now in
     let id = c.args.id in
-    let place = c.partition_point-place.result in
+    let start = c.partition_point-start.result in
     let index : IsIndex ids rows = subst (λ (xs : List ℕ). IsIndex xs rows) c.self.view_is (subst (IsIndex c.self.inside.ids.items) (sym c.as_slice-rows.ensures.value) c.self.invariant) in
-    let parted = IsPartitionPoint-from_clause (λ r. nat_lt r.0 id) _ _ c.partition_point-place.ensures.partitioned (index-partitioned ids rows id index) (λ a r q k. search rules) in
-    let row : slice_get rows place ≡ Some c.in-Some.field-0.now = sym (item-copied rows place c.get.result c.get.ensures.lookup) ∙ ap option_copied c.in-Some.is in
-    index-absent ids rows id place index parted (λ other there same.
+    let parted = IsPartitionPoint-from_clause (λ r. nat_lt r.0 id) _ _ c.partition_point-start.ensures.partitioned (index-partitioned ids rows id index) (λ a r q k. search rules) in
+    let row : slice_get rows start ≡ Some c.in-Some.field-0.now = sym (item-copied rows start c.get.result c.get.ensures.lookup) ∙ ap option_copied c.in-Some.is in
+    index-absent ids rows id start index parted (λ other there same.
     let e : Some c.in-Some.field-0.now ≡ Some other = sym row ∙ there in
     let is : c.in-Some.field-0.now ≡ other = cc in
     c.if-found-id.false (ap (λ (r : ℕ × ℕ). r.0) is ∙ same))
@@ -36,8 +36,8 @@ returns-in_default-2 c =
     let ids = c.args.self.now in
     let rows = c.as_slice-rows.result.now in
     let id = c.args.id in
-    let place = c.partition_point-place.result in
+    let start = c.partition_point-start.result in
     let index : IsIndex ids rows = subst (λ (xs : List ℕ). IsIndex xs rows) c.self.view_is (subst (IsIndex c.self.inside.ids.items) (sym c.as_slice-rows.ensures.value) c.self.invariant) in
-    let parted = IsPartitionPoint-from_clause (λ r. nat_lt r.0 id) _ _ c.partition_point-place.ensures.partitioned (index-partitioned ids rows id index) (λ a r q k. search rules) in
-    let none : slice_get rows place ≡ None = sym (item-copied rows place c.get.result c.get.ensures.lookup) ∙ ap option_copied c.in_default.is in
-    index-absent ids rows id place index parted (λ other there same. let e : None ≡ Some other = sym none ∙ there in cc)
+    let parted = IsPartitionPoint-from_clause (λ r. nat_lt r.0 id) _ _ c.partition_point-start.ensures.partitioned (index-partitioned ids rows id index) (λ a r q k. search rules) in
+    let none : slice_get rows start ≡ None = sym (item-copied rows start c.get.result c.get.ensures.lookup) ∙ ap option_copied c.in_default.is in
+    index-absent ids rows id start index parted (λ other there same. let e : None ≡ Some other = sym none ∙ there in cc)

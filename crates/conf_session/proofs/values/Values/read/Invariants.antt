@@ -3,7 +3,7 @@ use Rattle.conf_session.specs.Arguments.{first_bad, bad_argument}
 use Rattle.conf_session.specs.Values.{values_in}
 use Rattle.conf_session.proofs.values.Values.read.Given as goal
 
-abbrev pub invariant-loop-place : goal.invariant-loop-place
-invariant-loop-place l =
-    (first_bad l.parameters (take l.place l.arguments) (drop l.place l.arguments) ≡ bad_argument l.parameters l.arguments)
-    × (l.self ≡ values_in (take l.place l.arguments))
+abbrev pub invariant-loop-index : goal.invariant-loop-index
+invariant-loop-index l =
+    (first_bad l.parameters (take l.index l.arguments) (drop l.index l.arguments) ≡ bad_argument l.parameters l.arguments)
+    × (l.self ≡ values_in (take l.index l.arguments))
