@@ -9,44 +9,47 @@ ghost use Rattle.conf_plan.specs.Walking.{IsAdded};
 
 use crate::picked::picked;
 use crate::planner::{add_from_single, add_single_steps};
+use crate::single::Single;
 use conf_change::{Config, Step, union};
 use quorum_sets::{MemberSet, NoMemory};
 use std::alloc::Global;
 
-// From these voters and learners, neither joint, to a configuration.
+// From a configuration that is not joint to any.
 pub(crate) fn add_learners_first<S: MemberSet>(
     alloc: Global,
     steps: &mut Vec<Step>,
-    incoming: &S,
-    learners: &S,
+    start: &Single<S>,
     target: &Config<S>,
 ) -> Result<(), NoMemory>
-    requires start { IsValidWithVoter (single_with (S.ids incoming.now) (S.ids learners.now)) }
+    requires start { IsValidWithVoter (single_with (S.ids start.now.incoming.now) (S.ids start.now.learners.now)) }
     requires target { IsValidWithVoter target.now }
-    ensures { OnOk result (IsAdded steps.old.items (learners_first_from_single (single_with (S.ids incoming.now) (S.ids learners.now)) target.now) steps.new.items) }
+    ensures { OnOk result (IsAdded steps.old.items (learners_first_from_single (single_with (S.ids start.now.incoming.now) (S.ids start.now.learners.now)) target.now) steps.new.items) }
 {
-    let newcomers = newcomers(alloc, incoming, learners, target)?;
+    let newcomers = newcomers(alloc, start, target)?;
     if newcomers.len() == 0 {
-        return add_from_single(alloc, steps, incoming, learners, target);
+        return add_from_single(alloc, steps, start, target);
     }
-    let learning = union(learners, &newcomers)?;
-    add_single_steps(alloc, steps, incoming, learners, incoming, &learning)?;
-    add_from_single(alloc, steps, incoming, &learning, target)
+    let learners = union(start.learners, &newcomers)?;
+    add_single_steps(alloc, steps, start, start.incoming, &learners)?;
+    let learning = Single {
+        incoming: start.incoming,
+        learners: &learners,
+    };
+    add_from_single(alloc, steps, &learning, target)
 }
 
-// The voters of the target, incoming or outgoing, that are neither these voters nor these learners.
+// The voters of the target, incoming or outgoing, that are not members.
 fn newcomers<S: MemberSet>(
     alloc: Global,
-    incoming: &S,
-    learners: &S,
+    start: &Single<S>,
     target: &Config<S>,
 ) -> Result<S, NoMemory>
-    ensures { IfOk result (λ ids. S.ids ids ≡ first.newcomers (single_with (S.ids incoming.now) (S.ids learners.now)) target.now) }
+    ensures { IfOk result (λ ids. S.ids ids ≡ first.newcomers (single_with (S.ids start.now.incoming.now) (S.ids start.now.learners.now)) target.now) }
 {
     let voters = union(&target.incoming, &target.outgoing)?;
     picked(
         alloc,
         &voters,
-        |id| !incoming.contains(id) && !learners.contains(id),
+        |id| !start.incoming.contains(id) && !start.learners.contains(id),
     )
 }

@@ -29,6 +29,7 @@ pub mod path;
 mod picked;
 pub mod planner;
 mod shared_members;
+mod single;
 pub mod step_list;
 pub mod strategy;
 pub mod text;

@@ -1,7 +1,7 @@
 //! The path on which one member changes at a time.
 ghost use Rattle.std.specs.Prelude.{◌≡◌, [], ◌∷◌, ◌<◌, ◌^◌, OnOk};
 ghost use Rattle.std.specs.List.{cons_option};
-ghost use Rattle.quorum_sets.specs.Ids.{no_ids, ascending};
+ghost use Rattle.quorum_sets.specs.Ids.{ascending};
 ghost use Rattle.conf_plan.specs.OneAtATime as spec;
 ghost use Rattle.conf_plan.specs.OneAtATime.{one_change, join_steps, retire_step, in_turn, learner_steps, one_at_a_time_from_single};
 ghost use Rattle.conf_plan.specs.Planned.{single_with};
@@ -9,42 +9,42 @@ ghost use Rattle.conf_plan.specs.Walking.{IsAdded};
 
 use crate::moves::kind_of_move;
 use crate::picked::picked;
+use crate::single::Single;
 use conf_change::{Change, Changes, Config, Kind, Step, union};
 use quorum_sets::{MemberSet, NoMemory};
 use std::alloc::Global;
 
-// From these voters and learners, neither joint, to a configuration that is not joint either.
+// From a configuration that is not joint to another.
 pub(crate) fn add_one_at_a_time<S: MemberSet>(
     alloc: Global,
     steps: &mut Vec<Step>,
-    incoming: &S,
-    learners: &S,
+    start: &Single<S>,
     target: &Config<S>,
 ) -> Result<(), NoMemory>
-    ensures { OnOk result (IsAdded steps.old.items (one_at_a_time_from_single (single_with (S.ids incoming.now) (S.ids learners.now)) target.now) steps.new.items) }
+    ensures { OnOk result (IsAdded steps.old.items (one_at_a_time_from_single (single_with (S.ids start.now.incoming.now) (S.ids start.now.learners.now)) target.now) steps.new.items) }
 {
-    let joining = picked(alloc, &target.incoming, |id| !incoming.contains(id))?;
-    let retiring = picked(alloc, incoming, |id| !target.incoming.contains(id))?;
-    add_turns(alloc, steps, learners, target, &joining, &retiring)?;
-    add_learner_steps(alloc, steps, incoming, learners, target)
+    let joining = picked(alloc, &target.incoming, |id| !start.incoming.contains(id))?;
+    let retiring = picked(alloc, start.incoming, |id| !target.incoming.contains(id))?;
+    add_turns(alloc, steps, start, target, &joining, &retiring)?;
+    add_learner_steps(alloc, steps, start, target)
 }
 
-// One id joins, then one retires, as long as there are any. Only the learners of the current configuration matter.
+// One id joins, then one retires, as long as there are any.
 fn add_turns<S: MemberSet>(
     alloc: Global,
     steps: &mut Vec<Step>,
-    learners: &S,
+    start: &Single<S>,
     target: &Config<S>,
     joining: &S,
     retiring: &S,
 ) -> Result<(), NoMemory>
-    ensures { OnOk result (IsAdded steps.old.items (in_turn (single_with no_ids (S.ids learners.now)) target.now (ascending (S.ids joining.now)) (ascending (S.ids retiring.now))) steps.new.items) }
+    ensures { OnOk result (IsAdded steps.old.items (in_turn (single_with (S.ids start.now.incoming.now) (S.ids start.now.learners.now)) target.now (ascending (S.ids joining.now)) (ascending (S.ids retiring.now))) steps.new.items) }
 {
     for index in 0..joining.len().max(retiring.len()) {
         add_turn(
             alloc,
             steps,
-            learners,
+            start,
             target,
             joining.at(index),
             retiring.at(index),
@@ -57,15 +57,15 @@ fn add_turns<S: MemberSet>(
 fn add_turn<S: MemberSet>(
     alloc: Global,
     steps: &mut Vec<Step>,
-    learners: &S,
+    start: &Single<S>,
     target: &Config<S>,
     joining: Option<u64>,
     retiring: Option<u64>,
 ) -> Result<(), NoMemory>
-    ensures { OnOk result (IsAdded steps.old.items (in_turn (single_with no_ids (S.ids learners.now)) target.now (cons_option joining []) (cons_option retiring [])) steps.new.items) }
+    ensures { OnOk result (IsAdded steps.old.items (in_turn (single_with (S.ids start.now.incoming.now) (S.ids start.now.learners.now)) target.now (cons_option joining []) (cons_option retiring [])) steps.new.items) }
 {
     if let Some(id) = joining {
-        add_join_steps(alloc, steps, learners, id)?;
+        add_join_steps(alloc, steps, start, id)?;
     }
     if let Some(id) = retiring {
         add_retire_step(alloc, steps, target, id)?;
@@ -77,12 +77,12 @@ fn add_turn<S: MemberSet>(
 fn add_join_steps<S: MemberSet>(
     alloc: Global,
     steps: &mut Vec<Step>,
-    learners: &S,
+    start: &Single<S>,
     id: u64,
 ) -> Result<(), NoMemory>
-    ensures { OnOk result (IsAdded steps.old.items (join_steps (single_with no_ids (S.ids learners.now)) id) steps.new.items) }
+    ensures { OnOk result (IsAdded steps.old.items (join_steps (single_with (S.ids start.now.incoming.now) (S.ids start.now.learners.now)) id) steps.new.items) }
 {
-    if !learners.contains(id) {
+    if !start.learners.contains(id) {
         add_change(alloc, steps, Kind::Learner, id)?;
     }
     add_change(alloc, steps, Kind::Voter, id)
@@ -108,16 +108,15 @@ fn add_retire_step<S: MemberSet>(
 fn add_learner_steps<S: MemberSet>(
     alloc: Global,
     steps: &mut Vec<Step>,
-    incoming: &S,
-    learners: &S,
+    start: &Single<S>,
     target: &Config<S>,
 ) -> Result<(), NoMemory>
-    ensures { OnOk result (IsAdded steps.old.items (learner_steps (single_with (S.ids incoming.now) (S.ids learners.now)) target.now) steps.new.items) }
+    ensures { OnOk result (IsAdded steps.old.items (learner_steps (single_with (S.ids start.now.incoming.now) (S.ids start.now.learners.now)) target.now) steps.new.items) }
 {
-    let all = union(learners, &target.learners)?;
+    let all = union(start.learners, &target.learners)?;
     for index in 0..all.len() {
         if let Some(id) = all.at(index) {
-            if let Some(kind) = learner_change(incoming, learners, target, id) {
+            if let Some(kind) = learner_change(start, target, id) {
                 add_change(alloc, steps, kind, id)?;
             }
         }
@@ -126,22 +125,17 @@ fn add_learner_steps<S: MemberSet>(
 }
 
 // What an id that votes neither before nor after has to become, if anything.
-fn learner_change<S: MemberSet>(
-    incoming: &S,
-    learners: &S,
-    target: &Config<S>,
-    id: u64,
-) -> Option<Kind>
-    ensures { result ≡ spec.learner_change (single_with (S.ids incoming.now) (S.ids learners.now)) target.now id }
+fn learner_change<S: MemberSet>(start: &Single<S>, target: &Config<S>, id: u64) -> Option<Kind>
+    ensures { result ≡ spec.learner_change (single_with (S.ids start.now.incoming.now) (S.ids start.now.learners.now)) target.now id }
 {
-    if incoming.contains(id) || target.incoming.contains(id) {
+    if start.incoming.contains(id) || target.incoming.contains(id) {
         return None;
     }
     kind_of_move(
         false,
         target.learners.contains(id),
         false,
-        learners.contains(id),
+        start.learners.contains(id),
     )
 }
 

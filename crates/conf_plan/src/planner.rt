@@ -11,6 +11,7 @@ use crate::learners_first::add_learners_first;
 use crate::moves::moves_to;
 use crate::one_at_a_time::add_one_at_a_time;
 use crate::shared_members::shared_members;
+use crate::single::Single;
 use crate::step_list::Plan;
 use crate::strategy::Strategy;
 use conf_change::{Changes, Config, Step, union};
@@ -82,112 +83,126 @@ pub(crate) fn add_path<S: MemberSet>(
         return Ok(());
     }
     if now.outgoing.len() == 0 {
-        return add_from_single_by(alloc, strategy, steps, &now.incoming, &now.learners, target);
+        let start = Single {
+            incoming: &now.incoming,
+            learners: &now.learners,
+        };
+        return add_from_single_by(alloc, strategy, steps, &start, target);
     }
     steps.push(Step::LeaveJoint)?;
     let learners = union(&now.learners, &now.learners_next)?;
-    add_from_single_by(alloc, strategy, steps, &now.incoming, &learners, target)
+    let start = Single {
+        incoming: &now.incoming,
+        learners: &learners,
+    };
+    add_from_single_by(alloc, strategy, steps, &start, target)
 }
 
-// From these voters and learners, neither joint, to a configuration.
+// From a configuration that is not joint to any.
 fn add_from_single_by<S: MemberSet>(
     alloc: Global,
     strategy: Strategy,
     steps: &mut Vec<Step>,
-    incoming: &S,
-    learners: &S,
+    start: &Single<S>,
     target: &Config<S>,
 ) -> Result<(), NoMemory>
-    requires start { IsValidWithVoter (single_with (S.ids incoming.now) (S.ids learners.now)) }
+    requires start { IsValidWithVoter (single_with (S.ids start.now.incoming.now) (S.ids start.now.learners.now)) }
     requires target { IsValidWithVoter target.now }
-    ensures { OnOk result (IsAdded steps.old.items (from_single_by strategy (single_with (S.ids incoming.now) (S.ids learners.now)) target.now) steps.new.items) }
+    ensures { OnOk result (IsAdded steps.old.items (from_single_by strategy (single_with (S.ids start.now.incoming.now) (S.ids start.now.learners.now)) target.now) steps.new.items) }
 {
     match strategy {
-        Strategy::Shortest => add_from_single(alloc, steps, incoming, learners, target),
-        Strategy::LearnersFirst => add_learners_first(alloc, steps, incoming, learners, target),
-        Strategy::OneAtATime => add_one_at_a_time(alloc, steps, incoming, learners, target),
+        Strategy::Shortest => add_from_single(alloc, steps, start, target),
+        Strategy::LearnersFirst => add_learners_first(alloc, steps, start, target),
+        Strategy::OneAtATime => add_one_at_a_time(alloc, steps, start, target),
     }
 }
 
-// The plan from these voters and learners, neither joint, to a configuration.
+// The plan from a configuration that is not joint to any.
 pub(crate) fn add_from_single<S: MemberSet>(
     alloc: Global,
     steps: &mut Vec<Step>,
-    incoming: &S,
-    learners: &S,
+    start: &Single<S>,
     target: &Config<S>,
 ) -> Result<(), NoMemory>
-    requires start { IsValidWithVoter (single_with (S.ids incoming.now) (S.ids learners.now)) }
+    requires start { IsValidWithVoter (single_with (S.ids start.now.incoming.now) (S.ids start.now.learners.now)) }
     requires target { IsValidWithVoter target.now }
-    ensures { OnOk result (IsAdded steps.old.items (planned_from_single (single_with (S.ids incoming.now) (S.ids learners.now)) target.now) steps.new.items) }
+    ensures { OnOk result (IsAdded steps.old.items (planned_from_single (single_with (S.ids start.now.incoming.now) (S.ids start.now.learners.now)) target.now) steps.new.items) }
 {
     if target.outgoing.len() != 0 {
-        add_joint_steps(alloc, steps, incoming, learners, target)
-    } else if symdiff(incoming, &target.incoming) == 0 && symdiff(learners, &target.learners) == 0 {
+        add_joint_steps(alloc, steps, start, target)
+    } else if symdiff(start.incoming, &target.incoming) == 0
+        && symdiff(start.learners, &target.learners) == 0
+    {
         Ok(())
     } else {
-        add_single_steps(
-            alloc,
-            steps,
-            incoming,
-            learners,
-            &target.incoming,
-            &target.learners,
-        )
+        add_single_steps(alloc, steps, start, &target.incoming, &target.learners)
     }
 }
 
-// From these voters and learners into a joint configuration.
+// From a configuration that is not joint into a joint one.
 fn add_joint_steps<S: MemberSet>(
     alloc: Global,
     steps: &mut Vec<Step>,
-    incoming: &S,
-    learners: &S,
+    start: &Single<S>,
     target: &Config<S>,
 ) -> Result<(), NoMemory>
-    requires start { IsValidWithVoter (single_with (S.ids incoming.now) (S.ids learners.now)) }
+    requires start { IsValidWithVoter (single_with (S.ids start.now.incoming.now) (S.ids start.now.learners.now)) }
     requires target { IsValidWithVoter target.now }
     requires joint { is_joint target.now ≡ true }
-    ensures { OnOk result (IsAdded steps.old.items (joint_steps (single_with (S.ids incoming.now) (S.ids learners.now)) target.now) steps.new.items) }
+    ensures { OnOk result (IsAdded steps.old.items (joint_steps (single_with (S.ids start.now.incoming.now) (S.ids start.now.learners.now)) target.now) steps.new.items) }
 {
-    if symdiff(incoming, &target.outgoing) == 0 {
-        return add_entering_step(alloc, steps, incoming, learners, target);
+    if symdiff(start.incoming, &target.outgoing) == 0 {
+        return add_entering_step(alloc, steps, start, target);
     }
     // The steps that are inserted lead to the target's outgoing voters, with the shared members as learners.
-    let shared = shared_members(alloc, incoming, learners, target)?;
-    add_single_steps(alloc, steps, incoming, learners, &target.outgoing, &shared)?;
-    add_entering_step(alloc, steps, &target.outgoing, &shared, target)
+    let shared = shared_members(alloc, start, target)?;
+    add_single_steps(alloc, steps, start, &target.outgoing, &shared)?;
+    let between = Single {
+        incoming: &target.outgoing,
+        learners: &shared,
+    };
+    add_entering_step(alloc, steps, &between, target)
 }
 
-// From the target's outgoing voters and these learners into the target.
+// Into a joint target, from a configuration that has its outgoing voters.
 fn add_entering_step<S: MemberSet>(
     alloc: Global,
     steps: &mut Vec<Step>,
-    incoming: &S,
-    learners: &S,
+    start: &Single<S>,
     target: &Config<S>,
 ) -> Result<(), NoMemory>
-    ensures { OnOk result (IsAdded steps.old.items (entering_step (single_with (S.ids incoming.now) (S.ids learners.now)) target.now ∷ []) steps.new.items) }
+    ensures { OnOk result (IsAdded steps.old.items (entering_step (single_with (S.ids start.now.incoming.now) (S.ids start.now.learners.now)) target.now ∷ []) steps.new.items) }
 {
     let to_learners = union(&target.learners, &target.learners_next)?;
-    let changes = moves_to(alloc, incoming, learners, &target.incoming, &to_learners)?;
+    let changes = moves_to(
+        alloc,
+        start.incoming,
+        start.learners,
+        &target.incoming,
+        &to_learners,
+    )?;
     steps.push(Step::EnterJoint(target.auto_leave, Changes::from(changes)))?;
     Ok(())
 }
 
-// From these voters and learners to others, neither joint.
+// From a configuration that is not joint to the one with these voters and learners.
 pub(crate) fn add_single_steps<S: MemberSet>(
     alloc: Global,
     steps: &mut Vec<Step>,
-    incoming: &S,
-    learners: &S,
+    start: &Single<S>,
     to_voters: &S,
     to_learners: &S,
 ) -> Result<(), NoMemory>
-    ensures { OnOk result (IsAdded steps.old.items (single_steps (single_with (S.ids incoming.now) (S.ids learners.now)) (S.ids to_voters.now) (S.ids to_learners.now)) steps.new.items) }
+    ensures { OnOk result (IsAdded steps.old.items (single_steps (single_with (S.ids start.now.incoming.now) (S.ids start.now.learners.now)) (S.ids to_voters.now) (S.ids to_learners.now)) steps.new.items) }
 {
-    let changes = Changes::from(moves_to(alloc, incoming, learners, to_voters, to_learners)?);
-    if symdiff(incoming, to_voters) <= 1 {
+    let changes = Changes::from(moves_to(
+        alloc,
+        start.incoming,
+        start.learners,
+        to_voters,
+        to_learners,
+    )?);
+    if symdiff(start.incoming, to_voters) <= 1 {
         steps.push(Step::Simple(changes))?;
     } else {
         steps.push(Step::EnterJoint(false, changes))?;

@@ -4,20 +4,20 @@ ghost use Rattle.conf_plan.specs.Planned as planned;
 ghost use Rattle.conf_plan.specs.Planned.{single_with, is_shared};
 
 use crate::picked::picked;
+use crate::single::Single;
 use conf_change::{Config, union};
 use quorum_sets::{MemberSet, NoMemory};
 use std::alloc::Global;
 
-// The voters and learners that are members of the target, but not outgoing voters of it.
+// The members of both that are not outgoing voters of the target.
 pub(crate) fn shared_members<S: MemberSet>(
     alloc: Global,
-    incoming: &S,
-    learners: &S,
+    start: &Single<S>,
     target: &Config<S>,
 ) -> Result<S, NoMemory>
-    ensures { IfOk result (λ shared. S.ids shared ≡ planned.shared_members (single_with (S.ids incoming.now) (S.ids learners.now)) target.now) }
+    ensures { IfOk result (λ shared. S.ids shared ≡ planned.shared_members (single_with (S.ids start.now.incoming.now) (S.ids start.now.learners.now)) target.now) }
 {
-    let members = union(incoming, learners)?;
+    let members = union(start.incoming, start.learners)?;
     picked(alloc, &members, |id| is_shared(target, id))
 }
 

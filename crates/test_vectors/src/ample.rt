@@ -10,6 +10,7 @@ mod devices;
 mod failing_devices;
 mod large_sets;
 mod messages;
+mod pairs;
 mod plans;
 mod runtime;
 mod script_files;

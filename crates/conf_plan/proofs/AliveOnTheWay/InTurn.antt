@@ -1,5 +1,5 @@
 -- The steps of single changes, as they are added one after another.
-use Rattle.std.proofs.Common.{◌≡◌, ℕ, ◌+◌, ◌^◌, ◌<◌, ◌≤◌, Bool, cond, List, [], ◌∷◌, ◌++◌, length, drop, take, slice_get, inl, inr, refl, sym, ap, subst, ◌∙◌, arith}
+use Rattle.std.proofs.Common.{◌≡◌, ℕ, ◌+◌, ◌^◌, ◌<◌, ◌≤◌, Bool, List, [], ◌∷◌, ◌++◌, length, drop, take, slice_get, inl, inr, refl, sym, ap, subst, ◌∙◌, arith}
 use Rattle.std.specs.Prelude.{Option, Some, None, option_map, filter, filter_map}
 use Rattle.std.specs.Ordering.{nat_cmp}
 use Rattle.std.specs.List.{cons_option}
@@ -7,12 +7,11 @@ use Rattle.std.proofs.lemmas.List.{append_assoc, append-nil, drop_all, take_all}
 use Rattle.std.proofs.lemmas.List.Elements.{All-nil, All-push, filter_map-append}
 use Rattle.std.proofs.lemmas.List.Kept.{IsStrictlySortedBy-filter}
 use Rattle.std.proofs.lemmas.Option.{slice_get_cases}
-use Rattle.quorum_sets.specs.Ids.{Ids, has, ascending, ids_where}
+use Rattle.quorum_sets.specs.Ids.{Ids, ascending, ids_where}
 use Rattle.quorum_sets.proofs.Offered.{ascending-ids_of, ascending-is_sorted, take-one_more}
 use Rattle.conf_change.specs.Configuration.{Configuration}
 use Rattle.conf_change.specs.declared.change.Change.{Change}
 use Rattle.conf_change.specs.declared.change.Kind.{Kind}
-use Rattle.conf_change.specs.declared.change.Kind.TheVariants.{Voter, Learner}
 use Rattle.conf_change.specs.declared.step.Step.{Step}
 use Rattle.conf_plan.specs.OneAtATime.{one_change, join_steps, retire_step, in_turn, learner_change}
 use Rattle.conf_plan.specs.PlanSteps.{HasWordIds}
@@ -108,17 +107,6 @@ IsInTurn-ended before now c target joins retires index joined retired at =
 -- the ids of a set that pass, in order
 pub ascending-where : (test : ℕ → Bool) (ids : Ids) → ascending (ids_where test (ascending ids)) ≡ filter test (ascending ids)
 ascending-where test ids = ascending-ids_of (filter test (ascending ids)) (IsStrictlySortedBy-filter nat_cmp test (ascending ids) (ascending-is_sorted ids))
-
--- only the learners of the current configuration matter
-join_steps-same : (c d : Configuration) → c.learners ≡ d.learners → (id : ℕ) → join_steps c id ≡ join_steps d id
-join_steps-same c d same id = ap (λ s. cond (has s id) (one_change Voter id ∷ []) (one_change Learner id ∷ one_change Voter id ∷ [])) same
-
-pub in_turn-same_learners : (c d target : Configuration) → c.learners ≡ d.learners → (joins retires : List ℕ) → in_turn c target joins retires ≡ in_turn d target joins retires
-in_turn-same_learners c d target same [] [] = refl
-in_turn-same_learners c d target same (id ∷ joins) [] = λ i. join_steps-same c d same id i ++ in_turn-same_learners c d target same joins [] i
-in_turn-same_learners c d target same [] (other ∷ retires) = λ i. retire_step target other ∷ in_turn-same_learners c d target same [] retires i
-in_turn-same_learners c d target same (id ∷ joins) (other ∷ retires) =
-    λ i. join_steps-same c d same id i ++ retire_step target other ∷ in_turn-same_learners c d target same joins retires i
 
 -- ---- the other learners
 -- the steps for these ids

@@ -3,11 +3,12 @@ use Rattle.std.proofs.Common.{◌≡◌, ℕ, Bool, true, false, ◌||◌, List,
 use Rattle.std.specs.Prelude.{Option, Err}
 use Rattle.dd_file.specs.Device.{AppendsPart}
 use Rattle.dd_file.specs.Answer.{IsCutShort}
+use Rattle.dd_file.specs.Reading.{Script as ScriptOf}
 use Rattle.dd_file.specs.Answer as reader
 use Rattle.dd_file.specs.declared.fault.FileFault.{FileFault}
 use Rattle.dd_file.specs.declared.fault.FileFault.TheVariants.{Read, NoMemory, InputTooLong, BadDirective, AfterDouble, UnclosedDouble}
 use Rattle.conf_tool.specs.Outputs.{Output}
-use Rattle.conf_tool.specs.Run.{Means, Wrote, CanAnswer, IsAnswerFault, IsStop, as_tool_fault, is_read_failure, is_write_failure}
+use Rattle.conf_tool.specs.Run.{Means, Wrote, IsAnswerFault, IsStop, as_tool_fault, is_read_failure, is_write_failure}
 use Rattle.conf_tool.specs.declared.mode.Mode.{Mode}
 use Rattle.conf_tool.specs.declared.status.Status.{Status}
 use Rattle.conf_tool.specs.declared.tool_fault.ToolFault.{ToolFault}
@@ -56,42 +57,22 @@ pub reader-unwritten : (fault : FileFault) (told : ToolFault) → IsOfReader fau
 reader-unwritten fault told CutByRead = refl
 reader-unwritten fault told CutByMemory = refl
 
+-- a fault of what answers an input
+pub answer-means : (told : ToolFault) → IsAnswerFault told → (output : Output) (before after : Option (List ℕ)) → AppendsPart before after output.text → Means output (Err told) before after
+answer-means (Script f) is output before after part = absurd is
+answer-means (Configurations f) is output before after part = absurd is
+answer-means CannotRead is output before after part = absurd is
+answer-means CannotWrite is output before after part = part
+answer-means OutOfMemory is output before after part = part
+
 -- what stops a run at a part
-pub stop-means : (mode : Mode) (stop : ToolFault) (output : Output) (before after : Option (List ℕ)) → IsStop mode stop (Wrote output (Err stop) before after) → AppendsPart before after output.text → Means output (Err stop) before after
-stop-means mode (Script f) output before after is part = absurd is
-stop-means mode (Configurations f) output before after is part = is.1
-stop-means mode CannotRead output before after is part = absurd is
-stop-means mode CannotWrite output before after is part = part
-stop-means mode OutOfMemory output before after is part = part
-
-pub stop-weaker : (mode : Mode) (stop : ToolFault) (A B : Type 0) → (A → B) → IsStop mode stop A → IsStop mode stop B
-stop-weaker mode (Script f) A B weaker is = absurd is
-stop-weaker mode (Configurations f) A B weaker is = (is.0, weaker is.1)
-stop-weaker mode CannotRead A B weaker is = absurd is
-stop-weaker mode CannotWrite A B weaker is = tt
-stop-weaker mode OutOfMemory A B weaker is = tt
-
-pub stop-can_answer : (mode : Mode) (stop : ToolFault) (A : Type 0) → IsStop mode stop A → CanAnswer mode (Err stop)
-stop-can_answer mode (Script f) A is = absurd is
-stop-can_answer mode (Configurations f) A is = is.0
-stop-can_answer mode CannotRead A is = absurd is
-stop-can_answer mode CannotWrite A is = tt
-stop-can_answer mode OutOfMemory A is = tt
-
-pub stop-unread : (mode : Mode) (stop : ToolFault) (A : Type 0) → IsStop mode stop A → is_read_failure {X = Status} (Err stop) ≡ false
-stop-unread mode (Script f) A is = absurd is
-stop-unread mode (Configurations f) A is = refl
-stop-unread mode CannotRead A is = absurd is
-stop-unread mode CannotWrite A is = refl
-stop-unread mode OutOfMemory A is = refl
-
--- a fault of what answers an input stops it
-pub stop-answer : (mode : Mode) (stop : ToolFault) (A : Type 0) → IsAnswerFault stop → IsStop mode stop A
-stop-answer mode (Script f) A is = absurd is
-stop-answer mode (Configurations f) A is = absurd is
-stop-answer mode CannotRead A is = absurd is
-stop-answer mode CannotWrite A is = tt
-stop-answer mode OutOfMemory A is = tt
+pub stop-means : {A : Type 0} (mode : Mode) (stop : ToolFault) (total : ScriptOf A → Output) (read found : ScriptOf A) (before after : Option (List ℕ)) (All : Type 0) → read ≡ found →
+    IsStop mode stop All → (All → Wrote (total found) (Err stop) before after) → AppendsPart before after (total found).text → Means (total read) (Err stop) before after
+stop-means mode (Script f) total read found before after All same is all part = absurd is
+stop-means mode (Configurations f) total read found before after All same is all part = subst (λ s. Wrote (total s) (Err (Configurations f)) before after) (sym same) (all is.1)
+stop-means mode CannotRead total read found before after All same is all part = absurd is
+stop-means mode CannotWrite total read found before after All same is all part = subst (λ s. AppendsPart before after (total s).text) (sym same) part
+stop-means mode OutOfMemory total read found before after All same is all part = subst (λ s. AppendsPart before after (total s).text) (sym same) part
 
 -- marks of failure
 pub or-false : (mark : Bool) → (mark || false) ≡ mark

@@ -1,13 +1,16 @@
 -- Of the mode `plan`: what each line leaves of its output.
-use Rattle.std.proofs.Common.{◌≡◌, ℕ, ◌+◌, ◌≤◌, true, false, List, [], ◌∷◌, ◌++◌, length, length-append, not, refl, sym, ◌∙◌, ap, subst, arith}
-use Rattle.std.specs.Prelude.{Option, Some, None, Result, Ok, Err, IfSome, nat_lt, if◌then◌else◌}
+use Rattle.std.proofs.Common.{◌≡◌, ℕ, ◌+◌, ◌<◌, ◌≤◌, true, false, List, [], ◌∷◌, ◌++◌, length, length-append, not, refl, sym, ◌∙◌, ap, subst, arith, inl, inr, lt-ltb, le-ltb}
+use Rattle.std.specs.Prelude.{Option, Some, None, Result, Ok, Err, IfSome, OnOk, OnErr, is_some, nat_lt, if◌then◌else◌}
 use Rattle.std.specs.Io.KnownBytes.{Appends}
+use Rattle.dd_file.specs.Device.{AppendsPart}
 use Rattle.dd_file.specs.Reading.{Script}
 use Rattle.dd_file.specs.declared.fault.FileFault.{FileFault}
 use Rattle.conf_change.specs.Configuration.{Configuration, is_valid}
 use Rattle.conf_tool.specs.Answered.{script, prepended, with_front, WroteFront, HasPlanned, pairs_within, pairs_left, with_status, plan_left}
-use Rattle.conf_tool.specs.Outputs.{Output, ends, pair_text, worse_of, pair_then, ends_within, planned_pairs}
-use Rattle.conf_tool.specs.Pairs.{NumberedLine, numbered, is_passed_over, configuration_lines, configuration_at, both_of}
+use Rattle.conf_tool.specs.Outputs.{Output, ends, pair_text, worse_of, pair_then, ends_within, planned_pairs, planned_script}
+use Rattle.conf_tool.specs.Pairs.{NumberedLine, numbered, is_passed_over, configuration_lines, configuration_at, both_of, IsFaultOf}
+use Rattle.conf_tool.specs.Run.{Wrote, IsStop}
+use Rattle.conf_tool.specs.declared.mode.Mode.TheVariants.{Plan as OfPlan}
 use Rattle.conf_tool.specs.PlanAnswer.{plan_status}
 use Rattle.conf_tool.specs.declared.configurations_fault.ConfigurationsFault.{ConfigurationsFault}
 use Rattle.conf_tool.specs.declared.configurations_fault.ConfigurationsFault.TheVariants.{NotTwoLines}
@@ -16,7 +19,16 @@ use Rattle.conf_tool.specs.declared.status.Status.{Status}
 use Rattle.conf_tool.specs.declared.status.Status.TheVariants.{Clean, Different}
 use Rattle.conf_tool.specs.declared.tool_fault.ToolFault.{ToolFault}
 use Rattle.conf_tool.specs.declared.tool_fault.ToolFault.TheVariants.{Script as ScriptFault, Configurations}
-use Rattle.conf_tool.proofs.ModeOutput.FirstParts.{wrote-part}
+use Rattle.conf_tool.proofs.ModeOutput.FirstParts.{appends-nothing, wrote-part, wrote-broken, wrote-all}
+
+-- ---- what holds after a call
+pub on-ok : {X : Type 0} (result : Result X ToolFault) (A B C P : Type 0) → OnOk result A → OnOk result B → OnOk result C → (A → B → C → P) → OnOk result P
+on-ok (Ok x) A B C P a b c gives = gives a b c
+on-ok (Err fault) A B C P a b c gives = tt
+
+pub on-err : {X : Type 0} (result : Result X ToolFault) (A P : Type 0) → OnErr result A → (A → P) → OnErr result P
+on-err (Ok x) A P a gives = tt
+on-err (Err fault) A P a gives = gives a
 
 -- ---- statuses
 worse_of-twice : (a b c : Status) (outcome : Result Status ToolFault) → ◌≡◌ {A = Result Status ToolFault} (Ok c) (worse_of a (Ok b)) → worse_of a (worse_of b outcome) ≡ worse_of c outcome
@@ -29,6 +41,18 @@ worse_of-twice Different Clean Clean (Ok later) e = cc
 worse_of-twice Different Clean Different (Ok later) e = refl
 worse_of-twice Different Different Clean (Ok later) e = cc
 worse_of-twice Different Different Different (Ok later) e = refl
+
+abbrev worse : Status → Status → Status
+worse Clean later = later
+worse Different later = Different
+
+worse-is : (a b : Status) → ◌≡◌ {A = Result Status ToolFault} (Ok (worse a b)) (worse_of a (Ok b))
+worse-is Clean b = refl
+worse-is Different b = refl
+
+worse_of-begin : (outcome : Result Status ToolFault) → worse_of Clean outcome ≡ outcome
+worse_of-begin (Ok status) = refl
+worse_of-begin (Err fault) = refl
 
 worse_of-clean : (status : Status) → worse_of status (Ok Clean) ≡ Ok status
 worse_of-clean Clean = refl
@@ -100,20 +124,35 @@ pub plan_left-fault : (options : PlanOptions) (count number : ℕ) (now : Option
 plan_left-fault options count number None status fault = refl
 plan_left-fault options count number (Some now) status fault = refl
 
-pub plan_left-within : (options : PlanOptions) (count number : ℕ) (now : Configuration) (status : Status) →
-    plan_left options count number (Some now) status (script [] None) ≡ ends (Err (Configurations NotTwoLines))
-plan_left-within options count number now status = refl
+pub plan_left-within : (options : PlanOptions) (count number : ℕ) (now : Option Configuration) (status : Status) → is_some now ≡ true →
+    plan_left options count number now status (script [] None) ≡ ends (Err (Configurations NotTwoLines))
+plan_left-within options count number None status there = cc
+plan_left-within options count number (Some now) status there = refl
 
-pub plan_left-no_pair : (options : PlanOptions) (count number : ℕ) (status : Status) → nat_lt 1 number ≡ false →
-    plan_left options count number None status (script [] None) ≡ ends (Err (Configurations NotTwoLines))
-plan_left-no_pair options count number status none = simp none refl
+pub plan_left-no_pair : (options : PlanOptions) (count number : ℕ) (now : Option Configuration) (status : Status) → is_some now ≡ false → number ≤ 1 →
+    plan_left options count number now status (script [] None) ≡ ends (Err (Configurations NotTwoLines))
+plan_left-no_pair options count number None status none few = let none_yet : nat_lt 1 number ≡ false = le-ltb 1 number few in simp none_yet refl
+plan_left-no_pair options count number (Some now) status none few = cc
 
-pub plan_left-ended : (options : PlanOptions) (count number : ℕ) (status : Status) → nat_lt 1 number ≡ true →
-    plan_left options count number None status (script [] None) ≡ ends (Ok status)
-plan_left-ended options count number status some = simp some (ap ends (worse_of-clean status))
+pub plan_left-ended : (options : PlanOptions) (count number : ℕ) (now : Option Configuration) (status : Status) → is_some now ≡ false → 1 < number →
+    plan_left options count number now status (script [] None) ≡ ends (Ok status)
+plan_left-ended options count number None status none some = let one : nat_lt 1 number ≡ true = lt-ltb 1 number some in simp one (ap ends (worse_of-clean status))
+plan_left-ended options count number (Some now) status none some = cc
 
 -- ---- what was answered after a line
-pub planned-part : (options : PlanOptions) (count count_after number number_after : ℕ) (now now_after : Option Configuration) (status status_after : Status) (line text bytes : List ℕ)
+pub planned-begin : (options : PlanOptions) (held : Option (List ℕ)) → HasPlanned options 0 1 None Clean (planned_script options) [] held held
+planned-begin options held = record {
+  front = record {
+    text = [];
+    wrote = appends-nothing held;
+    is = λ rest. ap (λ o. record { text = (planned_script options rest).text; outcome = o }) (sym (worse_of-begin (planned_script options rest).outcome));
+  };
+  counted = refl;
+  few = omega arith;
+  valid = tt;
+}
+
+planned-part : (options : PlanOptions) (count count_after number number_after : ℕ) (now now_after : Option Configuration) (status status_after : Status) (line text bytes : List ℕ)
     (total : Script (List ℕ) → Output) (parts : List (List ℕ)) (before mid new : Option (List ℕ)) →
     HasPlanned options count number now status total parts before mid →
     ((rest : Script (List ℕ)) → plan_left options count number now status (prepended (line ∷ []) rest) ≡ with_front text (plan_left options count_after number_after now_after status_after rest)) →
@@ -125,3 +164,59 @@ planned-part options count count_after number number_after now now_after status 
   few = omega (arith, length-append parts (line ∷ []), planned.few, few);
   valid = valid;
 }
+
+-- a line that is passed over
+pub planned-passed : (options : PlanOptions) (count number : ℕ) (now : Option Configuration) (status : Status) (line : List ℕ) (total : Script (List ℕ) → Output) (parts : List (List ℕ)) (before mid : Option (List ℕ)) →
+    is_passed_over line ≡ true → HasPlanned options count number now status total parts before mid → HasPlanned options (count + 1) number now status total (parts ++ line ∷ []) before mid
+planned-passed options count number now status line total parts before mid passed planned =
+    planned-part options count (count + 1) number number now now status status line [] [] total parts before mid mid planned
+    (plan_left-passed options count number now status line passed) refl (omega arith) planned.valid refl (appends-nothing mid)
+
+-- the first line of a pair
+pub planned-first : (options : PlanOptions) (count number : ℕ) (now : Option Configuration) (status : Status) (line : List ℕ) (first : Configuration) (total : Script (List ℕ) → Output) (parts : List (List ℕ)) (before mid : Option (List ℕ)) →
+    now ≡ None → is_passed_over line ≡ false → configuration_at (record { number = count + 1; text = line }) ≡ Ok first → is_valid first ≡ true →
+    HasPlanned options count number now status total parts before mid → HasPlanned options (count + 1) number (Some first) status total (parts ++ line ∷ []) before mid
+planned-first options count number now status line first total parts before mid none kept is valid planned =
+    planned-part options count (count + 1) number number None (Some first) status status line [] [] total parts before mid mid (subst (λ n. HasPlanned options count number n status total parts before mid) none planned)
+    (plan_left-first options count number status line first kept is) refl (omega arith) valid refl (appends-nothing mid)
+
+-- the second line
+pub planned-second : (options options_after : PlanOptions) (count count_after number number_after : ℕ) (now now_after : Option Configuration) (status status_after : Status) (line : List ℕ) (first second : Configuration)
+    (total : Script (List ℕ) → Output) (parts : List (List ℕ)) (before mid new : Option (List ℕ)) →
+    now ≡ Some first → is_passed_over line ≡ false → configuration_at (record { number = count + 1; text = line }) ≡ Ok second →
+    options_after ≡ options → count_after ≡ count + 1 → number_after ≡ number + 1 → now_after ≡ None →
+    ◌≡◌ {A = Result Status ToolFault} (Ok status_after) (worse_of status (Ok (plan_status options first second))) → Appends mid new (pair_text options number first second) →
+    HasPlanned options count number now status total parts before mid → HasPlanned options_after count_after number_after now_after status_after total (parts ++ line ∷ []) before new
+planned-second options options_after count count_after number number_after now now_after status status_after line first second total parts before mid new there kept is same next following none worse appends planned =
+    let after = planned-part options count (count + 1) number (number + 1) (Some first) None status status_after line (pair_text options number first second) (pair_text options number first second) total parts before mid new
+          (subst (λ n. HasPlanned options count number n status total parts before mid) there planned)
+          (plan_left-second options count number first second status status_after line kept is worse) refl (omega arith) tt refl appends in
+    rw (same, next, following, none) after
+
+-- .. whose output is broken off
+pub planned-broken : (options : PlanOptions) (count number : ℕ) (now : Option Configuration) (status : Status) (line : List ℕ) (first second : Configuration)
+    (total : Script (List ℕ) → Output) (parts more : List (List ℕ)) (fault : Option FileFault) (before mid new : Option (List ℕ)) →
+    now ≡ Some first → is_passed_over line ≡ false → configuration_at (record { number = count + 1; text = line }) ≡ Ok second → AppendsPart mid new (pair_text options number first second) →
+    HasPlanned options count number now status total parts before mid → AppendsPart before new (total (script (parts ++ line ∷ more) fault)).text
+planned-broken options count number now status line first second total parts more fault before mid new there kept is cut planned =
+    wrote-broken total (plan_left options count number (Some first) status) (plan_left options (count + 1) (number + 1) None (worse status (plan_status options first second))) parts line
+    (pair_text options number first second) (pair_text options number first second) before mid new (subst (λ n. HasPlanned options count number n status total parts before mid) there planned).front
+    (plan_left-second options count number first second status (worse status (plan_status options first second)) line kept is (worse-is status (plan_status options first second))) refl cut more fault
+
+-- a line that names no configuration stops the run
+pub planned-stop : (options : PlanOptions) (count number : ℕ) (now : Option Configuration) (status : Status) (line : List ℕ) (stop : ToolFault) (mid : Option (List ℕ)) →
+    is_passed_over line ≡ false → IsFaultOf (configuration_at (record { number = count + 1; text = line })) stop →
+    IsStop OfPlan stop ((total : Script (List ℕ) → Output) (parts more : List (List ℕ)) (fault : Option FileFault) (before : Option (List ℕ)) →
+        HasPlanned options count number now status total parts before mid → Wrote (total (script (parts ++ line ∷ more) fault)) (Err stop) before mid)
+planned-stop options count number now status line stop mid kept (inl memory) = subst (λ s. IsStop OfPlan s (Whole s)) (sym memory) tt
+  where
+    Whole : ToolFault → Type 0
+    Whole s = (total : Script (List ℕ) → Output) (parts more : List (List ℕ)) (fault : Option FileFault) (before : Option (List ℕ)) →
+        HasPlanned options count number now status total parts before mid → Wrote (total (script (parts ++ line ∷ more) fault)) (Err s) before mid
+planned-stop options count number now status line stop mid kept (inr bad) =
+    subst (λ s. IsStop OfPlan s (Whole s)) (sym bad.1) (tt, λ total parts more fault before planned.
+    wrote-all total (plan_left options count number now status) parts line (Err (Configurations bad.0)) before mid planned.front (plan_left-bad options count number now status line bad.0 kept bad.2) more fault)
+  where
+    Whole : ToolFault → Type 0
+    Whole s = (total : Script (List ℕ) → Output) (parts more : List (List ℕ)) (fault : Option FileFault) (before : Option (List ℕ)) →
+        HasPlanned options count number now status total parts before mid → Wrote (total (script (parts ++ line ∷ more) fault)) (Err s) before mid

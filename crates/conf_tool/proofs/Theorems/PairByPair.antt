@@ -1,5 +1,5 @@
 -- That `plan` prints the texts of its pairs in turn, and that each pair is of valid configurations.
-use Rattle.std.proofs.Common.{◌≡◌, ℕ, ◌+◌, ◌≤◌, true, cond, List, [], ◌∷◌, ◌++◌, refl, sym, ◌∙◌, ap, subst, arith, ltb-true}
+use Rattle.std.proofs.Common.{◌≡◌, ℕ, ◌+◌, ◌≤◌, true, cond, List, [], ◌∷◌, ◌++◌, refl, sym, ◌∙◌, ap, subst, arith, lt-ltb}
 use Rattle.std.specs.Prelude.{Option, Some, None, Result, Ok, Err, nat_lt, if◌then◌else◌}
 use Rattle.std.specs.List.{AllZip}
 use Rattle.std.proofs.lemmas.List.{append_assoc, append-nil}
@@ -64,7 +64,7 @@ behind part number (text ∷ texts) = (if nat_lt 1 number then part else []) ++ 
 then-behind : (part front text : List ℕ) (number : ℕ) (texts : List (List ℕ)) → 1 ≤ number → (front ++ text) ++ behind part (number + 1) texts ≡ front ++ parted_by part (text ∷ texts)
 then-behind part front text number [] some = append-nil (front ++ text)
 then-behind part front text number (next ∷ texts) some =
-    let second : nat_lt 1 (number + 1) ≡ true = ltb-true 1 (number + 1) (omega (arith, some)) in
+    let second : nat_lt 1 (number + 1) ≡ true = lt-ltb 1 (number + 1) (omega (arith, some)) in
     ap (λ b. (front ++ text) ++ (cond b part [] ++ parted_by part (next ∷ texts))) second ∙ append_assoc front text (part ++ parted_by part (next ∷ texts))
 
 half-text : (first : Found) (fault : Option FileFault) → (ends_within first fault).text ≡ []

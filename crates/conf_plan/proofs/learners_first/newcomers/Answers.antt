@@ -8,8 +8,8 @@ use Rattle.conf_plan.proofs.learners_first.newcomers.Goals as goal
 pub returns : goal.returns
 returns g c =
     let target = c.args.target.now in
-    let incoming = g.S.MemberSet.ids c.args.incoming.now in
-    let learners = g.S.MemberSet.ids c.args.learners.now in
+    let incoming = g.S.MemberSet.ids c.args.start.now.incoming.now in
+    let learners = g.S.MemberSet.ids c.args.start.now.learners.now in
     let voters = g.S.MemberSet.ids c.in_ok-voters.voters in
     let all = c.in_ok-voters.ensures ∙ ap (λ (d : Configuration). ids_of (ascending d.incoming ++ ascending d.outgoing)) c.target.view_is in
     IfOk-weaker c.picked.result (λ ids. g.S.MemberSet.ids ids ≡ ids_where (λ id. not (has incoming id) && not (has learners id)) (ascending voters)) _

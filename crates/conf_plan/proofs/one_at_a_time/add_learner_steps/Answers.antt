@@ -13,7 +13,7 @@ use Rattle.conf_plan.proofs.one_at_a_time.add_learner_steps.Goals.{in-Some+in-So
 
 pub loop-index-preserved : goal.loop-index-preserved
 loop-index-preserved g c =
-    let start = single_with (g.S.MemberSet.ids c.args.incoming.now) (g.S.MemberSet.ids c.args.learners.now) in
+    let start = single_with (g.S.MemberSet.ids c.args.start.now.incoming.now) (g.S.MemberSet.ids c.args.start.now.learners.now) in
     let target = c.args.target.now in
     let ids = ascending (g.S.MemberSet.ids c.in_ok-all.all) in
     let before = c.args.steps.now.items in

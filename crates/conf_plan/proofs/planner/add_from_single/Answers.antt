@@ -14,13 +14,13 @@ returns-then-len-ne0 g c =
     let target = c.args.target.now in
     let joint = is_joint-from_count target c.len.result (c.len.ensures ∙ ap (λ d. size d.outgoing) c.target.view_is) c.if-len-ne0.true in
     let P : List Step → Type 0 = λ more. OnOk c.add_joint_steps.result (IsAdded c.args.steps.now.items more c.add_joint_steps.new.steps.items) in
-    subst P (sym (from_single-joint (g.S.MemberSet.ids c.args.incoming.now) (g.S.MemberSet.ids c.args.learners.now) target joint)) c.add_joint_steps.ensures
+    subst P (sym (from_single-joint (g.S.MemberSet.ids c.args.start.now.incoming.now) (g.S.MemberSet.ids c.args.start.now.learners.now) target joint)) c.add_joint_steps.ensures
 
 pub returns-then-symdiff-eq0-2 : goal.returns-then-symdiff-eq0-2
 returns-then-symdiff-eq0-2 g c =
     let target = c.args.target.now in
-    let voters = g.S.MemberSet.ids c.args.incoming.now in
-    let learners = g.S.MemberSet.ids c.args.learners.now in
+    let voters = g.S.MemberSet.ids c.args.start.now.incoming.now in
+    let learners = g.S.MemberSet.ids c.args.start.now.learners.now in
     let single = is_joint-not_from_count target c.len.result (c.len.ensures ∙ ap (λ d. size d.outgoing) c.target.view_is) c.if-len-ne0.false in
     let voters_same = ap (λ d. is_same_set voters d.incoming) (sym c.target.view_is) ∙ is_same_set-from_count voters _ c.symdiff.result c.symdiff.ensures c.if-symdiff-eq0.true in
     let learners_same = ap (λ d. is_same_set learners d.learners) (sym c.target.view_is)
@@ -31,8 +31,8 @@ returns-then-symdiff-eq0-2 g c =
 pub returns-else-symdiff-eq0 : goal.returns-else-symdiff-eq0
 returns-else-symdiff-eq0 g c =
     let target = c.args.target.now in
-    let voters = g.S.MemberSet.ids c.args.incoming.now in
-    let learners = g.S.MemberSet.ids c.args.learners.now in
+    let voters = g.S.MemberSet.ids c.args.start.now.incoming.now in
+    let learners = g.S.MemberSet.ids c.args.start.now.learners.now in
     let start = single_with voters learners in
     let single = is_joint-not_from_count target c.len.result (c.len.ensures ∙ ap (λ d. size d.outgoing) c.target.view_is) c.if-len-ne0.false in
     let whole : single_steps start target.incoming target.learners ≡ planned_from_single start target =

@@ -9,8 +9,8 @@ use Rattle.conf_plan.proofs.planner.add_joint_steps.Goals as goal
 pub returns : goal.returns
 returns g c =
     let target = c.args.target.now in
-    let voters = g.S.MemberSet.ids c.args.incoming.now in
-    let start = single_with voters (g.S.MemberSet.ids c.args.learners.now) in
+    let voters = g.S.MemberSet.ids c.args.start.now.incoming.now in
+    let start = single_with voters (g.S.MemberSet.ids c.args.start.now.learners.now) in
     let out = ap (λ d. d.outgoing) c.target.view_is in
     let shared = c.in_ok-shared.ensures in
     let differs = ap (is_same_set voters) (sym out) ∙ is_same_set-not_from_count voters _ c.symdiff.result c.symdiff.ensures c.if-symdiff-eq0.false in

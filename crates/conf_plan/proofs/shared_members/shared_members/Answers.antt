@@ -10,5 +10,5 @@ returns g c =
     let target = c.args.target.now in
     let members = g.S.MemberSet.ids c.in_ok-members.members in
     IfOk-weaker c.picked.result (λ shared. g.S.MemberSet.ids shared ≡ ids_where (is_shared target) (ascending members)) _
-    (λ shared is. shared_members-picked (g.S.MemberSet.ids c.args.incoming.now) (g.S.MemberSet.ids c.args.learners.now) members (g.S.MemberSet.ids shared) target c.in_ok-members.ensures is)
+    (λ shared is. shared_members-picked (g.S.MemberSet.ids c.args.start.now.incoming.now) (g.S.MemberSet.ids c.args.start.now.learners.now) members (g.S.MemberSet.ids shared) target c.in_ok-members.ensures is)
     (c.picked.ensures (is_shared target) (λ id answer given. search rules))

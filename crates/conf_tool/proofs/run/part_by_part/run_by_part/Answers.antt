@@ -1,14 +1,14 @@
 use Rattle.std.proofs.Common.{ap, ◌≤◌, ◌∙◌, ◌++◌, ◌∷◌, [], sym, subst, refl, arith}
-use Rattle.std.specs.Prelude.{Some, Err}
+use Rattle.std.specs.Prelude.{Some}
 use Rattle.std.proofs.lemmas.Result.{err_from_is_err_and}
 use Rattle.dd_file.specs.Device.{AppendsPart, LosesPrefix}
 use Rattle.dd_file.specs.Position.{longest_input, start}
 use Rattle.dd_file.specs.Reading.{script_from}
 use Rattle.dd_file.specs.ReaderState.{ReaderState}
 use Rattle.conf_tool.specs.Answered.{script}
-use Rattle.conf_tool.specs.Run.{Means, Wrote}
+use Rattle.conf_tool.specs.Run.{Means}
 use Rattle.conf_tool.proofs.ModeInput.PlaceReached.{Reached, loses-nothing, loses-more, reached-begin, reached-end, reached-fault, reached-part, reached-next, reached-front}
-use Rattle.conf_tool.proofs.ModeInput.Faults.{input-fault, input-uncut, reader-fault, reader-means, reader-read, reader-unwritten, stop-means, stop-weaker, or-false, or-fault}
+use Rattle.conf_tool.proofs.ModeInput.Faults.{input-fault, input-uncut, reader-fault, reader-means, reader-read, reader-unwritten, stop-means, or-false, or-fault}
 use Rattle.conf_tool.proofs.run.part_by_part.run_by_part.Goals as goal
 
 pub each-init : goal.each-init
@@ -72,10 +72,8 @@ returns-in_err-answer-in-Ok-Some-clause-output g c = λ total begun input more a
     let part = c.in_err-answer-in-Ok-Some.ensures.part _ _ front.rest.items front.rest.fault _ answered in
     let before = g.W.Sink.contents c.args.writer.now in
     let after = g.W.Sink.contents c.answer.new.writer in
-    let output = total (script_from g.S.Parts.coming start input) in
-    let stop = stop-weaker _ _ _ (Wrote output (Err c.in_err-answer-in-Ok-Some.e) before after) (λ all.
-    subst (λ s. Wrote (total s) (Err c.in_err-answer-in-Ok-Some.e) before after) (sym front.is) (all _ _ front.rest.items front.rest.fault _ answered)) c.in_err-answer-in-Ok-Some.ensures.kinds in
-    rw (p.1, p.2) (stop-means _ _ output before after stop (subst (λ s. AppendsPart before after (total s).text) (sym front.is) part))
+    rw (p.1, p.2) (stop-means _ _ total (script_from g.S.Parts.coming start input) _ before after _ front.is c.in_err-answer-in-Ok-Some.ensures.kinds
+    (λ all. all _ _ front.rest.items front.rest.fault _ answered) part)
 
 pub returns-in_err-answer-in-Ok-Some-clause-taken : goal.returns-in_err-answer-in-Ok-Some-clause-taken
 returns-in_err-answer-in-Ok-Some-clause-taken g c = loses-more _ _ _ c.each.invariant.reached.taken c.in_ok-found.ensures.reads.moves.taken
