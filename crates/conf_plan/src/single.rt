@@ -1,7 +1,7 @@
-//! Configurations that are not joint, where a path begins.
+//! Where a path begins, once a joint configuration is left.
 use quorum_sets::MemberSet;
 
-// The voters and the learners of a configuration that is not joint, whoever has them.
+// A configuration that is not joint, by its voters and its learners.
 #[derive(Clone, Copy)]
 pub(crate) struct Single<'a, S: MemberSet> {
     pub(crate) incoming: &'a S,

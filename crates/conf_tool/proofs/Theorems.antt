@@ -5,3 +5,5 @@ pub mod RewrittenScript
 pub mod PairByPair
 pub mod BestPlan
 pub mod UndoneScript
+pub mod ServingPaths
+pub mod PlanScript

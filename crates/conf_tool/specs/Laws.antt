@@ -6,18 +6,22 @@ use Rattle.dd_file.specs.Position.{longest_input}
 use Rattle.dd_file.specs.Reading.{Script, script_of, listing_of}
 use Rattle.dd_file.specs.declared.item.Item.{Item}
 use Rattle.conf_change.specs.declared.floor.Floor.{Floor}
+use Rattle.conf_change.specs.declared.floor.Floor.TheVariants.{One}
 use Rattle.conf_change.specs.Configuration.{Configuration, has_voter}
 use Rattle.conf_change.specs.declared.step.Step.{Step}
 use Rattle.conf_plan.specs.Best.{IsBest}
+use Rattle.conf_plan.specs.PathBy.{has_path, Serves}
 use Rattle.conf_plan.specs.PlanSteps.{IsPlan}
 use Rattle.conf_plan.specs.PlanText.{plan_text}
 use Rattle.conf_session.specs.SessionState.{SessionState, new_session, current}
 use Rattle.conf_session.specs.Undo.{undo_plan_of}
 use Rattle.conf_tool.specs.Pairs.{NumberedLine, numbered, configuration_lines, configuration_at, both_of}
 use Rattle.conf_tool.specs.declared.configurations_fault.ConfigurationsFault.{ConfigurationsFault}
+use Rattle.conf_tool.specs.PlanScript.{script_text}
 use Rattle.conf_tool.specs.PlanAnswer.{plan_text_between}
 use Rattle.conf_tool.specs.declared.plan_options.PlanOptions.{PlanOptions}
 use Rattle.conf_tool.specs.declared.plan_options.PlanOutput.TheVariants.{Steps}
+use Rattle.conf_plan.specs.declared.strategy.Strategy.{Strategy}
 use Rattle.conf_plan.specs.declared.strategy.Strategy.TheVariants.{Shortest}
 use Rattle.std.specs.List.{AllZip}
 use Rattle.conf_tool.specs.Outputs.{session_after_all, checked, rewritten, undone_output, planned_output}
@@ -86,10 +90,25 @@ abbrev pub IsBestPlan : Configuration × Configuration → List ℕ → Type 0
 IsBestPlan pair text = has_voter pair.0 ≡ true → has_voter pair.1 ≡ true → (steps : List Step) × (text ≡ plan_text steps) × IsBest pair.0 steps pair.1
 
 -- What `plan` prints is the texts of the pairs in turn with an empty line between each two, and each is the best plan.
--- Of an input with one pair nothing else is printed, and the run ends clean.
+-- Of an input with one pair nothing else is printed, and the run ends clean if no ids are down.
 pub record PrintedPlanIsBest : Type 0 where
   pub each : (options : PlanOptions) (input : List ℕ) → options.strategy ≡ Shortest → options.output ≡ Steps →
       (texts : List (List ℕ)) × ((planned_output options input).text ≡ parted_by newline texts) × AllZip IsBestPlan (pairs_in input) texts
-  pub alone : (options : PlanOptions) (input : List ℕ) (first second : NumberedLine) (now target : Configuration) → options.strategy ≡ Shortest → options.output ≡ Steps →
+  pub alone : (options : PlanOptions) (input : List ℕ) (first second : NumberedLine) (now target : Configuration) → options.strategy ≡ Shortest → options.output ≡ Steps → options.down ≡ None →
       (listing_of input).fault ≡ None → configuration_lines (numbered 1 (listing_of input).items) ≡ first ∷ second ∷ [] → configuration_at first ≡ Ok now → configuration_at second ≡ Ok target →
       has_voter now ≡ true → has_voter target ≡ true → (steps : List Step) × (planned_output options input ≡ record { text = plan_text steps; outcome = Ok Clean }) × IsBest now steps target
+
+-- a text is that of a path by the strategy, which keeps what the strategy promises, if both configurations have voters and there is one
+abbrev pub IsServingPath : Strategy → Configuration × Configuration → List ℕ → Type 0
+IsServingPath strategy pair text =
+    has_voter pair.0 ≡ true → has_voter pair.1 ≡ true → has_path strategy pair.0 pair.1 ≡ true → (steps : List Step) × (text ≡ plan_text steps) × Serves strategy pair.0 steps pair.1
+
+-- By each strategy, what `plan` prints is the texts of the pairs in turn with an empty line between each two, and each is a path that serves.
+abbrev pub PrintedPathServes : Type 0
+PrintedPathServes = (options : PlanOptions) (input : List ℕ) → options.output ≡ Steps →
+    (texts : List (List ℕ)) × ((planned_output options input).text ≡ parted_by newline texts) × AllZip (IsServingPath options.strategy) (pairs_in input) texts
+
+-- The script of a path checks clean, in the session that `check` has without options.
+abbrev pub PlanScriptClean : Type 0
+PlanScriptClean = (now : Configuration) (steps : List Step) →
+    length (script_text now steps) ≤ longest_input → (checked (script_text now steps) 100 One).outcome ≡ Ok Clean

@@ -9,7 +9,7 @@ use Rattle.clap.specs.declared.builder.value_parser.ValueParser.TheVariants.{Uns
 use Rattle.conf_change.specs.declared.floor.Floor.{Floor}
 use Rattle.conf_change.specs.declared.floor.Floor.TheVariants.{Zero, One}
 use Rattle.conf_plan.specs.declared.strategy.Strategy.{Strategy}
-use Rattle.conf_plan.specs.declared.strategy.Strategy.TheVariants.{Shortest, LearnersFirst}
+use Rattle.conf_plan.specs.declared.strategy.Strategy.TheVariants.{Shortest, LearnersFirst, OneAtATime}
 use Rattle.conf_tool.specs.IdList.{ids_listed}
 use Rattle.conf_tool.specs.declared.argument_fault.ArgumentFault.{ArgumentFault}
 use Rattle.conf_tool.specs.declared.argument_fault.ArgumentFault.TheVariants.{Clap, BadIds, NoMemory}
@@ -19,7 +19,7 @@ use Rattle.conf_tool.specs.declared.invocation.Invocation.{Invocation}
 use Rattle.conf_tool.specs.declared.mode.Mode.{Mode}
 use Rattle.conf_tool.specs.declared.mode.Mode.TheVariants.{Lines, Check, Rewrite, Undo, Plan}
 use Rattle.conf_tool.specs.declared.plan_options.PlanOutput.{PlanOutput}
-use Rattle.conf_tool.specs.declared.plan_options.PlanOutput.TheVariants.{Steps, Script}
+use Rattle.conf_tool.specs.declared.plan_options.PlanOutput.TheVariants.{Steps, Script, Table}
 
 -- a mode, with the file to read
 abbrev pub mode_command : Text → App
@@ -74,8 +74,8 @@ AreNames names texts = map (λ name. name.now) names.now ≡ texts
 -- the names that the options of the program have
 pub record AreOptionNames (names : OptionNames) : Type 0 where
   pub floors : AreNames names.floors (codes "0" ∷ codes "1" ∷ [])
-  pub strategies : AreNames names.strategies (codes "shortest" ∷ codes "learners-first" ∷ [])
-  pub outputs : AreNames names.outputs (codes "steps" ∷ codes "script" ∷ [])
+  pub strategies : AreNames names.strategies (codes "shortest" ∷ codes "learners-first" ∷ codes "one-at-a-time" ∷ [])
+  pub outputs : AreNames names.outputs (codes "steps" ∷ codes "script" ∷ codes "table" ∷ [])
 
 -- this holds of the program whose options have these names
 abbrev pub OfProgram : (App → Type 0) → Type 0
@@ -110,7 +110,7 @@ asked_floor (Some text) = floor_named text
 
 -- the strategy that an option asks for: the shortest plan if it is left out
 abbrev pub strategy_named : Text → Strategy
-strategy_named text = if bytes_eq text (codes "learners-first") then LearnersFirst else Shortest
+strategy_named text = if bytes_eq text (codes "learners-first") then LearnersFirst else (if bytes_eq text (codes "one-at-a-time") then OneAtATime else Shortest)
 
 abbrev pub asked_strategy : Option Text → Strategy
 asked_strategy None = Shortest
@@ -118,7 +118,7 @@ asked_strategy (Some text) = strategy_named text
 
 -- the form that an option asks for: steps if it is left out
 abbrev pub output_named : Text → PlanOutput
-output_named text = if bytes_eq text (codes "script") then Script else Steps
+output_named text = if bytes_eq text (codes "script") then Script else (if bytes_eq text (codes "table") then Table else Steps)
 
 abbrev pub asked_output : Option Text → PlanOutput
 asked_output None = Steps

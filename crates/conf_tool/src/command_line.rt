@@ -45,8 +45,8 @@ pub fn command_line<'a, S: AsStr>(
 {
     let names = OptionNames {
         floors: &["0", "1"],
-        strategies: &["shortest", "learners-first"],
-        outputs: &["steps", "script"],
+        strategies: &["shortest", "learners-first", "one-at-a-time"],
+        outputs: &["steps", "script", "table"],
     };
     read_words(alloc, words, names)
 }
@@ -177,6 +177,7 @@ fn strategy_named(name: &str) -> Strategy
 {
     match name {
         "learners-first" => Strategy::LearnersFirst,
+        "one-at-a-time" => Strategy::OneAtATime,
         _ => Strategy::Shortest,
     }
 }
@@ -197,6 +198,7 @@ fn output_named(name: &str) -> PlanOutput
 {
     match name {
         "script" => PlanOutput::Script,
+        "table" => PlanOutput::Table,
         _ => PlanOutput::Steps,
     }
 }

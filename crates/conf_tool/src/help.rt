@@ -5,11 +5,11 @@ pub(crate) const PROGRAM: &str = "Examples:
   printf 'v1\\nv2\\nl3\\n' | confscript lines
   confscript check script.txt
   confscript undo --steps 2 script.txt
-  confscript plan two_lines.txt
+  confscript plan --strategy learners-first two_lines.txt
 
 Exit statuses:
   0  done
-  1  check found a difference, or undo or plan has no plan
+  1  check found a difference, or undo or plan has no plan, or a plan stalls
   2  the arguments or the input are wrong
   3  a file, a read or a write failed, or memory ran out
 
@@ -136,17 +136,28 @@ it prints
 
 /// The help of `plan`.
 pub(crate) const PLAN: &str =
-    "Reads two lines, the current configuration and the target, each as the command
-conf-state prints it. Prints the steps that lead from the one to the other, at
-most four. No other plan has fewer steps, keeps the progress of a member that
-this one resets, or names a member in fewer changes. The voters before and
-after each step overlap.
+    "Reads pairs of lines, the current configuration and the target, each as the
+command conf-state prints it. Prints for each pair the steps that lead from the
+one to the other, with an empty line between two pairs. Blank lines and lines
+that begin with # are passed over.
 
-A plan does not see logs: a new voter begins with an empty one. From [1 2 3] to
-[3 4 5] nothing commits until 4 or 5 has caught up.
+Strategies:
+  shortest        at most four steps. No other plan has fewer, keeps the
+                  progress of a member that this one resets, or names a member
+                  in fewer changes
+  learners-first  at most one step more: new voters are learners first
+  one-at-a-time   each step changes one member; the target must not be joint
 
-Where there is nothing to do it says so. Where a configuration has no voter it
-prints that there is no plan, in a comment, and the status is 1.
+Outputs:
+  steps   one step a line
+  script  a script that starts from the current configuration; it checks clean
+  table   who votes and learns at each step, and what the cluster endures there
+
+A plan does not see logs: a new member begins with an empty one. From [1 2 3] to
+[3 4 5] the shortest plan commits nothing until 4 or 5 has caught up.
+
+If there is no plan, it prints the reason in a comment, and the status is 1. So
+it is if some step cannot be committed with the ids of --down down.
 
 For the lines
   Voters:[1 2 3] VotersOutgoing:[] Learners:[] LearnersNext:[] AutoLeave:false
@@ -154,4 +165,9 @@ For the lines
 
 it prints
   enter-joint autoleave=false r1 v5
-  leave-joint";
+  leave-joint
+
+and with --strategy one-at-a-time
+  simple l5
+  simple v5
+  simple r1";

@@ -1,8 +1,8 @@
 //! Laws of this crate's definitions, each the contract of a function that does nothing.
-ghost use Rattle.conf_tool.specs.Laws.{RewrittenClean, JoinedClean, UndoScriptLeadsBack, PrintedPlanIsBest};
+ghost use Rattle.conf_tool.specs.Laws.{RewrittenClean, JoinedClean, UndoScriptLeadsBack, PrintedPlanIsBest, PrintedPathServes, PlanScriptClean};
 
 use conf_change::laws::one_list_per_text;
-use conf_plan::laws::{one_plan_per_text, planned_is_best};
+use conf_plan::laws::{one_plan_per_text, paths_serve, planned_is_best};
 use conf_session::laws::{answers_keep_session, found_text_stands, undo_plan_leads_back};
 use dd_file::laws::{
     directive_is_given, items_are_given, items_have_keys, joined_items, written_script,
@@ -51,4 +51,21 @@ pub fn printed_plan_is_best()
     ensures { PrintedPlanIsBest }
 {
     planned_is_best();
+}
+
+/// By each strategy, the steps that the mode `plan` prints are a path that keeps what the strategy promises, such as that no
+/// configuration on the way tolerates fewer failures than the weaker end (own).
+pub fn printed_path_serves()
+    ensures { PrintedPathServes }
+{
+    paths_serve();
+}
+
+/// The script that the mode `plan` prints of a path checks clean, if it is within the input limit (own).
+pub fn plan_script_clean()
+    ensures { PlanScriptClean }
+{
+    found_text_stands();
+    written_script();
+    directive_is_given();
 }

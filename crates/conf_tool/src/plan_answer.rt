@@ -1,7 +1,7 @@
 //! What the mode `plan` answers: the plan between two configurations, or why there is none.
 ghost use Rattle.std.specs.Prelude.{◌≡◌, true, IfOk, IsOkUnless};
-ghost use Rattle.conf_change.specs.Configuration.{is_valid};
-ghost use Rattle.conf_tool.specs.PlanAnswer.{path_text, plan_text_between, plan_status};
+ghost use Rattle.conf_change.specs.Configuration.{is_valid, is_restorable};
+ghost use Rattle.conf_tool.specs.PlanAnswer.{path_status, path_text, plan_text_between, plan_status};
 ghost use Rattle.conf_tool.specs.declared.tool_fault.ToolFault.TheVariants.{NoMemory as OutOfMemory};
 
 use crate::plan_options::{PlanOptions, PlanOutput};
@@ -11,10 +11,12 @@ use crate::tool_fault::ToolFault;
 use conf_change::Config;
 use conf_plan::{NoPath, Path, plan_by, print_path};
 use conf_session::SessionIds;
+use plan_output::{add_table, stalls};
 use quorum_sets::NoMemory;
 use std::alloc::Global;
 
-/// The text of the plan between two configurations, or that there is none, and how a run ends that writes it.
+/// The text of the plan between two configurations, or why there is none, and the status with it. The number is that of
+/// the pair, counted from 1.
 pub(crate) fn plan_answer(
     alloc: Global,
     options: &PlanOptions,
@@ -29,34 +31,66 @@ pub(crate) fn plan_answer(
     ensures memory { IsOkUnless result OutOfMemory }
 {
     match plan_by(alloc, options.strategy, now, target) {
-        Ok(path) => Ok((path_text(alloc, options.output, now, &path)?, Status::Clean)),
+        Ok(path) => path_answer(alloc, options, now, &path),
         Err(NoPath::NoVoterNow) => no_plan(
             alloc,
             b"# no plan: the current configuration has no voter\n",
         ),
-        Err(NoPath::NoVoterTarget) => {
-            no_plan(alloc, b"# no plan: the target has no voter\n")
-        }
+        Err(NoPath::NoVoterTarget) => no_plan(alloc, b"# no plan: the target has no voter\n"),
+        Err(NoPath::JointTarget) => no_plan(alloc, b"# no plan: the target is joint\n"),
         Err(NoPath::NoMemory) => Err(ToolFault::NoMemory),
     }
+}
+
+// The text of a path from a configuration, and the status with it.
+fn path_answer(
+    alloc: Global,
+    options: &PlanOptions,
+    now: &Config<SessionIds>,
+    path: &Path,
+) -> Result<(Vec<u8>, Status), ToolFault>
+    requires { is_restorable now.now ≡ true }
+    ensures text { IfOk result (λ answer. answer.0.items ≡ path_text options.now now.now path.now) }
+    ensures status { IfOk result (λ answer. answer.1 ≡ path_status options.now.down now.now path.now) }
+    ensures memory { IsOkUnless result OutOfMemory }
+{
+    let text = path_text(alloc, options, now, path)?;
+    let status = path_status(alloc, options, now, path)?;
+    Ok((text, status))
 }
 
 // The text of a path from a configuration.
 fn path_text(
     alloc: Global,
-    output: PlanOutput,
+    options: &PlanOptions,
     now: &Config<SessionIds>,
     path: &Path,
 ) -> Result<Vec<u8>, NoMemory>
-    ensures { IfOk result (λ text. text.items ≡ path_text output now.now path.now) }
+    requires { is_restorable now.now ≡ true }
+    ensures { IfOk result (λ text. text.items ≡ path_text options.now now.now path.now) }
 {
-    match output {
-        PlanOutput::Steps => {
-            let mut text = Vec::new(alloc);
-            print_path(&mut text, path)?;
-            Ok(text)
-        }
-        PlanOutput::Script => script_text(alloc, now, path),
+    let mut text = Vec::new(alloc);
+    match options.output {
+        PlanOutput::Steps => print_path(&mut text, path)?,
+        PlanOutput::Script => return script_text(alloc, now, path),
+        PlanOutput::Table => add_table(alloc, &mut text, now, path, options.down.as_ref())?,
+    }
+    Ok(text)
+}
+
+// The status with a path: whether it stalls, if ids are down.
+fn path_status(
+    alloc: Global,
+    options: &PlanOptions,
+    now: &Config<SessionIds>,
+    path: &Path,
+) -> Result<Status, NoMemory>
+    requires { is_restorable now.now ≡ true }
+    ensures { IfOk result (λ status. status ≡ path_status options.now.down now.now path.now) }
+{
+    match &options.down {
+        Some(down) if stalls(alloc, now, path, down)? => Ok(Status::Different),
+        _ => Ok(Status::Clean),
     }
 }
 

@@ -13,6 +13,8 @@ pub enum PlanOutput {
     Steps,
     /// A script that starts from the current configuration and takes the steps.
     Script,
+    /// A row for the current configuration and one for each step, with what the cluster endures there.
+    Table,
 }
 
 /// The strategy of a plan, the form in which it is printed, and the ids that are down, if some are given.

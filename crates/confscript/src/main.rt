@@ -6,7 +6,7 @@ ghost use Rattle.conf_tool.specs.Ranges.{IsInRange};
 use clap::error::ErrorKind;
 use conf_tool::command_line::command_line;
 use conf_tool::run::run_and_flush;
-use conf_tool::{Invocation, Status, ToolFault};
+use conf_tool::{ArgumentFault, Invocation, Status, ToolFault};
 use dd_file::blocks::Blocks;
 use dd_file::device::{FromRead, Source, ToWrite};
 use std::fs::File;
@@ -45,7 +45,12 @@ fn report_arguments(rt: &HostRuntime, error: &io::Error) -> ExitCode {
 fn run_arguments(rt: &HostRuntime, arguments: &[String]) -> ExitCode {
     match command_line(rt.alloc(), arguments) {
         Ok(invocation) => open(rt, invocation),
-        Err(error) => explain(rt, &error),
+        Err(ArgumentFault::Clap(error)) => explain(rt, &error),
+        Err(ArgumentFault::BadIds) => {
+            let _ = eprintln!(rt; "confscript: --down expects ids from 1 with commas between them, as in 4,6");
+            ExitCode::from(BAD_INPUT)
+        }
+        Err(ArgumentFault::NoMemory) => fail(rt, ToolFault::NoMemory),
     }
 }
 

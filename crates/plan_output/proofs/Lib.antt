@@ -2,3 +2,4 @@ mod StagesOnTheWay
 mod JoinedTexts
 mod GridLines
 mod TableRows
+mod JsonLines

@@ -1,5 +1,5 @@
 -- The JSON lines of a path: one object for each step.
-use Rattle.std.specs.Prelude.{ℕ, suc, List, [], ◌∷◌, ◌++◌, length, codes, flat_map, Option, Some, None}
+use Rattle.std.specs.Prelude.{ℕ, ◌+◌, List, [], ◌∷◌, ◌++◌, length, codes, flat_map, Option, Some, None}
 use Rattle.quorum_sets.specs.Ids.{Ids, ascending}
 use Rattle.conf_change.specs.Configuration.{Configuration}
 use Rattle.conf_change.specs.ConfState.{lists_of}
@@ -42,7 +42,7 @@ step_json down plan count number_of before step after =
 -- the objects of the steps, of which the first has this number, each from its stage to the next
 abbrev pub steps_json : Option Ids → ℕ → ℕ → ℕ → List StageState → List Step → List Data
 steps_json down plan count number_of (before ∷ after ∷ all) (step ∷ steps) =
-    step_json down plan count number_of before step after ∷ steps_json down plan count (suc number_of) (after ∷ all) steps
+    step_json down plan count number_of before step after ∷ steps_json down plan count (number_of + 1) (after ∷ all) steps
 steps_json down plan count number_of (before ∷ after ∷ all) [] = []
 steps_json down plan count number_of (before ∷ []) steps = []
 steps_json down plan count number_of [] steps = []

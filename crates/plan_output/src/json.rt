@@ -1,7 +1,6 @@
 //! The JSON lines of a path, for programs that embed etcd's raft.
 ghost use Rattle.std.specs.Prelude.{◌≡◌, ◌++◌, true, false, Some, IfOk, OnOk, OnErr, flat_map, option_copied, option_map, codes, length};
 ghost use Rattle.quorum_sets.specs.Ids.{ascending};
-ghost use Rattle.ascii_text.specs.Append.{Extends};
 ghost use Rattle.conf_change.specs.Configuration.{is_restorable};
 ghost use Rattle.serde_json.specs.Data.{object};
 ghost use Rattle.serde_json.specs.View.{view, members_view};
@@ -11,7 +10,7 @@ ghost use Rattle.plan_output.specs.Json as spec;
 ghost use Rattle.plan_output.specs.Json.{json_text, line_text, no_plan_json, no_steps_json, step_json};
 
 use crate::stage::{Stage, stages};
-use ascii_text::append::{append, keep_whole};
+use ascii_text::append::append;
 use conf_change::{Config, Step, conf_state};
 use conf_plan::Path;
 use quorum_sets::{MemberSet, NoMemory};
@@ -45,9 +44,8 @@ pub fn add_json_lines<S: MemberSet>(
     ensures ok { OnOk result (text.new.items ≡ text.old.items ++ json_text plan now.now path.now (option_map S.ids (option_copied down.entry))) }
     ensures err { OnErr result (text.new.items ≡ text.old.items) }
 {
-    let len = text.len();
-    let added = add_lines(alloc, text, plan, now, path, down);
-    keep_whole(text, len, added)
+    let lines = lines_of(alloc, plan, now, path, down)?;
+    append(text, lines.as_slice())
 }
 
 /// Appends the object of a pair that has no plan, on a line: why there is none. On `NoMemory` the text is unchanged (own).
@@ -72,45 +70,58 @@ fn add_line(alloc: Global, text: &mut Vec<u8>, value: &Value) -> Result<(), NoMe
     requires { has_float (view value.now) ≡ false }
     ensures ok { OnOk result (text.new.items ≡ text.old.items ++ line_text (view value.now)) }
     ensures err { OnErr result (text.new.items ≡ text.old.items) }
-    ensures extends { Extends text.old.items text.new.items }
 {
     let mut line = value.to_vec(alloc)?;
     line.push(b'\n')?;
     append(text, line.as_slice())
 }
 
-fn add_lines<S: MemberSet>(
+// The lines of a path.
+fn lines_of<S: MemberSet>(
     alloc: Global,
-    text: &mut Vec<u8>,
     plan: u64,
     now: &Config<S>,
     path: &Path,
     down: Option<&S>,
-) -> Result<(), NoMemory>
+) -> Result<Vec<u8>, NoMemory>
     requires { is_restorable now.now ≡ true }
-    ensures ok { OnOk result (text.new.items ≡ text.old.items ++ json_text plan now.now path.now (option_map S.ids (option_copied down.entry))) }
-    ensures extends { Extends text.old.items text.new.items }
+    ensures { IfOk result (λ lines. lines.items ≡ json_text plan now.now path.now (option_map S.ids (option_copied down.entry))) }
 {
-    let steps = path.len();
-    if steps == 0 {
-        return add_line(alloc, text, &no_steps_value(alloc, plan)?);
+    let mut lines = Vec::new(alloc);
+    if path.len() == 0 {
+        add_line(alloc, &mut lines, &no_steps_value(alloc, plan)?)?;
+        return Ok(lines);
     }
     let stages = stages(alloc, now, path)?;
-    for index in 0..steps {
-        let (Some(before), Some(step), Some(after)) =
-            (stages.get(index), path.step(index), stages.get(index + 1))
-        else {
-            break;
-        };
-        let number = Number {
-            plan,
-            steps,
-            step: index + 1,
-        };
-        let value = step_value(alloc, number, before, step, after, down)?;
-        add_line(alloc, text, &value)?;
+    for index in 0..path.len() {
+        if let Some(step) = path.step(index) {
+            let number = Number {
+                plan,
+                steps: path.len(),
+                step: index + 1,
+            };
+            let (before, after) = (&stages[index], &stages[index + 1]);
+            add_step(alloc, &mut lines, number, before, step, after, down)?;
+        }
     }
-    Ok(())
+    Ok(lines)
+}
+
+// Appends the object of a step, on a line.
+fn add_step<S: MemberSet>(
+    alloc: Global,
+    lines: &mut Vec<u8>,
+    number: Number,
+    before: &Stage<S>,
+    step: &Step,
+    after: &Stage<S>,
+    down: Option<&S>,
+) -> Result<(), NoMemory>
+    ensures { OnOk result (lines.new.items ≡ lines.old.items ++ line_text
+        (step_json (option_map S.ids (option_copied down.entry)) number.plan number.steps number.step before.now step.now after.now)) }
+{
+    let value = step_value(alloc, number, before, step, after, down)?;
+    add_line(alloc, lines, &value)
 }
 
 // The object of a path without a step.
@@ -137,7 +148,12 @@ fn step_value<S: MemberSet>(
 {
     let mut members = step_members(alloc, number, before, step, after)?;
     if let Some(down) = down {
-        put(&mut members, alloc, "commits", Value::Bool(after.commits(down)?))?;
+        put(
+            &mut members,
+            alloc,
+            "commits",
+            Value::Bool(after.commits(down)?),
+        )?;
     }
     let catch_up = ids_value(alloc, after.catching_up())?;
     put(&mut members, alloc, "catch_up", catch_up)?;
@@ -161,11 +177,21 @@ fn step_members<S: MemberSet>(
     let mut members = Map::new(alloc);
     put(&mut members, alloc, "conf_change", conf_change)?;
     put(&mut members, alloc, "conf_state", conf_state)?;
-    put(&mut members, alloc, "may_be_down", count_value(after.may_be_down()))?;
+    put(
+        &mut members,
+        alloc,
+        "may_be_down",
+        count_value(after.may_be_down()),
+    )?;
     put(&mut members, alloc, "plan", Value::from(number.plan))?;
     put(&mut members, alloc, "step", Value::from(number.step))?;
     put(&mut members, alloc, "steps", Value::from(number.steps))?;
-    put(&mut members, alloc, "until_then", count_value(after.until_then()))?;
+    put(
+        &mut members,
+        alloc,
+        "until_then",
+        count_value(after.until_then()),
+    )?;
     Ok(members)
 }
 

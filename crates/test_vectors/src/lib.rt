@@ -16,6 +16,8 @@ mod conf_states;
 #[cfg(test)]
 mod files;
 #[cfg(test)]
+mod json;
+#[cfg(test)]
 mod matching;
 #[cfg(test)]
 mod modes;

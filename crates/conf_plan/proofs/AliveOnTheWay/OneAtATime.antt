@@ -537,7 +537,7 @@ one_at_a_time-has_turns now target settled_now settled way =
     cond_both (is_same now target) _ _ (λ steps. IsRunWith (IsTurn bound) now steps target) (is_same-equal now target) (λ differs.
     let single : IsSingle target = record {
       settled = settled;
-      single = not-true (is_joint target) (elim (or_cases (is_same now target) _ way) [ inl same ↦ absurd (both_ways _ differs same) | inr single ↦ single ]);
+      single = not-true (is_joint target) (ap (λ same. same || not (is_joint target)) (sym differs) ∙ way);
     } in
     cond_both (is_joint now) _ _ (λ steps. IsRunWith (IsTurn bound) now steps target)
     (λ joint. (

@@ -1,6 +1,6 @@
 -- A set of ids that is a quorum of both ends is a quorum on the whole way of the plan.
-use Rattle.std.proofs.Common.{◌≡◌, Bool, true, false, ◌||◌, ◌⊎◌, inl, inr, refl, sym, subst}
-use Rattle.std.proofs.lemmas.Bool.{both_ways, and_parts, and_from, or_cases, or_left, or_right, not-true}
+use Rattle.std.proofs.Common.{◌≡◌, true, false, ◌||◌, ◌⊎◌, inl, inr, refl, sym, ap, subst, ◌∙◌}
+use Rattle.std.proofs.lemmas.Bool.{and_parts, and_from, or_left, or_right, not-true}
 use Rattle.quorum_sets.specs.Ids.{Ids, has, is_empty, on_most}
 use Rattle.quorum_sets.specs.Voters.{is_quorum}
 use Rattle.conf_change.specs.Configuration.{Configuration, is_joint, voters_of}
@@ -27,11 +27,9 @@ AreCovered-now now target ids of_now of_target = (and_parts _ _ of_now).0
 AreCovered-target : (now target : Configuration) → AreCovered now target target.incoming
 AreCovered-target now target ids of_now of_target = (and_parts _ _ of_target).0
 
-or_second : (a b : Bool) → a ≡ false → (a || b) ≡ true → b ≡ true
-or_second a b not_first some = elim (or_cases a b some) [ inl first ↦ absurd (both_ways a not_first first) | inr second ↦ second ]
-
 AreCovered-outgoing : (now target : Configuration) → is_joint target ≡ true → AreCovered now target target.outgoing
-AreCovered-outgoing now target joint ids of_now of_target = or_second (is_empty target.outgoing) _ (not-true (is_empty target.outgoing) joint) (and_parts _ _ of_target).1
+AreCovered-outgoing now target joint ids of_now of_target =
+    ap (λ none. none || on_most (has ids) target.outgoing) (sym (not-true (is_empty target.outgoing) joint)) ∙ (and_parts _ _ of_target).1
 
 pub HasQuorumsOf-covered : (now target c : Configuration) → AreCovered now target c.incoming → (is_empty c.outgoing ≡ true) ⊎ AreCovered now target c.outgoing → HasQuorumsOf now target c
 HasQuorumsOf-covered now target c incoming (inl none) ids of_now of_target = and_from _ _ (incoming ids of_now of_target) (or_left _ _ none)

@@ -1,6 +1,6 @@
 -- Where all voters of the target are members, the plan makes voters of learners alone, which keep their progress.
-use Rattle.std.proofs.Common.{◌≡◌, ℕ, Bool, true, false, ◌||◌, inl, inr, refl, sym, ap, subst, ◌∙◌}
-use Rattle.std.proofs.lemmas.Bool.{both_ways, and_from, and_left, or_cases, or_parts, or_left, or_right, not_from_false}
+use Rattle.std.proofs.Common.{◌≡◌, ℕ, true, false, ◌||◌, refl, sym, ap, subst, ◌∙◌}
+use Rattle.std.proofs.lemmas.Bool.{both_ways, and_from, and_left, or_parts, or_left, or_right, not_from_false}
 use Rattle.quorum_sets.specs.Ids.{Ids, has}
 use Rattle.conf_change.specs.Configuration.{Configuration, is_member}
 use Rattle.conf_change.specs.Progress.{is_replaced}
@@ -19,12 +19,9 @@ use Rattle.conf_plan.proofs.PlannedSteps.Shapes.{planned_from_single-of_shapes}
 use Rattle.conf_plan.proofs.Runs.Chains.{IsChain-append}
 use Rattle.conf_plan.proofs.AliveOnTheWay.Newcomers.{HasNoNewcomer}
 
-or_second : (a b : Bool) → a ≡ false → (a || b) ≡ true → b ≡ true
-or_second a b not_first some = elim (or_cases a b some) [ inl first ↦ absurd (both_ways a not_first first) | inr second ↦ second ]
-
 -- a member that does not vote learns
 learns : (c : Configuration) (q : ℕ) → (has c.incoming q || has c.outgoing q) ≡ false → is_member c q ≡ true → has c.learners q ≡ true
-learns c q new member = or_second (has c.incoming q || has c.outgoing q) (has c.learners q) new member
+learns c q new member = ap (λ votes. votes || has c.learners q) (sym new) ∙ member
 
 -- a step that leaves the incoming voters as they are makes nobody one
 pub MakesVotersOfReady-same : (before after : Configuration) (step : Step) → after.incoming ≡ before.incoming → MakesVotersOfReady before step after

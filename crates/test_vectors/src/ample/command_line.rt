@@ -1,8 +1,11 @@
 //! The words of the command line.
 use crate::ample::runtime::Runtime;
 use conf_change::Floor;
+use conf_plan::Strategy;
+use conf_session::SessionIds;
 use conf_tool::command_line::command_line;
-use conf_tool::{Mode, Options};
+use conf_tool::{ArgumentFault, Mode, PlanOutput};
+use quorum_sets::MemberSet;
 
 // Words that are accepted, and the mode, the file and the history that they ask for.
 static ACCEPTED: [(&[&str], Mode, Option<&str>, usize); 12] = [
@@ -94,7 +97,7 @@ static FLOORS: [(&[&str], Floor); 6] = [
 ];
 
 // Words that are refused as usage faults, and words that ask for help.
-static REFUSED: [(&[&str], i32); 25] = [
+static REFUSED: [(&[&str], i32); 36] = [
     (&["confscript"], 2),
     (&["confscript", "check", "a", "b"], 2),
     (&["confscript", "rewrite", "--history", "1001"], 2),
@@ -116,6 +119,17 @@ static REFUSED: [(&[&str], i32); 25] = [
     (&["confscript", "lines", "--history", "5"], 2),
     (&["confscript", "plan", "a", "b"], 2),
     (&["confscript", "plan", "--steps", "1"], 2),
+    (&["confscript", "plan", "--strategy", "longest"], 2),
+    (&["confscript", "plan", "--strategy", "Shortest"], 2),
+    (&["confscript", "plan", "--output", ""], 2),
+    (&["confscript", "check", "--output", "steps"], 2),
+    (&["confscript", "plan", "--down"], 2),
+    (&["confscript", "plan", "--down", ""], 2),
+    (&["confscript", "plan", "--down", "0"], 2),
+    (&["confscript", "plan", "--down", "1,,2"], 2),
+    (&["confscript", "plan", "--down", "1,"], 2),
+    (&["confscript", "plan", "--down", "1 2"], 2),
+    (&["confscript", "plan", "--down", "18446744073709551616"], 2),
     (&["confscript", "--version"], 0),
     (&["confscript", "--help"], 0),
     (&["confscript", "lines", "--help"], 0),
@@ -127,23 +141,22 @@ fn asks_for(
     rt: &impl Runtime,
     words: &[&str],
     mode: Mode,
-    options: Options,
+    history: usize,
+    steps: usize,
     file: Option<&str>,
 ) -> bool {
     let asked = command_line(rt.alloc(), words).expect(rt, "words that are taken");
-    (asked.mode == mode) & (asked.options == options) & (asked.file == file)
+    (asked.mode == mode)
+        & (asked.options.history == history)
+        & (asked.options.steps == steps)
+        & (asked.file == file)
 }
 
 #[test]
 fn takes_words(rt: HostRuntime) {
     for (words, mode, file, history) in &ACCEPTED {
-        let options = Options {
-            history: *history,
-            steps: 1,
-            floor: Floor::One,
-        };
         assert!(rt;
-            asks_for(&rt, *words, *mode, options, *file),
+            asks_for(&rt, *words, *mode, *history, 1, *file),
             "of {words:?}"
         );
     }
@@ -152,13 +165,105 @@ fn takes_words(rt: HostRuntime) {
 #[test]
 fn takes_words_to_undo(rt: HostRuntime) {
     for (words, file, history, steps) in &UNDOING {
-        let options = Options {
-            history: *history,
-            steps: *steps,
-            floor: Floor::One,
-        };
         assert!(rt;
-            asks_for(&rt, *words, Mode::Undo, options, *file),
+            asks_for(&rt, *words, Mode::Undo, *history, *steps, *file),
+            "of {words:?}"
+        );
+    }
+}
+
+// Words for the mode that plans, and the strategy, the output and the ids that are down.
+static PLANNING: [(&[&str], Strategy, PlanOutput, Option<&[u64]>); 9] = [
+    (
+        &["confscript", "plan"],
+        Strategy::Shortest,
+        PlanOutput::Steps,
+        None,
+    ),
+    (
+        &["confscript", "plan", "--strategy", "shortest"],
+        Strategy::Shortest,
+        PlanOutput::Steps,
+        None,
+    ),
+    (
+        &["confscript", "plan", "--strategy", "learners-first", "f"],
+        Strategy::LearnersFirst,
+        PlanOutput::Steps,
+        None,
+    ),
+    (
+        &["confscript", "plan", "--strategy=one-at-a-time"],
+        Strategy::OneAtATime,
+        PlanOutput::Steps,
+        None,
+    ),
+    (
+        &["confscript", "plan", "--output", "steps"],
+        Strategy::Shortest,
+        PlanOutput::Steps,
+        None,
+    ),
+    (
+        &["confscript", "plan", "--output", "script"],
+        Strategy::Shortest,
+        PlanOutput::Script,
+        None,
+    ),
+    (
+        &["confscript", "plan", "--output=table", "--down", "4"],
+        Strategy::Shortest,
+        PlanOutput::Table,
+        Some(&[4]),
+    ),
+    (
+        &["confscript", "plan", "--down=6,4,06", "f"],
+        Strategy::Shortest,
+        PlanOutput::Steps,
+        Some(&[4, 6]),
+    ),
+    (
+        &["confscript", "plan", "--down", "18446744073709551615,1"],
+        Strategy::Shortest,
+        PlanOutput::Steps,
+        Some(&[1, u64::MAX]),
+    ),
+];
+
+// Whether a set has just these ids, in ascending order.
+fn has_just(set: &SessionIds, ids: &[u64]) -> bool {
+    let mut is_so = set.len() == ids.len();
+    for (place, id) in ids.iter().enumerate() {
+        is_so &= set.at(place) == Some(*id);
+    }
+    is_so
+}
+
+fn are_down(asked: &Option<SessionIds>, wanted: Option<&[u64]>) -> bool {
+    match (asked, wanted) {
+        (Some(asked), Some(wanted)) => has_just(asked, wanted),
+        (None, None) => true,
+        _ => false,
+    }
+}
+
+fn asks_for_plan(
+    rt: &impl Runtime,
+    words: &[&str],
+    strategy: Strategy,
+    output: PlanOutput,
+    down: Option<&[u64]>,
+) -> bool {
+    let asked = command_line(rt.alloc(), words).expect(rt, "words that are taken");
+    let plan = &asked.options.plan;
+    (plan.strategy == strategy) & (plan.output == output) & are_down(&plan.down, down)
+}
+
+#[test]
+fn takes_words_to_plan(rt: HostRuntime) {
+    for (words, strategy, output, down) in &PLANNING {
+        assert!(rt;
+            asks_for_plan(&rt, *words, *strategy, *output, *down),
             "of {words:?}"
         );
     }
@@ -178,9 +283,11 @@ fn takes_floors(rt: HostRuntime) {
 
 // The status with which words are refused; none of those that are taken.
 fn status_of(rt: &impl Runtime, words: &[&str]) -> Option<i32> {
-    command_line(rt.alloc(), words)
-        .err()
-        .map(|error| error.exit_code())
+    match command_line(rt.alloc(), words) {
+        Err(ArgumentFault::Clap(error)) => Some(error.exit_code()),
+        Err(ArgumentFault::BadIds) => Some(2),
+        _ => None,
+    }
 }
 
 #[test]
