@@ -10,12 +10,13 @@ use Rattle.dd_file.specs.Reading.{Script}
 use Rattle.dd_file.specs.Rewritten.{Entry, entry, is_directive}
 use Rattle.dd_file.specs.declared.item.Item.{Item}
 use Rattle.dd_file.specs.declared.fault.FileFault.{FileFault}
-use Rattle.conf_session.specs.SessionState.{SessionState}
+use Rattle.conf_change.specs.declared.floor.Floor.{Floor}
+use Rattle.conf_session.specs.SessionState.{SessionState, new_session}
 use Rattle.conf_tool.specs.Reports.{found_for, session_after, answered_entries, differs, report, counts_line}
-use Rattle.conf_tool.specs.Outputs.{Output, check_status}
+use Rattle.conf_tool.specs.Outputs.{Output, check_status, checked_entries, checked_script}
 use Rattle.conf_tool.specs.Answered.{script, prepended, with_front, rest_checked, check_left, HasChecked}
 use Rattle.conf_tool.specs.Run.{Wrote}
-use Rattle.conf_tool.proofs.ModeOutput.FirstParts.{wrote-part, wrote-broken, wrote-end, wrote-end_part}
+use Rattle.conf_tool.proofs.ModeOutput.FirstParts.{appends-nothing, wrote-part, wrote-broken, wrote-end, wrote-end_part}
 use Rattle.conf_tool.proofs.ModeInput.Faults.{or-false}
 
 -- one mismatch more
@@ -50,6 +51,28 @@ rest-first directives mismatches e entries None =
 -- the same states are left with the same
 same-left : (s t : SessionState) (d e m n : ℕ) (rest : Script Item) → s ≡ t → d ≡ e → m ≡ n → check_left s d m rest ≡ check_left t e n rest
 same-left s t d e m n rest st de mn = ap (λ x. check_left x d m rest) st ∙ ap (λ x. check_left t x m rest) de ∙ ap (λ x. check_left t e x rest) mn
+
+-- the start: no item was answered yet
+checked-rest : (entries : List Entry) (fault : Option FileFault) → checked_entries entries fault ≡ with_front [] (rest_checked 0 0 entries fault)
+checked-rest entries None =
+    let n = count_by (λ (entry : Entry). is_directive entry.item) entries in
+    let m = count_by differs entries in
+    let n_same : n ≡ 0 + n = omega arith in
+    let m_same : m ≡ 0 + m = omega arith in
+    λ i. record { text = flat_map report entries ++ counts_line (n_same i) (m_same i); outcome = Ok (check_status (list_any differs entries)) }
+checked-rest entries (Some fault) = refl
+
+pub checked-nothing : (history : ℕ) (floor : Floor) (session : SessionState) (directives mismatches : ℕ) (held : Option (List ℕ)) → session ≡ new_session history floor → directives ≡ 0 → mismatches ≡ 0 →
+    HasChecked session directives mismatches (checked_script history floor) [] held held
+checked-nothing history floor session directives mismatches held is_new no_directive no_mismatch = record {
+  front = record {
+    text = [];
+    wrote = appends-nothing held;
+    is = λ rest. checked-rest (answered_entries (new_session history floor) rest.items) rest.fault
+        ∙ ap (with_front []) (sym (same-left session (new_session history floor) directives 0 mismatches 0 rest is_new no_directive no_mismatch));
+  };
+  few = omega (arith, no_directive);
+}
 
 -- what an item leaves
 check-item : (s t : SessionState) (d e m n : ℕ) (item : Item) → t ≡ session_after s item → e ≡ d + cond (is_directive item) 1 0 → n ≡ m + cond (differs (entry item (found_for s item))) 1 0 →
