@@ -5,10 +5,10 @@ ghost use Rattle.conf_change.specs.ConfStateLine.{conf_state_in};
 ghost use Rattle.conf_change.specs.Described.{described};
 ghost use Rattle.conf_change.specs.Violation.{first_repeat, repeat_in, valid_of, configuration_in};
 
-use crate::saved_configuration::{ConfState, ConfStateFault};
 use crate::conf_state_line::read_conf_state;
 use crate::config::Config;
 use crate::restore::{RestoreFault, described};
+use crate::saved_configuration::{ConfState, ConfStateFault};
 use crate::violation::{Violation, first_violation};
 use quorum_sets::{MemberSet, NoMemory, TreeIds};
 use std::alloc::Global;

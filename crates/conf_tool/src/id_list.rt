@@ -4,8 +4,8 @@ ghost use Rattle.std.specs.List.{slice_split};
 ghost use Rattle.conf_session.specs.Parameter.{id_in};
 ghost use Rattle.conf_tool.specs.IdList.{is_comma, ids_listed};
 
-use ascii_text::position::position_of;
 use ascii_text::number::read_number;
+use ascii_text::position::position_of;
 use quorum_sets::NoMemory;
 use std::alloc::Global;
 

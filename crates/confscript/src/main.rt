@@ -47,7 +47,9 @@ fn run_arguments(rt: &HostRuntime, arguments: &[String]) -> ExitCode {
         Ok(invocation) => open(rt, invocation),
         Err(ArgumentFault::Clap(error)) => explain(rt, &error),
         Err(ArgumentFault::BadIds) => {
-            let _ = eprintln!(rt; "confscript: --down expects ids from 1 with commas between them, as in 4,6");
+            let _ = eprintln!(rt;
+                "confscript: --down expects ids from 1 with commas between them, as in 4,6"
+            );
             ExitCode::from(BAD_INPUT)
         }
         Err(ArgumentFault::NoMemory) => fail(rt, ToolFault::NoMemory),

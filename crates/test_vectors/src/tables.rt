@@ -22,9 +22,11 @@ struct Row {
     stalls: bool,
 }
 
-const FIVE: &str = "Voters:[1 2 3 4 5] VotersOutgoing:[] Learners:[] LearnersNext:[] AutoLeave:false";
+const FIVE: &str =
+    "Voters:[1 2 3 4 5] VotersOutgoing:[] Learners:[] LearnersNext:[] AutoLeave:false";
 
-const TWO_OF_FIVE: &str = "Voters:[3 4 5 6 7] VotersOutgoing:[] Learners:[] LearnersNext:[] AutoLeave:false";
+const TWO_OF_FIVE: &str =
+    "Voters:[3 4 5 6 7] VotersOutgoing:[] Learners:[] LearnersNext:[] AutoLeave:false";
 
 static ROWS: [Row; 8] = [
     Row {
@@ -120,16 +122,14 @@ static ROWS: [Row; 8] = [
     },
 ];
 
-fn has_table<S: MemberSet>(
-    alloc: Global,
-    row: &Row,
-    now: &Config<S>,
-    path: &Path,
-    down: &S,
-) -> bool
+fn has_table<S: MemberSet>(alloc: Global, row: &Row, now: &Config<S>, path: &Path, down: &S) -> bool
     requires { is_restorable now.now ≡ true }
 {
-    let named = if row.down.is_empty() { None } else { Some(down) };
+    let named = if row.down.is_empty() {
+        None
+    } else {
+        Some(down)
+    };
     appends(
         alloc,
         row.table,

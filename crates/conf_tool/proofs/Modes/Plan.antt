@@ -189,8 +189,8 @@ pub planned-second : (options options_after : PlanOptions) (count count_after nu
     HasPlanned options count number now status total parts before mid → HasPlanned options_after count_after number_after now_after status_after total (parts ++ line ∷ []) before new
 planned-second options options_after count count_after number number_after now now_after status status_after line first second total parts before mid new there kept is same next following none worse appends planned =
     let after = planned-part options count (count + 1) number (number + 1) (Some first) None status status_after line (pair_text options number first second) (pair_text options number first second) total parts before mid new
-          (subst (λ n. HasPlanned options count number n status total parts before mid) there planned)
-          (plan_left-second options count number first second status status_after line kept is worse) refl (omega arith) tt refl appends in
+    (subst (λ n. HasPlanned options count number n status total parts before mid) there planned)
+    (plan_left-second options count number first second status status_after line kept is worse) refl (omega arith) tt refl appends in
     rw (same, next, following, none) after
 
 -- .. whose output is broken off
@@ -207,15 +207,18 @@ planned-broken options count number now status line first second total parts mor
 pub planned-stop : (options : PlanOptions) (count number : ℕ) (now : Option Configuration) (status : Status) (line : List ℕ) (stop : ToolFault) (mid : Option (List ℕ)) →
     is_passed_over line ≡ false → IsFaultOf (configuration_at (record { number = count + 1; text = line })) stop →
     IsStop OfPlan stop ((total : Script (List ℕ) → Output) (parts more : List (List ℕ)) (fault : Option FileFault) (before : Option (List ℕ)) →
-        HasPlanned options count number now status total parts before mid → Wrote (total (script (parts ++ line ∷ more) fault)) (Err stop) before mid)
+    HasPlanned options count number now status total parts before mid → Wrote (total (script (parts ++ line ∷ more) fault)) (Err stop) before mid)
 planned-stop options count number now status line stop mid kept (inl memory) = subst (λ s. IsStop OfPlan s (Whole s)) (sym memory) tt
   where
     Whole : ToolFault → Type 0
     Whole s = (total : Script (List ℕ) → Output) (parts more : List (List ℕ)) (fault : Option FileFault) (before : Option (List ℕ)) →
         HasPlanned options count number now status total parts before mid → Wrote (total (script (parts ++ line ∷ more) fault)) (Err s) before mid
 planned-stop options count number now status line stop mid kept (inr bad) =
-    subst (λ s. IsStop OfPlan s (Whole s)) (sym bad.1) (tt, λ total parts more fault before planned.
-    wrote-all total (plan_left options count number now status) parts line (Err (Configurations bad.0)) before mid planned.front (plan_left-bad options count number now status line bad.0 kept bad.2) more fault)
+    subst (λ s. IsStop OfPlan s (Whole s)) (sym bad.1) (
+      tt,
+      λ total parts more fault before planned.
+          wrote-all total (plan_left options count number now status) parts line (Err (Configurations bad.0)) before mid planned.front (plan_left-bad options count number now status line bad.0 kept bad.2) more fault,
+    )
   where
     Whole : ToolFault → Type 0
     Whole s = (total : Script (List ℕ) → Output) (parts more : List (List ℕ)) (fault : Option FileFault) (before : Option (List ℕ)) →

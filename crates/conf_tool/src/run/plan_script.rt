@@ -43,13 +43,7 @@ fn write_script<W: Sink>(
     let mut rewriter = Rewriter::new();
     let restore = restore_directive(alloc, now)?;
     rewrite_item(alloc, &mut session, &mut rewriter, &restore, writer)?;
-    write_steps(
-        alloc,
-        &mut session,
-        &mut rewriter,
-        path.as_slice(),
-        writer,
-    )?;
+    write_steps(alloc, &mut session, &mut rewriter, path.as_slice(), writer)?;
     rewriter.end(writer)?;
     Ok(())
 }
