@@ -16,7 +16,7 @@ cell column row = slice_index_or row column []
 abbrev pub width : List (List (List ℕ)) → ℕ → ℕ
 width rows column = longest (map (cell column) rows)
 
--- a cell at the left of its column
+-- a cell with spaces after it, up to this width
 abbrev pub flush_left : ℕ → List ℕ → List ℕ
 flush_left width cell = cell ++ replicate (width - length cell) 32
 

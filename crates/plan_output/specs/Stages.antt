@@ -24,7 +24,7 @@ stage_code =
     (λ s. (s.config, s.catching_up)) (λ p. record { config = p.0; catching_up = p.1 }) (λ _. refl)
 
 -- ---- which stages there are
--- the configuration with which a path begins, where nobody has to catch up
+-- the configuration with which a path begins, where no member has to catch up
 abbrev pub first_stage : Configuration → StageState
 first_stage now = record { config = now; catching_up = no_ids }
 

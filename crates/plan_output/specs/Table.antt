@@ -18,13 +18,13 @@ mark c id =
     else (if has c.outgoing id then (if has c.learners_next id then codes "~" else codes "-")
     else (if has c.learners id then codes "L" else codes "."))
 
--- a cell at the right of so many places
+-- a cell with spaces before it, up to this width
 abbrev pub flush_right : ℕ → List ℕ → List ℕ
 flush_right width cell = replicate (width - length cell) 32 ++ cell
 
--- what is before the text at a place of those that are joined with one space between
+-- what is before the text at this index of those that are joined with one space between
 abbrev pub gap : ℕ → List ℕ
-gap place = text_if (nat_lt 0 place) (codes " ")
+gap index = text_if (nat_lt 0 index) (codes " ")
 
 -- the marks of ids with one space between, each flush right under its id
 abbrev pub marks_text : List ℕ → Configuration → List ℕ

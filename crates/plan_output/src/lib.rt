@@ -16,7 +16,7 @@
 //! Here 1 and 2 are replaced by 4 and 5 in one change. In the joint configuration nothing commits until 4 or 5 has caught up,
 //! the step that leaves it neither, since 3 alone is no majority of 3, 4 and 5.
 //!
-//! [`stages`] gives the configurations on the way, [`stalls`] tells whether one of them does not commit, and [`add_table`]
+//! [`stages`] gives the configurations on the way, [`stalls`] returns whether one of them does not commit, and [`add_table`]
 //! appends the table. [`add_json_lines`] appends an object for each step, with what a program that embeds etcd's raft proposes.
 #![tactic(auto)]
 

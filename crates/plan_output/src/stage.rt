@@ -61,8 +61,8 @@ impl<S: MemberSet> Stage<S> {
         ensures counted { result ≡ spec.may_be_down self.now }
     {
         let config = &self.config;
-        let nobody = S::empty(self.catching_up.allocator());
-        quorum_sets::may_be_down((&config.incoming, &config.outgoing), &nobody)
+        let no_ids = S::empty(self.catching_up.allocator());
+        quorum_sets::may_be_down((&config.incoming, &config.outgoing), &no_ids)
     }
 
     /// The same until the members have caught up: they do not count, be they down or not. `None` if the others are no

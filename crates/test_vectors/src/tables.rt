@@ -28,7 +28,7 @@ const FIVE: &str =
 const TWO_OF_FIVE: &str =
     "Voters:[3 4 5 6 7] VotersOutgoing:[] Learners:[] LearnersNext:[] AutoLeave:false";
 
-static ROWS: [Row; 8] = [
+static ROWS: [Row; 9] = [
     Row {
         now: FIVE,
         target: TWO_OF_FIVE,
@@ -50,6 +50,21 @@ static ROWS: [Row; 8] = [
             1 simple l6 l7                             V V V V V L L  3 of 5             2            6 7       2\n\
             2 enter-joint autoleave=false r1 r2 v6 v7  - - V V V + +  3 of 5 and 3 of 5  2\n\
             3 leave-joint                              . . V V V V V  3 of 5             2\n",
+        stalls: false,
+    },
+    Row {
+        now: FIVE,
+        target: TWO_OF_FIVE,
+        strategy: Strategy::OneAtATime,
+        down: &[],
+        table: "step         1 2 3 4 5 6 7  majority  may be down  catch up  until then\n\
+            now          V V V V V . .  3 of 5    2\n\
+            1 simple l6  V V V V V L .  3 of 5    2            6         2\n\
+            2 simple v6  V V V V V V .  4 of 6    2\n\
+            3 simple r1  . V V V V V .  3 of 5    2\n\
+            4 simple l7  . V V V V V L  3 of 5    2            7         2\n\
+            5 simple v7  . V V V V V V  4 of 6    2\n\
+            6 simple r2  . . V V V V V  3 of 5    2\n",
         stalls: false,
     },
     // Nothing commits until one of the new voters has caught up, also with nobody down.
@@ -75,7 +90,7 @@ static ROWS: [Row; 8] = [
             2 leave-joint                              . . V V V V V  3 of 5             2                                  commits\n",
         stalls: true,
     },
-    // An outgoing voter that will learn; a path that waits for nobody.
+    // An outgoing voter that will learn; no member has to catch up.
     Row {
         now: "Voters:[3] VotersOutgoing:[1] Learners:[2] LearnersNext:[1] AutoLeave:false",
         target: "Voters:[1] VotersOutgoing:[] Learners:[2 3] LearnersNext:[] AutoLeave:false",

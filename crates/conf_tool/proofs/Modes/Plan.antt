@@ -1,12 +1,12 @@
 -- Of the mode `plan`: what each line leaves of its output.
-use Rattle.std.proofs.Common.{◌≡◌, ℕ, ◌+◌, ◌<◌, ◌≤◌, true, false, List, [], ◌∷◌, ◌++◌, length, length-append, not, refl, sym, ◌∙◌, ap, subst, arith, inl, inr, lt-ltb, le-ltb}
-use Rattle.std.specs.Prelude.{Option, Some, None, Result, Ok, Err, IfSome, OnOk, OnErr, is_some, nat_lt, if◌then◌else◌}
+use Rattle.std.proofs.Common.{◌≡◌, ℕ, ◌+◌, ◌<◌, ◌≤◌, true, false, List, [], ◌∷◌, ◌++◌, length-append, refl, sym, ◌∙◌, ap, subst, arith, inl, inr, lt-ltb, le-ltb}
+use Rattle.std.specs.Prelude.{Option, Some, None, Result, Ok, Err, IfSome, OnOk, OnErr, is_some, nat_lt}
 use Rattle.std.specs.Io.KnownBytes.{Appends}
 use Rattle.dd_file.specs.Device.{AppendsPart}
 use Rattle.dd_file.specs.Reading.{Script}
 use Rattle.dd_file.specs.declared.fault.FileFault.{FileFault}
 use Rattle.conf_change.specs.Configuration.{Configuration, is_valid}
-use Rattle.conf_tool.specs.Answered.{script, prepended, with_front, WroteFront, HasPlanned, pairs_within, pairs_left, with_status, plan_left}
+use Rattle.conf_tool.specs.Answered.{script, prepended, with_front, HasPlanned, pairs_within, pairs_left, with_status, plan_left}
 use Rattle.conf_tool.specs.Outputs.{Output, ends, pair_text, worse_of, pair_then, ends_within, planned_pairs, planned_script}
 use Rattle.conf_tool.specs.Pairs.{NumberedLine, numbered, is_passed_over, configuration_lines, configuration_at, both_of, IsFaultOf}
 use Rattle.conf_tool.specs.Run.{Wrote, IsStop}

@@ -1,5 +1,5 @@
 -- That each plan which is printed is the best there is.
-use Rattle.std.proofs.Common.{◌≡◌, ℕ, true, List, [], ◌∷◌, ◌++◌, refl, ◌∙◌, ap}
+use Rattle.std.proofs.Common.{◌≡◌, ℕ, true, [], ◌++◌, refl, ◌∙◌, ap}
 use Rattle.std.specs.Prelude.{None, Ok}
 use Rattle.std.proofs.lemmas.List.{append-nil}
 use Rattle.dd_file.specs.Reading.{listing_of}
@@ -10,8 +10,8 @@ use Rattle.conf_plan.specs.Planned.{planned}
 use Rattle.conf_plan.specs.PlanText.{plan_text}
 use Rattle.conf_plan.specs.Run.{IsValidWithVoter}
 use Rattle.conf_tool.specs.Laws.{PrintedPlanIsBest, IsBestPlan, pairs_in, texts_from, parted_by}
-use Rattle.conf_tool.specs.Outputs.{Output, separator, worse_of, pair_then, ends_before, planned_pairs, planned_output}
-use Rattle.conf_tool.specs.Pairs.{NumberedLine, numbered, configuration_lines, configuration_at, both_of}
+use Rattle.conf_tool.specs.Outputs.{separator, worse_of, pair_then, ends_before, planned_pairs}
+use Rattle.conf_tool.specs.Pairs.{numbered, configuration_lines, both_of}
 use Rattle.conf_tool.specs.PlanAnswer.{text_as, path_status, plan_text_between, plan_status}
 use Rattle.conf_tool.specs.declared.plan_options.PlanOptions.{PlanOptions}
 use Rattle.conf_tool.specs.declared.plan_options.PlanOutput.TheVariants.{Steps}

@@ -1,5 +1,5 @@
 -- That `plan` prints the texts of its pairs in turn, and that each pair is of valid configurations.
-use Rattle.std.proofs.Common.{◌≡◌, ℕ, ◌+◌, ◌≤◌, true, cond, List, [], ◌∷◌, ◌++◌, refl, sym, ◌∙◌, ap, subst, arith, lt-ltb}
+use Rattle.std.proofs.Common.{◌≡◌, ℕ, ◌+◌, ◌≤◌, true, cond, List, [], ◌∷◌, ◌++◌, refl, ◌∙◌, ap, subst, arith, lt-ltb}
 use Rattle.std.specs.Prelude.{Option, Some, None, Result, Ok, Err, nat_lt, if◌then◌else◌}
 use Rattle.std.specs.List.{AllZip}
 use Rattle.std.proofs.lemmas.List.{append_assoc, append-nil}
@@ -10,7 +10,7 @@ use Rattle.conf_change.specs.Violation.{configuration_in}
 use Rattle.conf_change.specs.declared.configuration_line.ConfigurationFault.{ConfigurationFault}
 use Rattle.conf_change.proofs.Offered.{is_valid-from_configuration_in}
 use Rattle.conf_tool.specs.Laws.{pair_before, named_pairs, pairs_in, texts_from, parted_by}
-use Rattle.conf_tool.specs.Outputs.{Output, separator, pair_text, pair_then, ends_within, planned_pairs, planned_output}
+use Rattle.conf_tool.specs.Outputs.{separator, pair_text, pair_then, ends_within, planned_pairs, planned_output}
 use Rattle.conf_tool.specs.Pairs.{NumberedLine, numbered, configuration_lines, at_line, configuration_at, both_of}
 use Rattle.conf_tool.specs.PlanAnswer.{plan_text_between}
 use Rattle.conf_tool.specs.declared.configurations_fault.ConfigurationsFault.{ConfigurationsFault}

@@ -1,4 +1,4 @@
-use Rattle.std.proofs.Common.{sym, ◌∙◌, ◌∷◌}
+use Rattle.std.proofs.Common.{sym, ◌∙◌}
 use Rattle.std.proofs.lemmas.Result.{err_from_is_err_and}
 use Rattle.conf_tool.specs.AnsweredLaws.{wrote-front}
 use Rattle.conf_tool.proofs.Modes.Plan.{on-ok, on-err, planned-passed, planned-first, planned-second, planned-broken, planned-stop}
