@@ -20,10 +20,10 @@ pub struct StepRefused {
     pub refused: Refused,
 }
 
-/// Takes the steps of a plan in order, up to the first that is refused; the changer has then taken the steps before it.
-/// A plan that leads from the changer's configuration to another one is taken whole, unless memory runs out. The members
-/// whose progress it preserves keep their match and next. If it was made for the changer, it is the best plan to where it
-/// leads: no steps to there preserve a member that it does not preserve, are fewer, or name an id in fewer changes.
+/// Takes the steps of a plan in order, up to the first that is refused; the steps before that one stay taken. A plan from
+/// the changer's configuration is taken whole, unless memory runs out, and the members whose progress it preserves keep
+/// their match and next. A plan that `plan` made for this configuration is the best one to where it leads: no other steps
+/// there preserve the progress of a member that it resets, are fewer, or name an id in fewer changes.
 pub fn apply_plan<S: MemberSet>(changer: &mut Changer<S>, plan: &Plan) -> Result<(), StepRefused>
     ensures taken { OnOk result (Takes changer.old plan.now changer.new) }
     ensures stopped { IfErr result (λ stop. StopsAt changer.old plan.now stop.step stop.refused changer.new) }

@@ -1,7 +1,7 @@
 //! Configurations that are not joint, where a path begins.
 use quorum_sets::MemberSet;
 
-// The voters and the learners of a configuration that is not joint, whoever has them.
+// The voters and the learners of a configuration that is not joint.
 #[derive(Clone, Copy)]
 pub(crate) struct Single<'a, S: MemberSet> {
     pub(crate) incoming: &'a S,

@@ -20,13 +20,13 @@ use quorum_sets::NoMemory;
 use std::alloc::{AllocFailed, Global};
 use thiserror::Error;
 
-/// Why a text stands for no plan.
+/// Why a text is not parsed as a plan.
 #[derive(Clone, Copy, Debug, PartialEq, Eq, Error)]
 pub enum PlanTextFault {
-    /// The line with this number, counted from 1, is the first that stands for no step.
+    /// The line with this number, counted from 1, is the first that is not parsed as a step.
     #[error("line {0}: bad line")]
     BadLine(usize),
-    /// A fifth line follows four that stand for steps.
+    /// A fifth line follows four steps.
     #[error("too many steps")]
     TooManySteps,
     #[error("out of memory")]
@@ -54,7 +54,7 @@ impl From<AllocFailed<Step>> for PlanTextFault {
 }
 
 /// Appends the lines of a plan, each with a newline: `simple v1 r2`, `enter-joint autoleave=false l3`, `leave-joint`, or
-/// `nothing to do` where it has no step. What is appended is read as the same plan.
+/// `nothing to do` if it has no step. `read_plan` reads it back as the same plan.
 #[tactic(auto, using(crate::proofs::PlanText::PrintedPlan::printed_laws))]
 pub fn print_plan(text: &mut Vec<u8>, plan: &Plan) -> Result<(), NoMemory>
     ensures ok { OnOk result (text.new.items ≡ text.old.items ++ plan_text plan.now) }
@@ -118,7 +118,7 @@ fn append_line(text: &mut Vec<u8>, step: &Step) -> Result<(), NoMemory>
     Ok(())
 }
 
-/// The words with which a step's line begins.
+/// The command of a step's line.
 pub fn command_text(step: &Step) -> &'static [u8]
     ensures { result.now ≡ join_with_byte 32 (command_words step.now) }
 {
@@ -130,7 +130,7 @@ pub fn command_text(step: &Step) -> &'static [u8]
     }
 }
 
-// Appends changes, each behind a space.
+// Appends changes, each after a space.
 fn append_changes(text: &mut Vec<u8>, changes: &[Change]) -> Result<(), NoMemory>
     ensures ok { OnOk result (text.new.items ≡ text.old.items ++ flat_map spaced_change changes.now) }
     ensures extends { Extends text.old.items text.new.items }
@@ -183,9 +183,9 @@ fn letter(kind: Kind) -> u8
     }
 }
 
-/// Reads the lines of a plan: the form that `print_plan` appends, with any white space around the words of a line and
-/// any zeros before the ids. The lines are read in order, and the first that stands for no step, or the fifth, decides;
-/// a blank line stands for none, and the empty text is read as one blank line.
+/// Reads the lines of a plan, in the form of `print_plan`; tokens may have any white space around them, and ids leading
+/// zeros. The first line that is not parsed as a step is reported, or the fifth line. A blank line is not a step, and the
+/// empty text is one blank line.
 #[tactic(auto, using(crate::proofs::PlanText::PlanFromLines::answer_laws))]
 pub fn read_plan(alloc: Global, text: &[u8]) -> Result<Plan, PlanTextFault>
     ensures stands { IfOk result (StandsForPlan text.now) }
@@ -193,7 +193,7 @@ pub fn read_plan(alloc: Global, text: &[u8]) -> Result<Plan, PlanTextFault>
     ensures read { (steps : List Step) → StandsForPlan text.now steps → (result ≡ Ok steps) ⊎ (result ≡ Err PlanTextFault.NoMemory) }
     ensures refused { (fault : PlanTextFault) → HasFault text.now fault → (result ≡ Err fault) ⊎ (result ≡ Err PlanTextFault.NoMemory) }
 
-    // The same by the function.
+    // As a function of the text.
     ensures value { (result ≡ plan_in text.now) ⊎ (result ≡ Err PlanTextFault.NoMemory) }
 {
     read_lines(alloc, text)
@@ -236,7 +236,7 @@ fn first_line(text: &[u8]) -> (&[u8], &[u8])
     }
 }
 
-// Whether a line says that there is nothing to do.
+// Whether the line is `nothing to do`.
 fn is_nothing(line: &[u8]) -> bool
     ensures { result ≡ code.is_nothing (words line.now) }
 {
@@ -255,7 +255,7 @@ fn is_nothing(line: &[u8]) -> bool
         && next_token(rest).is_none()
 }
 
-// The step that a line stands for, if it stands for one.
+// The step that a line is parsed as, if it is one.
 fn read_step(alloc: Global, line: &[u8]) -> Result<Option<Step>, NoMemory>
     ensures { IfOk result (λ found. found ≡ step_in (words line.now)) }
 {
@@ -273,7 +273,7 @@ fn read_step(alloc: Global, line: &[u8]) -> Result<Option<Step>, NoMemory>
     }
 }
 
-// The step of a flag and changes.
+// Entering a joint configuration: a flag, then changes.
 fn read_enter(alloc: Global, text: &[u8]) -> Result<Option<Step>, NoMemory>
     ensures { IfOk result (λ found. found ≡ enter_in (words text.now)) }
 {
@@ -287,7 +287,7 @@ fn read_enter(alloc: Global, text: &[u8]) -> Result<Option<Step>, NoMemory>
     Ok(list.map(|changes| Step::EnterJoint(auto_leave, changes)))
 }
 
-// The flag that a word stands for.
+// The flag that a token is parsed as.
 fn read_flag(word: &[u8]) -> Option<bool>
     ensures { result ≡ code.flag_in word.now }
 {
@@ -300,7 +300,7 @@ fn read_flag(word: &[u8]) -> Option<bool>
     }
 }
 
-// The changes of a text whose words all spell one.
+// The changes of a list, if each token is parsed as one.
 fn read_list(alloc: Global, text: &[u8]) -> Result<Option<Changes>, NoMemory>
     ensures { IfOk result (λ found. found ≡ list_in (words text.now)) }
 {
