@@ -3,24 +3,24 @@ use Rattle.std.specs.Prelude.{ℕ, ◌+◌, ◌-◌, max, List, [], ◌∷◌, �
 use Rattle.ascii_text.specs.Lines.{newline}
 use Rattle.ascii_text.specs.WhiteSpace.{without_trailing_space}
 
--- how long the longest text is
+-- the length of the longest text
 abbrev pub longest : List (List ℕ) → ℕ
 longest [] = 0
 longest (text ∷ texts) = max (length text) (longest texts)
 
--- the cell of a row in a column, counted from 0; a row that has no such cell has an empty one
+-- the cell of a row in a column, counted from 0; empty after the last cell
 abbrev pub cell : ℕ → List (List ℕ) → List ℕ
 cell column row = slice_index_or row column []
 
--- how wide a column is: as its widest cell
+-- the width of a column is that of its widest cell
 abbrev pub width : List (List (List ℕ)) → ℕ → ℕ
 width rows column = longest (map (cell column) rows)
 
--- a cell at the left of its column
+-- a cell, left-aligned in its column
 abbrev pub flush_left : ℕ → List ℕ → List ℕ
 flush_left width cell = cell ++ replicate (width - length cell) 32
 
--- the cells of a row, each as wide as its column, and two spaces after it
+-- the cells of a row, each padded to its column's width and followed by two spaces
 abbrev pub cells_text : (ℕ → ℕ) → ℕ → List (List ℕ) → List ℕ
 cells_text width column [] = []
 cells_text width column (first ∷ cells) = flush_left (width column) first ++ codes "  " ++ cells_text width (column + 1) cells

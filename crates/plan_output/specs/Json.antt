@@ -12,17 +12,17 @@ use Rattle.raft_json.specs.ConfChangeJson.{conf_change_json}
 use Rattle.raft_json.specs.Proposal.{proposed_changes, transition_of}
 use Rattle.plan_output.specs.Stages.{StageState, stages, may_be_down, until_then, commits}
 
--- a number, or null where there is none
+-- a number, or null if there is none
 abbrev pub count_json : Option ℕ → Data
 count_json None = null
 count_json (Some count) = number (unsigned count)
 
--- whether the stage commits, before the other members, if ids are named that are down
+-- whether the stage commits, before the other members, if ids that are down are given
 abbrev pub with_commits : Option Ids → StageState → Members → Members
 with_commits None stage others = others
 with_commits (Some down) stage others = member (codes "commits") (boolean (commits stage down)) others
 
--- the members of an object after the first: what is proposed for the step, where it leads, and which step of how many it is
+-- the members of an object after the first: what to propose for the step, where it leads, and which step of how many it is
 abbrev pub step_members : ℕ → ℕ → ℕ → StageState → Step → StageState → Members
 step_members plan count number_of before step after =
     member (codes "conf_change") (conf_change_json (transition_of step) (proposed_changes before.config step))

@@ -1,4 +1,4 @@
--- The configurations on the way of a path, and what the cluster endures at each of them.
+-- The configurations of a path, and how many failures the cluster tolerates at each.
 use Rattle.std.specs.Prelude.{ℕ, Bool, not, List, [], ◌∷◌, Option, refl}
 use Rattle.std.specs.Coded.{Coded, coded×, code_by}
 use Rattle.std.specs.List.{list_any}
@@ -12,7 +12,7 @@ use Rattle.conf_change.specs.Outcome.{outcome}
 use Rattle.conf_change.specs.declared.step.Step.{Step}
 use Rattle.conf_plan.specs.Alive.{catching_up}
 
--- a configuration on the way, and its members that have to catch up, since they did not keep their progress in the step that led there
+-- a configuration of a path, and its members that have to catch up, since they did not keep their progress in the step that led to it
 pub record StageState : Type 0 where
   pub config : Configuration
   pub catching_up : Ids
@@ -24,11 +24,11 @@ stage_code =
     (λ s. (s.config, s.catching_up)) (λ p. record { config = p.0; catching_up = p.1 }) (λ _. refl)
 
 -- ---- which stages there are
--- the configuration with which a path begins, where nobody has to catch up
+-- the configuration at the start of a path, where no member has to catch up
 abbrev pub first_stage : Configuration → StageState
 first_stage now = record { config = now; catching_up = no_ids }
 
--- the configuration after a step; a step that is refused leaves it as it is
+-- the configuration after a step; a refused step leaves it as it is
 abbrev pub after_step : Configuration → Step → Configuration
 after_step before step = result_unwrap_or (outcome before step) before
 
@@ -45,12 +45,12 @@ stages_after before (step ∷ steps) = stage_after before step ∷ stages_after 
 abbrev pub stages : Configuration → List Step → List StageState
 stages now steps = first_stage now ∷ stages_after now steps
 
--- ---- what the cluster endures there
+-- ---- failures that the cluster tolerates
 -- the most ids that may be down, whichever they are, while the others are still a quorum
 abbrev pub may_be_down : StageState → Option ℕ
 may_be_down stage = tolerance.may_be_down (voters_of stage.config) no_ids
 
--- the same until the members have caught up: they do not count, be they down or not
+-- the most ids that may be down until the members have caught up, which until then do not count, down or not
 abbrev pub until_then : StageState → Option ℕ
 until_then stage = tolerance.may_be_down (voters_of stage.config) stage.catching_up
 
@@ -62,6 +62,6 @@ commits stage down = commits_without (voters_of stage.config) (union down stage.
 abbrev pub some_stalls : List StageState → Ids → Bool
 some_stalls all down = list_any (λ stage. not (commits stage down)) all
 
--- The path stalls with these ids down if some configuration on the way does, the first one among them. The next step is committed by the configuration before it, so a path is taken to its end only if none stalls.
+-- The path stalls with these ids down if one of its configurations does, the first included. Each step is committed by the configuration before it, so a cluster gets to the end of a path only if none stalls.
 abbrev pub stalls : Configuration → List Step → Ids → Bool
 stalls now steps down = some_stalls (stages now steps) down

@@ -1,4 +1,4 @@
--- The table of a path: a row for the configuration with which it begins, and one for each step.
+-- The table of a path: a row for the configuration at the start, and one for each step.
 use Rattle.std.specs.Prelude.{ℕ, ◌+◌, ◌-◌, Bool, true, false, not, ◌&&◌, List, [], ◌∷◌, ◌++◌, map, length, replicate, codes, decimal, flat_map, nat_lt, Option, Some, None, if◌then◌else◌}
 use Rattle.std.specs.List.{join_with_byte}
 use Rattle.quorum_sets.specs.Ids.{Ids, has, ascending, size, ids_of, is_empty}
@@ -11,39 +11,39 @@ use Rattle.plan_output.specs.Grid.{grid_text}
 use Rattle.plan_output.specs.Stages.{StageState, stages, may_be_down, until_then, commits}
 
 -- ---- the cells of a row
--- The marks of ids: a voter, of both sets if there are two; an incoming or an outgoing voter alone; an outgoing voter alone that is a next learner; a learner; an id that is no member.
+-- The mark of an id: V a voter, of both sets if there are two; + only an incoming, - only an outgoing voter; ~ an outgoing voter that is a next learner; L a learner; . not a member.
 abbrev pub mark : Configuration → ℕ → List ℕ
 mark c id =
     if has c.incoming id then (if is_joint c && not (has c.outgoing id) then codes "+" else codes "V")
     else (if has c.outgoing id then (if has c.learners_next id then codes "~" else codes "-")
     else (if has c.learners id then codes "L" else codes "."))
 
--- a cell at the right of so many places
+-- a cell, right-aligned in this width
 abbrev pub flush_right : ℕ → List ℕ → List ℕ
 flush_right width cell = replicate (width - length cell) 32 ++ cell
 
--- what is before the text at a place of those that are joined with one space between
+-- the space before the item at an index, if it is not the first
 abbrev pub gap : ℕ → List ℕ
 gap place = text_if (nat_lt 0 place) (codes " ")
 
--- the marks of ids with one space between, each flush right under its id
+-- the marks of ids with one space between, each right-aligned under its id
 abbrev pub marks_text : List ℕ → Configuration → List ℕ
 marks_text ids c = join_with_byte 32 (map (λ id. flush_right (length (decimal id)) (mark c id)) ids)
 
--- how many of the ids are a majority of them
+-- how many of the ids are a majority, and how many ids there are
 abbrev pub majority_of : Ids → List ℕ
 majority_of ids = decimal (majority (size ids)) ++ codes " of " ++ decimal (size ids)
 
--- the majority of the voters, or in a joint configuration that of the incoming and that of the outgoing ones
+-- the majority of the voters, and in a joint configuration both majorities: incoming and outgoing
 abbrev pub majority_text : Configuration → List ℕ
 majority_text c = majority_of c.incoming ++ text_if (is_joint c) (codes " and " ++ majority_of c.outgoing)
 
--- the most ids that may be down, if the others are a quorum with none down
+-- the most ids that may be down, or `stalls` if nothing commits even with none down
 abbrev pub down_text : Option ℕ → List ℕ
 down_text (Some most) = decimal most
 down_text None = codes "stalls"
 
--- what may be down until the members have caught up that have to; where there are none, nothing
+-- how many may be down until the members have caught up; empty if none has to
 abbrev pub until_text : StageState → List ℕ
 until_text stage = text_if (not (is_empty stage.catching_up)) (down_text (until_then stage))
 
@@ -52,7 +52,7 @@ abbrev pub commits_text : Bool → List ℕ
 commits_text true = codes "commits"
 commits_text false = codes "stalls"
 
--- the last cell, if ids are named that are down
+-- the last cell, if ids that are down are given
 abbrev pub commits_cells : Option Ids → StageState → List (List ℕ)
 commits_cells None stage = []
 commits_cells (Some down) stage = commits_text (commits stage down) ∷ []
@@ -64,11 +64,11 @@ row ids down name stage =
     ∷ until_text stage ∷ commits_cells down stage
 
 -- ---- the rows
--- the heading of the column where these ids are down
+-- the heading of the column for the ids that are down
 abbrev pub down_heading : Ids → List ℕ
 down_heading down = codes "with " ++ spaced_numbers (ascending down) ++ codes " down"
 
--- the last heading, if ids are named that are down
+-- the last heading, if ids that are down are given
 abbrev pub down_headings : Option Ids → List (List ℕ)
 down_headings None = []
 down_headings (Some down) = down_heading down ∷ []
@@ -97,7 +97,7 @@ rows_of ids down [] stages = []
 rows_of ids down (name ∷ names) [] = []
 rows_of ids down (name ∷ names) (stage ∷ stages) = row ids down name stage ∷ rows_of ids down names stages
 
--- all that are members at some stage
+-- the members of any stage
 abbrev pub ids_on_the_way : List StageState → Ids
 ids_on_the_way all = ids_of (flat_map (λ stage. members stage.config) all)
 
@@ -107,6 +107,6 @@ stage_rows all steps down =
     let ids = ascending (ids_on_the_way all) in
     headings ids down ∷ rows_of ids down (stage_names steps) all
 
--- the table of a path, and with ids that are down of what commits without them
+-- the table of a path; if ids that are down are given, also what commits without them
 abbrev pub table_text : Configuration → List Step → Option Ids → List ℕ
 table_text now steps down = grid_text (stage_rows (stages now steps) steps down)

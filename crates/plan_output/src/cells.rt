@@ -42,7 +42,7 @@ pub(crate) fn ids_text<S: MemberSet>(alloc: Global, ids: &S) -> Result<Vec<u8>, 
     Ok(text)
 }
 
-// Appends a space, but not before the first of what is joined.
+// Appends a space, but not before the first item.
 fn append_gap(text: &mut Vec<u8>, place: usize) -> Result<(), NoMemory>
     ensures { OnOk result (text.new.items ≡ text.old.items ++ spec.gap place) }
 {
@@ -52,7 +52,7 @@ fn append_gap(text: &mut Vec<u8>, place: usize) -> Result<(), NoMemory>
     Ok(())
 }
 
-// The marks of ids with one space between, each flush right under its id.
+// The marks of ids with one space between, each right-aligned under its id.
 pub(crate) fn marks_text<S: MemberSet>(
     alloc: Global,
     ids: &S,
@@ -70,7 +70,7 @@ pub(crate) fn marks_text<S: MemberSet>(
     Ok(text)
 }
 
-// Appends the mark of an id, flush right under the id.
+// Appends the mark of an id, right-aligned under the id.
 fn append_mark<S: MemberSet>(
     text: &mut Vec<u8>,
     config: &Config<S>,
@@ -108,7 +108,7 @@ fn mark<S: MemberSet>(config: &Config<S>, id: u64) -> &'static [u8]
     }
 }
 
-// The majority of the voters, or in a joint configuration that of the incoming and that of the outgoing ones.
+// The majority of the voters, and in a joint configuration both majorities: incoming and outgoing.
 pub(crate) fn majority_text<S: MemberSet>(
     alloc: Global,
     config: &Config<S>,
@@ -124,7 +124,7 @@ pub(crate) fn majority_text<S: MemberSet>(
     Ok(text)
 }
 
-// Appends how many of the ids are a majority of them.
+// Appends how many of the ids are a majority, and how many ids there are.
 fn append_majority<S: MemberSet>(text: &mut Vec<u8>, ids: &S) -> Result<(), NoMemory>
     ensures { OnOk result (text.new.items ≡ text.old.items ++ spec.majority_of (S.ids ids.now)) }
 {
@@ -134,7 +134,7 @@ fn append_majority<S: MemberSet>(text: &mut Vec<u8>, ids: &S) -> Result<(), NoMe
     Ok(())
 }
 
-// The most ids that may be down, if the others are a quorum with none down.
+// The most ids that may be down, or `stalls` if nothing commits even with none down.
 pub(crate) fn down_text(alloc: Global, most: Option<usize>) -> Result<Vec<u8>, NoMemory>
     ensures { IfOk result (λ text. text.items ≡ spec.down_text most) }
 {
@@ -146,7 +146,7 @@ pub(crate) fn down_text(alloc: Global, most: Option<usize>) -> Result<Vec<u8>, N
     Ok(text)
 }
 
-// What may be down until the members have caught up that have to; where there are none, nothing.
+// How many may be down until the members have caught up; empty if none has to.
 pub(crate) fn until_text<S: MemberSet>(alloc: Global, stage: &Stage<S>) -> Result<Vec<u8>, NoMemory>
     ensures { IfOk result (λ text. text.items ≡ spec.until_text stage.now) }
 {
@@ -156,7 +156,7 @@ pub(crate) fn until_text<S: MemberSet>(alloc: Global, stage: &Stage<S>) -> Resul
     down_text(alloc, stage.until_then())
 }
 
-// Whether the configuration commits with these ids down.
+// `commits` or `stalls`.
 pub(crate) fn commits_text(alloc: Global, commits: bool) -> Result<Vec<u8>, NoMemory>
     ensures { IfOk result (λ text. text.items ≡ spec.commits_text commits) }
 {
@@ -164,7 +164,7 @@ pub(crate) fn commits_text(alloc: Global, commits: bool) -> Result<Vec<u8>, NoMe
     Ok(Vec::from_slice(alloc, text)?)
 }
 
-// The heading of the column that says which ids are down.
+// The heading of the column for the ids that are down.
 pub(crate) fn down_heading<S: MemberSet>(alloc: Global, down: &S) -> Result<Vec<u8>, NoMemory>
     ensures { IfOk result (λ text. text.items ≡ spec.down_heading (S.ids down.now)) }
 {

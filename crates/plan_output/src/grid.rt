@@ -49,7 +49,7 @@ impl Row {
         self.cells.len()
     }
 
-    // The cell in a column, counted from 0; from the last one on, an empty one.
+    // The cell in a column, counted from 0; empty after the last cell.
     fn cell(&self, column: usize) -> &[u8]
         ensures cell { result.now ≡ cell column self.now }
         ensures small { length result.now < 2 ^ 63 }
@@ -61,8 +61,8 @@ impl Row {
     }
 }
 
-/// Appends rows as lines: each column is as wide as its widest cell, and two spaces are between columns. No line has white
-/// space at its end. On `NoMemory` the text is unchanged.
+/// Appends rows as lines. Each column is as wide as its widest cell, with two spaces between columns and no white space at
+/// the end of a line. On `NoMemory` the text is unchanged.
 pub(crate) fn add_grid(alloc: Global, text: &mut Vec<u8>, rows: &[Row]) -> Result<(), NoMemory>
     ensures ok { OnOk result (text.new.items ≡ text.old.items ++ grid_text rows.now) }
     ensures err { OnErr result (text.new.items ≡ text.old.items) }
@@ -85,7 +85,7 @@ fn widths(alloc: Global, rows: &[Row]) -> Result<Vec<usize>, NoMemory>
     Ok(widths)
 }
 
-// Makes each column as wide as the cell of this row, if that is wider.
+// Widens each column to the cell of this row, if that is wider.
 fn widen(widths: &mut Vec<usize>, row: &Row) -> Result<(), NoMemory>
     requires { (column : ℕ) → slice_index widths.old.items column < 2 ^ 63 }
     ensures wider { OnOk result ((column : ℕ) → slice_index widths.new.items column ≡ max (slice_index widths.old.items column) (length (cell column row.now))) }
@@ -121,7 +121,7 @@ fn append_lines(
     Ok(())
 }
 
-// The cells of a row, each in a column of its width, and two spaces after it.
+// The cells of a row, each padded to its column's width and followed by two spaces.
 fn cells_text(alloc: Global, row: &Row, widths: &[usize]) -> Result<Vec<u8>, NoMemory>
     requires { (column : ℕ) → slice_index widths.now column < 2 ^ 63 }
     ensures { IfOk result (λ text. text.items ≡ grid.cells_text (slice_index widths.now) 0 row.now) }

@@ -19,10 +19,10 @@ use raft_json::{conf_change_value, conf_state_value};
 use serde_json::{Map, Value, put};
 use std::alloc::Global;
 
-/// Which step of a path an object is of.
+/// Which step of which path an object is for.
 #[derive(Clone, Copy)]
 struct Number {
-    // The number of the path, as the caller counts.
+    // The path's number, which the caller gives.
     plan: u64,
     // How many steps the path has.
     steps: usize,
@@ -30,9 +30,9 @@ struct Number {
     step: usize,
 }
 
-/// Appends an object for each step of a path, one a line: what is proposed to etcd for it, the configuration after it, and
-/// what the cluster endures there; with `down` also whether it commits without these ids. A path without a step is one
-/// object too. On `NoMemory` the text is unchanged (own).
+/// Appends an object for each step of a path, one a line: what to propose to etcd, the configuration after it, and how many
+/// failures the cluster tolerates there; with `down` also whether it commits without these ids. A path without a step is
+/// one object. On `NoMemory` the text is unchanged (own).
 pub fn add_json_lines<S: MemberSet>(
     alloc: Global,
     text: &mut Vec<u8>,
@@ -50,7 +50,7 @@ pub fn add_json_lines<S: MemberSet>(
     keep_whole(text, len, added)
 }
 
-/// Appends the object of a pair that has no plan, on a line: why there is none. On `NoMemory` the text is unchanged (own).
+/// Appends the object of a pair without a plan, on a line, with the reason. On `NoMemory` the text is unchanged (own).
 pub fn add_no_plan_line(
     alloc: Global,
     text: &mut Vec<u8>,
@@ -97,9 +97,11 @@ fn add_lines<S: MemberSet>(
     }
     let stages = stages(alloc, now, path)?;
     for index in 0..steps {
-        let (Some(before), Some(step), Some(after)) =
-            (stages.get(index), path.step(index), stages.get(index + 1))
-        else {
+        let (Some(before), Some(step), Some(after)) = (
+            stages.get(index),
+            path.step(index),
+            stages.get(index + 1),
+        ) else {
             break;
         };
         let number = Number {
@@ -137,14 +139,19 @@ fn step_value<S: MemberSet>(
 {
     let mut members = step_members(alloc, number, before, step, after)?;
     if let Some(down) = down {
-        put(&mut members, alloc, "commits", Value::Bool(after.commits(down)?))?;
+        put(
+            &mut members,
+            alloc,
+            "commits",
+            Value::Bool(after.commits(down)?),
+        )?;
     }
     let catch_up = ids_value(alloc, after.catching_up())?;
     put(&mut members, alloc, "catch_up", catch_up)?;
     Ok(Value::Object(members))
 }
 
-// The members of the object that come after the first, but for whether it commits.
+// The members of the object after the first, except `commits`.
 fn step_members<S: MemberSet>(
     alloc: Global,
     number: Number,
@@ -161,15 +168,25 @@ fn step_members<S: MemberSet>(
     let mut members = Map::new(alloc);
     put(&mut members, alloc, "conf_change", conf_change)?;
     put(&mut members, alloc, "conf_state", conf_state)?;
-    put(&mut members, alloc, "may_be_down", count_value(after.may_be_down()))?;
+    put(
+        &mut members,
+        alloc,
+        "may_be_down",
+        count_value(after.may_be_down()),
+    )?;
     put(&mut members, alloc, "plan", Value::from(number.plan))?;
     put(&mut members, alloc, "step", Value::from(number.step))?;
     put(&mut members, alloc, "steps", Value::from(number.steps))?;
-    put(&mut members, alloc, "until_then", count_value(after.until_then()))?;
+    put(
+        &mut members,
+        alloc,
+        "until_then",
+        count_value(after.until_then()),
+    )?;
     Ok(members)
 }
 
-// A number, or null where there is none.
+// A number, or null if there is none.
 fn count_value(count: Option<usize>) -> Value
     ensures { view result ≡ spec.count_json count }
 {

@@ -1,4 +1,4 @@
-//! The configurations on the way of a path, and what the cluster endures at each of them.
+//! The configurations of a path, and how many failures the cluster tolerates at each.
 ghost use Rattle.std.specs.Prelude.{◌≡◌, true, IfOk, OnOk};
 ghost use Rattle.quorum_sets.specs.Ids.{no_ids};
 ghost use Rattle.quorum_sets.specs.Tolerance.{IsMostDown};
@@ -12,8 +12,8 @@ use quorum_sets::{MemberSet, NoMemory, union};
 use std::alloc::Global;
 use std::marker::Model;
 
-/// A configuration on the way, and its members that have to catch up there: they did not keep their progress in the step
-/// that led to it, so they begin with an empty log (own).
+/// A configuration of a path, and its members that have to catch up: they did not keep their progress in the step that led
+/// to it, so they begin with an empty log (own).
 #[derive(Drop)]
 pub struct Stage<S: MemberSet> {
     config: Config<S>,
@@ -65,8 +65,8 @@ impl<S: MemberSet> Stage<S> {
         quorum_sets::may_be_down((&config.incoming, &config.outgoing), &nobody)
     }
 
-    /// The same until the members have caught up: they do not count, be they down or not. `None` if the others are no
-    /// quorum even with none down: nothing commits.
+    /// The greatest number until the members have caught up, which until then do not count, down or not. `None` if nothing
+    /// commits: the others are not a quorum even with none down.
     pub fn until_then(&self) -> Option<usize>
         ensures most { IsMostDown (voters_of self.now.config) self.now.catching_up result }
         ensures counted { result ≡ spec.until_then self.now }
@@ -117,7 +117,7 @@ fn changer_of<S: MemberSet>(alloc: Global, now: &Config<S>) -> Result<Changer<S>
     }
 }
 
-// Takes a step, and returns the stage that it leads to. A step that is refused leaves the changer as it is.
+// Takes a step, and returns the stage that it leads to. A refused step leaves the changer as it is.
 fn next_stage<S: MemberSet>(
     alloc: Global,
     changer: &mut Changer<S>,
@@ -138,8 +138,8 @@ fn next_stage<S: MemberSet>(
     })
 }
 
-/// Whether a path stalls with these ids down: some configuration on the way, the first one among them, does not commit.
-/// The next step is committed by the configuration before it, so a path is taken to its end only if none stalls (own).
+/// Whether a path stalls with these ids down: one of its configurations, the first included, does not commit. Each step is
+/// committed by the configuration before it, so a cluster gets to the end of a path only if none stalls (own).
 pub fn stalls<S: MemberSet>(
     alloc: Global,
     now: &Config<S>,

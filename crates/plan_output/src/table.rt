@@ -16,10 +16,10 @@ use conf_plan::Path;
 use quorum_sets::{MemberSet, NoMemory, union};
 use std::alloc::Global;
 
-/// Appends the table of a path: a row for the configuration with which it begins, and one for each step with the
-/// configuration after it. It shows who votes and learns there, the majority, how many may be down, who has to catch up, and
-/// how many may be down until then. If ids are named that are down, the last column has whether the configuration commits
-/// without them. Each line ends with a newline (own).
+/// Appends the table of a path: a row for the configuration at the start, and one for each step with the configuration
+/// after it. A row shows who votes and who learns, the majority, how many may be down, who has to catch up, and how many
+/// may be down until then. With `down`, the last column shows whether the configuration commits without these ids. Each
+/// line ends with a newline (own).
 pub fn add_table<S: MemberSet>(
     alloc: Global,
     text: &mut Vec<u8>,
@@ -56,7 +56,7 @@ fn rows<S: MemberSet>(
     Ok(rows)
 }
 
-// All that are members at some stage.
+// The members of any stage.
 fn ids_on_the_way<S: MemberSet>(alloc: Global, stages: &[Stage<S>]) -> Result<S, NoMemory>
     ensures { IfOk result (λ ids. S.ids ids ≡ spec.ids_on_the_way stages.now) }
 {
