@@ -1,4 +1,4 @@
--- What the mode `plan` answers: the plan between two configurations, or why there is none.
+-- The output of the mode `plan`: the plan between two configurations, or why there is none.
 use Rattle.std.specs.Prelude.{ℕ, List, codes, if◌then◌else◌}
 use Rattle.conf_change.specs.Configuration.{Configuration, has_voter}
 use Rattle.conf_change.specs.declared.step.Step.{Step}

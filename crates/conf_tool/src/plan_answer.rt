@@ -1,4 +1,4 @@
-//! What the mode `plan` answers: the plan between two configurations, or why there is none.
+//! The output of the mode `plan`: the plan between two configurations, or why there is none.
 ghost use Rattle.std.specs.Prelude.{◌≡◌, true, IfOk, IsOkUnless};
 ghost use Rattle.conf_change.specs.Configuration.{is_valid};
 ghost use Rattle.conf_tool.specs.PlanAnswer.{path_text, plan_text_between, plan_status};
@@ -14,7 +14,7 @@ use conf_session::SessionIds;
 use quorum_sets::NoMemory;
 use std::alloc::Global;
 
-/// The text of the plan between two configurations, or that there is none, and how a run ends that writes it.
+/// The text of the plan between two configurations, or why there is none, and the status of a run that prints it.
 pub(crate) fn plan_answer(
     alloc: Global,
     options: &PlanOptions,
