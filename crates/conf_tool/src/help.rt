@@ -13,11 +13,11 @@ Exit statuses:
   2  the arguments or the input are wrong
   3  a file, a read or a write failed, or memory ran out
 
-'confscript help MODE' says what a mode reads and what it prints.";
+Run 'confscript help MODE' to see what a mode reads and prints.";
 
 /// The help of `lines`.
 pub(crate) const LINES: &str =
-    "Reads one change a line and applies it to the configuration, which begins
+    "Reads one change per line and applies it to the configuration, which begins
 empty. Prints the configuration after each line, or why the change is refused.
 
 Changes:
@@ -55,27 +55,27 @@ of four dashes, lines of expected output, and an empty line:
   voters=(1)
   1: StateProbe match=0 next=1
 
-Changes stand on the lines below the command, not after it on its line. Without
-the line of dashes the next directive is read as input. A blank line ends the
-expected output, unless the output stands between two pairs of lines of dashes.
-A directive line that ends in a backslash goes on in the next line. A line that
+Changes go on the lines below the command, not on its own line. Without the
+line of dashes, the next directive is read as input. A blank line ends the
+expected output, unless the output is between two pairs of lines of dashes. A
+directive line that ends in a backslash continues on the next line. A line that
 begins with # is a comment.
 
-Commands that read changes (see confscript help lines), none or more of them:
-  simple         at most one of them changes who votes
+Commands that read any number of changes (see confscript help lines):
+  simple         applies them; at most one may change who votes
   enter-joint    enters a joint configuration; autoleave=true or false (default)
-  leave-joint    leaves it, with no change
-  conf-change    leaves, is simple or enters by the number of the changes;
-                 transition=auto (default), implicit or explicit
+  leave-joint    leaves it; takes no change
+  conf-change    leave-joint, simple or enter-joint by the number of changes;
+                 transition=auto (default); implicit and explicit always enter
 
-Commands that read something else, or nothing:
+Other commands:
   conf-state     prints the configuration as a ConfState
-  restore        starts again from the ConfState that it reads
+  restore        restarts from the ConfState that it reads
   undo           undoes the last changes; steps=N (default 1)
   ack            a member acknowledges an index; id=N index=N
   commit-index   prints the index that the configuration commits
-  committed      charts what the voters have acknowledged, and prints what
-                 they commit; cfg=(1,2) cfgj=(3) idx=(7,_,9)
+  committed      charts the indexes that voters have acknowledged, and prints
+                 the committed one; cfg=(1,2) cfgj=(3) idx=(7,_,9)
   vote           prints the result of a vote; cfg=(1,2) cfgj=(3) votes=(y,n,_)
 
 For the script
@@ -111,9 +111,9 @@ it prints
 
 /// The help of `undo`.
 pub(crate) const UNDO: &str =
-    "Runs a script (see confscript help check), whatever output it expects, and
-prints a second script, which undoes the last changes of the first. If the first
-checks clean, so do both as one, with an empty line between them.
+    "Runs a script (see confscript help check), ignoring its expected output, and
+prints a second script that undoes the last changes of the first. If the first
+checks clean, so do the two joined by an empty line.
 
 If there is nothing to do, it prints a comment. If there is no plan, it prints
 the reason in a comment, and the status is 1.
@@ -136,17 +136,17 @@ it prints
 
 /// The help of `plan`.
 pub(crate) const PLAN: &str =
-    "Reads two lines, the current configuration and the target, each as the command
-conf-state prints it. Prints the steps that lead from the one to the other, at
+    "Reads two lines, the current configuration and the target, each in the form that
+the command conf-state prints. Prints the steps from the first to the second, at
 most four. No other plan has fewer steps, keeps the progress of a member that
 this one resets, or names a member in fewer changes. The voters before and
 after each step overlap.
 
-A plan does not see logs: a new voter begins with an empty one. From [1 2 3] to
-[3 4 5] nothing commits until 4 or 5 has caught up.
+A plan does not consider logs: a new voter begins with an empty one. From
+[1 2 3] to [3 4 5] nothing commits until 4 or 5 has caught up.
 
-Where there is nothing to do it says so. Where a configuration has no voter it
-prints that there is no plan, in a comment, and the status is 1.
+If there is nothing to do, it prints that. If a configuration has no voter, it
+prints a comment that there is no plan, and the status is 1.
 
 For the lines
   Voters:[1 2 3] VotersOutgoing:[] Learners:[] LearnersNext:[] AutoLeave:false
