@@ -1,8 +1,8 @@
-//! A writer that takes no memory: it holds what it takes against what is wanted.
+//! A writer that does not allocate: it compares what is written with the expected output.
 use std::io;
 use std::io::Write;
 
-/// Takes all that it is given, and knows whether that is the front of what is wanted.
+/// Accepts every write, and knows whether the bytes so far are a prefix of the expected output.
 #[derive(Drop)]
 pub(crate) struct Matching {
     rest: &'static [u8],
@@ -17,12 +17,12 @@ impl Matching {
         }
     }
 
-    /// Whether what was taken is the front of what is wanted.
+    /// Whether what was written is a prefix of the expected output.
     pub(crate) fn is_front(&self) -> bool {
         self.is_front
     }
 
-    /// Whether what was taken is what is wanted.
+    /// Whether what was written is the expected output.
     pub(crate) fn is_whole(&self) -> bool {
         self.is_front & self.rest.is_empty()
     }

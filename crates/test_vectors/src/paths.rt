@@ -32,7 +32,7 @@ const FIVE: &str =
 const TWO_OF_FIVE: &str =
     "Voters:[3 4 5 6 7] VotersOutgoing:[] Learners:[] LearnersNext:[] AutoLeave:false";
 
-// 1 is an outgoing voter that will learn, 2 learns, and 3 votes.
+// 1 is an outgoing voter and a next learner, 2 is a learner, and 3 is a voter.
 const JOINT: &str = "Voters:[3] VotersOutgoing:[1] Learners:[2] LearnersNext:[1] AutoLeave:false";
 
 const LEARNERS: &str =
@@ -186,7 +186,7 @@ static ROWS: [Row; 19] = [
             ("simple r1", &[]),
         ],
     },
-    // More retire than join, one of them as a learner; one of those that join is a learner already.
+    // More voters retire than join, one of them as a learner; one of those that join is a learner already.
     Row {
         strategy: Strategy::OneAtATime,
         now: "Voters:[1 2 3 4] VotersOutgoing:[] Learners:[5 6] LearnersNext:[] AutoLeave:false",
@@ -200,7 +200,7 @@ static ROWS: [Row; 19] = [
             ("simple r4", &[]),
         ],
     },
-    // More join than retire.
+    // More voters join than retire.
     Row {
         strategy: Strategy::OneAtATime,
         now: "Voters:[2] VotersOutgoing:[] Learners:[] LearnersNext:[] AutoLeave:false",
@@ -213,7 +213,7 @@ static ROWS: [Row; 19] = [
             ("simple v3", &[]),
         ],
     },
-    // Learners alone come and go.
+    // Only learners are added and removed.
     Row {
         strategy: Strategy::OneAtATime,
         now: "Voters:[1 2 3] VotersOutgoing:[] Learners:[4 6] LearnersNext:[] AutoLeave:false",
@@ -238,7 +238,7 @@ pub(crate) fn path_of<S: MemberSet>(
     }
 }
 
-// The path by a strategy, if there is one between configurations that are valid.
+// The path by a strategy between valid configurations, if there is one.
 fn path_between<S: MemberSet>(
     alloc: Global,
     strategy: Strategy,
@@ -287,7 +287,7 @@ fn is_taken<S: MemberSet>(
     }
 }
 
-// Whether a step is that of a line, and is taken so.
+// Whether a step is that of a line, and the changer takes it.
 fn is_step<S: MemberSet>(
     alloc: Global,
     changer: &mut Changer<S>,

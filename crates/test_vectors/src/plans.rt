@@ -15,8 +15,8 @@ use conf_plan::{
 use quorum_sets::{InlineIds, MemberSet, NoMemory, TreeIds};
 use std::alloc::Global;
 
-// Where a changer stands, the indexes that its members acknowledge, where the plan leads, the plan's text, and what is
-// shown before its first step and after each.
+// A changer's configuration, the indexes that its members acknowledge, the target, the plan's text, and what is printed
+// before its first step and after each.
 struct Row {
     now: &'static str,
     acknowledged: &'static [(u64, u64)],
@@ -181,7 +181,7 @@ static ROWS: [Row; 5] = [
     },
 ];
 
-/// The plan that a text stands for.
+/// The plan that a text is parsed as.
 pub(crate) fn plan_of(alloc: Global, text: &str) -> Result<Plan, PlanTextFault> {
     twice(
         PlanTextFault::NoMemory,
@@ -226,7 +226,7 @@ fn leads<S: MemberSet>(alloc: Global, now: &Config<S>, target: &ConfState, wante
     }
 }
 
-// How many steps of a plan a changer takes, all of them unless it finds no memory.
+// How many steps of a plan a changer takes: all of them, unless memory runs out.
 fn steps_taken<S: MemberSet>(changer: &mut Changer<S>, plan: &Plan) -> Option<usize> {
     match apply_plan(changer, plan) {
         Ok(()) => Some(plan.len()),
@@ -252,7 +252,7 @@ fn is_shown_after<S: MemberSet>(
     }
 }
 
-// Whether a changer takes a plan; where it found no memory it stands after the steps before, and another takes it whole.
+// Whether a changer takes a plan; on `NoMemory` it has taken the steps before, and another changer takes the whole plan.
 fn takes<S: MemberSet>(
     alloc: Global,
     changer: &mut Changer<S>,

@@ -10,7 +10,7 @@ use dd_file::item::{Directive, Item};
 use quorum_sets::NoMemory;
 use std::alloc::Global;
 
-// A directive as it stands in a script, and the text that it finds.
+// A directive as it is in a script, and its actual output.
 type Row = (&'static [u8], &'static [u8]);
 
 static JOINT: [Row; 5] = [
@@ -166,7 +166,7 @@ static FROM_ZERO: [Row; 2] = [
     ),
 ];
 
-// Whether two sessions are the same. It takes no memory.
+// Whether two sessions are equal. It does not allocate.
 fn is_same_session(session: &Session, other: &Session) -> bool {
     let mut is_so = is_same(session.changer(), other.changer()) & (session.kept() == other.kept());
     for place in 0..session.kept() {
@@ -178,7 +178,7 @@ fn is_same_session(session: &Session, other: &Session) -> bool {
     is_so
 }
 
-// Whether a directive finds a text; where it found no memory the session is its copy from before.
+// Whether a directive has this output; on `NoMemory` the session is unchanged.
 fn is_found(session: &mut Session, copy: &Session, directive: &Directive, wanted: &[u8]) -> bool {
     let mut answer = session.step(directive);
     let mut stays = true;
@@ -192,7 +192,7 @@ fn is_found(session: &mut Session, copy: &Session, directive: &Directive, wanted
     }
 }
 
-// Whether the copy finds it too.
+// Whether the directive has this output in the copy too.
 fn follows(copy: &mut Session, directive: &Directive, wanted: &[u8]) -> bool {
     let mut answer = copy.step(directive);
     if answer.is_err() {
@@ -221,7 +221,7 @@ fn are_found(alloc: Global, session: &mut Session, copy: &mut Session, rows: &[R
     is_so
 }
 
-// Whether one more undo has this plan, or none for this fault.
+// Whether one more undo has this plan, or none for this reason.
 fn is_undone_by(alloc: Global, session: &Session, wanted: Result<&str, UndoFault>) -> bool {
     let answer = twice(UndoFault::NoMemory, || session.undo_plan(1));
     match (answer, wanted) {
@@ -231,7 +231,7 @@ fn is_undone_by(alloc: Global, session: &Session, wanted: Result<&str, UndoFault
     }
 }
 
-// A session that begins with a floor; one is what a new session begins with.
+// A session with this initial next index; a new session has one.
 fn begun(alloc: Global, floor: Floor) -> Result<Session, NoMemory> {
     match floor {
         Floor::One => Session::new(alloc, 100),
@@ -239,7 +239,7 @@ fn begun(alloc: Global, floor: Floor) -> Result<Session, NoMemory> {
     }
 }
 
-// Whether the directives of rows find their texts one after another, and what would then be undone.
+// Whether the directives of rows have their outputs, one after another, and what would then be undone.
 fn holds(alloc: Global, floor: Floor, rows: &[Row], undone: Result<&str, UndoFault>) -> bool {
     match (
         twice(NoMemory, || begun(alloc, floor)),

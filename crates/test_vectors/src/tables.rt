@@ -11,8 +11,8 @@ use plan_output::{add_table, stalls};
 use quorum_sets::{InlineIds, MemberSet, NoMemory, TreeIds};
 use std::alloc::Global;
 
-// Two configurations, how the path goes from the one to the other, which ids are down if any are named, the table, and
-// whether the path stalls.
+// Two configurations, the strategy of the path, the ids that are down if any are given, the table, and whether the path
+// stalls.
 struct Row {
     now: &'static str,
     target: &'static str,
@@ -22,9 +22,11 @@ struct Row {
     stalls: bool,
 }
 
-const FIVE: &str = "Voters:[1 2 3 4 5] VotersOutgoing:[] Learners:[] LearnersNext:[] AutoLeave:false";
+const FIVE: &str =
+    "Voters:[1 2 3 4 5] VotersOutgoing:[] Learners:[] LearnersNext:[] AutoLeave:false";
 
-const TWO_OF_FIVE: &str = "Voters:[3 4 5 6 7] VotersOutgoing:[] Learners:[] LearnersNext:[] AutoLeave:false";
+const TWO_OF_FIVE: &str =
+    "Voters:[3 4 5 6 7] VotersOutgoing:[] Learners:[] LearnersNext:[] AutoLeave:false";
 
 static ROWS: [Row; 8] = [
     Row {
@@ -50,7 +52,7 @@ static ROWS: [Row; 8] = [
             3 leave-joint                              . . V V V V V  3 of 5             2\n",
         stalls: false,
     },
-    // Nothing commits until one of the new voters has caught up, also with nobody down.
+    // Nothing commits until one of the new voters has caught up, even if no id is down.
     Row {
         now: "Voters:[1 2 3] VotersOutgoing:[] Learners:[] LearnersNext:[] AutoLeave:false",
         target: "Voters:[3 4 5] VotersOutgoing:[] Learners:[] LearnersNext:[] AutoLeave:false",
@@ -73,7 +75,7 @@ static ROWS: [Row; 8] = [
             2 leave-joint                              . . V V V V V  3 of 5             2                                  commits\n",
         stalls: true,
     },
-    // An outgoing voter that will learn; a path that waits for nobody.
+    // A next learner that is an outgoing voter; no member has to catch up on this path.
     Row {
         now: "Voters:[3] VotersOutgoing:[1] Learners:[2] LearnersNext:[1] AutoLeave:false",
         target: "Voters:[1] VotersOutgoing:[] Learners:[2 3] LearnersNext:[] AutoLeave:false",
@@ -86,8 +88,8 @@ static ROWS: [Row; 8] = [
             3 leave-joint                        V L L  1 of 1             0\n",
         stalls: false,
     },
-    // No step: the headings, and the row of the current configuration. An id that is down and no member counts for nothing, and
-    // one that is named twice counts once.
+    // No step: the headings, and the row of the current configuration. An id that is down but not a member does not count,
+    // and one that is given twice counts once.
     Row {
         now: FIVE,
         target: FIVE,
@@ -120,16 +122,14 @@ static ROWS: [Row; 8] = [
     },
 ];
 
-fn has_table<S: MemberSet>(
-    alloc: Global,
-    row: &Row,
-    now: &Config<S>,
-    path: &Path,
-    down: &S,
-) -> bool
+fn has_table<S: MemberSet>(alloc: Global, row: &Row, now: &Config<S>, path: &Path, down: &S) -> bool
     requires { is_restorable now.now ≡ true }
 {
-    let named = if row.down.is_empty() { None } else { Some(down) };
+    let named = if row.down.is_empty() {
+        None
+    } else {
+        Some(down)
+    };
     appends(
         alloc,
         row.table,

@@ -1,4 +1,4 @@
-//! Texts that are appended to, and changes that are read of texts.
+//! Appending to texts, and reading changes.
 use crate::twice::twice;
 use ascii_text::append::append_number;
 use conf_change::Kind::{Learner, Remove, Update, Voter};
@@ -6,10 +6,10 @@ use conf_change::{Change, TokenFault, read_changes, read_changes_into};
 use quorum_sets::NoMemory;
 use std::alloc::{AllocError, Global};
 
-// What stands in a text before a call appends to it.
+// The text before a call appends to it.
 const FRONT: &[u8] = b"front ";
 
-/// Whether a call appends a text; where it found no memory it has appended nothing.
+/// Whether a call appends a text; on `NoMemory` it appends nothing.
 pub(crate) fn appends<F: Fn(&mut Vec<u8>) -> Result<(), NoMemory>>(
     alloc: Global,
     wanted: &str,
@@ -61,7 +61,7 @@ fn numbers(rt: HostRuntime) {
     }
 }
 
-// Words between any white space, and the changes for which they stand.
+// Tokens between any white space, and the changes that they are parsed as.
 static CHANGES: [(&[u8], &[Change]); 5] = [
     (b"", &[]),
     (b" \t\n\x0b\x0c\r", &[]),
@@ -96,8 +96,7 @@ static CHANGES: [(&[u8], &[Change]); 5] = [
     ),
 ];
 
-// Whether the changes of a text are read anew, and over a list that holds others. A list that was passed to a call that
-// found no memory is empty.
+// Whether the changes of a text are read, into a new list and into one that has others. On `NoMemory` that list is empty.
 fn are_read(alloc: Global, text: &'static [u8], wanted: &[Change]) -> bool {
     match (
         twice(TokenFault::NoMemory, || read_changes(alloc, b"v7 l8")),

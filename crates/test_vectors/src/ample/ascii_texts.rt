@@ -1,7 +1,7 @@
 //! White space, words, lines and numbers in texts.
-use ascii_text::position::{far_position_of, position_of};
-use ascii_text::lines::{is_whole, line_of, next_full_line, first_line_len, without_end};
+use ascii_text::lines::{first_line_len, is_whole, line_of, next_full_line, without_end};
 use ascii_text::number::read_number;
+use ascii_text::position::{far_position_of, position_of};
 use ascii_text::white_space::{
     is_blank, is_space, trimmed, without_leading_space, without_trailing_space,
 };
@@ -88,7 +88,7 @@ fn finds_the_place_of_a_byte(rt: HostRuntime) {
     assert!(rt; far_position_of(b"", b']') == 0);
 }
 
-// A piece, its line, and whether it ends in a newline.
+// A line with its newline, the line without it, and whether it ends in one.
 static LINES: [(&[u8], &[u8], bool); 5] = [
     (b"", b"", false),
     (b"a\r\n", b"a", true),

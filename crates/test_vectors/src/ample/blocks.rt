@@ -5,7 +5,7 @@ use dd_file::blocks::Blocks;
 use dd_file::device::Sink;
 use dd_file::writing::write_all;
 
-// Writes 42,000 bytes in parts, and answers whether a fault was told.
+// Writes 42,000 bytes in parts, and returns whether an error was reported.
 fn write_parts<W: Sink>(writer: &mut W) -> bool {
     let mut is_told = false;
     for _ in 0..6_000 {
@@ -14,7 +14,7 @@ fn write_parts<W: Sink>(writer: &mut W) -> bool {
     is_told
 }
 
-// Whether a device takes so many bytes in three calls, a block in each, and a fault is told where it stops before the end.
+// Whether a writer gets this many bytes in three calls, one for each block, and an error is reported if it stops early.
 fn takes(rt: &impl Runtime, room: usize, stop: Stop) -> bool {
     let device = taking(rt.alloc(), 80_000, room, stop);
     let mut blocks = Blocks::new(rt.alloc(), device).expect(rt, "a block");
@@ -41,7 +41,7 @@ fn nothing_is_written_after_a_fault(rt: HostRuntime) {
     assert!(rt; takes(&rt, 20_000, Stop::TakesNone));
 }
 
-// Whether two bytes that wait reach the device when they are written on, and the device passes them on.
+// Whether two buffered bytes reach the writer on a flush, and the writer is flushed too.
 fn writes_on(rt: &impl Runtime) -> bool {
     let device = taking(rt.alloc(), 20, 20, Stop::Fault);
     let mut blocks = Blocks::new(rt.alloc(), device).expect(rt, "a block");

@@ -30,7 +30,7 @@ fn changes(rt: &impl Runtime, count: usize) -> Changes {
     Changes::from(front(count).to_vec(rt.alloc()).expect(rt, "a list"))
 }
 
-// Whether lists of so many changes give back what they are made of, and equal their copies.
+// Whether lists of `count` changes give back what they are made of, and equal their copies.
 fn keeps(rt: &impl Runtime, count: usize) -> bool {
     let changes = changes(rt, count);
     let copy = changes.try_clone().expect(rt, "a copy");
@@ -58,7 +58,7 @@ fn step(rt: &impl Runtime, place: usize) -> Step {
     }
 }
 
-// Whether a step equals the one at its place alone.
+// Whether a step equals only the one at its own index.
 fn is_told_apart(rt: &impl Runtime, place: usize) -> bool {
     let found = step(rt, place);
     let mut is_so = true;

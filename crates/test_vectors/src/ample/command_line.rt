@@ -1,10 +1,10 @@
-//! The words of the command line.
+//! The arguments of the program.
 use crate::ample::runtime::Runtime;
 use conf_change::Floor;
 use conf_tool::command_line::command_line;
 use conf_tool::{Mode, Options};
 
-// Words that are accepted, and the mode, the file and the history that they ask for.
+// Arguments that are accepted, and their mode, file and history.
 static ACCEPTED: [(&[&str], Mode, Option<&str>, usize); 12] = [
     (&["confscript", "lines"], Mode::Lines, None, 100),
     (
@@ -60,7 +60,7 @@ static ACCEPTED: [(&[&str], Mode, Option<&str>, usize); 12] = [
     ),
 ];
 
-// Words for the mode that undoes changes, and the file, the history and the steps that they ask for.
+// Arguments of the mode `undo`, and their file, history and steps.
 static UNDOING: [(&[&str], Option<&str>, usize, usize); 3] = [
     (&["confscript", "undo"], None, 100, 1),
     (
@@ -77,7 +77,7 @@ static UNDOING: [(&[&str], Option<&str>, usize, usize); 3] = [
     ),
 ];
 
-// Words, and the floor that they ask for.
+// Arguments, and their initial next index.
 static FLOORS: [(&[&str], Floor); 6] = [
     (&["confscript", "check"], Floor::One),
     (&["confscript", "check", "--next-floor", "0"], Floor::Zero),
@@ -93,7 +93,7 @@ static FLOORS: [(&[&str], Floor); 6] = [
     (&["confscript", "lines"], Floor::One),
 ];
 
-// Words that are refused as usage faults, and words that ask for help.
+// Arguments that are refused as usage errors, and arguments that ask for help.
 static REFUSED: [(&[&str], i32); 25] = [
     (&["confscript"], 2),
     (&["confscript", "check", "a", "b"], 2),
@@ -122,7 +122,7 @@ static REFUSED: [(&[&str], i32); 25] = [
     (&["confscript", "help", "lines"], 0),
 ];
 
-// Whether the words ask for a mode with these options and this file.
+// Whether the arguments are parsed as a mode with these options and this file.
 fn asks_for(
     rt: &impl Runtime,
     words: &[&str],
@@ -176,7 +176,7 @@ fn takes_floors(rt: HostRuntime) {
     }
 }
 
-// The status with which words are refused; none of those that are taken.
+// The exit status of refused arguments; none if they are accepted.
 fn status_of(rt: &impl Runtime, words: &[&str]) -> Option<i32> {
     command_line(rt.alloc(), words)
         .err()

@@ -1,4 +1,4 @@
-//! Plans as they are applied, and their texts; where there is no path, and who has to catch up.
+//! Applying plans, and their texts; where there is no path, and which members have to catch up.
 ghost use Rattle.std.specs.Prelude.{◌≡◌, true};
 ghost use Rattle.conf_change.specs.Configuration.{is_valid};
 
@@ -19,7 +19,7 @@ const ONE: Sets = [&[1], &[], &[], &[]];
 
 const TWO: Sets = [&[1, 2], &[], &[], &[]];
 
-// What a changer at `voters=(1)` answers to the plan of a text, and whether it has these voters then.
+// The result of applying a text's plan to a changer at `voters=(1)`, and whether it has these voters then.
 fn is_stopped(
     rt: &impl Runtime,
     text: &str,
@@ -46,7 +46,7 @@ fn stops_at_the_first_step_that_is_refused(rt: HostRuntime) {
     assert!(rt; is_stopped(&rt, "nothing to do", Ok(()), ONE));
 }
 
-// Texts, and the lines of the plans for which they stand.
+// Texts, and the lines of the plans that they are parsed as.
 static TEXTS: [(&str, &str); 7] = [
     ("nothing to do", "nothing to do\n"),
     (" simple\t\r\n", "simple\n"),
@@ -72,7 +72,7 @@ static TEXTS: [(&str, &str); 7] = [
     ),
 ];
 
-// Whether a plan equals, of those that the printed texts stand for, the one at its place alone.
+// Whether a plan equals only the one at its own index, among those of the printed texts.
 fn is_told_apart(rt: &impl Runtime, place: usize, plan: &Plan) -> bool {
     let mut is_so = true;
     for (at, (_, text)) in TEXTS.iter().enumerate() {

@@ -1,4 +1,4 @@
-//! Sets of ids, and the worked values of majorities, quorums, and of what is looked up.
+//! Sets of ids, and test vectors of majorities, quorums and lookups.
 use crate::ample::runtime::Runtime;
 use crate::sets::with_acks;
 use quorum_sets::{
@@ -70,7 +70,7 @@ fn failures_that_are_tolerated(rt: HostRuntime) {
     }
 }
 
-// The voters of one pair, those of another, a set for each, and the least id that both have where both are quorums.
+// The voters of one pair, those of another, a set for each, and the least id of both sets if both are quorums.
 struct Sharing {
     before: (&'static [u64], &'static [u64]),
     after: (&'static [u64], &'static [u64]),
@@ -142,7 +142,7 @@ fn acknowledgements(rt: HostRuntime) {
     }
 }
 
-// Ids in the order of a walk that also goes back, and whether 2, 4 and 9 are asked for.
+// Ids in the order of a walk that also goes back, and whether each is one of 2, 4 and 9.
 static LOOKED_UP: [(u64, bool); 8] = [
     (1, false),
     (2, true),

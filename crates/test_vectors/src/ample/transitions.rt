@@ -1,4 +1,4 @@
-//! What is taken of a list of changes by each transition.
+//! The kind of step that each transition makes of a list of changes.
 use conf_change::{Change, Kind, StepKind, Transition, taken};
 
 const VOTER: Change = Change {
