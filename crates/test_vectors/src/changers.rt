@@ -210,8 +210,8 @@ pub(crate) fn is_same<S: MemberSet>(changer: &Changer<S>, other: &Changer<S>) ->
         & (tracker.member_count() == others.member_count())
         & (changer.last_index() == other.last_index())
         & (changer.floor() == other.floor());
-    for place in 0..tracker.member_count() {
-        is_so &= tracker.member_at(place) == others.member_at(place);
+    for index in 0..tracker.member_count() {
+        is_so &= tracker.member_at(index) == others.member_at(index);
     }
     is_so
 }
@@ -222,8 +222,8 @@ pub(crate) fn is_shown<S: MemberSet>(alloc: Global, changer: &Changer<S>, shown:
     let (config, members) = shown;
     let mut is_so = appends(alloc, config, |text| write_config(text, tracker.config()))
         & (tracker.member_count() == members.len());
-    for (place, member) in members.iter().enumerate() {
-        is_so &= match tracker.member_at(place) {
+    for (index, member) in members.iter().enumerate() {
+        is_so &= match tracker.member_at(index) {
             Some((id, progress)) => {
                 appends(alloc, *member, |text| write_progress(text, id, progress))
             }

@@ -6,25 +6,25 @@ use std::io::Write;
 #[derive(Drop)]
 pub(crate) struct Matching {
     rest: &'static [u8],
-    is_front: bool,
+    is_prefix: bool,
 }
 
 impl Matching {
-    pub(crate) fn with(wanted: &'static [u8]) -> Matching {
+    pub(crate) fn with(expected: &'static [u8]) -> Matching {
         Matching {
-            rest: wanted,
-            is_front: true,
+            rest: expected,
+            is_prefix: true,
         }
     }
 
     /// Whether what was written is a prefix of the expected output.
-    pub(crate) fn is_front(&self) -> bool {
-        self.is_front
+    pub(crate) fn is_prefix(&self) -> bool {
+        self.is_prefix
     }
 
     /// Whether what was written is the expected output.
     pub(crate) fn is_whole(&self) -> bool {
-        self.is_front & self.rest.is_empty()
+        self.is_prefix & self.rest.is_empty()
     }
 }
 
@@ -32,7 +32,7 @@ impl Write for Matching {
     fn write(&mut self, bytes: &[u8]) -> io::Result<usize> {
         match self.rest.strip_prefix(bytes) {
             Some(rest) => self.rest = rest,
-            None => self.is_front = false,
+            None => self.is_prefix = false,
         }
         Ok(bytes.len())
     }

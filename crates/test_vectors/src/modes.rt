@@ -150,7 +150,7 @@ fn is_whole(alloc: Global, case: Case) -> bool {
 fn ends(alloc: Global, case: Case) -> bool {
     let (found, taken) = outcome(alloc, case);
     if found == Err(ToolFault::NoMemory) {
-        taken.is_front() & is_whole(alloc, case)
+        taken.is_prefix() & is_whole(alloc, case)
     } else {
         (found == Ok(case.3)) & taken.is_whole()
     }
@@ -181,7 +181,7 @@ fn gathered_outcome(
 // Whether a run ends as expected and writes its output, or on `NoMemory` a prefix of it.
 fn gathers(alloc: Global, case: Case) -> bool {
     match gathered_outcome(alloc, case) {
-        Ok((Err(ToolFault::NoMemory), taken)) => taken.is_front(),
+        Ok((Err(ToolFault::NoMemory), taken)) => taken.is_prefix(),
         Ok((found, taken)) => (found == Ok(case.3)) & taken.is_whole(),
         Err(_) => false,
     }

@@ -265,10 +265,10 @@ fn are_waited_for<S: MemberSet>(
     before: &Config<S>,
     step: &Step,
     after: &Config<S>,
-    wanted: &[u64],
+    expected: &[u64],
 ) -> bool {
     let waiting = twice(NoMemory, || catching_up(alloc, before, step, after));
-    waiting.is_ok_and(|ids| has_ids(&ids, wanted))
+    waiting.is_ok_and(|ids| has_ids(&ids, expected))
 }
 
 // Whether the changer takes the step, and these ids have to catch up then.
@@ -276,12 +276,12 @@ fn is_taken<S: MemberSet>(
     alloc: Global,
     changer: &mut Changer<S>,
     step: &Step,
-    wanted: &[u64],
+    expected: &[u64],
 ) -> bool {
     match twice(NoMemory, || changer.tracker().config().try_clone()) {
         Ok(before) => {
             takes(changer, step)
-                & are_waited_for(alloc, &before, step, changer.tracker().config(), wanted)
+                & are_waited_for(alloc, &before, step, changer.tracker().config(), expected)
         }
         Err(_) => false,
     }
@@ -293,11 +293,11 @@ fn is_step<S: MemberSet>(
     changer: &mut Changer<S>,
     step: Option<&Step>,
     line: &str,
-    wanted: &[u64],
+    expected: &[u64],
 ) -> bool {
     match (plan_of(alloc, line), step) {
         (Ok(plan), Some(step)) => {
-            (plan.step(0) == Some(step)) & is_taken(alloc, changer, step, wanted)
+            (plan.step(0) == Some(step)) & is_taken(alloc, changer, step, expected)
         }
         _ => false,
     }
@@ -311,8 +311,8 @@ fn has_steps<S: MemberSet>(
     row: &Row,
 ) -> bool {
     let mut is_so = path.len() == row.steps.len();
-    for (index, (line, wanted)) in row.steps.iter().enumerate() {
-        is_so &= is_step(alloc, changer, path.step(index), *line, *wanted);
+    for (index, (line, expected)) in row.steps.iter().enumerate() {
+        is_so &= is_step(alloc, changer, path.step(index), *line, *expected);
     }
     is_so
 }
@@ -353,7 +353,7 @@ fn is_row_of_both(alloc: Global, row: &Row) -> bool {
 
 #[test]
 fn paths(rt: HostRuntime) {
-    for (place, row) in ROWS.iter().enumerate() {
-        assert!(rt; is_row_of_both(rt.alloc(), row), "row {place}");
+    for (index, row) in ROWS.iter().enumerate() {
+        assert!(rt; is_row_of_both(rt.alloc(), row), "row {index}");
     }
 }

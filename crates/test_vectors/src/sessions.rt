@@ -169,8 +169,8 @@ static FROM_ZERO: [Row; 2] = [
 // Whether two sessions are equal. It does not allocate.
 fn is_same_session(session: &Session, other: &Session) -> bool {
     let mut is_so = is_same(session.changer(), other.changer()) & (session.kept() == other.kept());
-    for place in 0..session.kept() {
-        is_so &= match (session.kept_at(place), other.kept_at(place)) {
+    for index in 0..session.kept() {
+        is_so &= match (session.kept_at(index), other.kept_at(index)) {
             (Some(config), Some(others)) => config.same(others),
             _ => false,
         };
@@ -179,7 +179,7 @@ fn is_same_session(session: &Session, other: &Session) -> bool {
 }
 
 // Whether a directive has this output; on `NoMemory` the session is unchanged.
-fn is_found(session: &mut Session, copy: &Session, directive: &Directive, wanted: &[u8]) -> bool {
+fn is_found(session: &mut Session, copy: &Session, directive: &Directive, expected: &[u8]) -> bool {
     let mut answer = session.step(directive);
     let mut stays = true;
     if answer.is_err() {
@@ -187,26 +187,26 @@ fn is_found(session: &mut Session, copy: &Session, directive: &Directive, wanted
         answer = session.step(directive);
     }
     match answer {
-        Ok(found) => stays & (found.as_slice() == wanted),
+        Ok(found) => stays & (found.as_slice() == expected),
         Err(_) => false,
     }
 }
 
 // Whether the directive has this output in the copy too.
-fn follows(copy: &mut Session, directive: &Directive, wanted: &[u8]) -> bool {
+fn follows(copy: &mut Session, directive: &Directive, expected: &[u8]) -> bool {
     let mut answer = copy.step(directive);
     if answer.is_err() {
         answer = copy.step(directive);
     }
-    answer.is_ok_and(|found| found.as_slice() == wanted)
+    answer.is_ok_and(|found| found.as_slice() == expected)
 }
 
 fn is_row(alloc: Global, session: &mut Session, copy: &mut Session, row: Row) -> bool {
-    let (text, wanted) = row;
+    let (text, expected) = row;
     match twice(FileFault::NoMemory, || first_item(alloc, text)) {
         Ok(Some(Item::Directive(directive))) => {
-            is_found(session, copy, &directive, wanted)
-                & follows(copy, &directive, wanted)
+            is_found(session, copy, &directive, expected)
+                & follows(copy, &directive, expected)
                 & is_same_session(session, copy)
         }
         _ => false,
@@ -222,11 +222,11 @@ fn are_found(alloc: Global, session: &mut Session, copy: &mut Session, rows: &[R
 }
 
 // Whether one more undo has this plan, or none for this reason.
-fn is_undone_by(alloc: Global, session: &Session, wanted: Result<&str, UndoFault>) -> bool {
+fn is_undone_by(alloc: Global, session: &Session, expected: Result<&str, UndoFault>) -> bool {
     let answer = twice(UndoFault::NoMemory, || session.undo_plan(1));
-    match (answer, wanted) {
-        (Ok(plan), Ok(text)) => plan_of(alloc, text).is_ok_and(|wanted| plan == wanted),
-        (Err(fault), Err(wanted)) => fault == wanted,
+    match (answer, expected) {
+        (Ok(plan), Ok(text)) => plan_of(alloc, text).is_ok_and(|expected| plan == expected),
+        (Err(fault), Err(expected)) => fault == expected,
         _ => false,
     }
 }
@@ -271,6 +271,6 @@ fn undo_faults(rt: HostRuntime) {
     let text = twice(NoMemory, || {
         undo_fault_text(rt.alloc(), UndoFault::NotKept(12))
     });
-    let wanted = b"no plan: 12 earlier configurations are kept".as_slice();
-    assert!(rt; text.is_ok_and(|text| text.as_slice() == wanted));
+    let expected = b"no plan: 12 earlier configurations are kept".as_slice();
+    assert!(rt; text.is_ok_and(|text| text.as_slice() == expected));
 }

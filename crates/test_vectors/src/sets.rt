@@ -24,8 +24,8 @@ pub(crate) fn ids<S: MemberSet>(alloc: Global, ids: &[u64]) -> Result<S, NoMemor
 /// Whether a set has exactly these ids, which are in ascending order. It does not allocate.
 pub(crate) fn has_ids<S: MemberSet>(set: &S, ids: &[u64]) -> bool {
     let mut is_so = set.len() == ids.len();
-    for (place, id) in ids.iter().enumerate() {
-        is_so &= (set.at(place) == Some(*id)) & set.contains(*id);
+    for (index, id) in ids.iter().enumerate() {
+        is_so &= (set.at(index) == Some(*id)) & set.contains(*id);
     }
     is_so
 }

@@ -7,25 +7,25 @@ use quorum_sets::NoMemory;
 use std::alloc::{AllocError, Global};
 
 // The text before a call appends to it.
-const FRONT: &[u8] = b"front ";
+const PREFIX: &[u8] = b"front ";
 
 /// Whether a call appends a text; on `NoMemory` it appends nothing.
 pub(crate) fn appends<F: Fn(&mut Vec<u8>) -> Result<(), NoMemory>>(
     alloc: Global,
-    wanted: &str,
+    expected: &str,
     append: F,
 ) -> bool
     requires { F.IsAlwaysCallable append }
 {
-    match twice(AllocError, || FRONT.to_vec(alloc)) {
-        Ok(mut text) => is_appended(&mut text, wanted, append),
+    match twice(AllocError, || PREFIX.to_vec(alloc)) {
+        Ok(mut text) => is_appended(&mut text, expected, append),
         Err(_) => false,
     }
 }
 
 fn is_appended<F: Fn(&mut Vec<u8>) -> Result<(), NoMemory>>(
     text: &mut Vec<u8>,
-    wanted: &str,
+    expected: &str,
     append: F,
 ) -> bool
     requires { F.IsAlwaysCallable append }
@@ -33,10 +33,10 @@ fn is_appended<F: Fn(&mut Vec<u8>) -> Result<(), NoMemory>>(
     let mut answer = append(text);
     let mut stays = true;
     if answer.is_err() {
-        stays = text.as_slice() == FRONT;
+        stays = text.as_slice() == PREFIX;
         answer = append(text);
     }
-    stays & answer.is_ok() & (text.as_slice().strip_prefix(FRONT) == Some(wanted.as_bytes()))
+    stays & answer.is_ok() & (text.as_slice().strip_prefix(PREFIX) == Some(expected.as_bytes()))
 }
 
 static NUMBERS: [(u64, &str); 4] = [
@@ -97,7 +97,7 @@ static CHANGES: [(&[u8], &[Change]); 5] = [
 ];
 
 // Whether the changes of a text are read, into a new list and into one that has others. On `NoMemory` that list is empty.
-fn are_read(alloc: Global, text: &'static [u8], wanted: &[Change]) -> bool {
+fn are_read(alloc: Global, text: &'static [u8], expected: &[Change]) -> bool {
     match (
         twice(TokenFault::NoMemory, || read_changes(alloc, b"v7 l8")),
         twice(TokenFault::NoMemory, || read_changes(alloc, text)),
@@ -111,8 +111,8 @@ fn are_read(alloc: Global, text: &'static [u8], wanted: &[Change]) -> bool {
             }
             is_left_empty
                 & answer.is_ok()
-                & (list.as_slice() == wanted)
-                & (changes.as_slice() == wanted)
+                & (list.as_slice() == expected)
+                & (changes.as_slice() == expected)
         }
         _ => false,
     }
@@ -120,7 +120,7 @@ fn are_read(alloc: Global, text: &'static [u8], wanted: &[Change]) -> bool {
 
 #[test]
 fn lists_of_changes(rt: HostRuntime) {
-    for (place, (text, wanted)) in CHANGES.iter().enumerate() {
-        assert!(rt; are_read(rt.alloc(), *text, *wanted), "row {place}");
+    for (index, (text, expected)) in CHANGES.iter().enumerate() {
+        assert!(rt; are_read(rt.alloc(), *text, *expected), "row {index}");
     }
 }

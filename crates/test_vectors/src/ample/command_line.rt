@@ -125,67 +125,70 @@ static REFUSED: [(&[&str], i32); 25] = [
 // Whether the arguments are parsed as a mode with these options and this file.
 fn asks_for(
     rt: &impl Runtime,
-    words: &[&str],
+    arguments: &[&str],
     mode: Mode,
     options: Options,
     file: Option<&str>,
 ) -> bool {
-    let asked = command_line(rt.alloc(), words).expect(rt, "words that are taken");
+    let asked = command_line(rt.alloc(), arguments).expect(rt, "accepted arguments");
     (asked.mode == mode) & (asked.options == options) & (asked.file == file)
 }
 
 #[test]
 fn takes_words(rt: HostRuntime) {
-    for (words, mode, file, history) in &ACCEPTED {
+    for (arguments, mode, file, history) in &ACCEPTED {
         let options = Options {
             history: *history,
             steps: 1,
             floor: Floor::One,
         };
         assert!(rt;
-            asks_for(&rt, *words, *mode, options, *file),
-            "of {words:?}"
+            asks_for(&rt, *arguments, *mode, options, *file),
+            "of {arguments:?}"
         );
     }
 }
 
 #[test]
 fn takes_words_to_undo(rt: HostRuntime) {
-    for (words, file, history, steps) in &UNDOING {
+    for (arguments, file, history, steps) in &UNDOING {
         let options = Options {
             history: *history,
             steps: *steps,
             floor: Floor::One,
         };
         assert!(rt;
-            asks_for(&rt, *words, Mode::Undo, options, *file),
-            "of {words:?}"
+            asks_for(&rt, *arguments, Mode::Undo, options, *file),
+            "of {arguments:?}"
         );
     }
 }
 
-fn asks_for_floor(rt: &impl Runtime, words: &[&str], floor: Floor) -> bool {
-    let asked = command_line(rt.alloc(), words).expect(rt, "words that are taken");
+fn asks_for_floor(rt: &impl Runtime, arguments: &[&str], floor: Floor) -> bool {
+    let asked = command_line(rt.alloc(), arguments).expect(rt, "accepted arguments");
     asked.options.floor == floor
 }
 
 #[test]
 fn takes_floors(rt: HostRuntime) {
-    for (words, floor) in &FLOORS {
-        assert!(rt; asks_for_floor(&rt, *words, *floor), "of {words:?}");
+    for (arguments, floor) in &FLOORS {
+        assert!(rt; asks_for_floor(&rt, *arguments, *floor), "of {arguments:?}");
     }
 }
 
 // The exit status of refused arguments; none if they are accepted.
-fn status_of(rt: &impl Runtime, words: &[&str]) -> Option<i32> {
-    command_line(rt.alloc(), words)
+fn status_of(rt: &impl Runtime, arguments: &[&str]) -> Option<i32> {
+    command_line(rt.alloc(), arguments)
         .err()
         .map(|error| error.exit_code())
 }
 
 #[test]
 fn refuses_words(rt: HostRuntime) {
-    for (words, status) in &REFUSED {
-        assert!(rt; status_of(&rt, *words) == Some(*status), "of {words:?}");
+    for (arguments, status) in &REFUSED {
+        assert!(rt;
+            status_of(&rt, *arguments) == Some(*status),
+            "of {arguments:?}"
+        );
     }
 }

@@ -93,7 +93,7 @@ fn is_same(rt: &impl Runtime, config: &Config<TreeIds>, sets: Sets, auto_leave: 
 }
 
 // Whether a configuration equals one that is made in the same way, and none of the others.
-fn is_told_apart(rt: &impl Runtime) -> bool {
+fn equals_only_itself(rt: &impl Runtime) -> bool {
     let config = config_of(rt, ONE, true);
     let mut is_other = false;
     for (sets, auto_leave) in &OTHERS {
@@ -104,5 +104,5 @@ fn is_told_apart(rt: &impl Runtime) -> bool {
 
 #[test]
 fn tells_equal_configurations(rt: HostRuntime) {
-    assert!(rt; is_told_apart(&rt));
+    assert!(rt; equals_only_itself(&rt));
 }

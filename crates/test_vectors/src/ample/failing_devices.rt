@@ -50,7 +50,7 @@ fn writes_until(alloc: Global, case: Case, cut: usize, stop: Stop) -> bool {
     let fails = cut < output.len();
     let failed = writer.failed();
     let device = writer.into_inner();
-    let front = device.taken.as_slice();
+    let prefix = device.taken.as_slice();
     (outcome
         == if fails {
             Err(ToolFault::Write)
@@ -58,9 +58,9 @@ fn writes_until(alloc: Global, case: Case, cut: usize, stop: Stop) -> bool {
             Ok(status)
         })
         & (failed == fails)
-        & (front.len() == cut.min(output.len()))
-        & output.starts_with(front)
-        & (device.calls == front.len().saturating_add(usize::from(fails)))
+        & (prefix.len() == cut.min(output.len()))
+        & output.starts_with(prefix)
+        & (device.calls == prefix.len().saturating_add(usize::from(fails)))
         & (device.later_calls == 0)
 }
 
@@ -100,15 +100,15 @@ fn flushes_until(alloc: Global, case: Case, cut: usize) -> bool {
     let outcome = run_and_flush(alloc, mode, Options::default(), &mut reader, &mut blocks);
     let fails = cut < output.len();
     let device = blocks.into_inner().into_inner();
-    let front = device.taken.as_slice();
+    let prefix = device.taken.as_slice();
     (outcome
         == if fails {
             Err(ToolFault::Write)
         } else {
             Ok(status)
         })
-        & (front.len() == cut.min(output.len()))
-        & output.starts_with(front)
+        & (prefix.len() == cut.min(output.len()))
+        & output.starts_with(prefix)
         & (device.later_calls == 0)
 }
 

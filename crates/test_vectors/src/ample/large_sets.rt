@@ -23,11 +23,11 @@ fn has_multiples<S: MemberSet>(set: &S, count: usize, of: u64) -> bool
     requires small { of ≤ 10 }
 {
     let mut is_so = (set.len() == count) & set.at(count).is_none();
-    for place in 0..count {
-        let id = (place as u64 + 1) * of;
+    for index in 0..count {
+        let id = (index as u64 + 1) * of;
         is_so &= set.contains(id) & !set.contains(id + 1);
-        if place % 89 < 9 {
-            is_so &= set.at(place) == Some(id);
+        if index % 89 < 9 {
+            is_so &= set.at(index) == Some(id);
         }
     }
     is_so

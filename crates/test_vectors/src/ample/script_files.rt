@@ -24,11 +24,11 @@ fn show_next_line<R: Source>(
     lines: &mut Lines,
     source: &mut R,
 ) {
-    let held = lines.next_buffered(source);
-    if held.is_some() {
+    let buffered = lines.next_buffered(source);
+    if buffered.is_some() {
         show(rt, shown, b"h");
     }
-    let found = match held {
+    let found = match buffered {
         Some(found) => found,
         None => lines.next(source),
     };
@@ -106,8 +106,8 @@ fn show_first_values(rt: &impl Runtime, shown: &mut Vec<u8>, item: &Item) {
     }
 }
 
-fn values_of(rt: &impl Runtime, head: &str) -> Vec<u8> {
-    let mut source = FromRead::new(head.as_bytes());
+fn values_of(rt: &impl Runtime, line: &str) -> Vec<u8> {
+    let mut source = FromRead::new(line.as_bytes());
     let mut items = Reader::new(rt.alloc()).expect(rt, "a reader");
     let mut shown = Vec::new(rt.alloc());
     let item = items.next(&mut source).expect(rt, "an item");
@@ -131,9 +131,9 @@ static VALUES: [(&str, &str); 8] = [
 
 #[test]
 fn walks_values(rt: HostRuntime) {
-    for (head, want) in &VALUES {
-        let shown = values_of(&rt, *head);
-        assert!(rt; shown.as_slice() == want.as_bytes(), "at {head}");
+    for (line, want) in &VALUES {
+        let shown = values_of(&rt, *line);
+        assert!(rt; shown.as_slice() == want.as_bytes(), "at {line}");
     }
 }
 
@@ -306,11 +306,11 @@ fn show_held_item<R: Source>(
     reader: &mut Reader,
     source: &mut R,
 ) -> Option<Item> {
-    let held = reader.next_buffered(source);
-    if held.is_some() {
+    let buffered = reader.next_buffered(source);
+    if buffered.is_some() {
         show(rt, shown, b"h");
     }
-    let found = match held {
+    let found = match buffered {
         Some(found) => found,
         None => reader.next(source),
     };
@@ -322,7 +322,7 @@ fn show_held_item<R: Source>(
 // A script, and its items as they are printed if the first read gives all of it.
 const HELD_SCRIPT: &[u8] = b"# a\nb\n\n----\n1\n\n\nc\n----\n2\n";
 
-const HELD_ITEMS: &[u8] = b"lines:<# a>|h2:b//1\n|hlines:<>|8:c//2\n|";
+const BUFFERED_ITEMS: &[u8] = b"lines:<# a>|h2:b//1\n|hlines:<>|8:c//2\n|";
 
 #[test]
 fn tells_items_in_hand(rt: HostRuntime) {
@@ -332,7 +332,7 @@ fn tells_items_in_hand(rt: HostRuntime) {
     for _ in 0..9 {
         let _item = show_held_item(&rt, &mut shown, &mut reader, &mut source);
     }
-    assert!(rt; shown.as_slice() == HELD_ITEMS);
+    assert!(rt; shown.as_slice() == BUFFERED_ITEMS);
 }
 
 #[test]
@@ -345,7 +345,7 @@ fn reads_into_items_that_are_given_back(rt: HostRuntime) {
             reader.reuse(item);
         }
     }
-    assert!(rt; shown.as_slice() == HELD_ITEMS);
+    assert!(rt; shown.as_slice() == BUFFERED_ITEMS);
 }
 
 // Lines, a line of input for each, and the items that are made of it: a directive, if there is one, and a comment.
