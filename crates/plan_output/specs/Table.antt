@@ -24,7 +24,7 @@ flush_right width cell = replicate (width - length cell) 32 ++ cell
 
 -- the space before the item at an index, if it is not the first
 abbrev pub gap : ℕ → List ℕ
-gap place = text_if (nat_lt 0 place) (codes " ")
+gap index = text_if (nat_lt 0 index) (codes " ")
 
 -- the marks of ids with one space between, each right-aligned under its id
 abbrev pub marks_text : List ℕ → Configuration → List ℕ

@@ -33,9 +33,9 @@ pub(crate) fn ids_text<S: MemberSet>(alloc: Global, ids: &S) -> Result<Vec<u8>, 
     ensures { IfOk result (λ text. text.items ≡ spaced_numbers (ascending (S.ids ids.now))) }
 {
     let mut text = Vec::new(alloc);
-    for place in 0..ids.len() {
-        if let Some(id) = ids.at(place) {
-            append_gap(&mut text, place)?;
+    for index in 0..ids.len() {
+        if let Some(id) = ids.at(index) {
+            append_gap(&mut text, index)?;
             append_number(&mut text, id)?;
         }
     }
@@ -43,10 +43,10 @@ pub(crate) fn ids_text<S: MemberSet>(alloc: Global, ids: &S) -> Result<Vec<u8>, 
 }
 
 // Appends a space, but not before the first item.
-fn append_gap(text: &mut Vec<u8>, place: usize) -> Result<(), NoMemory>
-    ensures { OnOk result (text.new.items ≡ text.old.items ++ spec.gap place) }
+fn append_gap(text: &mut Vec<u8>, index: usize) -> Result<(), NoMemory>
+    ensures { OnOk result (text.new.items ≡ text.old.items ++ spec.gap index) }
 {
-    if place > 0 {
+    if index > 0 {
         append(text, b" ")?;
     }
     Ok(())
@@ -61,9 +61,9 @@ pub(crate) fn marks_text<S: MemberSet>(
     ensures { IfOk result (λ text. text.items ≡ spec.marks_text (ascending (S.ids ids.now)) config.now) }
 {
     let mut text = Vec::new(alloc);
-    for place in 0..ids.len() {
-        if let Some(id) = ids.at(place) {
-            append_gap(&mut text, place)?;
+    for index in 0..ids.len() {
+        if let Some(id) = ids.at(index) {
+            append_gap(&mut text, index)?;
             append_mark(&mut text, config, id)?;
         }
     }

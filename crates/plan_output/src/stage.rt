@@ -61,8 +61,8 @@ impl<S: MemberSet> Stage<S> {
         ensures counted { result ≡ spec.may_be_down self.now }
     {
         let config = &self.config;
-        let nobody = S::empty(self.catching_up.allocator());
-        quorum_sets::may_be_down((&config.incoming, &config.outgoing), &nobody)
+        let none_down = S::empty(self.catching_up.allocator());
+        quorum_sets::may_be_down((&config.incoming, &config.outgoing), &none_down)
     }
 
     /// The greatest number until the members have caught up, which until then do not count, down or not. `None` if nothing

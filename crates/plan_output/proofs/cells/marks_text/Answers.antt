@@ -7,8 +7,8 @@ use Rattle.plan_output.proofs.JoinedTexts.{join-one_more}
 use Rattle.plan_output.proofs.cells.marks_text.Goals as goal
 use Rattle.plan_output.proofs.cells.marks_text.Goals.{in-Some+in_ok-append_gap+in_ok-append_mark, in_default}
 
-pub loop-place-preserved : goal.loop-place-preserved
-loop-place-preserved g c = elim c.match-at.branch [
+pub loop-index-preserved : goal.loop-index-preserved
+loop-index-preserved g c = elim c.match-at.branch [
   | in-Some+in_ok-append_gap+in_ok-append_mark w ↦
       grind (arith, common_steps, gets, join-one_more (λ id. flush_right (length (decimal id)) (mark c.args.config.now id)))
   | in_default w ↦ grind (arith, gets)

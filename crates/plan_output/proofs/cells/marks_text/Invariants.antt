@@ -3,5 +3,5 @@ use Rattle.quorum_sets.specs.Ids.{ascending}
 use Rattle.plan_output.specs.Table as spec
 use Rattle.plan_output.proofs.cells.marks_text.Given as goal
 
-abbrev pub invariant-loop-place : goal.invariant-loop-place
-invariant-loop-place g l = l.text.items ≡ spec.marks_text (take l.place (ascending (g.S.MemberSet.ids l.ids))) l.config
+abbrev pub invariant-loop-index : goal.invariant-loop-index
+invariant-loop-index g l = l.text.items ≡ spec.marks_text (take l.index (ascending (g.S.MemberSet.ids l.ids))) l.config

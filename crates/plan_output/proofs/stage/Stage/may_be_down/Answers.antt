@@ -8,9 +8,9 @@ use Rattle.plan_output.proofs.stage.Stage.may_be_down.Goals as goal
 pub returns-clause-counted : goal.returns-clause-counted
 returns-clause-counted g c =
     let voters = ap voters_of c.config.view_is ∙ ap (λ (s : StageState). voters_of s.config) c.self.view_is in
-    c.may_be_down.ensures.counted ∙ (λ i. tolerance.may_be_down (voters i) (c.empty-nobody.ensures i))
+    c.may_be_down.ensures.counted ∙ (λ i. tolerance.may_be_down (voters i) (c.empty-none_down.ensures i))
 
 pub returns-clause-most : goal.returns-clause-most
 returns-clause-most g c =
     let voters = ap voters_of c.config.view_is ∙ ap (λ (s : StageState). voters_of s.config) c.self.view_is in
-    IsMostDown-along _ _ _ _ _ voters c.empty-nobody.ensures c.may_be_down.ensures.most
+    IsMostDown-along _ _ _ _ _ voters c.empty-none_down.ensures c.may_be_down.ensures.most
