@@ -16,8 +16,8 @@ use Rattle.conf_plan.specs.Run.{IsRun, IsRunWith}
 
 -- ---- an id, along a run
 -- the run preserves the id's progress: it is a member before, and keeps its progress at each step
-abbrev pub Spares : Configuration → List Step → Configuration → ℕ → Type 0
-Spares before steps after id =
+abbrev pub Preserves : Configuration → List Step → Configuration → ℕ → Type 0
+Preserves before steps after id =
     (is_member before id ≡ true) × IsRunWith (λ at step next. keeps_progress at step next id ≡ true) before steps after
 
 -- how many effective changes of the steps name the id
@@ -50,8 +50,8 @@ pub record IsPlain (change : Change) : Type 0 where
 pub record IsBest (now : Configuration) (steps : List Step) (target : Configuration) : Type 0 where
   pub run : IsRun now steps target
   pub shortest : (other : List Step) → IsRun now other target → length steps ≤ length other
-  pub sparing : (other : List Step) (id : ℕ) → Spares now other target id → Spares now steps target id
-  pub spared : (id : ℕ) → (Spares now steps target id) ↔ ((is_member now id && is_member target id && outlasts_leave now steps id) ≡ true)
+  pub sparing : (other : List Step) (id : ℕ) → Preserves now other target id → Preserves now steps target id
+  pub spared : (id : ℕ) → (Preserves now steps target id) ↔ ((is_member now id && is_member target id && outlasts_leave now steps id) ≡ true)
   pub fewest : (other : List Step) (id : ℕ) → IsRun now other target → times_named id steps ≤ times_named id other
   pub plain : All (λ step. All IsPlain (changes_of step)) steps
   pub overlap : IsRunWith (λ before step after. Overlap (voters_of before) (voters_of after)) now steps target

@@ -62,7 +62,7 @@ pub record IsLineOf (line : List ℕ) (step : Step) : Type 0 where
   pub parsed : AllZip ParsesTo tokens (changes_of step)
 
 -- the text is the one line `nothing to do`
-pub record SaysNothing (text : List ℕ) : Type 0 where
+pub record IsNothingToDo (text : List ℕ) : Type 0 where
   pub line : List ℕ
   pub alone : lines_of text ≡ line ∷ []
   pub line_words : words line ≡ codes "nothing" ∷ codes "to" ∷ codes "do" ∷ []
@@ -73,8 +73,8 @@ pub record IsTextOf (text : List ℕ) (steps : List Step) : Type 0 where
   pub lines : AllZip IsLineOf (lines_of text) steps
 
 -- the text is parsed as the plan of these steps
-abbrev pub StandsForPlan : List ℕ → List Step → Type 0
-StandsForPlan text steps = ((steps ≡ []) × SaysNothing text) ⊎ IsTextOf text steps
+abbrev pub ParsesToPlan : List ℕ → List Step → Type 0
+ParsesToPlan text steps = ((steps ≡ []) × IsNothingToDo text) ⊎ IsTextOf text steps
 
 -- the line with this number, counted from 1 and at most 4, is the first that is not parsed as a step, and the text is not `nothing to do`
 pub record IsFirstBadLine (text : List ℕ) (number : ℕ) : Type 0 where
@@ -82,12 +82,12 @@ pub record IsFirstBadLine (text : List ℕ) (number : ℕ) : Type 0 where
   pub line : List ℕ
   pub after : List (List ℕ)
   pub steps : List Step
-  pub place : lines_of text ≡ before ++ line ∷ after
+  pub position : lines_of text ≡ before ++ line ∷ after
   pub counted : number ≡ length before + 1
   pub in_first_four : number ≤ 4
   pub stand : AllZip IsLineOf before steps
   pub bad : (step : Step) → ¬ (IsLineOf line step)
-  pub something : ¬ (SaysNothing text)
+  pub something : ¬ (IsNothingToDo text)
 
 -- four steps are followed by a fifth line, whatever it is
 pub record IsTooLong (text : List ℕ) : Type 0 where
@@ -95,7 +95,7 @@ pub record IsTooLong (text : List ℕ) : Type 0 where
   pub fifth : List ℕ
   pub after : List (List ℕ)
   pub steps : List Step
-  pub place : lines_of text ≡ before ++ fifth ∷ after
+  pub position : lines_of text ≡ before ++ fifth ∷ after
   pub four : length before ≡ 4
   pub stand : AllZip IsLineOf before steps
 

@@ -3,7 +3,7 @@ ghost use Rattle.std.specs.Prelude.{◌≡◌, ℕ, OnOk, IfErr, List};
 ghost use Rattle.conf_change.specs.Configuration.{Configuration};
 ghost use Rattle.conf_change.specs.Changer.{IsSound};
 ghost use Rattle.conf_change.specs.declared.step.Step.{Step};
-ghost use Rattle.conf_plan.specs.Best.{IsBest, Spares};
+ghost use Rattle.conf_plan.specs.Best.{IsBest, Preserves};
 ghost use Rattle.conf_plan.specs.Planned.{planned};
 ghost use Rattle.conf_plan.specs.Run.{IsRun, IsValidWithVoter, Takes, StopsAt, HasKeptProgress};
 
@@ -29,9 +29,9 @@ pub fn apply_plan<S: MemberSet>(changer: &mut Changer<S>, plan: &Plan) -> Result
     ensures stopped { IfErr result (λ stop. StopsAt changer.old plan.now stop.step stop.refused changer.new) }
     ensures sound { IsSound changer.new.tracker }
     ensures reached { OnOk result ((target : Configuration) → IsRun changer.old.tracker.config plan.now target → changer.new.tracker.config ≡ target) }
-    ensures spared { OnOk result ((id : ℕ) → Spares changer.old.tracker.config plan.now changer.new.tracker.config id → HasKeptProgress changer.old changer.new id) }
+    ensures spared { OnOk result ((id : ℕ) → Preserves changer.old.tracker.config plan.now changer.new.tracker.config id → HasKeptProgress changer.old changer.new id) }
     ensures sparing { OnOk result ((target : Configuration) (other : List Step) (id : ℕ) → plan.now ≡ planned changer.old.tracker.config target
-        → Spares changer.old.tracker.config other target id → HasKeptProgress changer.old changer.new id) }
+        → Preserves changer.old.tracker.config other target id → HasKeptProgress changer.old changer.new id) }
     ensures best { OnOk result ((target : Configuration) → plan.now ≡ planned changer.old.tracker.config target → IsValidWithVoter changer.old.tracker.config
         → IsValidWithVoter target → IsBest changer.old.tracker.config plan.now changer.new.tracker.config) }
     ensures memory_alone { IfErr result (λ stop. (target : Configuration) → IsRun changer.old.tracker.config plan.now target → stop.refused ≡ Refused.NoMemory) }

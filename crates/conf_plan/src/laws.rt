@@ -17,7 +17,7 @@ ghost use Rattle.conf_plan.specs.Best.{times_named, HasSamePart, IsBest};
 ghost use Rattle.conf_plan.specs.PathBy.{has_path, path_by, Serves};
 ghost use Rattle.conf_plan.specs.Planned.{planned};
 ghost use Rattle.conf_plan.specs.PlanSteps.{HasWordIds, IsPlan};
-ghost use Rattle.conf_plan.specs.PlanText.{StandsForPlan, HasFault, change_text, plan_text};
+ghost use Rattle.conf_plan.specs.PlanText.{ParsesToPlan, HasFault, change_text, plan_text};
 ghost use Rattle.conf_plan.specs.PlanCode.{plan_in};
 ghost use Rattle.conf_plan.specs.Run.{IsRun, IsValidWithVoter, Takes, HasKeptProgress, after_steps};
 ghost use Rattle.conf_plan.specs.SamePlans.{is_same_plan};
@@ -91,11 +91,11 @@ pub fn one_changer_after_steps()
 /// A text is parsed as at most one plan, or has exactly one fault; the parser returns that plan or that fault. The printed
 /// text of a plan is parsed as the plan, and the printed changes of a step as these changes.
 pub fn one_plan_per_text()
-    ensures ok { (text : List ℕ) (steps : List Step) → (StandsForPlan text steps) ↔ (plan_in text ≡ Ok steps) }
+    ensures ok { (text : List ℕ) (steps : List Step) → (ParsesToPlan text steps) ↔ (plan_in text ≡ Ok steps) }
     ensures err { (text : List ℕ) (fault : PlanTextFault) → (HasFault text fault) ↔ (plan_in text ≡ Err fault) }
-    ensures each { (text : List ℕ) → ((steps : List Step) × StandsForPlan text steps) ⊎ ((fault : PlanTextFault) × HasFault text fault) }
-    ensures one { (text : List ℕ) (a b : List Step) → StandsForPlan text a → StandsForPlan text b → a ≡ b }
-    ensures printed { (steps : List Step) → IsPlan steps → StandsForPlan (plan_text steps) steps }
+    ensures each { (text : List ℕ) → ((steps : List Step) × ParsesToPlan text steps) ⊎ ((fault : PlanTextFault) × HasFault text fault) }
+    ensures one { (text : List ℕ) (a b : List Step) → ParsesToPlan text a → ParsesToPlan text b → a ≡ b }
+    ensures printed { (steps : List Step) → IsPlan steps → ParsesToPlan (plan_text steps) steps }
     ensures changes { (step : Step) → HasWordIds step → Denotes (join_with_byte 32 (map change_text (changes_of step))) (changes_of step) }
 {}
 

@@ -5,7 +5,7 @@ ghost use Rattle.ascii_text.specs.Words.{words};
 ghost use Rattle.conf_change.specs.ChangeList.{letter_of};
 ghost use Rattle.conf_change.specs.Text.{Extends};
 ghost use Rattle.conf_change.specs.declared.step.Step.{Step};
-ghost use Rattle.conf_plan.specs.PlanText.{StandsForPlan, HasFault, command_words, change_text, spaced_change, line_and_newline, plan_text, lines_of};
+ghost use Rattle.conf_plan.specs.PlanText.{ParsesToPlan, HasFault, command_words, change_text, spaced_change, line_and_newline, plan_text, lines_of};
 ghost use Rattle.conf_plan.specs.PlanCode as code;
 ghost use Rattle.conf_plan.specs.PlanCode.{plan_in, step_in, enter_in, list_in};
 ghost use Rattle.conf_plan.specs.declared.text.PlanTextFault.{PlanTextFault};
@@ -58,7 +58,7 @@ impl From<AllocFailed<Step>> for PlanTextFault {
 #[tactic(auto, using(crate::proofs::PlanText::PrintedPlan::printed_laws))]
 pub fn print_plan(text: &mut Vec<u8>, plan: &Plan) -> Result<(), NoMemory>
     ensures ok { OnOk result (text.new.items ≡ text.old.items ++ plan_text plan.now) }
-    ensures stands { StandsForPlan (plan_text plan.now) plan.now }
+    ensures stands { ParsesToPlan (plan_text plan.now) plan.now }
     ensures reads_back { plan_in (plan_text plan.now) ≡ Ok plan.now }
     ensures err { OnErr result (text.new.items ≡ text.old.items) }
 {
@@ -149,7 +149,7 @@ pub fn changes_text(alloc: Global, changes: &[Change]) -> Result<Vec<u8>, NoMemo
     let Some((first, rest)) = changes.split_first() else {
         return Ok(text);
     };
-    append_word(&mut text, *first)?;
+    append_token(&mut text, *first)?;
     append_changes(&mut text, rest)?;
     Ok(text)
 }
@@ -159,11 +159,11 @@ fn append_change(text: &mut Vec<u8>, change: Change) -> Result<(), NoMemory>
     ensures extends { Extends text.old.items text.new.items }
 {
     text.push(b' ')?;
-    append_word(text, change)
+    append_token(text, change)
 }
 
 // Appends a change: its letter and its id.
-fn append_word(text: &mut Vec<u8>, change: Change) -> Result<(), NoMemory>
+fn append_token(text: &mut Vec<u8>, change: Change) -> Result<(), NoMemory>
     ensures ok { OnOk result (text.new.items ≡ text.old.items ++ change_text change) }
     ensures extends { Extends text.old.items text.new.items }
 {
@@ -188,9 +188,9 @@ fn letter(kind: Kind) -> u8
 /// empty text is one blank line.
 #[tactic(auto, using(crate::proofs::PlanText::PlanFromLines::answer_laws))]
 pub fn read_plan(alloc: Global, text: &[u8]) -> Result<Plan, PlanTextFault>
-    ensures stands { IfOk result (StandsForPlan text.now) }
-    ensures told { IfErr result (λ fault. (fault ≡ PlanTextFault.NoMemory) ⊎ HasFault text.now fault) }
-    ensures read { (steps : List Step) → StandsForPlan text.now steps → (result ≡ Ok steps) ⊎ (result ≡ Err PlanTextFault.NoMemory) }
+    ensures stands { IfOk result (ParsesToPlan text.now) }
+    ensures fault { IfErr result (λ fault. (fault ≡ PlanTextFault.NoMemory) ⊎ HasFault text.now fault) }
+    ensures read { (steps : List Step) → ParsesToPlan text.now steps → (result ≡ Ok steps) ⊎ (result ≡ Err PlanTextFault.NoMemory) }
     ensures refused { (fault : PlanTextFault) → HasFault text.now fault → (result ≡ Err fault) ⊎ (result ≡ Err PlanTextFault.NoMemory) }
 
     // As a function of the text.
@@ -202,8 +202,8 @@ pub fn read_plan(alloc: Global, text: &[u8]) -> Result<Plan, PlanTextFault>
 fn read_lines(alloc: Global, text: &[u8]) -> Result<Plan, PlanTextFault>
     ensures { (result ≡ plan_in text.now) ⊎ (result ≡ Err PlanTextFault.NoMemory) }
 {
-    let (line, behind) = first_line(text);
-    if behind.is_empty() && is_nothing(line) {
+    let (line, after) = first_line(text);
+    if after.is_empty() && is_nothing(line) {
         return Ok(Plan::of_steps(Vec::new(alloc)));
     }
     let mut steps = Vec::new(alloc);
@@ -212,13 +212,13 @@ fn read_lines(alloc: Global, text: &[u8]) -> Result<Plan, PlanTextFault>
         if steps.len() == 4 {
             return Err(PlanTextFault::TooManySteps);
         }
-        let (line, behind) = first_line(rest);
+        let (line, after) = first_line(rest);
         let step = read_step(alloc, line)?.ok_or(PlanTextFault::BadLine(steps.len() + 1))?;
         steps.push(step)?;
-        if behind.is_empty() {
+        if after.is_empty() {
             return Ok(Plan::of_steps(steps));
         }
-        rest = behind;
+        rest = after;
     }
 }
 
@@ -229,10 +229,10 @@ fn first_line(text: &[u8]) -> (&[u8], &[u8])
     ensures within { length result.1.now ≤ length text.now }
     ensures shorter { 0 < length result.1.now → length result.1.now < length text.now }
 {
-    let (line, behind) = text.split_at(far_position_of(text, b'\n'));
-    match behind {
-        [_, behind @ ..] => (line, behind),
-        [] => (line, behind),
+    let (line, after) = text.split_at(far_position_of(text, b'\n'));
+    match after {
+        [_, after @ ..] => (line, after),
+        [] => (line, after),
     }
 }
 
@@ -288,12 +288,12 @@ fn read_enter(alloc: Global, text: &[u8]) -> Result<Option<Step>, NoMemory>
 }
 
 // The flag that a token is parsed as.
-fn read_flag(word: &[u8]) -> Option<bool>
-    ensures { result ≡ code.flag_in word.now }
+fn read_flag(token: &[u8]) -> Option<bool>
+    ensures { result ≡ code.flag_in token.now }
 {
-    if word == b"autoleave=true".as_slice() {
+    if token == b"autoleave=true".as_slice() {
         Some(true)
-    } else if word == b"autoleave=false".as_slice() {
+    } else if token == b"autoleave=false".as_slice() {
         Some(false)
     } else {
         None
