@@ -129,7 +129,7 @@ is_write_failure (Err Read) = false
 is_write_failure (Err Write) = true
 is_write_failure (Err NoMemory) = false
 
--- a result that stands for the whole output: a status, or an error in the input
+-- a result that means that the output is whole: a status, or an error in the input
 abbrev pub stands_for_whole : Result Status ToolFault → Bool
 stands_for_whole (Ok status) = true
 stands_for_whole (Err (Script fault)) = true

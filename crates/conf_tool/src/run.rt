@@ -101,7 +101,7 @@ pub fn run_and_flush<R: Source, W: Sink>(
     ensures output { Answers (output_of mode options) (R.remaining reader.old) (R.remaining reader.new)
         (⟦<Blocks<W> as Sink>⟧.contents writer.old) (⟦<Blocks<W> as Sink>⟧.contents writer.new) result }
 
-    // .. and their writer has all of it, if the result stands for the whole output.
+    // .. and their writer has all of it, if the result means that the output is whole.
     ensures whole { stands_for_whole result ≡ true → NothingWaits writer.new ×
         Answers (output_of mode options) (R.remaining reader.old) (R.remaining reader.new)
         (W.contents (gathering_writer writer.old)) (W.contents (gathering_writer writer.new)) result }
@@ -123,7 +123,7 @@ pub fn run_and_flush<R: Source, W: Sink>(
     }
 }
 
-/// Whether a result stands for the whole output: a status, or an error in the input.
+/// Whether a result means that the output is whole: a status, or an error in the input.
 fn is_whole(outcome: &Result<Status, ToolFault>) -> bool
     ensures { result ≡ stands_for_whole outcome.now }
 {
