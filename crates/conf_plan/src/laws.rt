@@ -88,7 +88,7 @@ pub fn one_changer_after_steps()
         → (after : ChangerState) × (after_steps before steps ≡ Some after) × (after.tracker.config ≡ target) }
 {}
 
-/// A text is parsed as at most one plan, or has exactly one fault; the parser returns that plan or that fault. The printed
+/// A text is parsed as at most one plan, or has exactly one error; the parser returns that plan or that error. The printed
 /// text of a plan is parsed as the plan, and the printed changes of a step as these changes.
 pub fn one_plan_per_text()
     ensures ok { (text : List ℕ) (steps : List Step) → (ParsesToPlan text steps) ↔ (plan_in text ≡ Ok steps) }

@@ -43,7 +43,7 @@ impl From<NoMemory> for PlanFault {
 /// The plan from one configuration to another: the best steps that lead there. No other steps are fewer, preserve the
 /// progress of a member that the plan resets, or name an id in fewer changes, and the voters before and after each step
 /// overlap. Logs are not considered: a new voter begins with an empty one. There is a plan between any two configurations
-/// with voters, and none otherwise, which is checked before any memory is taken.
+/// with voters, and none otherwise, which is checked before anything is allocated.
 pub fn plan<S: MemberSet>(
     alloc: Global,
     now: &Config<S>,

@@ -46,7 +46,7 @@ impl From<NoMemory> for NoPath {
 
 /// The path from one configuration to another by a strategy, which keeps the strategy's promises (`Serves`). There is none
 /// if a configuration has no voter, nor one member at a time into a joint configuration, unless the current one equals it.
-/// That is checked before any memory is taken (own).
+/// That is checked before anything is allocated (own).
 pub fn plan_by<S: MemberSet>(
     alloc: Global,
     strategy: Strategy,
