@@ -1,4 +1,4 @@
--- What a cluster that takes the steps of a path can count on while it serves.
+-- What a path promises to a cluster that goes on serving while it takes the steps.
 use Rattle.std.specs.Prelude.{◌≡◌, ℕ, ◌+◌, ◌≤◌, true, false, not, ◌||◌, IsTrue, List, length, ⊤}
 use Rattle.quorum_sets.specs.Ids.{Ids, no_ids, has, ids_where}
 use Rattle.quorum_sets.specs.Voters.{is_quorum}
@@ -11,12 +11,12 @@ use Rattle.conf_change.specs.declared.step.Step.TheVariants.{Simple, EnterJoint,
 use Rattle.conf_plan.specs.Best.{IsBest}
 use Rattle.conf_plan.specs.Run.{IsRun, IsRunWith}
 
--- the steps lead from the one configuration to the other, and this holds of the configuration after each of them
+-- the steps lead from one configuration to the other, and this holds of the configuration after each step
 abbrev pub EachOnTheWay : (Configuration → Type 0) → Configuration → List Step → Configuration → Type 0
 EachOnTheWay Holds = IsRunWith (λ before step after. Holds after)
 
 -- ---- quorums
--- each set of ids that is a quorum of both ends is one of the configuration
+-- a set of ids that is a quorum of both ends is a quorum of the configuration
 abbrev pub HasQuorumsOf : Configuration → Configuration → Configuration → Type 0
 HasQuorumsOf now target c =
     (ids : Ids) → IsTrue (is_quorum (voters_of now) ids) → IsTrue (is_quorum (voters_of target) ids) → IsTrue (is_quorum (voters_of c) ids)
@@ -45,12 +45,12 @@ pub record IsReadyLearner (before : Configuration) (step : Step) (after : Config
   pub learner : has before.learners id ≡ true
   pub kept : keeps_progress before step after id ≡ true
 
--- each id that the step makes an incoming voter, and that was no voter before it, is ready for that
+-- each new voter of the step was a learner, and keeps its progress
 abbrev pub MakesVotersOfReady : Configuration → Step → Configuration → Type 0
 MakesVotersOfReady before step after =
     (id : ℕ) → has after.incoming id ≡ true → (has before.incoming id || has before.outgoing id) ≡ false → IsReadyLearner before step after id
 
--- each id that becomes a voter was a learner with progress before
+-- each new voter was a learner with progress before
 abbrev pub VotersLearnFirst : Configuration → List Step → Configuration → Type 0
 VotersLearnFirst = IsRunWith MakesVotersOfReady
 
@@ -61,20 +61,20 @@ IsOneChange (Simple changes) = length changes ≡ 1
 IsOneChange (EnterJoint auto_leave changes) = ⊥
 IsOneChange LeaveJoint = ⊤
 
--- a step of one change that makes voters of learners alone
+-- a step of one change that makes voters of learners only
 pub record ChangesOneLearnerFirst (before : Configuration) (step : Step) (after : Configuration) : Type 0 where
   pub one : IsOneChange step
   pub learners : (id : ℕ) → has after.incoming id ≡ true → (has before.incoming id || has before.outgoing id) ≡ false → has before.learners id ≡ true
 
 -- ---- what each strategy promises
--- The steps are the best plan, of which there are at most four. A quorum of both ends is one on the whole way, and no configuration there tolerates fewer failures than the weaker end.
+-- The steps are the best plan, at most four. A quorum of both ends is a quorum on the whole way, and no configuration there tolerates fewer failures than the weaker end.
 pub record ShortestServes (now : Configuration) (steps : List Step) (target : Configuration) : Type 0 where
   pub best : IsBest now steps target
   pub at_most_four : length steps ≤ 4
   pub quorums : KeepsQuorums now steps target
   pub tolerance : KeepsTolerance now steps target
 
--- The steps are at most one more than any other run has, and at most five. Beside what holds of the plan, each id that becomes a voter was a learner with progress before.
+-- At most one step more than any other run, and at most five. Quorums and tolerance are as for the plan, and each new voter was a learner with progress before.
 pub record LearnersFirstServes (now : Configuration) (steps : List Step) (target : Configuration) : Type 0 where
   pub run : IsRun now steps target
   pub one_more : (other : List Step) → IsRun now other target → length steps ≤ length other + 1
@@ -84,7 +84,7 @@ pub record LearnersFirstServes (now : Configuration) (steps : List Step) (target
   pub voters : VotersLearnFirst now steps target
   pub overlap : IsRunWith (λ before step after. Overlap (voters_of before) (voters_of after)) now steps target
 
--- The steps change one member each, and each id that becomes a voter was a learner with progress before. No other run has fewer steps whose steps change one member each and make voters of learners alone.
+-- Each step changes one member, and each new voter was a learner with progress before. No other run of such steps, which make voters of learners only, is shorter.
 pub record OneAtATimeServes (now : Configuration) (steps : List Step) (target : Configuration) : Type 0 where
   pub run : IsRunWith ChangesOneLearnerFirst now steps target
   pub least : (other : List Step) → IsRunWith ChangesOneLearnerFirst now other target → length steps ≤ length other

@@ -16,11 +16,11 @@ newcomers c target = ids_where (λ id. not (is_member c id)) (ascending target.i
 abbrev pub learner_changes : Ids → List Change
 learner_changes ids = map (λ id. record { kind = Learner; id = id }) (ascending ids)
 
--- the configuration with these learners too
+-- the configuration with these learners added
 abbrev pub with_learners : Configuration → Ids → Configuration
 with_learners c ids = record c { learners = union c.learners ids }
 
--- one step makes the newcomers learners, if there are any; then comes the shortest plan
+-- one step makes the newcomers learners, if there are any; the shortest plan follows
 abbrev pub learners_first_from_single : Configuration → Configuration → List Step
 learners_first_from_single c target =
     if is_empty (newcomers c target) then planned c target

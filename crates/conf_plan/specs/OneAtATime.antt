@@ -20,27 +20,27 @@ joining c target = filter (λ id. not (has c.incoming id)) (ascending target.inc
 abbrev pub retiring : Configuration → Configuration → List ℕ
 retiring c target = filter (λ id. not (has target.incoming id)) (ascending c.incoming)
 
--- an id becomes a voter, and first a learner if it is not one
+-- an id becomes a voter, and a learner before that if it is not one
 abbrev pub join_steps : Configuration → ℕ → List Step
 join_steps c id = if has c.learners id then one_change Voter id ∷ [] else one_change Learner id ∷ one_change Voter id ∷ []
 
--- a voter becomes a learner if the target has it as one, and else it is removed
+-- a voter becomes a learner if it is one in the target, and is removed otherwise
 abbrev pub retire_step : Configuration → ℕ → Step
 retire_step target id = one_change (if has target.learners id then Learner else Remove) id
 
--- one joins, then one retires, as long as there are any
+-- in turn, one id joins and one retires, until there are no more
 abbrev pub in_turn : Configuration → Configuration → List ℕ → List ℕ → List Step
 in_turn c target [] [] = []
 in_turn c target (id ∷ joins) [] = join_steps c id ++ in_turn c target joins []
 in_turn c target [] (id ∷ retires) = retire_step target id ∷ in_turn c target [] retires
 in_turn c target (id ∷ joins) (other ∷ retires) = join_steps c id ++ retire_step target other ∷ in_turn c target joins retires
 
--- what an id that votes neither before nor after has to become, if anything: a learner, or not a member
+-- what an id has to become, if anything, that is a voter neither before nor after: a learner, or not a member
 abbrev pub learner_change : Configuration → Configuration → ℕ → Option Kind
 learner_change c target id =
     if has c.incoming id || has target.incoming id then None else kind_by false (has target.learners id) false (has c.learners id)
 
--- the steps for these ids, ascending
+-- the steps of these ids, ascending
 abbrev pub learner_steps : Configuration → Configuration → List Step
 learner_steps c target = filter_map (λ id. option_map (λ kind. one_change kind id) (learner_change c target id)) (ascending (union c.learners target.learners))
 

@@ -17,13 +17,13 @@ from_single_by Shortest = planned_from_single
 from_single_by LearnersFirst = learners_first_from_single
 from_single_by OneAtATime = one_at_a_time_from_single
 
--- from any: a joint configuration is left first
+-- from any configuration: a joint one is left first
 abbrev pub path_by : Strategy → Configuration → Configuration → List Step
 path_by strategy now target =
     if is_same now target then []
     else (if is_joint now then LeaveJoint ∷ from_single_by strategy (after_leave now) target else from_single_by strategy now target)
 
--- whether the strategy has a path between configurations with voters: one member at a time leads into no joint configuration
+-- whether the strategy has a path between configurations with voters: one member at a time does not lead into a joint configuration
 abbrev pub has_path : Strategy → Configuration → Configuration → Bool
 has_path Shortest now target = true
 has_path LearnersFirst now target = true

@@ -1,4 +1,4 @@
--- What a text stands for, as a function.
+-- The parser of plans, as a function.
 use Rattle.std.specs.Prelude.{ℕ, ◌+◌, Bool, true, false, ◌&&◌, ◌==◌, List, [], ◌∷◌, codes, Option, Some, None, option_map, Result, Ok, Err, bytes_eq, if◌then◌else◌}
 use Rattle.std.specs.Result.{result_ok}
 use Rattle.ascii_text.specs.Words.{words}
@@ -10,11 +10,11 @@ use Rattle.conf_plan.specs.PlanText.{flag_word, lines_of}
 use Rattle.conf_plan.specs.declared.text.PlanTextFault.{PlanTextFault}
 use Rattle.conf_plan.specs.declared.text.PlanTextFault.TheVariants.{BadLine, TooManySteps}
 
--- the changes that words spell, where they all spell one
+-- the changes of tokens, if each is parsed as one
 abbrev pub list_in : List (List ℕ) → Option (List Change)
 list_in tokens = result_ok (changes_in_tokens tokens)
 
--- the flag that a word stands for
+-- the flag that a token is parsed as
 abbrev pub flag_in : List ℕ → Option Bool
 flag_in word = if bytes_eq word (flag_word true) then Some true else (if bytes_eq word (flag_word false) then Some false else None)
 
@@ -22,17 +22,17 @@ abbrev pub enter_with : Option Bool → List (List ℕ) → Option Step
 enter_with None tokens = None
 enter_with (Some auto_leave) tokens = option_map (EnterJoint auto_leave) (list_in tokens)
 
--- the step of a flag and changes
+-- entering a joint configuration: a flag, then changes
 abbrev pub enter_in : List (List ℕ) → Option Step
 enter_in [] = None
 enter_in (flag ∷ tokens) = enter_with (flag_in flag) tokens
 
--- leaving takes no words
+-- leaving a joint configuration has no arguments
 abbrev pub leave_in : List (List ℕ) → Option Step
 leave_in [] = Some LeaveJoint
 leave_in (_ ∷ _) = None
 
--- the step that the words of a line stand for
+-- the step that the tokens of a line are parsed as
 abbrev pub step_in : List (List ℕ) → Option Step
 step_in [] = None
 step_in (command ∷ tokens) =
@@ -45,22 +45,22 @@ and_steps number None others = Err (BadLine number)
 and_steps number (Some step) (Err fault) = Err fault
 and_steps number (Some step) (Ok steps) = Ok (step ∷ steps)
 
--- the steps that lines stand for, which follow as many lines as this
+-- the steps of lines that follow as many other lines
 abbrev pub steps_in : ℕ → List (List ℕ) → Result (List Step) PlanTextFault
 steps_in before [] = Ok []
 steps_in before (line ∷ lines) =
     if before == 4 then Err TooManySteps else and_steps (before + 1) (step_in (words line)) (steps_in (before + 1) lines)
 
--- the words say that there is nothing to do
+-- the tokens are those of `nothing to do`
 abbrev pub is_nothing : List (List ℕ) → Bool
 is_nothing (a ∷ b ∷ c ∷ []) = bytes_eq a (codes "nothing") && bytes_eq b (codes "to") && bytes_eq c (codes "do")
 is_nothing _ = false
 
--- the steps that the lines of a plan stand for
+-- the steps that the lines of a plan are parsed as
 abbrev pub plan_in_lines : List (List ℕ) → Result (List Step) PlanTextFault
 plan_in_lines (line ∷ []) = if is_nothing (words line) then Ok [] else steps_in 0 (line ∷ [])
 plan_in_lines lines = steps_in 0 lines
 
--- the steps of the plan that a text stands for, or why it stands for none
+-- the plan that a text is parsed as, or why it is none
 abbrev pub plan_in : List ℕ → Result (List Step) PlanTextFault
 plan_in text = plan_in_lines (lines_of text)

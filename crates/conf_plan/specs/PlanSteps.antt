@@ -8,7 +8,7 @@ use Rattle.conf_change.specs.Step.{changes_of}
 abbrev pub HasWordIds : Step → Type 0
 HasWordIds step = All (λ change. change.id < 2 ^ 64) (changes_of step)
 
--- what the steps of a plan are: at most four, with ids of 64 bits
+-- the steps of a plan are at most four, with ids of 64 bits
 pub record IsPlan (steps : List Step) : Type 0 where
   pub at_most_four : length steps ≤ 4
   pub word_ids : All HasWordIds steps

@@ -1,4 +1,4 @@
--- The text of a plan: its lines as they are printed, and which texts stand for which plans.
+-- The text of a plan: how it is printed, and which texts are parsed as which plans.
 use Rattle.std.specs.Prelude.{◌≡◌, ℕ, ◌+◌, ◌≤◌, Bool, ◌==◌, ◌⊎◌, List, [], ◌∷◌, ◌++◌, length, map, flat_map, filter, codes, decimal, if◌then◌else◌}
 use Rattle.std.specs.List.{AllZip, join_with_byte, slice_split}
 use Rattle.ascii_text.specs.Words.{has_bytes, words}
@@ -14,92 +14,92 @@ use Rattle.conf_plan.specs.declared.text.PlanTextFault.TheVariants.{BadLine, Too
 abbrev pub flag_word : Bool → List ℕ
 flag_word auto_leave = codes "autoleave=" ++ truth_text auto_leave
 
--- the words that a step's line begins with; its changes follow them
+-- the tokens before the changes on a step's line: the command and its flag
 abbrev pub command_words : Step → List (List ℕ)
 command_words (Simple _) = codes "simple" ∷ []
 command_words (EnterJoint auto_leave _) = codes "enter-joint" ∷ flag_word auto_leave ∷ []
 command_words LeaveJoint = codes "leave-joint" ∷ []
 
--- ---- as it is printed
+-- ---- printing
 -- a change: its letter, and its id without leading zeros
 abbrev pub change_text : Change → List ℕ
 change_text change = letter_of change.kind ∷ decimal change.id
 
--- a change behind the words before it
+-- a change after a space
 abbrev pub spaced_change : Change → List ℕ
 spaced_change change = 32 ∷ change_text change
 
--- the words of a step's line, with one space between
+-- a step's line: its tokens with one space between
 abbrev pub line_text : Step → List ℕ
 line_text step = join_with_byte 32 (command_words step ++ map change_text (changes_of step))
 
 abbrev pub line_and_newline : Step → List ℕ
 line_and_newline step = line_text step ++ codes "\n"
 
--- a line for each step, or a line that says that there is nothing to do
+-- a line for each step, or `nothing to do`
 abbrev pub plan_text : List Step → List ℕ
 plan_text [] = codes "nothing to do\n"
 plan_text (step ∷ steps) = flat_map line_and_newline (step ∷ steps)
 
--- ---- which texts stand for which plans
+-- ---- parsing
 abbrev pub is_newline : ℕ → Bool
 is_newline byte = byte == 10
 
--- a list of pieces, without its last one where that is empty
+-- texts without the last one, if that is empty
 abbrev pub without_empty_end : List (List ℕ) → List (List ℕ)
 without_empty_end [] = []
 without_empty_end (piece ∷ []) = filter has_bytes (piece ∷ [])
 without_empty_end (piece ∷ next ∷ pieces) = piece ∷ without_empty_end (next ∷ pieces)
 
--- The lines of a text: it is cut at each newline, and what follows the last newline is a line if it is not empty. The empty text is read as one blank line.
+-- The lines of a text: it is split at each newline, and what follows the last newline is a line if it is not empty. The empty text is one blank line.
 abbrev pub lines_of : List ℕ → List (List ℕ)
 lines_of text = if has_bytes text then without_empty_end (slice_split is_newline text) else [] ∷ []
 
--- the words of the line, however much white space stands around them, are the step's command and then its changes, one word a change
+-- the tokens of the line are the step's command and then its changes, with any white space around them
 pub record IsLineOf (line : List ℕ) (step : Step) : Type 0 where
   pub tokens : List (List ℕ)
   pub line_words : words line ≡ command_words step ++ tokens
   pub parsed : AllZip ParsesTo tokens (changes_of step)
 
--- the text is one line, whose words say that there is nothing to do
-pub record SaysNothing (text : List ℕ) : Type 0 where
+-- the text is the one line `nothing to do`
+pub record IsNothingToDo (text : List ℕ) : Type 0 where
   pub line : List ℕ
   pub alone : lines_of text ≡ line ∷ []
   pub line_words : words line ≡ codes "nothing" ∷ codes "to" ∷ codes "do" ∷ []
 
--- its lines, at most four (and no text has none), are those of the steps in order
+-- the lines of the text, from one to four, are those of the steps in order
 pub record IsTextOf (text : List ℕ) (steps : List Step) : Type 0 where
   pub at_most_four : length steps ≤ 4
   pub lines : AllZip IsLineOf (lines_of text) steps
 
--- the text stands for the plan of these steps
-abbrev pub StandsForPlan : List ℕ → List Step → Type 0
-StandsForPlan text steps = ((steps ≡ []) × SaysNothing text) ⊎ IsTextOf text steps
+-- the text is parsed as the plan of these steps
+abbrev pub ParsesToPlan : List ℕ → List Step → Type 0
+ParsesToPlan text steps = ((steps ≡ []) × IsNothingToDo text) ⊎ IsTextOf text steps
 
--- the line with this number, counted from 1 and at most 4, is the first that stands for no step, and the text is not the one that says that there is nothing to do
+-- the line with this number, counted from 1 and at most 4, is the first that is not parsed as a step, and the text is not `nothing to do`
 pub record IsFirstBadLine (text : List ℕ) (number : ℕ) : Type 0 where
   pub before : List (List ℕ)
   pub line : List ℕ
   pub after : List (List ℕ)
   pub steps : List Step
-  pub place : lines_of text ≡ before ++ line ∷ after
+  pub position : lines_of text ≡ before ++ line ∷ after
   pub counted : number ≡ length before + 1
   pub in_first_four : number ≤ 4
   pub stand : AllZip IsLineOf before steps
   pub bad : (step : Step) → ¬ (IsLineOf line step)
-  pub something : ¬ (SaysNothing text)
+  pub something : ¬ (IsNothingToDo text)
 
--- the first four lines stand for steps, and a fifth line follows, whatever it holds
+-- four steps are followed by a fifth line, whatever it is
 pub record IsTooLong (text : List ℕ) : Type 0 where
   pub before : List (List ℕ)
   pub fifth : List ℕ
   pub after : List (List ℕ)
   pub steps : List Step
-  pub place : lines_of text ≡ before ++ fifth ∷ after
+  pub position : lines_of text ≡ before ++ fifth ∷ after
   pub four : length before ≡ 4
   pub stand : AllZip IsLineOf before steps
 
--- the text stands for no plan, for this reason; want of memory is no reason that a text has
+-- the text is not parsed as a plan, for this reason; running out of memory is never the text's fault
 abbrev pub HasFault : List ℕ → PlanTextFault → Type 0
 HasFault text (BadLine number) = IsFirstBadLine text number
 HasFault text TooManySteps = IsTooLong text

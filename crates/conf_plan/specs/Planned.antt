@@ -10,14 +10,14 @@ use Rattle.conf_change.specs.declared.change.Kind.TheVariants.{Voter, Learner, R
 use Rattle.conf_change.specs.declared.step.Step.{Step}
 use Rattle.conf_change.specs.declared.step.Step.TheVariants.{Simple, EnterJoint, LeaveJoint}
 
--- what an id has to become, if anything, by whether it is wanted as a voter, is wanted as a learner, is an incoming voter and is a learner
+-- what an id has to become, if anything, by its roles in the target (voter, learner) and now (incoming voter, learner)
 abbrev pub kind_by : Bool → Bool → Bool → Bool → Option Kind
 kind_by wanted_voter wanted_learner voter learner =
     if wanted_voter then (if voter then None else Some Voter)
     else (if wanted_learner then (if learner then None else Some Learner)
     else (if voter || learner then Some Remove else None))
 
--- what an id of a configuration has to become, if anything, where these voters and learners are wanted
+-- what an id of a configuration has to become, if anything, on the way to these voters and learners
 abbrev pub kind_of_move : Configuration → Ids → Ids → ℕ → Option Kind
 kind_of_move c voters learners id = kind_by (has voters id) (has learners id) (has c.incoming id) (has c.learners id)
 
@@ -49,7 +49,7 @@ is_shared target id = is_member target id && not (has target.outgoing id)
 abbrev pub shared_members : Configuration → Configuration → Ids
 shared_members c target = ids_where (is_shared target) (members c)
 
--- the steps that make the target's outgoing voters the incoming ones, where they are not
+-- the steps that make the target's outgoing voters the incoming ones, if they are not
 abbrev pub inserted_steps : Configuration → Configuration → List Step
 inserted_steps c target =
     if is_same_set c.incoming target.outgoing then [] else single_steps c target.outgoing (shared_members c target)
@@ -58,7 +58,7 @@ inserted_steps c target =
 abbrev pub configuration_after : Configuration → List Step → Configuration
 configuration_after c steps = fold (λ at step. result_unwrap_or (outcome at step) at) c steps
 
--- the step into a joint configuration, from one that is not joint and has its outgoing voters as incoming ones
+-- the step into a joint configuration, from one that is not joint and whose incoming voters are its outgoing ones
 abbrev pub entering_step : Configuration → Configuration → Step
 entering_step c target = EnterJoint target.auto_leave (moves c target.incoming (union target.learners target.learners_next))
 

@@ -9,21 +9,21 @@ use Rattle.conf_change.specs.declared.progress.Progress.{Progress}
 use Rattle.conf_change.specs.declared.refused.Refused.{Refused}
 use Rattle.conf_change.specs.declared.step.Step.{Step}
 
--- it is valid and has an incoming voter
+-- the configuration is valid and has an incoming voter
 pub record IsValidWithVoter (c : Configuration) : Type 0 where
   pub valid : is_valid c ≡ true
   pub voter : has_voter c ≡ true
 
--- the steps lead from the one state to the other, each of them in this way
+-- the steps lead from one state to the other, each in this way
 abbrev pub IsChain : {S : Type 0} → (S → Step → S → Type 0) → S → List Step → S → Type 0
 IsChain Leads before [] after = before ≡ after
 IsChain {S} Leads before (step ∷ steps) after = (next : S) × Leads before step next × IsChain Leads next steps after
 
--- the step is accepted in the one configuration, and gives the other
+-- the step is accepted in one configuration, and gives the other
 abbrev pub Gives : Configuration → Step → Configuration → Type 0
 Gives before step after = outcome before step ≡ Ok after
 
--- the steps lead from the one configuration to the other: each is accepted where those before it lead
+-- the steps lead from one configuration to the other: each is accepted where the previous ones lead
 abbrev pub IsRun : Configuration → List Step → Configuration → Type 0
 IsRun = IsChain Gives
 
@@ -49,7 +49,7 @@ pub record HasKeptProgress (before after : ChangerState) (id : ℕ) : Type 0 whe
   pub same_match : kept.matched ≡ had.matched
   pub same_next : kept.next ≡ had.next
 
--- it takes the steps before the one of this number, counted from 1, which is refused for this reason, running out of memory aside
+-- the changer takes the steps before this one, counted from 1, which is refused for this reason, running out of memory aside
 pub record StopsAt (before : ChangerState) (steps : List Step) (number : ℕ) (why : Refused) (after : ChangerState) : Type 0 where
   pub in_range : 0 < number
   pub taken : Takes before (take (number - 1) steps) after

@@ -5,29 +5,29 @@ use Rattle.quorum_sets.specs.Ids.{Ids, ascending, size}
 use Rattle.conf_change.specs.declared.step.Step.{Step}
 use Rattle.conf_plan.specs.PlanSteps.{HasWordIds}
 
--- no id comes after every id
+-- the first id is at most the second, and having no id left is later than each id
 abbrev pub IsNoLater : Option ℕ → Option ℕ → Type 0
 IsNoLater first None = Unit {0}
 IsNoLater None (Some id) = ⊥
 IsNoLater (Some first) (Some id) = first ≤ id
 
--- it is the first of the two
+-- the earlier of the two
 pub record IsEarlier (a b first : Option ℕ) : Type 0 where
   pub no_later_than_a : IsNoLater first a
   pub no_later_than_b : IsNoLater first b
   pub either : (first ≡ a) ⊎ (first ≡ b)
 
--- the index after the id, if the id is at the index, and else the same index
+-- the index after the id if the id is at the index, and the same index otherwise
 pub record IsPassed (ids : Ids) (index id : ℕ) (found : Bool) (next : ℕ) : Type 0 where
   pub here : (found ≡ true) ↔ (slice_get (ascending ids) index ≡ Some id)
   pub after : next ≡ index + (if found then 1 else 0)
 
--- a walk over the ids is at the index, where this id comes next, and its indexes are numbers of 64 bits
+-- a walk over the ids is at the index, this id is next, and indexes are numbers of 64 bits
 pub record IsStanding (ids : Ids) (index : ℕ) (next : Option ℕ) : Type 0 where
   pub here : next ≡ slice_get (ascending ids) index
   pub few : size ids < 2 ^ 64
 
--- steps are added after those before; their ids are numbers of 64 bits
+-- these steps are appended; their ids are numbers of 64 bits
 pub record IsAdded (before more after : List Step) : Type 0 where
   pub whole : after ≡ before ++ more
   pub word_ids : All HasWordIds more

@@ -3,7 +3,7 @@ ghost use Rattle.std.specs.Prelude.{◌≡◌, ℕ, OnOk, IfErr, List};
 ghost use Rattle.conf_change.specs.Configuration.{Configuration};
 ghost use Rattle.conf_change.specs.Changer.{IsSound};
 ghost use Rattle.conf_change.specs.declared.step.Step.{Step};
-ghost use Rattle.conf_plan.specs.Best.{IsBest, Spares};
+ghost use Rattle.conf_plan.specs.Best.{IsBest, Preserves};
 ghost use Rattle.conf_plan.specs.Planned.{planned};
 ghost use Rattle.conf_plan.specs.Run.{IsRun, IsValidWithVoter, Takes, StopsAt, HasKeptProgress};
 
@@ -20,18 +20,18 @@ pub struct StepRefused {
     pub refused: Refused,
 }
 
-/// Takes the steps of a plan in order, up to the first that is refused; the changer has then taken the steps before it.
-/// A plan that leads from the changer's configuration to another one is taken whole, unless memory runs out. The members
-/// whose progress it preserves keep their match and next. If it was made for the changer, it is the best plan to where it
-/// leads: no steps to there preserve a member that it does not preserve, are fewer, or name an id in fewer changes.
+/// Takes the steps of a plan in order, up to the first that is refused; the steps before that one stay taken. A plan from
+/// the changer's configuration is taken whole, unless memory runs out, and the members whose progress it preserves keep
+/// their match and next. A plan that `plan` made for this configuration is the best one to where it leads: no other steps
+/// there preserve the progress of a member that it resets, are fewer, or name an id in fewer changes.
 pub fn apply_plan<S: MemberSet>(changer: &mut Changer<S>, plan: &Plan) -> Result<(), StepRefused>
     ensures taken { OnOk result (Takes changer.old plan.now changer.new) }
     ensures stopped { IfErr result (λ stop. StopsAt changer.old plan.now stop.step stop.refused changer.new) }
     ensures sound { IsSound changer.new.tracker }
     ensures reached { OnOk result ((target : Configuration) → IsRun changer.old.tracker.config plan.now target → changer.new.tracker.config ≡ target) }
-    ensures spared { OnOk result ((id : ℕ) → Spares changer.old.tracker.config plan.now changer.new.tracker.config id → HasKeptProgress changer.old changer.new id) }
+    ensures spared { OnOk result ((id : ℕ) → Preserves changer.old.tracker.config plan.now changer.new.tracker.config id → HasKeptProgress changer.old changer.new id) }
     ensures sparing { OnOk result ((target : Configuration) (other : List Step) (id : ℕ) → plan.now ≡ planned changer.old.tracker.config target
-        → Spares changer.old.tracker.config other target id → HasKeptProgress changer.old changer.new id) }
+        → Preserves changer.old.tracker.config other target id → HasKeptProgress changer.old changer.new id) }
     ensures best { OnOk result ((target : Configuration) → plan.now ≡ planned changer.old.tracker.config target → IsValidWithVoter changer.old.tracker.config
         → IsValidWithVoter target → IsBest changer.old.tracker.config plan.now changer.new.tracker.config) }
     ensures memory_alone { IfErr result (λ stop. (target : Configuration) → IsRun changer.old.tracker.config plan.now target → stop.refused ≡ Refused.NoMemory) }

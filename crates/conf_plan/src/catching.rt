@@ -11,8 +11,8 @@ use conf_change::{Change, Config, Kind, Step, union};
 use quorum_sets::{MemberSet, NoMemory};
 use std::alloc::Global;
 
-/// The members after a step that do not keep their progress in it. They begin with an empty log, so the next step is better
-/// taken once they have caught up (own).
+/// The members after a step that do not keep their progress in it. They begin with an empty log, so wait until they have
+/// caught up before the next step (own).
 pub fn catching_up<S: MemberSet>(
     alloc: Global,
     before: &Config<S>,

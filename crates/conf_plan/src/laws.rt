@@ -17,17 +17,17 @@ ghost use Rattle.conf_plan.specs.Best.{times_named, HasSamePart, IsBest};
 ghost use Rattle.conf_plan.specs.PathBy.{has_path, path_by, Serves};
 ghost use Rattle.conf_plan.specs.Planned.{planned};
 ghost use Rattle.conf_plan.specs.PlanSteps.{HasWordIds, IsPlan};
-ghost use Rattle.conf_plan.specs.PlanText.{StandsForPlan, HasFault, change_text, plan_text};
+ghost use Rattle.conf_plan.specs.PlanText.{ParsesToPlan, HasFault, change_text, plan_text};
 ghost use Rattle.conf_plan.specs.PlanCode.{plan_in};
 ghost use Rattle.conf_plan.specs.Run.{IsRun, IsValidWithVoter, Takes, HasKeptProgress, after_steps};
 ghost use Rattle.conf_plan.specs.SamePlans.{is_same_plan};
 
-/// Along a run the configuration stays valid and keeps a voter.
+/// A run that starts at a valid configuration with a voter ends at one.
 pub fn run_stays_settled()
     ensures { (before after : Configuration) (steps : List Step) → IsValidWithVoter before → IsRun before steps after → IsValidWithVoter after }
 {}
 
-/// A run that never names an id leaves it an incoming voter, a learner of either kind, or neither, as it was.
+/// A run that does not name an id leaves its roles as they are: incoming voter, learner (now or next), or neither.
 pub fn unnamed_stays()
     ensures { (before after : Configuration) (steps : List Step) (id : ℕ) → IsRun before steps after → times_named id steps ≡ 0 → HasSamePart before after id }
 {}
@@ -44,17 +44,17 @@ pub fn planned_is_best()
     ensures { (now target : Configuration) → IsValidWithVoter now → IsValidWithVoter target → IsBest now (planned now target) target }
 {}
 
-/// The path of each strategy keeps what the strategy promises. No configuration on the way tolerates fewer failures than the
-/// weaker end. The shortest path is the plan. The path on which new voters are learners first is at most one step longer, and
-/// each new voter was a learner with progress before. On both, a set of ids that is a quorum of both ends is a quorum of each
-/// configuration on the way. The path that changes one member at a time has the fewest steps of its kind, and its new voters
-/// were learners with progress too; it leads into no joint configuration.
+/// Each strategy keeps its promises. No configuration on the way tolerates fewer failures than the weaker end. The shortest
+/// path is the plan. With learners first, the path is at most one step longer, and each new voter was a learner with
+/// progress. On both, a quorum of both ends is a quorum of each configuration on the way. One member at a time, the path has
+/// the fewest steps of its kind, its new voters were learners with progress too, and it does not lead into a joint
+/// configuration.
 pub fn paths_serve()
     ensures shortest { (now target : Configuration) → path_by Shortest now target ≡ planned now target }
     ensures serves { (strategy : Strategy) (now target : Configuration) → IsValidWithVoter now → IsValidWithVoter target → has_path strategy now target ≡ true → Serves strategy now (path_by strategy now target) target }
 {}
 
-/// A member that keeps its progress in a step keeps its match and next in each changer that takes the step.
+/// If a step keeps a member's progress, a changer that takes the step keeps the member's match and next.
 pub fn progress_is_kept()
     ensures { (before after : ChangerState) (step : Step) (id : ℕ) → IsSound before.tracker → Accepts before step after
         → keeps_progress before.tracker.config step after.tracker.config id ≡ true → HasKeptProgress before after id }
@@ -70,8 +70,8 @@ pub fn undo_of_run()
         → length steps ≡ 1 → length (planned after before) ≤ 3 }
 {}
 
-/// After any lists of changes, each taken by its transition, the plan leads back in at most four steps, and in at most three
-/// after one list.
+/// After any lists of changes, each applied with its transition, the plan leads back in at most four steps, and in at most
+/// three after one list.
 pub fn undo_of_changes()
     ensures back { (before after : Configuration) (lists : List (Transition × List Change)) → IsValidWithVoter before → IsRun before (steps_for lists) after
         → IsRun after (planned after before) before }
@@ -81,27 +81,25 @@ pub fn undo_of_changes()
         → length lists ≡ 1 → length (planned after before) ≤ 3 }
 {}
 
-/// Steps lead a changer to at most one changer, which is what `after_steps` gives. If they are a run from the changer's
-/// configuration, they lead it to one.
+/// Taking steps is deterministic, and `after_steps` is the result. A changer can take every run from its configuration.
 pub fn one_changer_after_steps()
     ensures taken { (before after : ChangerState) (steps : List Step) → (Takes before steps after) ↔ (after_steps before steps ≡ Some after) }
     ensures run { (before : ChangerState) (steps : List Step) (target : Configuration) → IsRun before.tracker.config steps target
         → (after : ChangerState) × (after_steps before steps ≡ Some after) × (after.tracker.config ≡ target) }
 {}
 
-/// A text stands for one plan at most, and it is the one that the function gives; where it stands for none, it has one
-/// fault, which the function gives. The printed text of a plan stands for it, and the printed changes of a step stand for
-/// them.
+/// A text is parsed as at most one plan, or has exactly one error; the parser returns that plan or that error. The printed
+/// text of a plan is parsed as the plan, and the printed changes of a step as these changes.
 pub fn one_plan_per_text()
-    ensures ok { (text : List ℕ) (steps : List Step) → (StandsForPlan text steps) ↔ (plan_in text ≡ Ok steps) }
+    ensures ok { (text : List ℕ) (steps : List Step) → (ParsesToPlan text steps) ↔ (plan_in text ≡ Ok steps) }
     ensures err { (text : List ℕ) (fault : PlanTextFault) → (HasFault text fault) ↔ (plan_in text ≡ Err fault) }
-    ensures each { (text : List ℕ) → ((steps : List Step) × StandsForPlan text steps) ⊎ ((fault : PlanTextFault) × HasFault text fault) }
-    ensures one { (text : List ℕ) (a b : List Step) → StandsForPlan text a → StandsForPlan text b → a ≡ b }
-    ensures printed { (steps : List Step) → IsPlan steps → StandsForPlan (plan_text steps) steps }
+    ensures each { (text : List ℕ) → ((steps : List Step) × ParsesToPlan text steps) ⊎ ((fault : PlanTextFault) × HasFault text fault) }
+    ensures one { (text : List ℕ) (a b : List Step) → ParsesToPlan text a → ParsesToPlan text b → a ≡ b }
+    ensures printed { (steps : List Step) → IsPlan steps → ParsesToPlan (plan_text steps) steps }
     ensures changes { (step : Step) → HasWordIds step → Denotes (join_with_byte 32 (map change_text (changes_of step))) (changes_of step) }
 {}
 
-/// Plans are equal, by `==`, exactly where they are the same.
+/// `==` on plans is equality of their steps.
 pub fn equal_plans_are_the_same()
     ensures { (a b : List Step) → (is_same_plan a b ≡ true) ↔ (a ≡ b) }
 {}

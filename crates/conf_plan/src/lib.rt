@@ -1,8 +1,8 @@
 //! Plans: the membership changes that lead from one configuration to another.
 //!
 //! A plan is a list of steps that are accepted one after another: simple changes, entering a joint configuration, leaving
-//! it. [`plan`] gives the shortest one. Of all ways to the target it also preserves the progress of the most members, and
-//! names each id in the fewest changes. It has at most four steps. One with four leads from a joint configuration to another:
+//! it. [`plan`] gives the shortest one, which also preserves the progress of the most members and names each id in the
+//! fewest changes. It has at most four steps. One with four leads from a joint configuration to another:
 //!
 //! ```text
 //! (1 2)&&(1 3)  leave-joint                  -->  (1 2)
@@ -11,9 +11,9 @@
 //!               enter-joint r3 v5            -->  (4 5)&&(3 4)
 //! ```
 //!
-//! That a step is accepted does not say that the cluster goes on serving: a new voter begins with an empty log, and counts
-//! as missing until it has caught up. So [`plan_by`] makes paths by a [`Strategy`] too: one on which new voters are
-//! learners first, and one that changes one member at a time.
+//! A cluster may accept a step and then stall: a new voter begins with an empty log, and counts as missing until it has
+//! caught up. So [`plan_by`] makes paths by a [`Strategy`] too: one on which new voters are learners first, and one that
+//! changes one member at a time.
 //!
 //! [`apply_plan`] takes the steps of a plan. [`print_plan`] and [`print_path`] write one step a line, and [`read_plan`]
 //! reads a plan back.

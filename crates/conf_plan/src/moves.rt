@@ -51,7 +51,7 @@ struct Walk {
 }
 
 impl Walk {
-    // Begins at the first id.
+    // At the first id.
     fn begin<S: MemberSet>(ids: &S) -> Walk
         ensures begun { result.index ≡ 0 }
         ensures standing { IsStanding (S.ids ids.now) result.index result.next }

@@ -29,7 +29,7 @@ pub(crate) fn add_one_at_a_time<S: MemberSet>(
     add_learner_steps(alloc, steps, start, target)
 }
 
-// One id joins, then one retires, as long as there are any.
+// In turn, one id joins and one retires, until there are no more.
 fn add_turns<S: MemberSet>(
     alloc: Global,
     steps: &mut Vec<Step>,
@@ -73,7 +73,7 @@ fn add_turn<S: MemberSet>(
     Ok(())
 }
 
-// The id becomes a voter, and first a learner if it is none of these.
+// The id becomes a voter, and a learner before that if it is not one.
 fn add_join_steps<S: MemberSet>(
     alloc: Global,
     steps: &mut Vec<Step>,
@@ -88,7 +88,7 @@ fn add_join_steps<S: MemberSet>(
     add_change(alloc, steps, Kind::Voter, id)
 }
 
-// The voter becomes a learner if the target has it as one, and else it is removed.
+// The voter becomes a learner if it is one in the target, and is removed otherwise.
 fn add_retire_step<S: MemberSet>(
     alloc: Global,
     steps: &mut Vec<Step>,
@@ -104,7 +104,7 @@ fn add_retire_step<S: MemberSet>(
     }
 }
 
-// The other learners come and go, in ascending order.
+// Adds and removes the other learners, in ascending order.
 fn add_learner_steps<S: MemberSet>(
     alloc: Global,
     steps: &mut Vec<Step>,
@@ -124,7 +124,7 @@ fn add_learner_steps<S: MemberSet>(
     Ok(())
 }
 
-// What an id that votes neither before nor after has to become, if anything.
+// What an id has to become, if anything, that is a voter neither before nor after.
 fn learner_change<S: MemberSet>(start: &Single<S>, target: &Config<S>, id: u64) -> Option<Kind>
     ensures { result ≡ spec.learner_change (single_with (S.ids start.now.incoming.now) (S.ids start.now.learners.now)) target.now id }
 {

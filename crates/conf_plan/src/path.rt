@@ -6,7 +6,7 @@ ghost use Rattle.conf_plan.specs.PlanSteps.{HasWordIds};
 use conf_change::Step;
 use std::marker::Model;
 
-/// Steps that follow one another; unlike a [`Plan`](crate::Plan), a path may have more than four.
+/// Steps that follow one another. Unlike a [`Plan`](crate::Plan), a path may have more than four.
 #[derive(Debug, Drop)]
 pub struct Path {
     steps: Vec<Step>,

@@ -19,7 +19,7 @@ use quorum_sets::{MemberSet, NoMemory, symdiff};
 use std::alloc::Global;
 use thiserror::Error;
 
-/// Why no plan is made.
+/// Why there is no plan.
 #[derive(Clone, Copy, Debug, PartialEq, Eq, Error)]
 pub enum PlanFault {
     #[error("no plan: the current configuration has no voter")]
@@ -41,9 +41,9 @@ impl From<NoMemory> for PlanFault {
 }
 
 /// The plan from one configuration to another: the best steps that lead there. No other steps are fewer, preserve the
-/// progress of a member that the plan does not preserve, or name an id in fewer changes, and the voters before and after
-/// each step overlap. Logs are not considered: a new voter begins with an empty one. There is a plan between any two
-/// configurations with voters. Without voters there is none, which is found before any memory is taken.
+/// progress of a member that the plan resets, or name an id in fewer changes, and the voters before and after each step
+/// overlap. Logs are not considered: a new voter begins with an empty one. There is a plan between any two configurations
+/// with voters, and none otherwise, which is checked before anything is allocated.
 pub fn plan<S: MemberSet>(
     alloc: Global,
     now: &Config<S>,
@@ -154,7 +154,7 @@ fn add_joint_steps<S: MemberSet>(
     if symdiff(start.incoming, &target.outgoing) == 0 {
         return add_entering_step(alloc, steps, start, target);
     }
-    // The steps that are inserted lead to the target's outgoing voters, with the shared members as learners.
+    // The inserted steps make the target's outgoing voters the incoming ones, with the shared members as learners.
     let shared = shared_members(alloc, start, target)?;
     add_single_steps(alloc, steps, start, &target.outgoing, &shared)?;
     let between = Single {
@@ -164,7 +164,7 @@ fn add_joint_steps<S: MemberSet>(
     add_entering_step(alloc, steps, &between, target)
 }
 
-// Into a joint target, from a configuration that has its outgoing voters.
+// Into a joint target, from a configuration whose incoming voters are the target's outgoing ones.
 fn add_entering_step<S: MemberSet>(
     alloc: Global,
     steps: &mut Vec<Step>,

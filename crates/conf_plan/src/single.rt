@@ -1,7 +1,7 @@
-//! Where a path begins, once a joint configuration is left.
+//! Configurations that are not joint, where a path begins.
 use quorum_sets::MemberSet;
 
-// A configuration that is not joint, by its voters and its learners.
+// The voters and the learners of a configuration that is not joint.
 #[derive(Clone, Copy)]
 pub(crate) struct Single<'a, S: MemberSet> {
     pub(crate) incoming: &'a S,

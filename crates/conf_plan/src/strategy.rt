@@ -10,10 +10,10 @@ use quorum_sets::{MemberSet, NoMemory};
 use std::alloc::Global;
 use thiserror::Error;
 
-/// How a path goes from one configuration to another.
+/// How a path is chosen.
 #[derive(Clone, Copy, Debug, PartialEq, Eq)]
 pub enum Strategy {
-    /// By as few steps as possible: the path is the plan.
+    /// As few steps as possible: the path is the plan.
     Shortest,
     /// New voters are learners first, so that they can catch up before they vote (Ongaro's dissertation, 4.2.1).
     LearnersFirst,
@@ -44,9 +44,9 @@ impl From<NoMemory> for NoPath {
     }
 }
 
-/// The path from one configuration to another by a strategy, which keeps what the strategy promises (`Serves`). Between
-/// configurations without voters there is none, nor one member at a time into a joint configuration, unless the current
-/// one equals it. That is found before any memory is taken (own).
+/// The path from one configuration to another by a strategy, which keeps the strategy's promises (`Serves`). There is none
+/// if a configuration has no voter, nor one member at a time into a joint configuration, unless the current one equals it.
+/// That is checked before anything is allocated (own).
 pub fn plan_by<S: MemberSet>(
     alloc: Global,
     strategy: Strategy,

@@ -5,7 +5,7 @@ ghost use Rattle.ascii_text.specs.Words.{words};
 ghost use Rattle.conf_change.specs.ChangeList.{letter_of};
 ghost use Rattle.conf_change.specs.Text.{Extends};
 ghost use Rattle.conf_change.specs.declared.step.Step.{Step};
-ghost use Rattle.conf_plan.specs.PlanText.{StandsForPlan, HasFault, command_words, change_text, spaced_change, line_and_newline, plan_text, lines_of};
+ghost use Rattle.conf_plan.specs.PlanText.{ParsesToPlan, HasFault, command_words, change_text, spaced_change, line_and_newline, plan_text, lines_of};
 ghost use Rattle.conf_plan.specs.PlanCode as code;
 ghost use Rattle.conf_plan.specs.PlanCode.{plan_in, step_in, enter_in, list_in};
 ghost use Rattle.conf_plan.specs.declared.text.PlanTextFault.{PlanTextFault};
@@ -20,13 +20,13 @@ use quorum_sets::NoMemory;
 use std::alloc::{AllocFailed, Global};
 use thiserror::Error;
 
-/// Why a text stands for no plan.
+/// Why a text is not parsed as a plan.
 #[derive(Clone, Copy, Debug, PartialEq, Eq, Error)]
 pub enum PlanTextFault {
-    /// The line with this number, counted from 1, is the first that stands for no step.
+    /// The line with this number, counted from 1, is the first that is not parsed as a step.
     #[error("line {0}: bad line")]
     BadLine(usize),
-    /// A fifth line follows four that stand for steps.
+    /// A fifth line follows four steps.
     #[error("too many steps")]
     TooManySteps,
     #[error("out of memory")]
@@ -54,11 +54,11 @@ impl From<AllocFailed<Step>> for PlanTextFault {
 }
 
 /// Appends the lines of a plan, each with a newline: `simple v1 r2`, `enter-joint autoleave=false l3`, `leave-joint`, or
-/// `nothing to do` where it has no step. What is appended is read as the same plan.
+/// `nothing to do` if it has no step. `read_plan` reads it back as the same plan.
 #[tactic(auto, using(crate::proofs::PlanText::PrintedPlan::printed_laws))]
 pub fn print_plan(text: &mut Vec<u8>, plan: &Plan) -> Result<(), NoMemory>
     ensures ok { OnOk result (text.new.items ≡ text.old.items ++ plan_text plan.now) }
-    ensures stands { StandsForPlan (plan_text plan.now) plan.now }
+    ensures stands { ParsesToPlan (plan_text plan.now) plan.now }
     ensures reads_back { plan_in (plan_text plan.now) ≡ Ok plan.now }
     ensures err { OnErr result (text.new.items ≡ text.old.items) }
 {
@@ -118,7 +118,7 @@ fn append_line(text: &mut Vec<u8>, step: &Step) -> Result<(), NoMemory>
     Ok(())
 }
 
-/// The words with which a step's line begins.
+/// The command of a step's line.
 pub fn command_text(step: &Step) -> &'static [u8]
     ensures { result.now ≡ join_with_byte 32 (command_words step.now) }
 {
@@ -130,7 +130,7 @@ pub fn command_text(step: &Step) -> &'static [u8]
     }
 }
 
-// Appends changes, each behind a space.
+// Appends changes, each after a space.
 fn append_changes(text: &mut Vec<u8>, changes: &[Change]) -> Result<(), NoMemory>
     ensures ok { OnOk result (text.new.items ≡ text.old.items ++ flat_map spaced_change changes.now) }
     ensures extends { Extends text.old.items text.new.items }
@@ -149,7 +149,7 @@ pub fn changes_text(alloc: Global, changes: &[Change]) -> Result<Vec<u8>, NoMemo
     let Some((first, rest)) = changes.split_first() else {
         return Ok(text);
     };
-    append_word(&mut text, *first)?;
+    append_token(&mut text, *first)?;
     append_changes(&mut text, rest)?;
     Ok(text)
 }
@@ -159,11 +159,11 @@ fn append_change(text: &mut Vec<u8>, change: Change) -> Result<(), NoMemory>
     ensures extends { Extends text.old.items text.new.items }
 {
     text.push(b' ')?;
-    append_word(text, change)
+    append_token(text, change)
 }
 
 // Appends a change: its letter and its id.
-fn append_word(text: &mut Vec<u8>, change: Change) -> Result<(), NoMemory>
+fn append_token(text: &mut Vec<u8>, change: Change) -> Result<(), NoMemory>
     ensures ok { OnOk result (text.new.items ≡ text.old.items ++ change_text change) }
     ensures extends { Extends text.old.items text.new.items }
 {
@@ -183,17 +183,17 @@ fn letter(kind: Kind) -> u8
     }
 }
 
-/// Reads the lines of a plan: the form that `print_plan` appends, with any white space around the words of a line and
-/// any zeros before the ids. The lines are read in order, and the first that stands for no step, or the fifth, decides;
-/// a blank line stands for none, and the empty text is read as one blank line.
+/// Reads the lines of a plan, in the form of `print_plan`; tokens may have any white space around them, and ids leading
+/// zeros. The first line that is not parsed as a step is reported, or the fifth line. A blank line is not a step, and the
+/// empty text is one blank line.
 #[tactic(auto, using(crate::proofs::PlanText::PlanFromLines::answer_laws))]
 pub fn read_plan(alloc: Global, text: &[u8]) -> Result<Plan, PlanTextFault>
-    ensures stands { IfOk result (StandsForPlan text.now) }
-    ensures told { IfErr result (λ fault. (fault ≡ PlanTextFault.NoMemory) ⊎ HasFault text.now fault) }
-    ensures read { (steps : List Step) → StandsForPlan text.now steps → (result ≡ Ok steps) ⊎ (result ≡ Err PlanTextFault.NoMemory) }
+    ensures stands { IfOk result (ParsesToPlan text.now) }
+    ensures fault { IfErr result (λ fault. (fault ≡ PlanTextFault.NoMemory) ⊎ HasFault text.now fault) }
+    ensures read { (steps : List Step) → ParsesToPlan text.now steps → (result ≡ Ok steps) ⊎ (result ≡ Err PlanTextFault.NoMemory) }
     ensures refused { (fault : PlanTextFault) → HasFault text.now fault → (result ≡ Err fault) ⊎ (result ≡ Err PlanTextFault.NoMemory) }
 
-    // The same by the function.
+    // As a function of the text.
     ensures value { (result ≡ plan_in text.now) ⊎ (result ≡ Err PlanTextFault.NoMemory) }
 {
     read_lines(alloc, text)
@@ -202,8 +202,8 @@ pub fn read_plan(alloc: Global, text: &[u8]) -> Result<Plan, PlanTextFault>
 fn read_lines(alloc: Global, text: &[u8]) -> Result<Plan, PlanTextFault>
     ensures { (result ≡ plan_in text.now) ⊎ (result ≡ Err PlanTextFault.NoMemory) }
 {
-    let (line, behind) = first_line(text);
-    if behind.is_empty() && is_nothing(line) {
+    let (line, after) = first_line(text);
+    if after.is_empty() && is_nothing(line) {
         return Ok(Plan::of_steps(Vec::new(alloc)));
     }
     let mut steps = Vec::new(alloc);
@@ -212,13 +212,13 @@ fn read_lines(alloc: Global, text: &[u8]) -> Result<Plan, PlanTextFault>
         if steps.len() == 4 {
             return Err(PlanTextFault::TooManySteps);
         }
-        let (line, behind) = first_line(rest);
+        let (line, after) = first_line(rest);
         let step = read_step(alloc, line)?.ok_or(PlanTextFault::BadLine(steps.len() + 1))?;
         steps.push(step)?;
-        if behind.is_empty() {
+        if after.is_empty() {
             return Ok(Plan::of_steps(steps));
         }
-        rest = behind;
+        rest = after;
     }
 }
 
@@ -229,14 +229,14 @@ fn first_line(text: &[u8]) -> (&[u8], &[u8])
     ensures within { length result.1.now ≤ length text.now }
     ensures shorter { 0 < length result.1.now → length result.1.now < length text.now }
 {
-    let (line, behind) = text.split_at(far_position_of(text, b'\n'));
-    match behind {
-        [_, behind @ ..] => (line, behind),
-        [] => (line, behind),
+    let (line, after) = text.split_at(far_position_of(text, b'\n'));
+    match after {
+        [_, after @ ..] => (line, after),
+        [] => (line, after),
     }
 }
 
-// Whether a line says that there is nothing to do.
+// Whether the line is `nothing to do`.
 fn is_nothing(line: &[u8]) -> bool
     ensures { result ≡ code.is_nothing (words line.now) }
 {
@@ -255,7 +255,7 @@ fn is_nothing(line: &[u8]) -> bool
         && next_token(rest).is_none()
 }
 
-// The step that a line stands for, if it stands for one.
+// The step that a line is parsed as, if it is one.
 fn read_step(alloc: Global, line: &[u8]) -> Result<Option<Step>, NoMemory>
     ensures { IfOk result (λ found. found ≡ step_in (words line.now)) }
 {
@@ -273,7 +273,7 @@ fn read_step(alloc: Global, line: &[u8]) -> Result<Option<Step>, NoMemory>
     }
 }
 
-// The step of a flag and changes.
+// Entering a joint configuration: a flag, then changes.
 fn read_enter(alloc: Global, text: &[u8]) -> Result<Option<Step>, NoMemory>
     ensures { IfOk result (λ found. found ≡ enter_in (words text.now)) }
 {
@@ -287,20 +287,20 @@ fn read_enter(alloc: Global, text: &[u8]) -> Result<Option<Step>, NoMemory>
     Ok(list.map(|changes| Step::EnterJoint(auto_leave, changes)))
 }
 
-// The flag that a word stands for.
-fn read_flag(word: &[u8]) -> Option<bool>
-    ensures { result ≡ code.flag_in word.now }
+// The flag that a token is parsed as.
+fn read_flag(token: &[u8]) -> Option<bool>
+    ensures { result ≡ code.flag_in token.now }
 {
-    if word == b"autoleave=true".as_slice() {
+    if token == b"autoleave=true".as_slice() {
         Some(true)
-    } else if word == b"autoleave=false".as_slice() {
+    } else if token == b"autoleave=false".as_slice() {
         Some(false)
     } else {
         None
     }
 }
 
-// The changes of a text whose words all spell one.
+// The changes of a list, if each token is parsed as one.
 fn read_list(alloc: Global, text: &[u8]) -> Result<Option<Changes>, NoMemory>
     ensures { IfOk result (λ found. found ≡ list_in (words text.now)) }
 {

@@ -1,4 +1,4 @@
--- What was written so far of an output, where an input is answered part by part, and what is left of it.
+-- What has been written of the output after some parts of the input, and what is left of it.
 use Rattle.std.specs.Prelude.{◌≡◌, ◌≤◌, ℕ, ◌+◌, ◌||◌, true, List, [], ◌∷◌, ◌++◌, flat_map, count_by, nat_lt, length, Option, Some, None, Result, Ok, Err, IfSome}
 use Rattle.std.specs.List.{list_any}
 use Rattle.std.specs.Io.KnownBytes.{Appends, Keeps}
@@ -18,7 +18,7 @@ use Rattle.conf_tool.specs.declared.status.Status.{Status}
 use Rattle.conf_tool.specs.declared.configurations_fault.ConfigurationsFault.{ConfigurationsFault}
 use Rattle.conf_tool.specs.declared.tool_fault.ToolFault.TheVariants.{Script as ScriptFault}
 
--- what is read: these parts, and a fault where one ends them
+-- what is read: these parts, and the error that ends them, if any
 abbrev pub script : {A : Type 0} → List A → Option FileFault → Script A
 script items fault = record { items = items; fault = fault }
 
@@ -30,13 +30,13 @@ prepended parts rest = script (parts ++ rest.items) rest.fault
 abbrev pub with_front : List ℕ → Output → Output
 with_front text output = record { text = text ++ output.text; outcome = output.outcome }
 
--- Of an output these parts were answered: their text was written, and the output for what is left comes behind it.
+-- The replies to these parts were written, and the output for what is left comes after them.
 pub record WroteFront {A : Type 0} (total left : Script A → Output) (parts : List A) (before after : Option (List ℕ)) : Type 0 where
   pub text : List ℕ
   pub wrote : Appends before after text
   pub is : (rest : Script A) → total (prepended parts rest) ≡ with_front text (left rest)
 
--- The same of `check`, with the counts so far: no more directives than parts.
+-- For `check`, with the counts so far: no more directives than parts.
 abbrev pub rest_checked : ℕ → ℕ → List Entry → Option FileFault → Output
 rest_checked directives mismatches entries None = record {
   text = flat_map report entries ++ counts_line (directives + count_by (λ entry. is_directive entry.item) entries) (mismatches + count_by differs entries);
@@ -48,12 +48,12 @@ rest_checked directives mismatches entries (Some fault) = record { text = flat_m
 abbrev pub check_left : SessionState → ℕ → ℕ → Script Item → Output
 check_left session directives mismatches rest = rest_checked directives mismatches (answered_entries session rest.items) rest.fault
 
--- of `check` these parts were answered
+-- the replies of `check` to these parts were written
 pub record HasChecked (session : SessionState) (directives mismatches : ℕ) (total : Script Item → Output) (parts : List Item) (before after : Option (List ℕ)) : Type 0 where
   pub front : WroteFront total (check_left session directives mismatches) parts before after
   pub few : directives ≤ length parts
 
--- The same of `rewrite`, where the last newline may be held back, and its end is looked at last.
+-- For `rewrite`, which may hold the last newline back until it knows what follows.
 abbrev pub rewrite_left : SessionState → Script Item → Output
 rewrite_left session rest = record { text = obeyed_text session rest.items; outcome = clean_unless rest.fault }
 
@@ -61,25 +61,25 @@ rewrite_left session rest = record { text = obeyed_text session rest.items; outc
 abbrev pub ended : Output → Output
 ended output = record { text = without_double_end output.text; outcome = output.outcome }
 
--- of `rewrite` these parts were answered
+-- the replies of `rewrite` to these parts were written
 pub record HasRewritten (session : SessionState) (rewriter : RewriterState) (total : Script Item → Output) (parts : List Item) (before after : Option (List ℕ)) : Type 0 where
   pub text : List ℕ
   pub wrote : HasWritten rewriter.newlines before after text
   pub ready : rewriter.stage ≡ Ready
   pub is : (rest : Script Item) → total (prepended parts rest) ≡ ended (with_front text (rewrite_left session rest))
 
--- The same of `undo`, which obeys what it reads and writes at its end.
+-- For `undo`, which runs what it reads, and writes at the end.
 abbrev pub undo_left : SessionState → ℕ → Script Item → Output
 undo_left session count rest = undone_unless (session_after_all session rest.items) count rest.fault
 
--- of `undo` these parts were read
+-- `undo` has read these parts
 pub record HasObeyed (session : SessionState) (rewriter : RewriterState) (count : ℕ) (total : Script Item → Output) (parts : List Item) (before after : Option (List ℕ)) : Type 0 where
   pub unwritten : Keeps before after
   pub ready : rewriter.stage ≡ Ready
   pub nothing : (held : Option (List ℕ)) → HasWritten rewriter.newlines held held []
   pub is : (rest : Script Item) → total (prepended parts rest) ≡ undo_left session count rest
 
--- The same of `plan`: what is left after the first line of a pair, by what that line names, ..
+-- For `plan`: what is left after the first line of a pair, by its configuration, ..
 abbrev pub pairs_within : PlanOptions → ℕ → Result Configuration ConfigurationsFault → List NumberedLine → Option FileFault → Output
 pairs_within options number first [] fault = ends_within first fault
 pairs_within options number first (second ∷ lines) fault = pair_then options number (both_of first (configuration_at second)) (planned_pairs options (number + 1) lines fault)
@@ -93,11 +93,11 @@ pairs_left options number (Some now) lines fault = pairs_within options number (
 abbrev pub with_status : Status → Output → Output
 with_status status output = record { text = output.text; outcome = worse_of status output.outcome }
 
--- what is left of `plan` after so many lines, by the number of the pair, its first configuration if that was read, and the status so far
+-- what is left of `plan` after this many lines, by the number of the pair, its first configuration if that was read, and the status so far
 abbrev pub plan_left : PlanOptions → ℕ → ℕ → Option Configuration → Status → Script (List ℕ) → Output
 plan_left options count number now status rest = with_status status (pairs_left options number now (configuration_lines (numbered (count + 1) rest.items)) rest.fault)
 
--- of `plan` these lines were answered: so many, with no more pairs
+-- the replies of `plan` to these lines were written, with at most as many pairs
 pub record HasPlanned (options : PlanOptions) (count number : ℕ) (now : Option Configuration) (status : Status) (total : Script (List ℕ) → Output) (parts : List (List ℕ)) (before after : Option (List ℕ)) : Type 0 where
   pub front : WroteFront total (plan_left options count number now status) parts before after
   pub counted : count ≡ length parts

@@ -1,5 +1,5 @@
--- What was answered stays answered where what waits is flushed, and is a prefix of the output. The modes state both as laws
--- of a trait, which take their proofs from specs.
+-- A flush does not change what was written, and what was written is a prefix of the output. The modes state both as laws of
+-- a trait, which take their proofs from specs.
 use Rattle.std.proofs.Common.{ℕ, List, [], ◌++◌, refl, sym, ◌∙◌, ap, subst}
 use Rattle.std.proofs.lemmas.List.{append-nil}
 use Rattle.std.specs.Prelude.{Option, Some, None}
@@ -39,7 +39,7 @@ kept-part (Some o) None new bytes a k = absurd a
 kept-part (Some o) (Some m) None bytes a k = absurd k
 kept-part (Some o) (Some m) (Some n) bytes a k = (a.0, a.1, a.2, k ∙ a.3)
 
--- what is appended to bytes that stayed as they were
+-- appending to bytes that have not changed
 pub keeps-appends : (old mid new : Option (List ℕ)) (bytes : List ℕ) → Keeps old mid → Appends mid new bytes → Appends old new bytes
 keeps-appends None mid new bytes k a = tt
 keeps-appends (Some o) None new bytes k a = absurd k
@@ -59,7 +59,7 @@ kept-written newlines start mid new text written k = record {
   begun = λ rest. kept-part start mid new _ (written.begun rest) k;
 }
 
--- the same of what each mode has answered
+-- a flush, for each mode
 pub kept-front : {A : Type 0} (total left : Script A → Output) (parts : List A) (before mid new : Option (List ℕ)) → WroteFront total left parts before mid → Keeps mid new → WroteFront total left parts before new
 kept-front total left parts before mid new front k = record { text = front.text; wrote = kept-appends before mid new front.text front.wrote k; is = front.is }
 
@@ -98,7 +98,7 @@ pub part-nothing : (before : Option (List ℕ)) (text : List ℕ) → AppendsPar
 part-nothing None text = tt
 part-nothing (Some bytes) text = ([], text, refl, sym (append-nil bytes))
 
--- what was written is a prefix of the output, whatever is left
+-- what was written is a prefix of the output, whatever follows
 pub wrote-front : {A : Type 0} (total left : Script A → Output) (parts more : List A) (fault : Option FileFault) (before mid : Option (List ℕ)) →
     WroteFront total left parts before mid → AppendsPart before mid (total (script (parts ++ more) fault)).text
 wrote-front total left parts more fault before mid front =

@@ -7,11 +7,11 @@ use Rattle.conf_session.specs.Parameter.{id_in}
 abbrev pub is_comma : ℕ → Bool
 is_comma byte = byte == 44
 
--- the ids that the pieces are, if each is one
+-- the ids that the parts denote, if each is one
 abbrev pub ids_in_pieces : List (List ℕ) → Option (List ℕ)
 ids_in_pieces [] = Some []
 ids_in_pieces (full_line ∷ full_lines) = and_number (id_in full_line) (ids_in_pieces full_lines)
 
--- the ids of a text with one comma between, if each piece is one; an empty piece is none
+-- the ids of a text that is split at each comma, if each part is one; an empty part is none
 abbrev pub ids_listed : List ℕ → Option (List ℕ)
 ids_listed text = ids_in_pieces (slice_split is_comma text)

@@ -1,4 +1,4 @@
--- Laws of what the modes write.
+-- Laws of the modes' outputs.
 use Rattle.std.specs.Prelude.{◌≡◌, ◌≤◌, ◌+◌, ◌-◌, ℕ, true, false, List, ◌++◌, [], ◌∷◌, length, slice_get, Result, Ok, Err, Some, None}
 use Rattle.ascii_text.specs.Lines.{newline, lines_of}
 use Rattle.dd_file.specs.Laws.{ends_in_long_blank, directives_of, IsComplete}
@@ -28,30 +28,30 @@ use Rattle.conf_tool.specs.Outputs.{session_after_all, checked, rewritten, undon
 use Rattle.conf_tool.specs.UndoScript.{TakesSteps}
 use Rattle.conf_tool.specs.declared.status.Status.TheVariants.{Clean}
 
--- A rewritten script checks clean, also what is written of one with a fault. (Where that ends in a blank of several lines,
--- the newline that is dropped may leave a lone backslash on the last line.)
+-- A rewritten script checks clean, and so does what is written of one with an error. (If that ends in a blank of several
+-- lines, the newline that is dropped may leave a lone backslash on the last line.)
 abbrev pub RewrittenClean : Type 0
 RewrittenClean = (input : List ℕ) (history : ℕ) (floor : Floor) →
     ends_in_long_blank (script_of input).items ≡ false → length (rewritten input history floor).text ≤ longest_input →
     (checked (rewritten input history floor).text history floor).outcome ≡ Ok Clean
 
--- A complete script that checks clean, two newlines, and the script that undoes its last changes, check clean; also where
--- there is nothing to do, or no plan.
+-- A complete script that checks clean, two newlines, and the script that undoes its last changes, together check clean; also
+-- if there is nothing to do, or no plan.
 abbrev pub JoinedClean : Type 0
 JoinedClean = (script : List ℕ) (history : ℕ) (floor : Floor) (count : ℕ) →
     IsComplete 1 (lines_of script) → (checked script history floor).outcome ≡ Ok Clean →
     let joined = (script ++ newline ++ newline) ++ (undone_output script history floor count).text in
     length joined ≤ longest_input → (checked joined history floor).outcome ≡ Ok Clean
 
--- The script is read without a fault. A session that runs it takes the steps, one for each directive, and comes to the
--- configuration from before the last changes, so many of them.
+-- The script is read without an error. A session that runs it takes the steps, one for each directive, and returns to the
+-- configuration before the last `count` changes.
 pub record LeadsBackBy (session : SessionState) (count : ℕ) (steps : List Step) (script : Script Item) : Type 0 where
   pub whole : script.fault ≡ None
   pub taken : TakesSteps session (directives_of script.items) steps
   pub back : slice_get session.kept (count - 1) ≡ Some (current (session_after_all session script.items))
 
--- A session that ran a script without a fault, and then runs what `undo` prints of that script, takes the steps of the
--- plan and comes back. (The ids of a plan that is made are numbers of 64 bits, and it has at most four steps.)
+-- A session that ran a script without an error, and then runs what `undo` prints for it, takes the steps of the plan and
+-- comes back. (The ids of a plan that is made are numbers of 64 bits, and it has at most four steps.)
 abbrev pub UndoScriptLeadsBack : Type 0
 UndoScriptLeadsBack = (script : List ℕ) (history : ℕ) (floor : Floor) (count : ℕ) (steps : List Step) →
     let session = session_after_all (new_session history floor) (script_of script).items in
@@ -59,12 +59,12 @@ UndoScriptLeadsBack = (script : List ℕ) (history : ℕ) (floor : Floor) (count
     (script_of script).fault ≡ None → 1 ≤ count → undo_plan_of session count ≡ Ok steps → IsPlan steps → length printed ≤ longest_input →
     LeadsBackBy session count steps (script_of printed)
 
--- a pair before others, if both lines name configurations
+-- a pair before others, if both lines are configurations
 abbrev pub pair_before : Result (Configuration × Configuration) ConfigurationsFault → List (Configuration × Configuration) → List (Configuration × Configuration)
 pair_before (Err bad) pairs = []
 pair_before (Ok pair) pairs = pair ∷ pairs
 
--- the pairs of configurations that the lines name, up to the first line that names none
+-- the pairs of configurations on the lines, up to the first line that is not one
 abbrev pub named_pairs : List NumberedLine → List (Configuration × Configuration)
 named_pairs [] = []
 named_pairs (line ∷ []) = []
@@ -74,23 +74,23 @@ named_pairs (first ∷ second ∷ lines) = pair_before (both_of (configuration_a
 abbrev pub pairs_in : List ℕ → List (Configuration × Configuration)
 pairs_in input = named_pairs (configuration_lines (numbered 1 (listing_of input).items))
 
--- what `plan` prints of pairs, the first of which has this number
+-- what `plan` prints for pairs, the first of which has this number
 abbrev pub texts_from : PlanOptions → ℕ → List (Configuration × Configuration) → List (List ℕ)
 texts_from options number [] = []
 texts_from options number (pair ∷ pairs) = plan_text_between options number pair.0 pair.1 ∷ texts_from options (number + 1) pairs
 
--- texts, with a text between each two
+-- texts, joined with a separator
 abbrev pub parted_by : List ℕ → List (List ℕ) → List ℕ
 parted_by part [] = []
 parted_by part (text ∷ []) = text
 parted_by part (text ∷ next ∷ texts) = text ++ (part ++ parted_by part (next ∷ texts))
 
--- a text is that of steps that lead from the one configuration of a pair to the other, the best there are, if both have voters
+-- a text is that of the best steps from the first configuration of a pair to the second, if both have voters
 abbrev pub IsBestPlan : Configuration × Configuration → List ℕ → Type 0
 IsBestPlan pair text = has_voter pair.0 ≡ true → has_voter pair.1 ≡ true → (steps : List Step) × (text ≡ plan_text steps) × IsBest pair.0 steps pair.1
 
--- What `plan` prints is the texts of the pairs in turn with an empty line between each two, and each is the best plan.
--- Of an input with one pair nothing else is printed, and the run ends clean if no ids are down.
+-- `plan` prints the texts of the pairs with an empty line between each two, and each is the best plan. For an input of one
+-- pair nothing else is printed, and the run ends clean if no ids are down.
 pub record PrintedPlanIsBest : Type 0 where
   pub each : (options : PlanOptions) (input : List ℕ) → options.strategy ≡ Shortest → options.output ≡ Steps →
       (texts : List (List ℕ)) × ((planned_output options input).text ≡ parted_by newline texts) × AllZip IsBestPlan (pairs_in input) texts

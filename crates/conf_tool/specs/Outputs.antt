@@ -30,30 +30,30 @@ use Rattle.conf_tool.specs.declared.configurations_fault.ConfigurationsFault.The
 use Rattle.conf_tool.specs.declared.tool_fault.ToolFault.{ToolFault}
 use Rattle.conf_tool.specs.declared.tool_fault.ToolFault.TheVariants.{Script as ScriptFault, Configurations}
 
--- what is written, and how it ends: with a status, or with a fault of the input
+-- what is written, and how it ends: with a status, or with an error in the input
 pub record Output : Type 0 where
   pub text : List ℕ
   pub outcome : Result Status ToolFault
 
--- clean unless there is a fault
+-- clean unless there is an error
 abbrev pub clean_unless : Option FileFault → Result Status ToolFault
 clean_unless None = Ok Clean
 clean_unless (Some fault) = Err (ScriptFault fault)
 
--- the answers to the lines up to a fault, from a configuration on
+-- the replies to the lines up to an error, from a configuration on
 abbrev pub lined_from : Configuration → Script (List ℕ) → Output
 lined_from c listing = record { text = line_replies c listing.items; outcome = clean_unless listing.fault }
 
--- of `lines`: the answers from the empty configuration on
+-- of `lines`: the replies, from the empty configuration on
 abbrev pub lined : List ℕ → Output
 lined input = lined_from empty_configuration (listing_of input)
 
--- different where a directive differs
+-- different if a directive differs
 abbrev pub check_status : Bool → Status
 check_status false = Clean
 check_status true = Different
 
--- the reports, and the counts unless there is a fault
+-- the reports, and the counts unless there is an error
 abbrev pub checked_entries : List Entry → Option FileFault → Output
 checked_entries entries None = record { text = flat_map report entries ++ counts_text entries; outcome = Ok (check_status (list_any differs entries)) }
 checked_entries entries (Some fault) = record { text = flat_map report entries; outcome = Err (ScriptFault fault) }
@@ -62,7 +62,7 @@ checked_entries entries (Some fault) = record { text = flat_map report entries; 
 abbrev pub checked_script : ℕ → Floor → Script Item → Output
 checked_script history floor script = checked_entries (answered_entries (new_session history floor) script.items) script.fault
 
--- of `check`: what differs in a script, in a session that keeps so many earlier configurations and has this floor
+-- of `check`: what differs in a script, in a session that keeps this many earlier configurations and has this initial next index
 abbrev pub checked : List ℕ → ℕ → Floor → Output
 checked input history floor = checked_script history floor (script_of input)
 
@@ -73,25 +73,25 @@ rewritten_script history floor script = record {
   outcome = clean_unless script.fault;
 }
 
--- of `rewrite`: the script up to a fault, with what was found
+-- of `rewrite`: the script up to an error, with its actual output
 abbrev pub rewritten : List ℕ → ℕ → Floor → Output
 rewritten input history floor = rewritten_script history floor (script_of input)
 
--- the session that obeyed some items in turn
+-- the session after some items
 abbrev pub session_after_all : SessionState → List Item → SessionState
 session_after_all session [] = session
 session_after_all session (item ∷ items) = session_after_all (session_after session item) items
 
--- different where there is no plan
+-- different if there is no plan
 abbrev pub undo_status : Result (List Step) UndoFault → Status
 undo_status (Ok steps) = Clean
 undo_status (Err fault) = Different
 
--- the items that undo changes, with what the session finds that obeys them
+-- the items that undo changes, with their actual output in the session
 abbrev pub undone_with : SessionState → Result (List Step) UndoFault → Output
 undone_with session plan = record { text = rewritten_text (answered_entries session (undo_items plan)); outcome = Ok (undo_status plan) }
 
--- nothing is undone of a script with a fault
+-- nothing is undone if the script has an error
 abbrev pub undone_unless : SessionState → ℕ → Option FileFault → Output
 undone_unless session count None = undone_with session (undo_plan_of session count)
 undone_unless session count (Some fault) = record { text = []; outcome = Err (ScriptFault fault) }
@@ -100,7 +100,7 @@ undone_unless session count (Some fault) = record { text = []; outcome = Err (Sc
 abbrev pub undone_script : ℕ → Floor → ℕ → Script Item → Output
 undone_script history floor count script = undone_unless (session_after_all (new_session history floor) script.items) count script.fault
 
--- of `undo`: the script that undoes so many changes of a script, one at least
+-- of `undo`: the script that undoes the last changes of a script, at least one
 abbrev pub undone_output : List ℕ → ℕ → Floor → ℕ → Output
 undone_output input history floor count = undone_script history floor count (script_of input)
 
@@ -108,7 +108,7 @@ undone_output input history floor count = undone_script history floor count (scr
 abbrev pub ends : Result Status ToolFault → Output
 ends outcome = record { text = []; outcome = outcome }
 
--- what parts the outputs of two pairs
+-- the text between the outputs of two pairs
 abbrev pub separator : PlanOutput → List ℕ
 separator Steps = newline
 separator ScriptOutput = newline
@@ -132,7 +132,7 @@ pair_then options number (Ok pair) rest = record {
   outcome = worse_of (plan_status options pair.0 pair.1) rest.outcome;
 }
 
--- the end of the input, where the pair with this number would begin; an input without a pair is a fault
+-- the end of the input, where the pair with this number would begin; an input without a pair is an error
 abbrev pub ends_before : ℕ → Option FileFault → Output
 ends_before number (Some fault) = ends (Err (ScriptFault fault))
 ends_before number None = ends (if nat_lt 1 number then Ok Clean else Err (Configurations NotTwoLines))

@@ -1,4 +1,4 @@
--- The pairs of lines that the mode `plan` is given: the first line of a pair names the current configuration, the second the target.
+-- The pairs of lines in the input of the mode `plan`: the first line of a pair is the current configuration, the second the target.
 use Rattle.std.specs.Prelude.{◌≡◌, ◌⊎◌, ℕ, ◌+◌, Bool, not, ◌||◌, List, [], ◌∷◌, filter, Result, Ok, Err}
 use Rattle.ascii_text.specs.WhiteSpace.{is_blank}
 use Rattle.dd_file.specs.Script.{is_comment}
@@ -24,7 +24,7 @@ numbered number (line ∷ lines) = record { number = number; text = line } ∷ n
 abbrev pub is_passed_over : List ℕ → Bool
 is_passed_over line = is_blank line || is_comment line
 
--- the lines that are not passed over
+-- the lines that are not skipped
 abbrev pub configuration_lines : List NumberedLine → List NumberedLine
 configuration_lines lines = filter (λ line. not (is_passed_over line.text)) lines
 
@@ -33,7 +33,7 @@ abbrev pub at_line : ℕ → Result Configuration ConfigurationFault → Result 
 at_line number (Ok c) = Ok c
 at_line number (Err fault) = Err (BadLine number fault)
 
--- the valid configuration that a line names
+-- the valid configuration on a line
 abbrev pub configuration_at : NumberedLine → Result Configuration ConfigurationsFault
 configuration_at line = at_line line.number (configuration_in line.text)
 
@@ -43,6 +43,6 @@ both_of (Err fault) target = Err fault
 both_of (Ok now) (Err fault) = Err fault
 both_of (Ok now) (Ok target) = Ok (now, target)
 
--- how a run ends that finds no configuration: with what is wrong with the line, or out of memory
+-- the error of a run at a line that is not a configuration: what is wrong with the line, or out of memory
 abbrev pub IsFaultOf : {A : Type 0} → Result A ConfigurationsFault → ToolFault → Type 0
 IsFaultOf found fault = (fault ≡ NoMemory) ⊎ ((bad : ConfigurationsFault) × (fault ≡ Configurations bad) × (found ≡ Err bad))

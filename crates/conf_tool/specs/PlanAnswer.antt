@@ -1,4 +1,4 @@
--- What the mode `plan` answers: the plan between two configurations, or why there is none.
+-- The output of the mode `plan`: the plan between two configurations, or why there is none.
 use Rattle.std.specs.Prelude.{ℕ, List, Option, Some, None, codes, if◌then◌else◌}
 use Rattle.quorum_sets.specs.Ids.{Ids}
 use Rattle.conf_change.specs.Configuration.{Configuration, has_voter}

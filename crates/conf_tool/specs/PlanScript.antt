@@ -20,7 +20,7 @@ restore_command = record { name = codes "restore"; arguments = [] }
 abbrev pub restore_directive : Configuration → Item
 restore_directive c = directive 1 restore_command (codes "restore" ∷ []) (conf_state_text (lists_of c) ∷ []) []
 
--- it restores the configuration that the steps begin with, and then takes them
+-- the script restores the configuration at the start, and then takes the steps
 abbrev pub script_items : Configuration → List Step → List Item
 script_items now steps = restore_directive now ∷ step_items steps
 

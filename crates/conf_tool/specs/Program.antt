@@ -37,7 +37,7 @@ names_rule id names = record (new_rule id) { long = Some id; parser = Some (Name
 abbrev pub text_rule : Text → Rule
 text_rule id = record (new_rule id) { long = Some id; value_names = 1 }
 
--- a mode for scripts, with the names of the floors
+-- a mode for scripts, with the names of the initial next indexes
 abbrev pub script_command : Text → Bor (List (Bor Text)) → App
 script_command name floors = with_rule (with_rule (mode_command name) (number_rule (codes "history") 0 1000)) (names_rule (codes "next-floor") floors)
 
@@ -90,7 +90,7 @@ mode_named name =
     else (if bytes_eq name (codes "plan") then Plan
     else Lines)))
 
--- what the subcommand that was read asks for
+-- the mode and the options of a parsed subcommand
 abbrev pub asked_mode : Option (Text × List Row) → Mode
 asked_mode None = Lines
 asked_mode (Some found) = mode_named found.0
@@ -100,7 +100,7 @@ abbrev pub asked_text : Text → Option (Text × List Row) → Option Text
 asked_text id None = None
 asked_text id (Some found) = first_of id found.1
 
--- the floor that an option asks for: one if it is left out
+-- the initial next index of an option: one if it is left out
 abbrev pub floor_named : Text → Floor
 floor_named text = if bytes_eq text (codes "0") then Zero else One
 
@@ -108,7 +108,7 @@ abbrev pub asked_floor : Option Text → Floor
 asked_floor None = One
 asked_floor (Some text) = floor_named text
 
--- the strategy that an option asks for: the shortest plan if it is left out
+-- the strategy of an option: the shortest plan if it is left out
 abbrev pub strategy_named : Text → Strategy
 strategy_named text = if bytes_eq text (codes "learners-first") then LearnersFirst else (if bytes_eq text (codes "one-at-a-time") then OneAtATime else Shortest)
 
@@ -116,7 +116,7 @@ abbrev pub asked_strategy : Option Text → Strategy
 asked_strategy None = Shortest
 asked_strategy (Some text) = strategy_named text
 
--- the form that an option asks for: steps if it is left out
+-- the output of an option: steps if it is left out
 abbrev pub output_named : Text → PlanOutput
 output_named text = if bytes_eq text (codes "script") then Script else (if bytes_eq text (codes "table") then Table else Steps)
 
@@ -124,32 +124,32 @@ abbrev pub asked_output : Option Text → PlanOutput
 asked_output None = Steps
 asked_output (Some text) = output_named text
 
--- the ids that an option says are down, if it is given; none if its text is no list of ids
+-- the ids that are down, if the option is given; none if its text is not a list of ids
 abbrev pub asked_down : Option Text → Option (Option Ids)
 asked_down None = Some None
 asked_down (Some text) = option_map (λ ids. Some (ids_of ids)) (ids_listed text)
 
--- the ids that an option says are down are no list of ids, or memory ran out
+-- the ids that are down are not a list of ids, or memory ran out
 abbrev pub IsIdsFault : Option Text → ArgumentFault → Type 0
 IsIdsFault text (Clap error) = ⊥
 IsIdsFault text BadIds = asked_down text ≡ None
 IsIdsFault text NoMemory = ⊤
 
--- The arguments are refused for this: as `clap` refuses them, or since the ids that are down are no list of ids.
+-- The arguments are refused for this reason: that of `clap`, or that the ids that are down are not a list of ids.
 abbrev pub IsRefusal : App → List Text → ArgumentFault → Type 0
 IsRefusal app words (Clap error) = HasKind (fault_of app words) error × (takes app words ≡ true → kind_of error ≡ OutOfMemory)
 IsRefusal app words BadIds = (fault_of app words ≡ []) × (asked_down (asked_text (codes "down") (subcommand_of app words)) ≡ None)
 IsRefusal app words NoMemory = ⊤
 
--- The number that an option asks for: the default if it is left out, else the one that its text denotes. If that is
--- not from the least to the most, the arguments are refused.
+-- The number of an option: the default if it is left out, otherwise the one that its text denotes. If that is not from the
+-- least to the most, the arguments are refused.
 abbrev pub IsAsked : ℕ → ℕ → ℕ → Option Text → ℕ → Type 0
 IsAsked least most default None number = number ≡ default
 IsAsked least most default (Some text) number =
     let digits = without_leading_plus text in
     IsNumeral 10 digits → least ≤ digits_value 10 digits → digits_value 10 digits ≤ most → number ≡ digits_value 10 digits
 
--- the invocation is what the subcommand that was read asks for
+-- the invocation is that of the parsed subcommand
 pub record IsInvocation (found : Option (Text × List Row)) (invocation : Invocation) : Type 0 where
   pub mode : invocation.mode ≡ asked_mode found
   pub file : option_map (λ name. name.now) invocation.file ≡ asked_text (codes "FILE") found

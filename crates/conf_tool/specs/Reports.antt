@@ -9,47 +9,47 @@ use Rattle.conf_session.specs.SessionState.{SessionState}
 use Rattle.conf_session.specs.Commands.{answer}
 use Rattle.conf_session.specs.ReplyTexts.{line}
 
--- what a session finds for an item: nothing, unless it is a directive
+-- the actual output of an item: empty unless it is a directive
 abbrev pub found_for : SessionState → Item → List ℕ
 found_for session (Comment lines) = []
 found_for session (Blank lines) = []
 found_for session (Directive directive) = (answer session directive).found
 
--- the session after an item: it obeys a directive, and nothing else alters it
+-- the session after an item: it runs a directive, and other items do not change it
 abbrev pub session_after : SessionState → Item → SessionState
 session_after session (Comment lines) = session
 session_after session (Blank lines) = session
 session_after session (Directive directive) = (answer session directive).session
 
--- the items in turn, each with what a session finds that obeyed those before it
+-- the items in turn, each with its actual output after the previous ones
 abbrev pub answered_entries : SessionState → List Item → List Entry
 answered_entries session [] = []
 answered_entries session (item ∷ items) = entry item (found_for session item) ∷ answered_entries (session_after session item) items
 
--- the items, each with what is found, as they are written again
+-- the text of the items, each with its actual output
 abbrev pub obeyed_text : SessionState → List Item → List ℕ
 obeyed_text session items = flat_map (λ (entry : Entry). entry_text entry.item entry.output) (answered_entries session items)
 
--- it is a directive whose expected text is another
+-- the item is a directive whose expected output is different
 abbrev pub expects_other : List ℕ → Item → Bool
 expects_other found (Comment lines) = false
 expects_other found (Blank lines) = false
 expects_other found (Directive directive) = not (bytes_eq found directive.expected)
 
--- an entry differs: its directive expects another text
+-- an entry differs: the actual output of its directive is not the expected one
 abbrev pub differs : Entry → Bool
 differs entry = expects_other entry.output entry.item
 
--- each line of a text behind a sign
+-- each line of a text after a sign
 abbrev pub marked : List ℕ → List ℕ → List ℕ
 marked sign text = flat_map (λ full_line. line (sign ++ without_last 10 full_line)) (full_lines text)
 
--- a directive's line number and command, what it expects and what was found
+-- a directive's line number and command, its expected and its actual output
 abbrev pub difference_text : List ℕ → DirectiveText → List ℕ
 difference_text found directive =
     line (decimal directive.line ++ codes ": " ++ directive.command) ++ marked (codes "- ") directive.expected ++ marked (codes "+ ") found
 
--- the report on an item for which a text was found
+-- the report on an item with this actual output
 abbrev pub report_of : List ℕ → Item → List ℕ
 report_of found (Comment lines) = []
 report_of found (Blank lines) = []

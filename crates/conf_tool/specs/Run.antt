@@ -1,4 +1,4 @@
--- What the answer of a run says of its input and of what was written.
+-- What the result of a run means for its input and for what was written.
 use Rattle.std.specs.Prelude.{◌≡◌, ℕ, Bool, true, false, List, Option, Result, Ok, Err, ⊤}
 use Rattle.std.specs.Io.KnownBytes.{Appends}
 use Rattle.dd_file.specs.Device.{AppendsPart}
@@ -18,7 +18,7 @@ use Rattle.conf_tool.specs.declared.tool_fault.ToolFault.TheVariants.{Script, Co
 abbrev pub Wrote : Output → Result Status ToolFault → Option (List ℕ) → Option (List ℕ) → Type 0
 Wrote output outcome before after = (output.outcome ≡ outcome) × Appends before after output.text
 
--- what an answer says of an output, and of the bytes that the writer held before and holds after
+-- what a result means for an output, and for the bytes that the writer had before and has after
 abbrev pub Means : Output → Result Status ToolFault → Option (List ℕ) → Option (List ℕ) → Type 0
 Means output (Ok status) before after = Wrote output (Ok status) before after
 Means output (Err (Script fault)) before after = Wrote output (Err (Script fault)) before after
@@ -27,13 +27,13 @@ Means output (Err Read) before after = AppendsPart before after output.text
 Means output (Err Write) before after = AppendsPart before after output.text
 Means output (Err NoMemory) before after = AppendsPart before after output.text
 
--- So it is for each input that agrees with what the reader gave. Where the reader or the writer does not tell its
--- bytes, nothing is said.
+-- This holds for each input that agrees with what the reader gave. If the bytes of the reader or of the writer are not
+-- specified, there is no promise.
 abbrev pub Answers : (List ℕ → Output) → Option (List ℕ) → Option (List ℕ) → Option (List ℕ) → Option (List ℕ) → Result Status ToolFault → Type 0
 Answers output left_before left_after before after result =
     (input more : List ℕ) → Agrees fresh left_before left_after input more → Means (output input) result before after
 
--- a reader's fault as one of the run: a read that failed and want of memory are no faults of the input
+-- a reader's error as one of the run: a failed read and `NoMemory` are not errors in the input
 abbrev pub as_tool_fault : FileFault → ToolFault
 as_tool_fault (BadDirective line) = Script (BadDirective line)
 as_tool_fault (AfterDouble line) = Script (AfterDouble line)
@@ -42,7 +42,7 @@ as_tool_fault (InputTooLong line) = Script (InputTooLong line)
 as_tool_fault ReadOfScript = Read
 as_tool_fault NoMemoryForScript = NoMemory
 
--- a fault of what answers an input, not of the input or its reader
+-- an error that does not come from the input or its reader
 abbrev pub IsAnswerFault : ToolFault → Type 0
 IsAnswerFault (Script fault) = ⊥
 IsAnswerFault (Configurations fault) = ⊥
@@ -50,7 +50,7 @@ IsAnswerFault Read = ⊥
 IsAnswerFault Write = ⊤
 IsAnswerFault NoMemory = ⊤
 
--- a fault of the input
+-- an error in the input
 abbrev pub IsScriptFault : FileFault → Type 0
 IsScriptFault (BadDirective line) = ⊤
 IsScriptFault (AfterDouble line) = ⊤
@@ -59,7 +59,7 @@ IsScriptFault (InputTooLong line) = ⊤
 IsScriptFault ReadOfScript = ⊥
 IsScriptFault NoMemoryForScript = ⊥
 
--- a fault of an input that passes the limit
+-- an error of an input beyond the limit
 abbrev pub IsInputTooLong : FileFault → Type 0
 IsInputTooLong (BadDirective line) = ⊥
 IsInputTooLong (AfterDouble line) = ⊥
@@ -68,7 +68,7 @@ IsInputTooLong (InputTooLong line) = ⊤
 IsInputTooLong ReadOfScript = ⊥
 IsInputTooLong NoMemoryForScript = ⊥
 
--- the faults of an input that a mode tells
+-- the errors in an input that a mode reports
 abbrev pub CanBeFaulty : Mode → FileFault → Type 0
 CanBeFaulty Lines fault = IsInputTooLong fault
 CanBeFaulty Check fault = IsScriptFault fault
@@ -76,7 +76,7 @@ CanBeFaulty Rewrite fault = IsScriptFault fault
 CanBeFaulty Undo fault = IsScriptFault fault
 CanBeFaulty Plan fault = IsInputTooLong fault
 
--- it is only `plan` that is given configurations
+-- only `plan` reads configurations
 abbrev pub WantsConfigurations : Mode → Type 0
 WantsConfigurations Lines = ⊥
 WantsConfigurations Check = ⊥
@@ -84,7 +84,7 @@ WantsConfigurations Rewrite = ⊥
 WantsConfigurations Undo = ⊥
 WantsConfigurations Plan = ⊤
 
--- the statuses of a mode: it is only `check` that tells a difference, and `undo` and `plan` that tell that there is no plan
+-- the statuses of a mode: only `check` reports a difference, and only `undo` and `plan` report that there is no plan
 abbrev pub CanBe : Mode → Status → Type 0
 CanBe mode Clean = ⊤
 CanBe Lines Different = ⊥
@@ -93,7 +93,7 @@ CanBe Rewrite Different = ⊥
 CanBe Undo Different = ⊤
 CanBe Plan Different = ⊤
 
--- the answers that a mode has, whatever the reader and the writer are
+-- the results that a mode has, whatever the reader and the writer are
 abbrev pub CanAnswer : Mode → Result Status ToolFault → Type 0
 CanAnswer mode (Ok status) = CanBe mode status
 CanAnswer mode (Err (Script fault)) = CanBeFaulty mode fault
@@ -102,8 +102,8 @@ CanAnswer mode (Err Read) = ⊤
 CanAnswer mode (Err Write) = ⊤
 CanAnswer mode (Err NoMemory) = ⊤
 
--- What stops a run at a part of its input: a fault of what answers it, or one of the input, which is then the whole answer,
--- whatever comes.
+-- What stops a run at a part of its input: an error that does not come from the input, or one in the input, which is then
+-- the result whatever follows.
 abbrev pub IsStop : Mode → ToolFault → Type 0 → Type 0
 IsStop mode (Script fault) IsWhole = ⊥
 IsStop mode (Configurations fault) IsWhole = WantsConfigurations mode × IsWhole
@@ -129,7 +129,7 @@ is_write_failure (Err Read) = false
 is_write_failure (Err Write) = true
 is_write_failure (Err NoMemory) = false
 
--- an answer that stands for the whole output: with a status, or with a fault of the input
+-- a result that means that the output is whole: a status, or an error in the input
 abbrev pub stands_for_whole : Result Status ToolFault → Bool
 stands_for_whole (Ok status) = true
 stands_for_whole (Err (Script fault)) = true
@@ -138,8 +138,8 @@ stands_for_whole (Err Read) = false
 stands_for_whole (Err Write) = false
 stands_for_whole (Err NoMemory) = false
 
--- What an answer says of the mark of failure of a writer, before and after. Where a read failed or memory was wanting, a
--- write may have failed too.
+-- What a result means for whether the writer has failed, before and after. After a failed read or `NoMemory`, a write may
+-- have failed too.
 abbrev pub TellsWrite : Bool → Bool → Result Status ToolFault → Type 0
 TellsWrite before after (Ok status) = after ≡ before
 TellsWrite before after (Err (Script fault)) = after ≡ before

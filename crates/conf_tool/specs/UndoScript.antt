@@ -1,4 +1,4 @@
--- The script that undoes changes: the steps of a plan as directives, or a comment that says why there are none.
+-- The script that undoes changes: the steps of a plan as directives, or a comment with the reason why there are none.
 use Rattle.std.specs.Prelude.{◌≡◌, ℕ, ⊤, List, [], ◌∷◌, ◌++◌, map, Result, Ok, Err, codes}
 use Rattle.std.specs.List.{join_with_byte}
 use Rattle.dd_file.specs.DirectiveText.{DirectiveText}
@@ -25,7 +25,7 @@ step_command (Simple changes) = record { name = codes "simple"; arguments = [] }
 step_command (EnterJoint auto_leave changes) = record { name = codes "enter-joint"; arguments = with_key (codes "autoleave") (truth_text auto_leave ∷ []) ∷ [] }
 step_command LeaveJoint = record { name = codes "leave-joint"; arguments = [] }
 
--- the line that says it
+-- its directive line
 abbrev pub step_line : Step → List ℕ
 step_line step = join_with_byte 32 (command_words step)
 
@@ -52,12 +52,12 @@ abbrev pub undo_items : Result (List Step) UndoFault → List Item
 undo_items (Ok steps) = step_items steps
 undo_items (Err fault) = comment (undo_fault_text fault) ∷ []
 
--- ---- what it comes to
--- the session answers the directive by taking the step: it replies with the members afterwards, as after any accepted change
+-- ---- its effect
+-- the session takes the step, and replies with the members afterwards, as after any accepted change
 abbrev pub TakesStep : SessionState → DirectiveText → Step → Type 0
 TakesStep session directive step = (next : ChangerState) × Accepts session.changer step next × (answer session directive ≡ answered session (stepped next))
 
--- it takes the steps in order, one for each directive
+-- the session takes the steps in order, one for each directive
 abbrev pub TakesSteps : SessionState → List DirectiveText → List Step → Type 0
 TakesSteps session [] [] = ⊤
 TakesSteps session [] (step ∷ steps) = ⊥

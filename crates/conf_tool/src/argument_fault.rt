@@ -1,14 +1,14 @@
-//! Why arguments ask for no run.
+//! Why the arguments do not start a run.
 ghost use Rattle.std.specs.Prelude.{◌≡◌};
 ghost use Rattle.conf_tool.specs.declared.argument_fault.ArgumentFault.TheVariants as fault;
 
 use clap::Error;
 use quorum_sets::NoMemory;
 
-/// Why the arguments of a command line ask for no run.
+/// Why the arguments do not start a run.
 #[derive(Debug, Drop)]
 pub enum ArgumentFault {
-    /// The answer of `clap`: help, the version, a usage error, or that it ran out of memory.
+    /// From `clap`: help, the version, a usage error, or out of memory.
     Clap(Error),
     /// The value of `--down` is not a list of ids.
     BadIds,

@@ -37,7 +37,7 @@ pub fn command_line<'a, S: AsStr>(
     alloc: Global,
     words: &'a [S],
 ) -> Result<Invocation<'a>, ArgumentFault>
-    // The arguments are refused exactly if `clap` refuses them, or if the ids that are down are no list of ids.
+    // The arguments are refused exactly if `clap` refuses them, or if `--down` is not a list of ids.
     ensures refused { OfProgram (λ the_program. MatchResult result (λ _. fault_of the_program (map S.text words.entry.now) ≡ []) (IsRefusal the_program (map S.text words.entry.now))) }
 
     // What is asked for is what `clap` reads in them.
@@ -203,7 +203,7 @@ fn output_named(name: &str) -> PlanOutput
     }
 }
 
-// The floor of its option, or one if it is left out.
+// The initial next index of the option, or one if it is left out.
 fn floor_of(found: &ArgMatches<'_>) -> Floor
     ensures { result ≡ asked_floor (first_of (codes "next-floor") (rows_of (found_of found.now))) }
 {
@@ -213,7 +213,7 @@ fn floor_of(found: &ArgMatches<'_>) -> Floor
     }
 }
 
-// The floor of a word.
+// The initial next index of a name.
 fn floor_named(word: &str) -> Floor
     ensures { result ≡ floor_named word.now }
 {
@@ -268,7 +268,7 @@ fn program<'a>(alloc: Global, names: OptionNames<'a>) -> Result<Command<'a>, Err
     add_plan_mode(alloc, program, names)
 }
 
-// The program, which has no mode yet.
+// The program without its modes.
 fn without_modes<'a>(alloc: Global) -> Command<'a>
     ensures { app_of result ≡ wants_mode (tells_version (new_app (codes "confscript"))) }
 {

@@ -1,14 +1,14 @@
-//! What is wrong with the lines that the mode `plan` is given.
+//! What is wrong with the input of the mode `plan`.
 use conf_change::ConfigurationFault;
 use thiserror::Error;
 
-/// Why the lines of an input do not name pairs of configurations.
+/// Why an input is not pairs of configurations.
 #[derive(Clone, Copy, Debug, PartialEq, Eq, Error)]
 pub enum ConfigurationsFault {
-    /// The line with this number, counted from 1, names no valid configuration.
+    /// The line with this number, counted from 1, is not a valid configuration.
     #[error("line {0}: {1}")]
     BadLine(usize, ConfigurationFault),
-    /// The input has no pair of lines, or ends within one.
+    /// The input has no pair of lines, or ends after the first line of one.
     #[error("expected two lines")]
     NotTwoLines,
 }

@@ -37,7 +37,7 @@ fn first_piece(text: &[u8]) -> (&[u8], &[u8])
     text.split_at(position_of(text, b','))
 }
 
-// The id that a text is.
+// The id that a text denotes.
 fn read_id(text: &[u8]) -> Option<u64>
     ensures { result ≡ id_in text.now }
 {

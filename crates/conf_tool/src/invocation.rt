@@ -1,4 +1,4 @@
-//! What the arguments of a command line ask for.
+//! What the arguments ask for.
 use crate::mode::Mode;
 use crate::options::Options;
 

@@ -8,8 +8,8 @@ use dd_file::laws::{
     directive_is_given, items_are_given, items_have_keys, joined_items, written_script,
 };
 
-/// A rewritten script checks clean, where its last item is no blank of several lines and the rewritten text is within the
-/// input limit (own). Of a script with a fault this is said of what is written up to the fault.
+/// A rewritten script checks clean, if its last item is not a blank of several lines and the rewritten text is within the
+/// input limit (own). If the script has an error, what is written up to it checks clean.
 pub fn rewritten_clean()
     ensures { RewrittenClean }
 {
@@ -19,9 +19,9 @@ pub fn rewritten_clean()
     items_have_keys();
 }
 
-/// A complete script that checks clean, two newlines, and the script that undoes its last changes, check clean with as many
-/// earlier configurations kept, where the joined text is within the input limit (own). It is so where there is nothing to
-/// undo, too, and where there is no plan.
+/// A complete script that checks clean, two newlines, and the script that undoes its last changes, together check clean
+/// with the same number of earlier configurations kept, if the joined text is within the input limit (own). That holds too
+/// if there is nothing to undo, or no plan.
 pub fn joined_clean()
     ensures { JoinedClean }
 {
@@ -31,8 +31,8 @@ pub fn joined_clean()
     joined_items();
 }
 
-/// A session that ran a script without a fault, and then runs the directives which the mode `undo` prints of it, takes the
-/// steps of the plan, one for each directive, and comes to the configuration from before the last changes (own).
+/// A session that ran a script without an error, and then runs the directives that the mode `undo` prints for it, takes the
+/// steps of the plan, one for each directive, and returns to the configuration before the last changes (own).
 pub fn undo_script_leads_back()
     ensures { UndoScriptLeadsBack }
 {
@@ -45,8 +45,7 @@ pub fn undo_script_leads_back()
     one_list_per_text();
 }
 
-/// Between two configurations with voters, what the mode `plan` prints is the text of steps that lead from the one to the
-/// other, and no other steps do it better.
+/// Between two configurations with voters, the mode `plan` prints the steps of the best plan from one to the other.
 pub fn printed_plan_is_best()
     ensures { PrintedPlanIsBest }
 {

@@ -1,4 +1,4 @@
-//! The answer of the mode `lines` to one line.
+//! The reply of the mode `lines` to one line.
 ghost use Rattle.std.specs.Prelude.{◌≡◌, [], ◌∷◌, ◌++◌, false, Ok, MatchOption, OnOk};
 ghost use Rattle.ascii_text.specs.Lines.{newline};
 ghost use Rattle.ascii_text.specs.Words.{words};
@@ -12,8 +12,7 @@ use conf_change::{
 use conf_session::SessionIds;
 use quorum_sets::NoMemory;
 
-/// Makes the change that a line holds, and appends the answer to it with a newline. After want of memory the text may
-/// have a part of the answer.
+/// Makes the change on a line, and appends the reply with a newline. On `NoMemory` the text may have a part of the reply.
 pub(crate) fn answer_line(
     changer: &mut Changer<SessionIds>,
     line: &[u8],
@@ -27,7 +26,7 @@ pub(crate) fn answer_line(
     Ok(())
 }
 
-// The same without the newline.
+// The reply without the newline.
 fn reply(changer: &mut Changer<SessionIds>, line: &[u8], text: &mut Vec<u8>) -> Result<(), NoMemory>
     ensures text { OnOk result (text.new.items ≡ text.old.items ++ (line_reply changer.old.tracker.config line.now).text) }
     ensures after { OnOk result (changer.new.tracker.config ≡ (line_reply changer.old.tracker.config line.now).after) }
@@ -41,7 +40,7 @@ fn reply(changer: &mut Changer<SessionIds>, line: &[u8], text: &mut Vec<u8>) -> 
     }
 }
 
-// The word of a line that has one, no less and no more.
+// The token of a line that has exactly one.
 fn only_word(line: &[u8]) -> Option<&[u8]>
     ensures { MatchOption result (says.has_one_word line.now ≡ false) (λ word. words line.now ≡ word.now ∷ []) }
 {
@@ -57,7 +56,7 @@ fn only_word(line: &[u8]) -> Option<&[u8]>
     }
 }
 
-// Makes the change that a word spells, and appends the answer.
+// Makes the change that a token is parsed as, and appends the reply.
 fn answer_word(
     changer: &mut Changer<SessionIds>,
     word: &[u8],
@@ -72,7 +71,7 @@ fn answer_word(
     }
 }
 
-// Makes the one change, and appends the configuration after it or why it was refused.
+// Makes the change, and appends the configuration after it or why it is refused.
 fn make_change(
     changer: &mut Changer<SessionIds>,
     change: Change,

@@ -1,16 +1,16 @@
 //! The modes of the program.
 
-/// What the program is asked for.
+/// What the program does.
 #[derive(Clone, Copy, Debug, PartialEq, Eq)]
 pub enum Mode {
-    /// Each line of the input is one change.
+    /// Makes the changes of the input, one a line.
     Lines,
-    /// A script is run, and what it finds is held against what it expects.
+    /// Runs a script, and compares its actual output with the expected one.
     Check,
-    /// A script is run, and written again with what was found.
+    /// Runs a script, and prints it again with its actual output.
     Rewrite,
-    /// A script is run, and then the script is written that undoes its last changes.
+    /// Runs a script, and prints a second script that undoes its last changes.
     Undo,
-    /// The plan is written from the configuration of one line to that of another.
+    /// Prints the plan from the configuration of one line to that of the next.
     Plan,
 }

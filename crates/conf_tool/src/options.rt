@@ -21,8 +21,8 @@ impl Default for Options {
     ghost is_default = { λ options. (options.history ≡ 100) × (options.steps ≡ 1) × (options.floor ≡ One)
         × (options.plan.strategy ≡ Shortest) × (options.plan.output ≡ Steps) × (options.plan.down ≡ None) };
 
-    /// If nothing is asked for, 100 configurations are kept, one change is undone, the initial next index is 1, and the
-    /// shortest plan is printed as steps.
+    /// The defaults: 100 configurations are kept, one change is undone, the initial next index is 1, and the shortest plan
+    /// is printed as steps.
     fn default() -> Options {
         Options {
             history: 100,

@@ -1,4 +1,4 @@
-//! The lines that the mode `plan` is given.
+//! The input lines of the mode `plan`.
 ghost use Rattle.std.specs.Prelude.{◌≡◌, true, Ok, IfOk, IfErr};
 ghost use Rattle.conf_change.specs.Configuration.{is_valid};
 ghost use Rattle.conf_change.specs.Violation.{configuration_in};
@@ -18,7 +18,7 @@ pub(crate) fn is_passed_over(line: &[u8]) -> bool
     is_blank(line) || trimmed(line).starts_with(b"#")
 }
 
-/// The valid configuration that the line with this number names.
+/// The valid configuration on the line with this number.
 pub(crate) fn configuration_at(
     alloc: Global,
     number: usize,

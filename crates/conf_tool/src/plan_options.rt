@@ -17,7 +17,7 @@ pub enum PlanOutput {
     Table,
 }
 
-/// The strategy of a plan, the form in which it is printed, and the ids that are down, if some are given.
+/// The strategy of a plan, the form in which it is printed, and the ids that are down, if any are given.
 #[derive(Drop)]
 pub struct PlanOptions {
     pub strategy: Strategy,

@@ -1,4 +1,4 @@
-//! What the mode `check` reports: each directive that found another text than it expects, and how many there were.
+//! The report of the mode `check`: each directive whose actual output differs from the expected one, and the counts.
 ghost use Rattle.std.specs.Prelude.{◌≡◌, ◌≤◌, ◌<◌, ◌+◌, ◌^◌, [], ◌∷◌, ◌++◌, decimal, nat_lt, OnOk, if◌then◌else◌};
 ghost use Rattle.ascii_text.specs.Lines.{newline, without_last};
 ghost use Rattle.conf_tool.specs.Outputs.{check_status};
@@ -10,7 +10,7 @@ use ascii_text::lines::{is_whole, next_full_line};
 use dd_file::item::Directive;
 use quorum_sets::NoMemory;
 
-/// How many directives there were, and how many of them found another text than they expect.
+/// How many directives there were, and for how many the actual output differs from the expected one.
 #[derive(Drop)]
 pub(crate) struct Counts {
     directives: usize,
@@ -29,7 +29,7 @@ impl Counts {
         }
     }
 
-    /// Counts one more directive.
+    /// Counts a directive.
     pub(crate) fn add(&mut self, differs: bool)
         requires { self.old.directives < 2 ^ 30 }
         ensures directives { self.new.directives ≡ self.old.directives + 1 }
@@ -51,7 +51,7 @@ impl Counts {
         }
     }
 
-    /// Appends the counts. After want of memory a part of them may be appended.
+    /// Appends the counts. On `NoMemory` a part of them may be appended.
     pub(crate) fn append_to(&self, text: &mut Vec<u8>) -> Result<(), NoMemory>
         ensures { OnOk result (text.new.items ≡ text.old.items ++ counts_line self.now.directives self.now.mismatches) }
     {
@@ -64,8 +64,8 @@ impl Counts {
     }
 }
 
-/// Appends a directive's line number and command, what it expects and what was found. After want of memory a part of
-/// that may be appended.
+/// Appends a directive's line number and command, its expected and its actual output. On `NoMemory` a part of that may be
+/// appended.
 pub(crate) fn append_difference(
     text: &mut Vec<u8>,
     directive: &Directive,
@@ -89,7 +89,7 @@ fn append_count(text: &mut Vec<u8>, count: usize) -> Result<(), NoMemory>
     Ok(())
 }
 
-// Appends each line of some bytes behind a sign and a space.
+// Appends each line of some bytes after a sign and a space.
 fn append_marked(text: &mut Vec<u8>, sign: u8, bytes: &[u8]) -> Result<(), NoMemory>
     ensures { OnOk result (text.new.items ≡ text.old.items ++ marked (sign ∷ 32 ∷ []) bytes.now) }
 {
@@ -102,7 +102,7 @@ fn append_marked(text: &mut Vec<u8>, sign: u8, bytes: &[u8]) -> Result<(), NoMem
     Ok(())
 }
 
-// Appends a piece as a line: with its newline, or with one where it has none.
+// Appends a line, and a newline if it does not end in one.
 fn append_line(text: &mut Vec<u8>, full_line: &[u8]) -> Result<(), NoMemory>
     ensures { OnOk result (text.new.items ≡ text.old.items ++ (without_last 10 full_line.now ++ newline)) }
 {

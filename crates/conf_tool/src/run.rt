@@ -34,8 +34,8 @@ use dd_file::lines::Lines;
 use dd_file::reader::Reader;
 use std::alloc::Global;
 
-/// Reads the input to its end in a mode, and writes the mode's output. Nothing is tried again: after a fault of a
-/// device or of memory the writer holds a front part of the output, and after a fault of the input all of it.
+/// Reads the input to its end, and writes the mode's output. Nothing is tried again: if a read, a write or an allocation
+/// fails, the writer has a prefix of the output, and after an error in the input all of it.
 pub fn run<R: Source, W: Sink>(
     alloc: Global,
     mode: Mode,
@@ -45,12 +45,12 @@ pub fn run<R: Source, W: Sink>(
 ) -> Result<Status, ToolFault>
     requires { IsInRange options }
 
-    // What is written is the output for each input that agrees with what was read, or a front part of it.
+    // What is written is the output, or a prefix of it, for each input that agrees with what was read.
     ensures output { Answers (output_of mode options) (R.remaining reader.old) (R.remaining reader.new) (W.contents writer.old) (W.contents writer.new) result }
     ensures taken { LosesPrefix (R.remaining reader.old) (R.remaining reader.new) }
 
-    // The reader has failed exactly if it had failed before, or `Read` is returned; so it is of the writer and `Write`.
-    // Of the other faults and the statuses only the mode's own are returned.
+    // The reader has failed exactly if it had failed before or `Read` is returned, and likewise the writer and `Write`.
+    // Other errors and statuses are only those of the mode.
     ensures read { R.has_failed reader.new ≡ (R.has_failed reader.old || is_read_failure result) }
     ensures write { W.has_failed writer.new ≡ (W.has_failed writer.old || is_write_failure result) }
     ensures kinds { CanAnswer mode result }
@@ -84,8 +84,8 @@ pub fn run<R: Source, W: Sink>(
     }
 }
 
-/// Runs over blocks in which nothing waits, and then writes what waits in the last one: after a fault too. Where that
-/// fails, an answer that stands for the whole output no longer does, and is `Write`.
+/// Runs over empty blocks, and flushes them at the end, also after an error. If the flush fails, success or an error in the
+/// input becomes `Write`.
 pub fn run_and_flush<R: Source, W: Sink>(
     alloc: Global,
     mode: Mode,
@@ -96,21 +96,21 @@ pub fn run_and_flush<R: Source, W: Sink>(
     requires range { IsInRange options }
     requires empty { NothingWaits writer.old }
 
-    // The blocks (what their writer holds, and what waits) hold the output for each input that agrees with what was read,
-    // or a front part of it, ..
+    // The blocks (what their writer has, and what is buffered) have the output, or a prefix of it, for each input that
+    // agrees with what was read, ..
     ensures output { Answers (output_of mode options) (R.remaining reader.old) (R.remaining reader.new)
         (⟦<Blocks<W> as Sink>⟧.contents writer.old) (⟦<Blocks<W> as Sink>⟧.contents writer.new) result }
 
-    // .. and their writer holds all of it, where the answer stands for the whole output.
+    // .. and their writer has all of it, if the result means that the output is whole.
     ensures whole { stands_for_whole result ≡ true → NothingWaits writer.new ×
         Answers (output_of mode options) (R.remaining reader.old) (R.remaining reader.new)
         (W.contents (gathering_writer writer.old)) (W.contents (gathering_writer writer.new)) result }
 
-    // After any answer nothing waits, unless the writer has failed.
+    // Nothing is left in the buffer, unless the writer has failed.
     ensures flushed { W.has_failed (gathering_writer writer.new) ≡ false → NothingWaits writer.new }
     ensures taken { LosesPrefix (R.remaining reader.old) (R.remaining reader.new) }
 
-    // A read that failed and want of memory are told before a write that failed.
+    // A failed read and `NoMemory` take precedence over a failed write.
     ensures read { R.has_failed reader.new ≡ (R.has_failed reader.old || is_read_failure result) }
     ensures write { TellsWrite (W.has_failed (gathering_writer writer.old)) (W.has_failed (gathering_writer writer.new)) result }
     ensures kinds { CanAnswer mode result }
@@ -123,7 +123,7 @@ pub fn run_and_flush<R: Source, W: Sink>(
     }
 }
 
-/// Whether an answer stands for the whole output: with a status, or with a fault of the input.
+/// Whether a result means that the output is whole: a status, or an error in the input.
 fn is_whole(outcome: &Result<Status, ToolFault>) -> bool
     ensures { result ≡ stands_for_whole outcome.now }
 {

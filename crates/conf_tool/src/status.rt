@@ -1,10 +1,10 @@
 //! How a run ends.
 
-/// How a run ends that met no fault: status 0 or 1 of the program.
+/// How a run without an error ends: exit status 0 or 1.
 #[derive(Clone, Copy, Debug, PartialEq, Eq)]
 pub enum Status {
-    /// All was as expected: status 0.
+    /// Everything is as expected: exit status 0.
     Clean,
-    /// Something differs, or there is no plan: status 1.
+    /// Something differs, or there is no plan: exit status 1.
     Different,
 }

@@ -31,7 +31,7 @@ fn change_lines(alloc: Global, changes: &[Change]) -> Result<Vec<Vec<u8>>, NoMem
     Ok(lines)
 }
 
-/// A comment that says a text.
+/// A comment with this text.
 pub(crate) fn comment(alloc: Global, text: &[u8]) -> Result<Item, NoMemory>
     ensures { IfOk result (λ item. item ≡ says.comment text.now) }
 {

@@ -17,7 +17,7 @@ use std::{env, io};
 const BAD_INPUT: u8 = 2;
 
 /// The exit status if a file, a read or a write failed, or memory ran out.
-const NO_DEVICE: u8 = 3;
+const IO_FAILED: u8 = 3;
 
 fn main(rt: HostRuntime) -> ExitCode {
     match arguments(&rt) {
@@ -83,7 +83,7 @@ fn open(rt: &HostRuntime, invocation: Invocation<'_>) -> ExitCode
         Ok(file) => run_over(rt, invocation, &mut FromRead::new(file)),
         Err(_) => {
             let _ = eprintln!(rt; "confscript: cannot open {name}");
-            ExitCode::from(NO_DEVICE)
+            ExitCode::from(IO_FAILED)
         }
     }
 }
@@ -116,6 +116,6 @@ fn fail(rt: &HostRuntime, fault: ToolFault) -> ExitCode {
     let _ = eprintln!(rt; "confscript: {fault}");
     match fault {
         ToolFault::Script(_) | ToolFault::Configurations(_) => ExitCode::from(BAD_INPUT),
-        _ => ExitCode::from(NO_DEVICE),
+        _ => ExitCode::from(IO_FAILED),
     }
 }

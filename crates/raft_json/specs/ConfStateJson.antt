@@ -13,19 +13,19 @@ is_key key =
     bytes_eq key (codes "voters") || bytes_eq key (codes "voters_outgoing") || bytes_eq key (codes "learners")
     || bytes_eq key (codes "learners_next") || bytes_eq key (codes "auto_leave")
 
--- no other key is there
+-- there is no other key
 abbrev pub has_only_keys : Members → Bool
 has_only_keys no_members = true
 has_only_keys (member key d ms) = is_key key && has_only_keys ms
 
--- the value of a flag: false where the key is left out, or where it is null
+-- the boolean at a key: false if the key is missing or null
 abbrev pub flag_in : Option Data → Option Bool
 flag_in None = Some false
 flag_in (Some null) = Some false
 flag_in (Some (boolean b)) = Some b
 flag_in (Some _) = None
 
--- the lists and the flag, each at its key
+-- the lists and the boolean, each at its key
 abbrev pub lists_in : Data → Option ConfStateLists
 lists_in d =
     option_and_then (λ voters.
@@ -44,7 +44,7 @@ lists_in d =
     (ids_in (get (codes "voters_outgoing") d)))
     (ids_in (get (codes "voters") d))
 
--- the saved configuration that a value is, if it is one
+-- the saved configuration that a value denotes, if it is one
 abbrev pub conf_state_of_json : Data → Option ConfStateLists
 conf_state_of_json d = option_and_then (λ ms. if has_only_keys ms then lists_in d else None) (as_object d)
 

@@ -8,16 +8,16 @@ use Rattle.serde_json.specs.View.{items_of}
 abbrev pub ids_json : List ℕ → Data
 ids_json ids = array (items_of (map (λ id. number (unsigned id)) ids))
 
--- the id that a value is: a number that is written without a sign, a fraction or an exponent, and at most 2^64-1
+-- the id that a value denotes: a number written without a sign, a fraction or an exponent, at most 2^64-1
 abbrev pub id_from : Data → Option ℕ
 id_from d = option_and_then as_u64 (as_number d)
 
--- the ids that the items are, in their order, if each is one
+-- the ids that the items denote, in their order, if each is one
 abbrev pub ids_from : Items → Option (List ℕ)
 ids_from no_items = Some []
 ids_from (item d ds) = option_and_then (λ id. option_map (λ ids. id ∷ ids) (ids_from ds)) (id_from d)
 
--- the ids of the value at a key: none where the key is left out, or where it is null
+-- the ids at a key: none if the key is missing or null
 abbrev pub ids_in : Option Data → Option (List ℕ)
 ids_in None = Some []
 ids_in (Some null) = Some []

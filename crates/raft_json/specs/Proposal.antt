@@ -1,4 +1,4 @@
--- What is proposed to etcd for a step, and what etcd makes of it.
+-- What to propose to etcd for a step, and where it leads etcd.
 use Rattle.std.specs.Prelude.{ℕ, true, false, List, [], ◌∷◌, Option, Some, None, Ok, Err, slice_get, if◌then◌else◌}
 use Rattle.quorum_sets.specs.Ids.{ascending}
 use Rattle.conf_change.specs.Configuration.{Configuration}
@@ -16,33 +16,33 @@ abbrev pub update_of : Option ℕ → List Change
 update_of None = []
 update_of (Some id) = record { kind = Update; id = id } ∷ []
 
--- the changes, or if there are none, an update of the least incoming voter: etcd takes an empty list for leaving
+-- the changes, or if there are none, an update of the least incoming voter: on an empty list etcd leaves the joint configuration
 abbrev pub or_update : Configuration → List Change → List Change
 or_update c [] = update_of (slice_get (ascending c.incoming) 0)
 or_update c (change ∷ changes) = change ∷ changes
 
--- the changes that are proposed
+-- the changes to propose
 abbrev pub proposed_changes : Configuration → Step → List Change
 proposed_changes c (Simple changes) = or_update c changes
 proposed_changes c (EnterJoint _ changes) = or_update c changes
 proposed_changes c LeaveJoint = []
 
--- the transition that is proposed
+-- the transition to propose
 abbrev pub transition_of : Step → Transition
 transition_of (Simple _) = Auto
 transition_of (EnterJoint true _) = Implicit
 transition_of (EnterJoint false _) = Explicit
 transition_of LeaveJoint = Auto
 
--- the step that etcd takes for it
+-- the step that etcd takes for the proposal
 abbrev pub proposed_step : Configuration → Step → Step
 proposed_step c step = step_taken (transition_of step) (proposed_changes c step)
 
--- a configuration with auto-leave is left without being asked
+-- a joint configuration with auto-leave is left automatically
 abbrev pub settles : Outcome → Outcome
 settles (Ok c) = if c.auto_leave then leave_outcome c else Ok c
 settles (Err why) = Err why
 
--- where a step leads, once nothing is left to be left by itself
+-- where a step leads etcd in the end, auto-leave included
 abbrev pub settled : Configuration → Step → Outcome
 settled c step = settles (outcome c step)

@@ -1,4 +1,4 @@
-//! The JSON of the change that is proposed to etcd for a step.
+//! The JSON of the change to propose to etcd for a step.
 ghost use Rattle.std.specs.Prelude.{◌≡◌, IfOk, map};
 ghost use Rattle.serde_json.specs.View.{view};
 ghost use Rattle.raft_json.specs.ConfChangeJson as spec;
@@ -11,10 +11,10 @@ use quorum_sets::{MemberSet, NoMemory};
 use serde_json::{Map, Value, put};
 use std::alloc::Global;
 
-/// The `raftpb.ConfChangeV2` that a program proposes for a step from a configuration, so that etcd's raft ends where the
-/// step does (the module `laws` says of which steps this is so). A simple step has the transition Auto, and entering a joint
-/// configuration the one that leaves by itself, or not, as the step says. A step of either kind without a change names an
-/// update of the least incoming voter, since etcd takes a change without an id for leaving.
+/// The `raftpb.ConfChangeV2` to propose for a step from a configuration, so that etcd's raft ends in the same configuration
+/// as the step (the module `laws` says for which steps). The transition of a simple step is Auto; entering a joint
+/// configuration is JointImplicit with auto-leave, and JointExplicit without it. If either has no change, an update of the
+/// least incoming voter is proposed, since on an empty list etcd leaves the joint configuration.
 pub fn conf_change_value<S: MemberSet>(
     alloc: Global,
     before: &Config<S>,
@@ -30,7 +30,7 @@ pub fn conf_change_value<S: MemberSet>(
     Ok(Value::Object(members))
 }
 
-// The changes that are proposed for a step.
+// The changes to propose for a step.
 fn proposed<S: MemberSet>(alloc: Global, before: &Config<S>, step: &Step) -> Result<Value, NoMemory>
     ensures { IfOk result (λ v. view v ≡ changes_json (proposed_changes before.now step.now)) }
 {

@@ -13,7 +13,7 @@ use serde_json::{Map, Value, put};
 use std::alloc::{AllocError, AllocFailed, Global};
 use thiserror::Error;
 
-/// Why a text is not read as the JSON of a saved configuration.
+/// Why a text is not the JSON of a saved configuration.
 #[derive(Clone, Copy, Debug, PartialEq, Eq, Error)]
 pub enum JsonFault {
     #[error("bad JSON of a conf state")]
@@ -42,10 +42,10 @@ impl From<AllocFailed<u64>> for JsonFault {
     }
 }
 
-/// Reads the JSON of a `raftpb.ConfState` as Go's encoding/json does, but for what is not of this form: an object whose
-/// keys are among `voters`, `voters_outgoing`, `learners`, `learners_next` (lists of ids) and `auto_leave` (a flag), in any
-/// order. A key may be left out or null, which is empty and false; of a repeated one the last counts. An id is a number
-/// up to 2^64-1 without a sign, a fraction or an exponent; ids may repeat, as in a ConfState line.
+/// Reads the JSON of a `raftpb.ConfState` as Go's encoding/json does, but accepts only this form: an object whose keys are
+/// `voters`, `voters_outgoing`, `learners`, `learners_next` (lists of ids) and `auto_leave` (a boolean), in any order. A
+/// missing or null key is an empty list or false; if a key repeats, the last one counts. An id is a number up to 2^64-1
+/// without a sign, a fraction or an exponent; ids may repeat, as in a ConfState line.
 pub fn read_conf_state_json(alloc: Global, text: &[u8]) -> Result<ConfState, JsonFault>
     ensures ok { IfOk result (λ state. IsConfStateJson text.now state) }
     ensures bad { result ≡ Err JsonFault.BadJson → (state : ConfStateLists) → ¬ (IsConfStateJson text.now state) }
@@ -99,7 +99,7 @@ fn is_key(key: &str) -> bool
         || key == "auto_leave"
 }
 
-// A flag that may be left out or null.
+// A boolean, false if it is missing or null.
 fn flag_in(found: Option<&Value>) -> Option<bool>
     ensures { result ≡ spec.flag_in (option_map (λ v. view v.now) found.entry) }
 {

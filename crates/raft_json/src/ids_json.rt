@@ -8,7 +8,7 @@ use quorum_sets::NoMemory;
 use serde_json::Value;
 use std::alloc::Global;
 
-/// Reads the ids at a key, which may be left out or null.
+/// Reads the ids at a key; none if it is missing or null.
 pub(crate) fn ids_in(alloc: Global, found: Option<&Value>) -> Result<Vec<u64>, JsonFault>
     ensures ok { IfOk result (λ ids. spec.ids_in (option_map (λ v. view v.now) found.entry) ≡ Some ids.items) }
     ensures bad { result ≡ Err JsonFault.BadJson → spec.ids_in (option_map (λ v. view v.now) found.entry) ≡ None }

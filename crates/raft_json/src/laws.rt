@@ -14,10 +14,11 @@ pub fn conf_state_json_reads_back()
     ensures { (saved : ConfStateLists) → conf_state_of_json (conf_state_json saved) ≡ Some saved }
 {}
 
-/// What is proposed for an accepted step leads etcd to the configuration after the step. Leaving, entering, and a simple step
-/// of one change are the steps that etcd takes. For a simple step of more changes, etcd enters a joint configuration with
-/// auto-leave, and leaves it by itself: here the configuration before it has to be valid, and to have a voter, as for every
-/// joint configuration that is entered. A change is named for each step but leaving, so none of them is taken for it.
+/// The proposal for an accepted step leads etcd to the configuration after the step. For leaving, entering, and a simple
+/// step of one change, etcd takes the same step. For a simple step of more changes, etcd enters a joint configuration with
+/// auto-leave and leaves it automatically; this needs a valid configuration with a voter before it, as does every joint
+/// configuration that is entered. The proposal of each step except leaving has a change, so etcd takes none of these for
+/// leaving.
 pub fn etcd_ends_where_the_step_does()
     ensures simple { (before after : Configuration) (changes : List Change) → is_valid before ≡ true → has_voter before ≡ true
         → outcome before (Simple changes) ≡ Ok after → settled before (proposed_step before (Simple changes)) ≡ Ok after }

@@ -1,5 +1,5 @@
-//! Tests that are run with all the memory that there is: of calls that take none, of large values, and of devices that
-//! fail. A test here that runs out of memory ends there (`expect`), so no function returns early with what it made.
+//! Tests that are run without refused allocations: of calls that do not allocate, of large values, and of readers and
+//! writers that fail. A test here that runs out of memory stops (`expect`), so no function returns early.
 
 mod ascii_texts;
 mod blocks;

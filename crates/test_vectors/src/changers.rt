@@ -22,7 +22,7 @@ enum Call {
     Change(Transition),
 }
 
-// A call with the text of its changes, and what is shown after it or why it is refused.
+// A call with the text of its changes, and what is printed after it or why it is refused.
 type Row = (Call, &'static [u8], Result<Shown, Refused>);
 
 const ONE: Shown = ("voters=(1)", &["1: StateProbe match=0 next=1"]);
@@ -202,7 +202,7 @@ fn step(alloc: Global, call: Call, text: &'static [u8]) -> Result<Step, NoMemory
     })
 }
 
-/// Whether two changers are the same. It takes no memory.
+/// Whether two changers are equal. It does not allocate.
 pub(crate) fn is_same<S: MemberSet>(changer: &Changer<S>, other: &Changer<S>) -> bool {
     let tracker = changer.tracker();
     let others = other.tracker();
@@ -210,20 +210,20 @@ pub(crate) fn is_same<S: MemberSet>(changer: &Changer<S>, other: &Changer<S>) ->
         & (tracker.member_count() == others.member_count())
         & (changer.last_index() == other.last_index())
         & (changer.floor() == other.floor());
-    for place in 0..tracker.member_count() {
-        is_so &= tracker.member_at(place) == others.member_at(place);
+    for index in 0..tracker.member_count() {
+        is_so &= tracker.member_at(index) == others.member_at(index);
     }
     is_so
 }
 
-/// Whether a changer is shown so.
+/// Whether a changer is printed as this text.
 pub(crate) fn is_shown<S: MemberSet>(alloc: Global, changer: &Changer<S>, shown: Shown) -> bool {
     let tracker = changer.tracker();
     let (config, members) = shown;
     let mut is_so = appends(alloc, config, |text| write_config(text, tracker.config()))
         & (tracker.member_count() == members.len());
-    for (place, member) in members.iter().enumerate() {
-        is_so &= match tracker.member_at(place) {
+    for (index, member) in members.iter().enumerate() {
+        is_so &= match tracker.member_at(index) {
             Some((id, progress)) => {
                 appends(alloc, *member, |text| write_progress(text, id, progress))
             }
@@ -233,7 +233,7 @@ pub(crate) fn is_shown<S: MemberSet>(alloc: Global, changer: &Changer<S>, shown:
     is_so
 }
 
-// Whether a call gives what a row says; where it found no memory the changer is its copy from before.
+// Whether a call gives the result of its row; on `NoMemory` the changer is unchanged.
 fn is_changed<S: MemberSet>(
     alloc: Global,
     changer: &mut Changer<S>,
@@ -270,7 +270,7 @@ fn is_stepped<S: MemberSet>(
     (answer.err() == refused) & is_same(changer, after)
 }
 
-// Whether another changer is overwritten with the one after a step, and then gives its configuration up.
+// Whether another changer is overwritten with the one after a step, and is empty once its configuration is taken out.
 fn becomes<S: MemberSet>(
     mut other: Changer<S>,
     before: &Changer<S>,
@@ -290,7 +290,7 @@ fn becomes<S: MemberSet>(
         & (other.tracker().member_count() == 0)
 }
 
-// Whether a call does what its row says, and its step does the same.
+// Whether a call gives the result of its row, and its step does too.
 fn is_row<S: MemberSet>(
     alloc: Global,
     changer: &mut Changer<S>,
@@ -315,7 +315,7 @@ fn is_made<S: MemberSet>(alloc: Global, changer: &mut Changer<S>, row: &Row) -> 
     }
 }
 
-// Whether the calls of rows give what these say, one after another. The last index counts them.
+// Whether the calls of rows give their results, one after another. The last index counts them.
 fn are_made<S: MemberSet>(alloc: Global, rows: &[Row]) -> bool {
     let mut changer: Changer<S> = Changer::new(alloc, 0);
     let mut is_so = true;
@@ -341,7 +341,7 @@ fn changes_over_lists(rt: HostRuntime) {
     assert!(rt; are_made::<InlineIds>(rt.alloc(), &TAKEN));
 }
 
-// Whether the ids of two sets are put together.
+// Whether the union of two sets is right.
 fn are_together<S: MemberSet>(alloc: Global) -> bool {
     match (
         ids::<S>(alloc, &[1, 3, 5, 7, 9, 11, 13, 15, 17]),

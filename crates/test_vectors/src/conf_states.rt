@@ -10,7 +10,7 @@ use conf_change::{
 use quorum_sets::{InlineIds, MemberSet, NoMemory, TreeIds};
 use std::alloc::Global;
 
-// A line, and what is shown of what it restores.
+// A line, and what is printed of the changer that it restores.
 static RESTORED: [(&str, Shown); 3] = [
     (
         "Voters:[1 2 3] VotersOutgoing:[1 2 4 6] Learners:[5] LearnersNext:[4] AutoLeave:false",
@@ -82,7 +82,7 @@ fn is_described<S: MemberSet>(alloc: Global, state: &ConfState, config: &Config<
     ))
 }
 
-// Whether a changer and its copy are the same and shown so.
+// Whether a changer and its copy are equal and printed as this text.
 fn is_copied<S: MemberSet>(alloc: Global, changer: &Changer<S>, shown: Shown) -> bool {
     match twice(NoMemory, || changer.try_clone()) {
         Ok(copy) => is_same(&copy, changer) & is_shown(alloc, &copy, shown),
@@ -113,7 +113,7 @@ fn is_line<S: MemberSet>(alloc: Global, line: &str, shown: Shown) -> bool {
     }
 }
 
-// Whether what a line says is refused as no configuration.
+// Whether a line is refused as a configuration.
 fn is_refused<S: MemberSet>(alloc: Global, line: &str) -> bool {
     match read(alloc, line) {
         Ok(state) => {
@@ -136,7 +136,7 @@ fn saved_configurations(rt: HostRuntime) {
     assert!(rt; no_line.err() == Some(ConfStateFault::BadConfState));
 }
 
-// A line, and why it names no valid configuration.
+// A line, and why it is not a valid configuration.
 static FAULTY: [(&str, ConfigurationFault); 4] = [
     (
         "Voters:[1] VotersOutgoing:[] Learners:[] LearnersNext:[]",
@@ -156,7 +156,7 @@ static FAULTY: [(&str, ConfigurationFault); 4] = [
     ),
 ];
 
-// Why a line names no valid configuration, if it names none.
+// Why a line is not a valid configuration, if it is not.
 fn fault_of<S: MemberSet>(alloc: Global, line: &str) -> Option<ConfigurationFault> {
     twice(ConfigurationFault::NoMemory, || {
         read_configuration::<S>(alloc, line.as_bytes())
@@ -164,7 +164,7 @@ fn fault_of<S: MemberSet>(alloc: Global, line: &str) -> Option<ConfigurationFaul
     .err()
 }
 
-// Whether a line names the configuration that its saved form describes.
+// Whether a line is parsed as the configuration that its saved form describes.
 fn is_named<S: MemberSet>(alloc: Global, line: &str) -> bool {
     let Ok(state) = read(alloc, line) else {
         return false;
@@ -189,7 +189,7 @@ fn lines_of_configurations(rt: HostRuntime) {
     }
 }
 
-// Whether members acknowledge indexes as they do, in a changer that has begun with floor zero. This takes no memory.
+// Whether members acknowledge indexes as expected, in a changer whose initial next index is zero. This does not allocate.
 fn acknowledges<S: MemberSet>(changer: &mut Changer<S>) -> bool {
     let acked = changer.ack(3, 7);
     let again = changer.ack(3, 6);

@@ -17,7 +17,7 @@ const SCRIPT: &[u8] = b"# c\n\
     enter-joint autoleave=(true,false) \\\n  x\nr1 r2\nr9\n----\n----\na\n\nb\n----\n----\n\n\
     simple\nv2\n----";
 
-// The items: what stands in the script with `a` found, and what a directive expects.
+// The items: the script's text with `a` as actual output, and a directive's expected output.
 static ITEMS: [(&[u8], &[u8]); 5] = [
     (b"# c\n", b""),
     (b"\n", b""),
@@ -29,7 +29,7 @@ static ITEMS: [(&[u8], &[u8]); 5] = [
     (b"simple\nv2\n----\na\n", b""),
 ];
 
-// What a reader gives next: what is in hand, or else what it reads.
+// The next item: a buffered one, or one that is read.
 fn next_item<R: Source>(reader: &mut Reader, source: &mut R) -> Result<Option<Item>, FileFault> {
     match reader.next_buffered(source) {
         Some(found) => found,
@@ -37,7 +37,7 @@ fn next_item<R: Source>(reader: &mut Reader, source: &mut R) -> Result<Option<It
     }
 }
 
-// The same of lines.
+// The next line: a buffered one, or one that is read.
 fn next_line<R: Source>(lines: &mut Lines, source: &mut R) -> Result<Option<Line>, FileFault> {
     match lines.next_buffered(source) {
         Some(found) => found,
@@ -45,7 +45,7 @@ fn next_line<R: Source>(lines: &mut Lines, source: &mut R) -> Result<Option<Line
     }
 }
 
-// Whether an item is written again so, with `a` found or that and a blank line. This takes no memory.
+// Whether an item is rewritten so, with `a` as actual output, or that and a blank line. This does not allocate.
 fn is_written(item: &Item, is_double: bool, wanted: &'static [u8]) -> bool {
     let mut writer = ToWrite::new(Matching::with(wanted));
     let mut rewriter = Rewriter::new();
@@ -69,8 +69,8 @@ fn is_item(item: &Item, wanted: &'static [u8], expected: &[u8]) -> bool {
     expects & is_written(item, false, wanted)
 }
 
-// Whether a reader gives the items, as far as it finds memory, and whether it does. Each is given back, so that the next
-// is read into its memory. Once it found none it finds none.
+// Whether a reader gives these items until memory runs out, and whether it does. Each is given back, so that the next one
+// reuses its memory. Once memory ran out, the reader gives no more.
 fn gives_items(reader: &mut Reader) -> (bool, bool) {
     let mut source = FromRead::new(SCRIPT);
     let mut is_so = true;
@@ -93,7 +93,7 @@ fn gives_items(reader: &mut Reader) -> (bool, bool) {
     (is_so, has_memory)
 }
 
-// Whether a reader gives the items, or else, where it found no memory, another does.
+// Whether a reader gives the items, or on `NoMemory` another one does.
 fn reads_items(reader: &mut Reader, other: &mut Reader) -> bool {
     let (is_so, has_memory) = gives_items(reader);
     is_so & (has_memory || gives_items(other) == (true, true))
@@ -113,7 +113,7 @@ const INPUT: &[u8] = b"a\r\n\nbb\nc";
 
 static LINES: [&[u8]; 4] = [b"a", b"", b"bb", b"c"];
 
-// The same of lines.
+// Whether a reader gives these lines until memory runs out, and whether it does.
 fn gives_lines(lines: &mut Lines) -> (bool, bool) {
     let mut source = FromRead::new(INPUT);
     let mut is_so = true;
@@ -159,7 +159,7 @@ fn made_comment(alloc: Global) -> Result<Item, AllocError> {
     Item::comment(alloc, b"# a".to_vec(alloc)?)
 }
 
-// The directive that a line says, without input.
+// The directive of a line, without input.
 fn made_directive(alloc: Global) -> Result<Option<Item>, AllocError> {
     Item::directive(alloc, b"simple x=(1,2)".to_vec(alloc)?, &[])
 }

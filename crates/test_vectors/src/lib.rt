@@ -1,10 +1,11 @@
-//! Tests of the public calls of the crates below, on values that come from the rules: of what no script of `tests/scripts`
-//! shows. They are a crate of their own, so that each crate below is proved once, and not once more with its tests.
+//! Test vectors for the public calls of the other crates: inputs with the results that the rules give, for what the scripts
+//! of `tests/scripts` do not show. They are a crate of their own, so that the other crates are not proved again with their
+//! tests.
 //!
-//! Each test outside of `ample` is run once for each allocation that it makes, with this one refused, and once with none
-//! refused (`tests/refused` says how). So a call returns what it must or that memory ran out, never a third; what was
-//! passed to it is as before; and the same call again returns what it must. The tests in `ample` are run once: those of
-//! calls that take no memory, and those that end where they find none.
+//! Each test outside of `ample` is run once for each of its allocations, with that one refused, and once with none refused
+//! (see `tests/refused`). So a call either returns the right result, or reports that memory ran out and leaves its
+//! arguments unchanged, and then the same call again returns the right result. The tests in `ample` are run once: those of
+//! calls that do not allocate, and those that stop if memory runs out.
 #![tactic(auto)]
 
 #[cfg(test)]

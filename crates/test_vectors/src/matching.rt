@@ -1,30 +1,30 @@
-//! A writer that takes no memory: it holds what it takes against what is wanted.
+//! A writer that does not allocate: it compares what is written with the expected output.
 use std::io;
 use std::io::Write;
 
-/// Takes all that it is given, and knows whether that is the front of what is wanted.
+/// Accepts every write, and knows whether the bytes so far are a prefix of the expected output.
 #[derive(Drop)]
 pub(crate) struct Matching {
     rest: &'static [u8],
-    is_front: bool,
+    is_prefix: bool,
 }
 
 impl Matching {
-    pub(crate) fn with(wanted: &'static [u8]) -> Matching {
+    pub(crate) fn with(expected: &'static [u8]) -> Matching {
         Matching {
-            rest: wanted,
-            is_front: true,
+            rest: expected,
+            is_prefix: true,
         }
     }
 
-    /// Whether what was taken is the front of what is wanted.
-    pub(crate) fn is_front(&self) -> bool {
-        self.is_front
+    /// Whether what was written is a prefix of the expected output.
+    pub(crate) fn is_prefix(&self) -> bool {
+        self.is_prefix
     }
 
-    /// Whether what was taken is what is wanted.
+    /// Whether what was written is the expected output.
     pub(crate) fn is_whole(&self) -> bool {
-        self.is_front & self.rest.is_empty()
+        self.is_prefix & self.rest.is_empty()
     }
 }
 
@@ -32,7 +32,7 @@ impl Write for Matching {
     fn write(&mut self, bytes: &[u8]) -> io::Result<usize> {
         match self.rest.strip_prefix(bytes) {
             Some(rest) => self.rest = rest,
-            None => self.is_front = false,
+            None => self.is_prefix = false,
         }
         Ok(bytes.len())
     }

@@ -1,4 +1,4 @@
-//! The modes of the program, over devices that take no memory.
+//! The modes of the program, over a reader and a writer that do not allocate.
 use crate::matching::Matching;
 use conf_tool::run::{run, run_and_flush};
 use conf_tool::{Mode, Options, Status, ToolFault};
@@ -14,7 +14,7 @@ const ANSWERS: &[u8] = b"voters=(1)\n\
     voters=(2) learners=(3)\n\
     removed all voters\n";
 
-// A script that finds what it expects, without its last newline and with it, and the same without what it expects.
+// A script that checks clean, without its last newline and with it, and the script without its expected output.
 const CUT: &[u8] = b"simple\nv1\n----\nvoters=(1)\n1: StateProbe match=0 next=1";
 
 const WHOLE: &[u8] = b"simple\nv1\n----\nvoters=(1)\n1: StateProbe match=0 next=1\n";
@@ -131,7 +131,7 @@ pub(crate) static CASES: [Case; 14] = [
     (Mode::Plan, PAIRS, PLANS, Status::Different),
 ];
 
-// How a run ends, and what its writer took.
+// How a run ends, and what it wrote.
 fn outcome(alloc: Global, case: Case) -> (Result<Status, ToolFault>, Matching) {
     let (mode, input, output, _) = case;
     let mut reader = FromRead::new(input);
@@ -140,17 +140,17 @@ fn outcome(alloc: Global, case: Case) -> (Result<Status, ToolFault>, Matching) {
     (outcome, writer.into_inner())
 }
 
-// Whether a run ends as it does and writes its output.
+// Whether a run ends as expected and writes its output.
 fn is_whole(alloc: Global, case: Case) -> bool {
     let (found, taken) = outcome(alloc, case);
     (found == Ok(case.3)) & taken.is_whole()
 }
 
-// The same, or where it found no memory it wrote a front part of its output, and another run is whole.
+// Whether a run does so, or on `NoMemory` writes a prefix of its output, and another run does so.
 fn ends(alloc: Global, case: Case) -> bool {
     let (found, taken) = outcome(alloc, case);
     if found == Err(ToolFault::NoMemory) {
-        taken.is_front() & is_whole(alloc, case)
+        taken.is_prefix() & is_whole(alloc, case)
     } else {
         (found == Ok(case.3)) & taken.is_whole()
     }
@@ -163,7 +163,7 @@ fn modes(rt: HostRuntime) {
     }
 }
 
-// The same of a run over blocks, which are written on at the end.
+// Whether a run over blocks does so, which are flushed at the end.
 fn gathered_outcome(
     alloc: Global,
     case: Case,
@@ -178,10 +178,10 @@ fn gathered_outcome(
     Ok((outcome, blocks.into_inner().into_inner()))
 }
 
-// Whether it ends as it does and writes its output, or else, where it found no memory, a front part of it.
+// Whether a run ends as expected and writes its output, or on `NoMemory` a prefix of it.
 fn gathers(alloc: Global, case: Case) -> bool {
     match gathered_outcome(alloc, case) {
-        Ok((Err(ToolFault::NoMemory), taken)) => taken.is_front(),
+        Ok((Err(ToolFault::NoMemory), taken)) => taken.is_prefix(),
         Ok((found, taken)) => (found == Ok(case.3)) & taken.is_whole(),
         Err(_) => false,
     }

@@ -32,7 +32,7 @@ const FIVE: &str =
 const TWO_OF_FIVE: &str =
     "Voters:[3 4 5 6 7] VotersOutgoing:[] Learners:[] LearnersNext:[] AutoLeave:false";
 
-// 1 is an outgoing voter that will learn, 2 learns, and 3 votes.
+// 1 is an outgoing voter and a next learner, 2 is a learner, and 3 is a voter.
 const JOINT: &str = "Voters:[3] VotersOutgoing:[1] Learners:[2] LearnersNext:[1] AutoLeave:false";
 
 const LEARNERS: &str =
@@ -186,7 +186,7 @@ static ROWS: [Row; 19] = [
             ("simple r1", &[]),
         ],
     },
-    // More retire than join, one of them as a learner; one of those that join is a learner already.
+    // More voters retire than join, one of them as a learner; one of those that join is a learner already.
     Row {
         strategy: Strategy::OneAtATime,
         now: "Voters:[1 2 3 4] VotersOutgoing:[] Learners:[5 6] LearnersNext:[] AutoLeave:false",
@@ -200,7 +200,7 @@ static ROWS: [Row; 19] = [
             ("simple r4", &[]),
         ],
     },
-    // More join than retire.
+    // More voters join than retire.
     Row {
         strategy: Strategy::OneAtATime,
         now: "Voters:[2] VotersOutgoing:[] Learners:[] LearnersNext:[] AutoLeave:false",
@@ -213,7 +213,7 @@ static ROWS: [Row; 19] = [
             ("simple v3", &[]),
         ],
     },
-    // Learners alone come and go.
+    // Only learners are added and removed.
     Row {
         strategy: Strategy::OneAtATime,
         now: "Voters:[1 2 3] VotersOutgoing:[] Learners:[4 6] LearnersNext:[] AutoLeave:false",
@@ -238,7 +238,7 @@ pub(crate) fn path_of<S: MemberSet>(
     }
 }
 
-// The path by a strategy, if there is one between configurations that are valid.
+// The path by a strategy between valid configurations, if there is one.
 fn path_between<S: MemberSet>(
     alloc: Global,
     strategy: Strategy,
@@ -265,10 +265,10 @@ fn are_waited_for<S: MemberSet>(
     before: &Config<S>,
     step: &Step,
     after: &Config<S>,
-    wanted: &[u64],
+    expected: &[u64],
 ) -> bool {
     let waiting = twice(NoMemory, || catching_up(alloc, before, step, after));
-    waiting.is_ok_and(|ids| has_ids(&ids, wanted))
+    waiting.is_ok_and(|ids| has_ids(&ids, expected))
 }
 
 // Whether the changer takes the step, and these ids have to catch up then.
@@ -276,28 +276,28 @@ fn is_taken<S: MemberSet>(
     alloc: Global,
     changer: &mut Changer<S>,
     step: &Step,
-    wanted: &[u64],
+    expected: &[u64],
 ) -> bool {
     match twice(NoMemory, || changer.tracker().config().try_clone()) {
         Ok(before) => {
             takes(changer, step)
-                & are_waited_for(alloc, &before, step, changer.tracker().config(), wanted)
+                & are_waited_for(alloc, &before, step, changer.tracker().config(), expected)
         }
         Err(_) => false,
     }
 }
 
-// Whether a step is that of a line, and is taken so.
+// Whether a step is that of a line, and the changer takes it.
 fn is_step<S: MemberSet>(
     alloc: Global,
     changer: &mut Changer<S>,
     step: Option<&Step>,
     line: &str,
-    wanted: &[u64],
+    expected: &[u64],
 ) -> bool {
     match (plan_of(alloc, line), step) {
         (Ok(plan), Some(step)) => {
-            (plan.step(0) == Some(step)) & is_taken(alloc, changer, step, wanted)
+            (plan.step(0) == Some(step)) & is_taken(alloc, changer, step, expected)
         }
         _ => false,
     }
@@ -311,8 +311,8 @@ fn has_steps<S: MemberSet>(
     row: &Row,
 ) -> bool {
     let mut is_so = path.len() == row.steps.len();
-    for (index, (line, wanted)) in row.steps.iter().enumerate() {
-        is_so &= is_step(alloc, changer, path.step(index), *line, *wanted);
+    for (index, (line, expected)) in row.steps.iter().enumerate() {
+        is_so &= is_step(alloc, changer, path.step(index), *line, *expected);
     }
     is_so
 }
@@ -353,7 +353,7 @@ fn is_row_of_both(alloc: Global, row: &Row) -> bool {
 
 #[test]
 fn paths(rt: HostRuntime) {
-    for (place, row) in ROWS.iter().enumerate() {
-        assert!(rt; is_row_of_both(rt.alloc(), row), "row {place}");
+    for (index, row) in ROWS.iter().enumerate() {
+        assert!(rt; is_row_of_both(rt.alloc(), row), "row {index}");
     }
 }

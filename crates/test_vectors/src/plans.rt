@@ -15,8 +15,8 @@ use conf_plan::{
 use quorum_sets::{InlineIds, MemberSet, NoMemory, TreeIds};
 use std::alloc::Global;
 
-// Where a changer stands, the indexes that its members acknowledge, where the plan leads, the plan's text, and what is
-// shown before its first step and after each.
+// A changer's configuration, the indexes that its members acknowledge, the target, the plan's text, and what is printed
+// before its first step and after each.
 struct Row {
     now: &'static str,
     acknowledged: &'static [(u64, u64)],
@@ -181,7 +181,7 @@ static ROWS: [Row; 5] = [
     },
 ];
 
-/// The plan that a text stands for.
+/// The plan that a text is parsed as.
 pub(crate) fn plan_of(alloc: Global, text: &str) -> Result<Plan, PlanTextFault> {
     twice(
         PlanTextFault::NoMemory,
@@ -190,10 +190,10 @@ pub(crate) fn plan_of(alloc: Global, text: &str) -> Result<Plan, PlanTextFault> 
 }
 
 // Whether a path has the steps of a plan.
-fn has_steps(path: &Path, wanted: &Plan) -> bool {
-    let mut is_so = path.len() == wanted.len();
+fn has_steps(path: &Path, expected: &Plan) -> bool {
+    let mut is_so = path.len() == expected.len();
     for index in 0..path.len() {
-        is_so &= path.step(index) == wanted.step(index);
+        is_so &= path.step(index) == expected.step(index);
     }
     is_so
 }
@@ -203,7 +203,7 @@ fn is_planned<S: MemberSet>(
     alloc: Global,
     now: &Config<S>,
     target: &Config<S>,
-    wanted: &Plan,
+    expected: &Plan,
 ) -> bool
     requires now { is_valid now.now ≡ true }
     requires target { is_valid target.now ≡ true }
@@ -213,20 +213,25 @@ fn is_planned<S: MemberSet>(
         answer => answer,
     };
     let path = path_of(alloc, Strategy::Shortest, now, target);
-    answer.is_ok_and(|plan| plan == *wanted) & path.is_ok_and(|path| has_steps(&path, wanted))
+    answer.is_ok_and(|plan| plan == *expected) & path.is_ok_and(|path| has_steps(&path, expected))
 }
 
-fn leads<S: MemberSet>(alloc: Global, now: &Config<S>, target: &ConfState, wanted: &Plan) -> bool {
+fn leads<S: MemberSet>(
+    alloc: Global,
+    now: &Config<S>,
+    target: &ConfState,
+    expected: &Plan,
+) -> bool {
     match restored::<S>(alloc, target, Floor::One) {
         Ok(changer) => {
             let target = changer.tracker().config();
-            check(now).is_ok() && check(target).is_ok() && is_planned(alloc, now, target, wanted)
+            check(now).is_ok() && check(target).is_ok() && is_planned(alloc, now, target, expected)
         }
         Err(_) => false,
     }
 }
 
-// How many steps of a plan a changer takes, all of them unless it finds no memory.
+// How many steps of a plan a changer takes: all of them, unless memory runs out.
 fn steps_taken<S: MemberSet>(changer: &mut Changer<S>, plan: &Plan) -> Option<usize> {
     match apply_plan(changer, plan) {
         Ok(()) => Some(plan.len()),
@@ -252,7 +257,7 @@ fn is_shown_after<S: MemberSet>(
     }
 }
 
-// Whether a changer takes a plan; where it found no memory it stands after the steps before, and another takes it whole.
+// Whether a changer takes a plan; on `NoMemory` it has taken the steps before, and another changer takes the whole plan.
 fn takes<S: MemberSet>(
     alloc: Global,
     changer: &mut Changer<S>,
@@ -353,14 +358,14 @@ static WORDS: [(&str, &str, &str); 5] = [
 ];
 
 // Whether the first step of a plan's text has this command and these changes.
-fn is_worded(alloc: Global, text: &str, command: &str, wanted: &str) -> bool {
+fn is_worded(alloc: Global, text: &str, command: &str, expected: &str) -> bool {
     match plan_of(alloc, text) {
         Ok(plan) => match plan.step(0) {
             Some(step) => {
                 let changes = step.changes();
                 let list = twice(NoMemory, || changes_text(alloc, changes));
                 (command_text(step) == command.as_bytes())
-                    & list.is_ok_and(|text| text.as_slice() == wanted.as_bytes())
+                    & list.is_ok_and(|text| text.as_slice() == expected.as_bytes())
             }
             None => false,
         },
@@ -370,8 +375,11 @@ fn is_worded(alloc: Global, text: &str, command: &str, wanted: &str) -> bool {
 
 #[test]
 fn texts_of_plans(rt: HostRuntime) {
-    for (text, wanted) in &NO_PLANS {
-        assert!(rt; plan_of(rt.alloc(), *text).err() == Some(*wanted), "{text}");
+    for (text, expected) in &NO_PLANS {
+        assert!(rt;
+            plan_of(rt.alloc(), *text).err() == Some(*expected),
+            "{text}"
+        );
     }
     for (text, command, changes) in &WORDS {
         assert!(rt; is_worded(rt.alloc(), *text, *command, *changes), "{text}");

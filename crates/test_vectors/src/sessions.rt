@@ -10,7 +10,7 @@ use dd_file::item::{Directive, Item};
 use quorum_sets::NoMemory;
 use std::alloc::Global;
 
-// A directive as it stands in a script, and the text that it finds.
+// A directive as it is in a script, and its actual output.
 type Row = (&'static [u8], &'static [u8]);
 
 static JOINT: [Row; 5] = [
@@ -166,11 +166,11 @@ static FROM_ZERO: [Row; 2] = [
     ),
 ];
 
-// Whether two sessions are the same. It takes no memory.
+// Whether two sessions are equal. It does not allocate.
 fn is_same_session(session: &Session, other: &Session) -> bool {
     let mut is_so = is_same(session.changer(), other.changer()) & (session.kept() == other.kept());
-    for place in 0..session.kept() {
-        is_so &= match (session.kept_at(place), other.kept_at(place)) {
+    for index in 0..session.kept() {
+        is_so &= match (session.kept_at(index), other.kept_at(index)) {
             (Some(config), Some(others)) => config.same(others),
             _ => false,
         };
@@ -178,8 +178,8 @@ fn is_same_session(session: &Session, other: &Session) -> bool {
     is_so
 }
 
-// Whether a directive finds a text; where it found no memory the session is its copy from before.
-fn is_found(session: &mut Session, copy: &Session, directive: &Directive, wanted: &[u8]) -> bool {
+// Whether a directive has this output; on `NoMemory` the session is unchanged.
+fn is_found(session: &mut Session, copy: &Session, directive: &Directive, expected: &[u8]) -> bool {
     let mut answer = session.step(directive);
     let mut stays = true;
     if answer.is_err() {
@@ -187,26 +187,26 @@ fn is_found(session: &mut Session, copy: &Session, directive: &Directive, wanted
         answer = session.step(directive);
     }
     match answer {
-        Ok(found) => stays & (found.as_slice() == wanted),
+        Ok(found) => stays & (found.as_slice() == expected),
         Err(_) => false,
     }
 }
 
-// Whether the copy finds it too.
-fn follows(copy: &mut Session, directive: &Directive, wanted: &[u8]) -> bool {
+// Whether the directive has this output in the copy too.
+fn follows(copy: &mut Session, directive: &Directive, expected: &[u8]) -> bool {
     let mut answer = copy.step(directive);
     if answer.is_err() {
         answer = copy.step(directive);
     }
-    answer.is_ok_and(|found| found.as_slice() == wanted)
+    answer.is_ok_and(|found| found.as_slice() == expected)
 }
 
 fn is_row(alloc: Global, session: &mut Session, copy: &mut Session, row: Row) -> bool {
-    let (text, wanted) = row;
+    let (text, expected) = row;
     match twice(FileFault::NoMemory, || first_item(alloc, text)) {
         Ok(Some(Item::Directive(directive))) => {
-            is_found(session, copy, &directive, wanted)
-                & follows(copy, &directive, wanted)
+            is_found(session, copy, &directive, expected)
+                & follows(copy, &directive, expected)
                 & is_same_session(session, copy)
         }
         _ => false,
@@ -221,17 +221,17 @@ fn are_found(alloc: Global, session: &mut Session, copy: &mut Session, rows: &[R
     is_so
 }
 
-// Whether one more undo has this plan, or none for this fault.
-fn is_undone_by(alloc: Global, session: &Session, wanted: Result<&str, UndoFault>) -> bool {
+// Whether one more undo has this plan, or none for this reason.
+fn is_undone_by(alloc: Global, session: &Session, expected: Result<&str, UndoFault>) -> bool {
     let answer = twice(UndoFault::NoMemory, || session.undo_plan(1));
-    match (answer, wanted) {
-        (Ok(plan), Ok(text)) => plan_of(alloc, text).is_ok_and(|wanted| plan == wanted),
-        (Err(fault), Err(wanted)) => fault == wanted,
+    match (answer, expected) {
+        (Ok(plan), Ok(text)) => plan_of(alloc, text).is_ok_and(|expected| plan == expected),
+        (Err(fault), Err(expected)) => fault == expected,
         _ => false,
     }
 }
 
-// A session that begins with a floor; one is what a new session begins with.
+// A session with this initial next index; a new session has one.
 fn begun(alloc: Global, floor: Floor) -> Result<Session, NoMemory> {
     match floor {
         Floor::One => Session::new(alloc, 100),
@@ -239,7 +239,7 @@ fn begun(alloc: Global, floor: Floor) -> Result<Session, NoMemory> {
     }
 }
 
-// Whether the directives of rows find their texts one after another, and what would then be undone.
+// Whether the directives of rows have their outputs, one after another, and what would then be undone.
 fn holds(alloc: Global, floor: Floor, rows: &[Row], undone: Result<&str, UndoFault>) -> bool {
     match (
         twice(NoMemory, || begun(alloc, floor)),
@@ -271,6 +271,6 @@ fn undo_faults(rt: HostRuntime) {
     let text = twice(NoMemory, || {
         undo_fault_text(rt.alloc(), UndoFault::NotKept(12))
     });
-    let wanted = b"no plan: 12 earlier configurations are kept".as_slice();
-    assert!(rt; text.is_ok_and(|text| text.as_slice() == wanted));
+    let expected = b"no plan: 12 earlier configurations are kept".as_slice();
+    assert!(rt; text.is_ok_and(|text| text.as_slice() == expected));
 }

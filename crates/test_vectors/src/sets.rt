@@ -1,4 +1,4 @@
-//! Sets of ids, and what they decide.
+//! Sets of ids, and the indexes and votes that they decide.
 use crate::texts::appends;
 use crate::twice::twice;
 use quorum_sets::{
@@ -21,16 +21,16 @@ pub(crate) fn ids<S: MemberSet>(alloc: Global, ids: &[u64]) -> Result<S, NoMemor
     twice(NoMemory, || with_ids(alloc, ids))
 }
 
-/// Whether a set has these ids, which are in ascending order, and no other. It takes no memory.
+/// Whether a set has exactly these ids, which are in ascending order. It does not allocate.
 pub(crate) fn has_ids<S: MemberSet>(set: &S, ids: &[u64]) -> bool {
     let mut is_so = set.len() == ids.len();
-    for (place, id) in ids.iter().enumerate() {
-        is_so &= (set.at(place) == Some(*id)) & set.contains(*id);
+    for (index, id) in ids.iter().enumerate() {
+        is_so &= (set.at(index) == Some(*id)) & set.contains(*id);
     }
     is_so
 }
 
-// Whether the copy of a set is the set.
+// Whether the copy of a set equals it.
 fn is_copied<S: MemberSet>(set: &S, ids: &[u64]) -> bool {
     match twice(NoMemory, || set.try_clone()) {
         Ok(copy) => has_ids(&copy, ids) & (symdiff(set, &copy) == 0),
@@ -38,7 +38,7 @@ fn is_copied<S: MemberSet>(set: &S, ids: &[u64]) -> bool {
     }
 }
 
-// Whether a set with other ids becomes another one; where it found no memory it has none.
+// Whether a set is overwritten with another one; on `NoMemory` it is empty.
 fn becomes<S: MemberSet>(copy: &mut S, set: &S, ids: &[u64]) -> bool {
     let mut answer = copy.try_clone_from(set);
     let mut is_left_empty = true;
@@ -49,7 +49,7 @@ fn becomes<S: MemberSet>(copy: &mut S, set: &S, ids: &[u64]) -> bool {
     is_left_empty & (answer == Ok(())) & has_ids(copy, ids)
 }
 
-// Whether a set takes an id in that it had not; where it found no memory it has the ids of before.
+// Whether a new id is inserted; on `NoMemory` the set is unchanged.
 fn takes_in<S: MemberSet>(set: &mut S, before: &[u64], id: u64, after: &[u64]) -> bool {
     let mut answer = set.insert(id);
     let mut stays = true;
@@ -60,8 +60,7 @@ fn takes_in<S: MemberSet>(set: &mut S, before: &[u64], id: u64, after: &[u64]) -
     stays & (answer == Ok(true)) & has_ids(set, after)
 }
 
-// Whether a set that has an id stays the same where it is put in again, and loses it where it is taken out. Neither
-// takes memory.
+// Whether inserting an id again changes nothing, and removing it removes it. Neither allocates.
 fn loses<S: MemberSet>(set: &mut S, id: u64, after: &[u64]) -> bool {
     let again = set.insert(id);
     let was_there = set.remove(id);
@@ -69,7 +68,7 @@ fn loses<S: MemberSet>(set: &mut S, id: u64, after: &[u64]) -> bool {
     (again == Ok(false)) & was_there & !is_there & has_ids(set, after)
 }
 
-// The ids of a set before, the one that is put in, and the ids after it.
+// The ids of a set, the one that is inserted, and the ids afterwards.
 static INSERTED: [(&[u64], u64, &[u64]); 4] = [
     (&[], 1, &[1]),
     (&[1, 3], 2, &[1, 2, 3]),
@@ -115,7 +114,7 @@ fn sets_of_ids(rt: HostRuntime) {
     }
 }
 
-// The ids of both sets of a pair, who has acknowledged what, the committed indexes of the first set and of both, and the
+// The ids of both sets of a pair, the acknowledged indexes, the committed indexes of the first set and of both, and the
 // charts of the first set and of both.
 struct Acknowledged {
     incoming: &'static [u64],
@@ -229,7 +228,7 @@ pub(crate) fn with_acks(
     Ok(acks)
 }
 
-// Whether the committed indexes and the charts are those of a row. Of up to eight ids an index takes no memory.
+// Whether the committed indexes and the charts are those of a row. For up to eight ids an index does not allocate.
 fn commits<S: MemberSet>(
     alloc: Global,
     incoming: &S,
@@ -282,7 +281,7 @@ fn with_votes(alloc: Global, entries: &[(u64, bool)]) -> Result<BTreeMap<u64, bo
     Ok(votes)
 }
 
-// Whether {1 2 3} with {3 4 5} is voted on and shared as it is without want of memory: these calls take none.
+// Whether the votes, quorums and shared ids of {1 2 3} with {3 4 5} are right. These calls do not allocate.
 fn decides<S: MemberSet>(first: &S, second: &S, votes: &BTreeMap<u64, bool>) -> bool {
     (vote(first, votes) == VoteResult::VoteWon)
         & (joint_vote(first, second, votes) == VoteResult::VotePending)

@@ -1,4 +1,4 @@
-//! Texts that are appended to, and changes that are read of texts.
+//! Appending to texts, and reading changes.
 use crate::twice::twice;
 use ascii_text::append::append_number;
 use conf_change::Kind::{Learner, Remove, Update, Voter};
@@ -6,26 +6,26 @@ use conf_change::{Change, TokenFault, read_changes, read_changes_into};
 use quorum_sets::NoMemory;
 use std::alloc::{AllocError, Global};
 
-// What stands in a text before a call appends to it.
-const FRONT: &[u8] = b"front ";
+// The text before a call appends to it.
+const PREFIX: &[u8] = b"front ";
 
-/// Whether a call appends a text; where it found no memory it has appended nothing.
+/// Whether a call appends a text; on `NoMemory` it appends nothing.
 pub(crate) fn appends<F: Fn(&mut Vec<u8>) -> Result<(), NoMemory>>(
     alloc: Global,
-    wanted: &str,
+    expected: &str,
     append: F,
 ) -> bool
     requires { F.IsAlwaysCallable append }
 {
-    match twice(AllocError, || FRONT.to_vec(alloc)) {
-        Ok(mut text) => is_appended(&mut text, wanted, append),
+    match twice(AllocError, || PREFIX.to_vec(alloc)) {
+        Ok(mut text) => is_appended(&mut text, expected, append),
         Err(_) => false,
     }
 }
 
 fn is_appended<F: Fn(&mut Vec<u8>) -> Result<(), NoMemory>>(
     text: &mut Vec<u8>,
-    wanted: &str,
+    expected: &str,
     append: F,
 ) -> bool
     requires { F.IsAlwaysCallable append }
@@ -33,10 +33,10 @@ fn is_appended<F: Fn(&mut Vec<u8>) -> Result<(), NoMemory>>(
     let mut answer = append(text);
     let mut stays = true;
     if answer.is_err() {
-        stays = text.as_slice() == FRONT;
+        stays = text.as_slice() == PREFIX;
         answer = append(text);
     }
-    stays & answer.is_ok() & (text.as_slice().strip_prefix(FRONT) == Some(wanted.as_bytes()))
+    stays & answer.is_ok() & (text.as_slice().strip_prefix(PREFIX) == Some(expected.as_bytes()))
 }
 
 static NUMBERS: [(u64, &str); 4] = [
@@ -61,7 +61,7 @@ fn numbers(rt: HostRuntime) {
     }
 }
 
-// Words between any white space, and the changes for which they stand.
+// Tokens between any white space, and the changes that they are parsed as.
 static CHANGES: [(&[u8], &[Change]); 5] = [
     (b"", &[]),
     (b" \t\n\x0b\x0c\r", &[]),
@@ -96,9 +96,8 @@ static CHANGES: [(&[u8], &[Change]); 5] = [
     ),
 ];
 
-// Whether the changes of a text are read anew, and over a list that holds others. A list that was passed to a call that
-// found no memory is empty.
-fn are_read(alloc: Global, text: &'static [u8], wanted: &[Change]) -> bool {
+// Whether the changes of a text are read, into a new list and into one that has others. On `NoMemory` that list is empty.
+fn are_read(alloc: Global, text: &'static [u8], expected: &[Change]) -> bool {
     match (
         twice(TokenFault::NoMemory, || read_changes(alloc, b"v7 l8")),
         twice(TokenFault::NoMemory, || read_changes(alloc, text)),
@@ -112,8 +111,8 @@ fn are_read(alloc: Global, text: &'static [u8], wanted: &[Change]) -> bool {
             }
             is_left_empty
                 & answer.is_ok()
-                & (list.as_slice() == wanted)
-                & (changes.as_slice() == wanted)
+                & (list.as_slice() == expected)
+                & (changes.as_slice() == expected)
         }
         _ => false,
     }
@@ -121,7 +120,7 @@ fn are_read(alloc: Global, text: &'static [u8], wanted: &[Change]) -> bool {
 
 #[test]
 fn lists_of_changes(rt: HostRuntime) {
-    for (place, (text, wanted)) in CHANGES.iter().enumerate() {
-        assert!(rt; are_read(rt.alloc(), *text, *wanted), "row {place}");
+    for (index, (text, expected)) in CHANGES.iter().enumerate() {
+        assert!(rt; are_read(rt.alloc(), *text, *expected), "row {index}");
     }
 }

@@ -1,7 +1,7 @@
-//! Calls that are made once more where they found no memory.
+//! Calls that are repeated if memory ran out.
 
-/// What a call answers; where that is want of memory, what it answers once more. One allocation of a process is refused,
-/// so the second call meets no refusal.
+/// The result of a call; if memory ran out, that of a second call. Only one allocation of a process is refused, so the
+/// second call has enough memory.
 pub(crate) fn twice<T, E: PartialEq + Drop, F: Fn() -> Result<T, E>>(
     no_memory: E,
     call: F,

@@ -15,7 +15,7 @@ use Rattle.conf_change.specs.declared.change.Kind.{Kind}
 use Rattle.conf_change.specs.declared.step.Step.{Step}
 use Rattle.conf_change.specs.declared.step.Step.TheVariants.{Simple, EnterJoint, LeaveJoint}
 use Rattle.conf_change.proofs.Offered.{LeaveTaken-from_outcome, outcome-leave_accepted, ValidByMember-from_is_valid}
-use Rattle.conf_plan.specs.Best.{Spares, outlasts_leave}
+use Rattle.conf_plan.specs.Best.{Preserves, outlasts_leave}
 use Rattle.conf_plan.specs.Planned.{kind_by, kind_of_move, single_with, moves, single_steps, shared_members, entering_step, planned_from_single, planned}
 use Rattle.conf_plan.specs.Run.{IsValidWithVoter, Gives}
 use Rattle.conf_plan.proofs.PlannedSteps.IntoJoint.{has-shared_members, outgoing-are_wanted, at_outgoing-is_single, entering-reaches}
@@ -39,16 +39,16 @@ pub keeps_progress-member : (q : ℕ) (before : Configuration) (step : Step) (af
 keeps_progress-member q before step after kept = (and_parts (is_member before q) (is_member after q) (and_parts _ (not (is_replaced step after q)) kept).0).1
 
 -- ---- what any run says of an id that it spares
-spares-target : (before after : Configuration) (steps : List Step) (q : ℕ) → Spares before steps after q → is_member after q ≡ true
-spares-target before after [] q spares = ap (λ c. is_member c q) (sym spares.1) ∙ spares.0
-spares-target before after (step ∷ steps) q spares =
-    spares-target spares.1.0 after steps q (keeps_progress-member q before step spares.1.0 spares.1.1.1, spares.1.2)
+preserves-target : (before after : Configuration) (steps : List Step) (q : ℕ) → Preserves before steps after q → is_member after q ≡ true
+preserves-target before after [] q spares = ap (λ c. is_member c q) (sym spares.1) ∙ spares.0
+preserves-target before after (step ∷ steps) q spares =
+    preserves-target spares.1.0 after steps q (keeps_progress-member q before step spares.1.0 spares.1.1.1, spares.1.2)
 
-spares-outlasts : (before after : Configuration) (steps : List Step) (q : ℕ) → Spares before steps after q → outlasts_leave before steps q ≡ true
-spares-outlasts before after [] q spares = refl
-spares-outlasts before after (Simple changes ∷ steps) q spares = refl
-spares-outlasts before after (EnterJoint auto_leave changes ∷ steps) q spares = refl
-spares-outlasts before after (LeaveJoint ∷ steps) q spares =
+preserves-outlasts : (before after : Configuration) (steps : List Step) (q : ℕ) → Preserves before steps after q → outlasts_leave before steps q ≡ true
+preserves-outlasts before after [] q spares = refl
+preserves-outlasts before after (Simple changes ∷ steps) q spares = refl
+preserves-outlasts before after (EnterJoint auto_leave changes ∷ steps) q spares = refl
+preserves-outlasts before after (LeaveJoint ∷ steps) q spares =
     ap (λ c. is_member c q) (LeaveTaken-from_outcome before spares.1.0 spares.1.1.0).made ∙ keeps_progress-member q before LeaveJoint spares.1.0 spares.1.1.1
 
 -- ---- the moves remove nobody who is wanted
@@ -84,7 +84,7 @@ pub is_member-single_with : (voters learners : Ids) (q : ℕ) → is_member (sin
 is_member-single_with voters learners q = (λ i. has voters q || has-no_ids q i || has learners q) ∙ ap (λ b. b || has learners q) (or-false (has voters q))
 
 single_steps-spare : (c : Configuration) (voters learners : Ids) (q : ℕ) → IsSingle c → AreWanted voters learners → is_member c q ≡ true → (has voters q || has learners q) ≡ true
-    → Spares c (single_steps c voters learners) (single_with voters learners) q
+    → Preserves c (single_steps c voters learners) (single_with voters learners) q
 single_steps-spare c voters learners q single wanted member stays =
     let changes = moves c voters learners in
     let target = single_with voters learners in
@@ -135,15 +135,15 @@ shared_or_out c target q member stays =
     either false is was stays member = rw (stays, member) refl
 
 planned_from_single-spares : (c target : Configuration) (q : ℕ) → IsSingle c → IsValidWithVoter target → is_member c q ≡ true → is_member target q ≡ true
-    → Spares c (planned_from_single c target) target q
+    → Preserves c (planned_from_single c target) target q
 planned_from_single-spares c target q single settled member stays =
     let at_outgoing = single_with target.outgoing (shared_members c target) in
     let Leads : Configuration → Step → Configuration → Type 0 = λ before step after. Gives before step after × Keeps q before step after in
-    planned_from_single-of_shapes c target (λ steps. Spares c steps target q) single settled (record {
+    planned_from_single-of_shapes c target (λ steps. Preserves c steps target q) single settled (record {
       nothing = λ same. (member, same);
       apart = λ apart differs.
           let own : IsSingle target = record { settled = settled; single = apart } in
-          let P : Configuration → Type 0 = λ d. Spares c (single_steps c target.incoming target.learners) d q in
+          let P : Configuration → Type 0 = λ d. Preserves c (single_steps c target.incoming target.learners) d q in
           let is : is_member target q ≡ (has target.incoming q || has target.learners q) =
           ap (λ d. is_member d q) (sym (single_with-own target own)) ∙ is_member-single_with target.incoming target.learners q in
           subst P (single_with-own target own) (single_steps-spare c target.incoming target.learners q single (own-are_wanted target settled) member (sym is ∙ stays));
@@ -153,15 +153,15 @@ planned_from_single-spares c target q single settled member stays =
           let enters = entering-reaches at_outgoing target (at_outgoing-is_single c target single settled joint) settled refl in (
             member,
             IsChain-append Leads c at_outgoing target _ _ to_outgoing.1
-                (target, (enters, entering_step-keeps at_outgoing target q (spares-target c at_outgoing _ q to_outgoing) stays), refl),
+                (target, (enters, entering_step-keeps at_outgoing target q (preserves-target c at_outgoing _ q to_outgoing) stays), refl),
           );
     })
 
 -- ---- from any configuration
 pub planned-spares : (now target : Configuration) (q : ℕ) → IsValidWithVoter now → IsValidWithVoter target → is_member now q ≡ true → is_member target q ≡ true
-    → outlasts_leave now (planned now target) q ≡ true → Spares now (planned now target) target q
+    → outlasts_leave now (planned now target) q ≡ true → Preserves now (planned now target) target q
 planned-spares now target q settled_now settled member stays =
-    planned-of_shapes now target (λ steps. outlasts_leave now steps q ≡ true → Spares now steps target q)
+    planned-of_shapes now target (λ steps. outlasts_leave now steps q ≡ true → Preserves now steps target q)
     (λ same outlasts. (member, same))
     (λ joint differs outlasts. (
       member,
@@ -174,9 +174,9 @@ planned-spares now target q settled_now settled member stays =
     (λ apart outlasts. planned_from_single-spares now target q (record { settled = settled_now; single = apart }) settled member stays)
 
 pub planned-spared : (now target : Configuration) (q : ℕ) → IsValidWithVoter now → IsValidWithVoter target
-    → (Spares now (planned now target) target q) ↔ ((is_member now q && is_member target q && outlasts_leave now (planned now target) q) ≡ true)
+    → (Preserves now (planned now target) target q) ↔ ((is_member now q && is_member target q && outlasts_leave now (planned now target) q) ≡ true)
 planned-spared now target q settled_now settled = (
-  λ spares. and_from _ _ (and_from _ _ spares.0 (spares-target now target _ q spares)) (spares-outlasts now target _ q spares),
+  λ spares. and_from _ _ (and_from _ _ spares.0 (preserves-target now target _ q spares)) (preserves-outlasts now target _ q spares),
   λ each.
       let all = and_parts (is_member now q && is_member target q) _ each in
       let both = and_parts (is_member now q) (is_member target q) all.0 in
@@ -184,14 +184,14 @@ planned-spared now target q settled_now settled = (
 )
 
 pub planned-sparing : (now target : Configuration) (other : List Step) (q : ℕ) → IsValidWithVoter now → IsValidWithVoter target
-    → Spares now other target q → Spares now (planned now target) target q
+    → Preserves now other target q → Preserves now (planned now target) target q
 planned-sparing now target other q settled_now settled spares =
     let member = spares.0 in
-    let stays = spares-target now target other q spares in
+    let stays = preserves-target now target other q spares in
     planned-spares now target q settled_now settled member stays
     (planned-of_shapes now target (λ steps. outlasts_leave now steps q ≡ true) (λ same. refl)
     (λ joint differs.
     let P : List Step → Type 0 = λ steps. outlasts_leave now steps q ≡ true in
     let left = LeavesFirst-from_IsRun now target other joint differs (IsRun-from_IsRunWith _ now target other spares.1) in
-    subst P left.whole (spares-outlasts now target other q spares))
-    (λ apart. spares-outlasts now target _ q (planned_from_single-spares now target q (record { settled = settled_now; single = apart }) settled member stays)))
+    subst P left.whole (preserves-outlasts now target other q spares))
+    (λ apart. preserves-outlasts now target _ q (planned_from_single-spares now target q (record { settled = settled_now; single = apart }) settled member stays)))

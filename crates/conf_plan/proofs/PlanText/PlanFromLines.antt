@@ -8,7 +8,7 @@ use Rattle.std.proofs.lemmas.List.{length-append}
 use Rattle.std.proofs.lemmas.Slice.Eq.{bytes_eq-Decides}
 use Rattle.ascii_text.specs.Words.{words}
 use Rattle.conf_change.specs.declared.step.Step.{Step}
-use Rattle.conf_plan.specs.PlanText.{lines_of, IsLineOf, SaysNothing, StandsForPlan, HasFault}
+use Rattle.conf_plan.specs.PlanText.{lines_of, IsLineOf, IsNothingToDo, ParsesToPlan, HasFault}
 use Rattle.conf_plan.specs.PlanCode.{step_in, and_steps, steps_in, is_nothing, plan_in_lines, plan_in}
 use Rattle.conf_plan.specs.declared.text.PlanTextFault.{PlanTextFault}
 use Rattle.conf_plan.specs.declared.text.PlanTextFault.TheVariants.{BadLine, TooManySteps, NoMemory}
@@ -46,7 +46,7 @@ record IsBadAfter (count : ℕ) (lines : List (List ℕ)) (number : ℕ) : Type 
   line : List ℕ
   after : List (List ℕ)
   steps : List Step
-  place : lines ≡ before ++ line ∷ after
+  position : lines ≡ before ++ line ∷ after
   counted : number ≡ count + length before + 1
   in_first_four : number ≤ 4
   stand : AllZip IsLineOf before steps
@@ -57,7 +57,7 @@ record IsLongAfter (count : ℕ) (lines : List (List ℕ)) : Type 0 where
   fifth : List ℕ
   after : List (List ℕ)
   steps : List Step
-  place : lines ≡ before ++ fifth ∷ after
+  position : lines ≡ before ++ fifth ∷ after
   four : count + length before ≡ 4
   stand : AllZip IsLineOf before steps
 
@@ -76,7 +76,7 @@ Tells-step count line lines step (Err (BadLine number)) is h = record {
   line = h.line;
   after = h.after;
   steps = step ∷ h.steps;
-  place = ap (λ ls. line ∷ ls) h.place;
+  position = ap (λ ls. line ∷ ls) h.position;
   counted = omega (arith, h.counted);
   in_first_four = h.in_first_four;
   stand = (is, h.stand);
@@ -87,7 +87,7 @@ Tells-step count line lines step (Err TooManySteps) is h = record {
   fifth = h.fifth;
   after = h.after;
   steps = step ∷ h.steps;
-  place = ap (λ ls. line ∷ ls) h.place;
+  position = ap (λ ls. line ∷ ls) h.position;
   four = omega (arith, h.four);
   stand = (is, h.stand);
 }
@@ -98,13 +98,13 @@ Tells-steps_in count [] small = (omega arith, tt)
 Tells-steps_in count (line ∷ lines) small = go (eqb count 4) (step_in (words line)) refl refl (Tells-steps_in (count + 1) lines) where
   go : (full : Bool) (found : Option Step) → eqb count 4 ≡ full → step_in (words line) ≡ found → (count + 1 ≤ 4 → Tells (count + 1) lines (steps_in (count + 1) lines))
       → Tells count (line ∷ lines) (cond full (Err TooManySteps) (and_steps (count + 1) found (steps_in (count + 1) lines)))
-  go true found is_full is_found later = record { before = []; fifth = line; after = lines; steps = []; place = refl; four = grind (arith, nat_tests); stand = tt }
+  go true found is_full is_found later = record { before = []; fifth = line; after = lines; steps = []; position = refl; four = grind (arith, nat_tests); stand = tt }
   go false None is_full is_found later = record {
     before = [];
     line = line;
     after = lines;
     steps = [];
-    place = refl;
+    position = refl;
     counted = omega arith;
     in_first_four = grind (arith, nat_tests);
     stand = tt;
@@ -125,51 +125,51 @@ nothing_words-from_true (a ∷ b ∷ c ∷ []) e =
     rw ((bytes_eq-Decides a (codes "nothing")).0 front.0, (bytes_eq-Decides b (codes "to")).0 front.1, (bytes_eq-Decides c (codes "do")).0 all.1) refl
 nothing_words-from_true (a ∷ b ∷ c ∷ d ∷ tokens) e = absurd (true≢false (sym e))
 
-plan_in-says_nothing : (text : List ℕ) → SaysNothing text → plan_in text ≡ Ok []
+plan_in-says_nothing : (text : List ℕ) → IsNothingToDo text → plan_in text ≡ Ok []
 plan_in-says_nothing text h = ap plan_in_lines h.alone ∙ rw h.line_words refl
 
 alone_same : (a b : List ℕ) → a ∷ [] ≡ b ∷ [] → a ≡ b
 alone_same a b e = cc
 
 -- a line that is all of such a text has its words
-is_nothing_alone : (text line : List ℕ) → lines_of text ≡ line ∷ [] → SaysNothing text → is_nothing (words line) ≡ true
+is_nothing_alone : (text line : List ℕ) → lines_of text ≡ line ∷ [] → IsNothingToDo text → is_nothing (words line) ≡ true
 is_nothing_alone text line are h = ap is_nothing (ap words (alone_same line h.line (sym are ∙ h.alone)) ∙ h.line_words)
 
-pub something-other_words : (text line : List ℕ) → lines_of text ≡ line ∷ [] → is_nothing (words line) ≡ false → ¬ (SaysNothing text)
+pub something-other_words : (text line : List ℕ) → lines_of text ≡ line ∷ [] → is_nothing (words line) ≡ false → ¬ (IsNothingToDo text)
 something-other_words text line are says h = true≢false (sym (is_nothing_alone text line are h) ∙ says)
 
-pub something-more_lines : (text line rest : List ℕ) → lines_of text ≡ line ∷ lines_of rest → ¬ (SaysNothing text)
+pub something-more_lines : (text line rest : List ℕ) → lines_of text ≡ line ∷ lines_of rest → ¬ (IsNothingToDo text)
 something-more_lines text line rest are h = let none = sym (are ∙ ap (λ lines. line ∷ lines) (lines_of-some rest).are) ∙ h.alone in absurd cc
 
 -- whether it is said, by the lines of the text
-decided : (text : List ℕ) → SaysNothing text ⊎ (¬ (SaysNothing text) × (plan_in text ≡ steps_in 0 (lines_of text)))
+decided : (text : List ℕ) → IsNothingToDo text ⊎ (¬ (IsNothingToDo text) × (plan_in text ≡ steps_in 0 (lines_of text)))
 decided text = go (lines_of text) refl where
-  single : (line : List ℕ) (says : Bool) → lines_of text ≡ line ∷ [] → is_nothing (words line) ≡ says → SaysNothing text ⊎ (¬ (SaysNothing text) × (plan_in text ≡ steps_in 0 (lines_of text)))
+  single : (line : List ℕ) (says : Bool) → lines_of text ≡ line ∷ [] → is_nothing (words line) ≡ says → IsNothingToDo text ⊎ (¬ (IsNothingToDo text) × (plan_in text ≡ steps_in 0 (lines_of text)))
   single line true are says = inl (record { line = line; alone = are; line_words = nothing_words-from_true (words line) says })
   single line false are says = inr (
     something-other_words text line are says,
     ap plan_in_lines are ∙ rw says (sym (ap (steps_in 0) are)),
   )
 
-  go : (lines : List (List ℕ)) → lines_of text ≡ lines → SaysNothing text ⊎ (¬ (SaysNothing text) × (plan_in text ≡ steps_in 0 (lines_of text)))
+  go : (lines : List (List ℕ)) → lines_of text ≡ lines → IsNothingToDo text ⊎ (¬ (IsNothingToDo text) × (plan_in text ≡ steps_in 0 (lines_of text)))
   go [] are = inr ((λ h. let none = sym are ∙ h.alone in absurd cc), ap plan_in_lines are ∙ sym (ap (steps_in 0) are))
   go (line ∷ []) are = single line (is_nothing (words line)) are refl
   go (line ∷ next ∷ lines) are = inr ((λ h. let none = sym are ∙ h.alone in absurd cc), ap plan_in_lines are ∙ sym (ap (steps_in 0) are))
 
-pub plan_in-steps : (text : List ℕ) → ¬ (SaysNothing text) → plan_in text ≡ steps_in 0 (lines_of text)
+pub plan_in-steps : (text : List ℕ) → ¬ (IsNothingToDo text) → plan_in text ≡ steps_in 0 (lines_of text)
 plan_in-steps text none = elim (decided text) [
   | inl says ↦ absurd (none says)
   | inr other ↦ other.1
 ]
 
 -- ---- the whole text
-steps_say_something : (text : List ℕ) (steps : List Step) → AllZip IsLineOf (lines_of text) steps → ¬ (SaysNothing text)
+steps_say_something : (text : List ℕ) (steps : List Step) → AllZip IsLineOf (lines_of text) steps → ¬ (IsNothingToDo text)
 steps_say_something text steps lines h = go steps (rw h.alone at lines) where
   go : (steps : List Step) → AllZip IsLineOf (h.line ∷ []) steps → ⊥
   go [] none = none
   go (step ∷ steps) is = let some = sym (step_in-some h.line step is.0) ∙ ap step_in h.line_words in cc
 
-pub plan_in-ok : (text : List ℕ) (steps : List Step) → StandsForPlan text steps → plan_in text ≡ Ok steps
+pub plan_in-ok : (text : List ℕ) (steps : List Step) → ParsesToPlan text steps → plan_in text ≡ Ok steps
 plan_in-ok text steps h = elim h [
   | inl nothing ↦ plan_in-says_nothing text nothing.1 ∙ ap (λ all. Ok all) (sym nothing.0)
   | inr is ↦ plan_in-steps text (steps_say_something text steps is.lines) ∙ steps_in-ok 0 (lines_of text) steps is.lines (omega (arith, is.at_most_four))
@@ -177,32 +177,32 @@ plan_in-ok text steps h = elim h [
 
 pub plan_in-fault : (text : List ℕ) (fault : PlanTextFault) → HasFault text fault → plan_in text ≡ Err fault
 plan_in-fault text (BadLine number) h =
-    plan_in-steps text h.something ∙ ap (steps_in 0) h.place ∙ steps_in-bad 0 number h.before h.steps h.line h.after h.stand (omega (arith, h.counted)) h.in_first_four h.bad
+    plan_in-steps text h.something ∙ ap (steps_in 0) h.position ∙ steps_in-bad 0 number h.before h.steps h.line h.after h.stand (omega (arith, h.counted)) h.in_first_four h.bad
 plan_in-fault text TooManySteps h =
-    let long : ¬ (SaysNothing text) = λ s. omega (arith, ap length (sym s.alone ∙ h.place), length-append h.before (h.fifth ∷ h.after), h.four) in
-    plan_in-steps text long ∙ ap (steps_in 0) h.place ∙ steps_in-long 0 h.before h.steps h.fifth h.after h.stand (omega (arith, h.four))
+    let long : ¬ (IsNothingToDo text) = λ s. omega (arith, ap length (sym s.alone ∙ h.position), length-append h.before (h.fifth ∷ h.after), h.four) in
+    plan_in-steps text long ∙ ap (steps_in 0) h.position ∙ steps_in-long 0 h.before h.steps h.fifth h.after h.stand (omega (arith, h.four))
 plan_in-fault text NoMemory h = absurd h
 
 -- what an answer says of the text
 abbrev TellsOf : List ℕ → Result (List Step) PlanTextFault → Type 0
-TellsOf text (Ok steps) = StandsForPlan text steps
+TellsOf text (Ok steps) = ParsesToPlan text steps
 TellsOf text (Err fault) = HasFault text fault
 
-TellsOf-lines : (text : List ℕ) → ¬ (SaysNothing text) → (answer : Result (List Step) PlanTextFault) → Tells 0 (lines_of text) answer → TellsOf text answer
+TellsOf-lines : (text : List ℕ) → ¬ (IsNothingToDo text) → (answer : Result (List Step) PlanTextFault) → Tells 0 (lines_of text) answer → TellsOf text answer
 TellsOf-lines text something (Ok steps) h = inr (record { at_most_four = omega (arith, h.0); lines = h.1 })
 TellsOf-lines text something (Err (BadLine number)) h = record {
   before = h.before;
   line = h.line;
   after = h.after;
   steps = h.steps;
-  place = h.place;
+  position = h.position;
   counted = omega (arith, h.counted);
   in_first_four = h.in_first_four;
   stand = h.stand;
   bad = h.bad;
   something = something;
 }
-TellsOf-lines text something (Err TooManySteps) h = record { before = h.before; fifth = h.fifth; after = h.after; steps = h.steps; place = h.place; four = omega (arith, h.four); stand = h.stand }
+TellsOf-lines text something (Err TooManySteps) h = record { before = h.before; fifth = h.fifth; after = h.after; steps = h.steps; position = h.position; four = omega (arith, h.four); stand = h.stand }
 TellsOf-lines text something (Err NoMemory) h = absurd h
 
 TellsOf-plan_in : (text : List ℕ) → TellsOf text (plan_in text)
@@ -211,15 +211,15 @@ TellsOf-plan_in text = elim (decided text) [
   | inr other ↦ subst (TellsOf text) (sym other.1) (TellsOf-lines text other.0 (steps_in 0 (lines_of text)) (Tells-steps_in 0 (lines_of text) (omega arith)))
 ]
 
-pub StandsForPlan-from_ok : (text : List ℕ) (steps : List Step) → plan_in text ≡ Ok steps → StandsForPlan text steps
-StandsForPlan-from_ok text steps e = subst (TellsOf text) e (TellsOf-plan_in text)
+pub ParsesToPlan-from_ok : (text : List ℕ) (steps : List Step) → plan_in text ≡ Ok steps → ParsesToPlan text steps
+ParsesToPlan-from_ok text steps e = subst (TellsOf text) e (TellsOf-plan_in text)
 
 pub HasFault-from_err : (text : List ℕ) (fault : PlanTextFault) → plan_in text ≡ Err fault → HasFault text fault
 HasFault-from_err text fault e = subst (TellsOf text) e (TellsOf-plan_in text)
 
-pub text-plan_or_fault : (text : List ℕ) → ((steps : List Step) × StandsForPlan text steps) ⊎ ((fault : PlanTextFault) × HasFault text fault)
+pub text-plan_or_fault : (text : List ℕ) → ((steps : List Step) × ParsesToPlan text steps) ⊎ ((fault : PlanTextFault) × HasFault text fault)
 text-plan_or_fault text = go (plan_in text) (TellsOf-plan_in text) where
-  go : (answer : Result (List Step) PlanTextFault) → TellsOf text answer → ((steps : List Step) × StandsForPlan text steps) ⊎ ((fault : PlanTextFault) × HasFault text fault)
+  go : (answer : Result (List Step) PlanTextFault) → TellsOf text answer → ((steps : List Step) × ParsesToPlan text steps) ⊎ ((fault : PlanTextFault) × HasFault text fault)
   go (Ok steps) h = inl (steps, h)
   go (Err fault) h = inr (fault, h)
 
@@ -227,21 +227,21 @@ text-plan_or_fault text = go (plan_in text) (TellsOf-plan_in text) where
 abbrev IsAnswer : List ℕ → Result (List Step) PlanTextFault → Type 0
 IsAnswer text result = (result ≡ plan_in text) ⊎ (result ≡ Err NoMemory)
 
-pub IsAnswer-stands : (text : List ℕ) (result : Result (List Step) PlanTextFault) → IsAnswer text result → IfOk result (StandsForPlan text)
+pub IsAnswer-stands : (text : List ℕ) (result : Result (List Step) PlanTextFault) → IsAnswer text result → IfOk result (ParsesToPlan text)
 IsAnswer-stands text (Ok steps) h = elim h [
-  | inl same ↦ StandsForPlan-from_ok text steps (sym same)
+  | inl same ↦ ParsesToPlan-from_ok text steps (sym same)
   | inr none ↦ absurd cc
 ]
 IsAnswer-stands text (Err fault) h = tt
 
-pub IsAnswer-told : (text : List ℕ) (result : Result (List Step) PlanTextFault) → IsAnswer text result → IfErr result (λ fault. (fault ≡ NoMemory) ⊎ HasFault text fault)
-IsAnswer-told text (Ok steps) h = tt
-IsAnswer-told text (Err fault) h = elim h [
+pub IsAnswer-fault : (text : List ℕ) (result : Result (List Step) PlanTextFault) → IsAnswer text result → IfErr result (λ fault. (fault ≡ NoMemory) ⊎ HasFault text fault)
+IsAnswer-fault text (Ok steps) h = tt
+IsAnswer-fault text (Err fault) h = elim h [
   | inl same ↦ inr (HasFault-from_err text fault (sym same))
   | inr none ↦ inl cc
 ]
 
-pub IsAnswer-read : (text : List ℕ) (result : Result (List Step) PlanTextFault) → IsAnswer text result → (steps : List Step) → StandsForPlan text steps → (result ≡ Ok steps) ⊎ (result ≡ Err NoMemory)
+pub IsAnswer-read : (text : List ℕ) (result : Result (List Step) PlanTextFault) → IsAnswer text result → (steps : List Step) → ParsesToPlan text steps → (result ≡ Ok steps) ⊎ (result ≡ Err NoMemory)
 IsAnswer-read text result h steps stands = elim h [
   | inl same ↦ inl (same ∙ plan_in-ok text steps stands)
   | inr none ↦ inr none
@@ -253,4 +253,4 @@ IsAnswer-refused text result h fault has = elim h [
   | inr none ↦ inr none
 ]
 
-pub ruleset answer_laws = (IsAnswer-stands, IsAnswer-told)
+pub ruleset answer_laws = (IsAnswer-stands, IsAnswer-fault)

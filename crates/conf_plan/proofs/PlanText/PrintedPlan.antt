@@ -21,7 +21,7 @@ use Rattle.conf_change.specs.declared.step.Step.{Step}
 use Rattle.conf_change.specs.declared.step.Step.TheVariants.{Simple, EnterJoint, LeaveJoint}
 use Rattle.conf_change.specs.Step.{changes_of}
 use Rattle.conf_plan.specs.PlanSteps.{HasWordIds, IsPlan}
-use Rattle.conf_plan.specs.PlanText.{flag_word, command_words, change_text, line_text, line_and_newline, plan_text, is_newline, lines_of, IsLineOf, StandsForPlan}
+use Rattle.conf_plan.specs.PlanText.{flag_word, command_words, change_text, line_text, line_and_newline, plan_text, is_newline, lines_of, IsLineOf, ParsesToPlan}
 use Rattle.conf_plan.specs.PlanCode.{plan_in}
 use Rattle.conf_plan.proofs.PlanText.LineByLine.{lines_of-on, lines_of-alone}
 use Rattle.conf_plan.proofs.PlanText.PlanFromLines.{plan_in-ok}
@@ -161,14 +161,14 @@ lines-printed : (steps : List Step) → All HasWordIds steps → AllZip IsLineOf
 lines-printed [] h = tt
 lines-printed (step ∷ steps) h = (IsLineOf-printed step (All-head HasWordIds step steps h), lines-printed steps (All-tail HasWordIds step steps h))
 
-pub StandsForPlan-printed : (steps : List Step) → IsPlan steps → StandsForPlan (plan_text steps) steps
-StandsForPlan-printed [] h = inl (refl, record { line = codes "nothing to do"; alone = refl; line_words = refl })
-StandsForPlan-printed (step ∷ steps) h = inr (record {
+pub ParsesToPlan-printed : (steps : List Step) → IsPlan steps → ParsesToPlan (plan_text steps) steps
+ParsesToPlan-printed [] h = inl (refl, record { line = codes "nothing to do"; alone = refl; line_words = refl })
+ParsesToPlan-printed (step ∷ steps) h = inr (record {
   at_most_four = h.at_most_four;
   lines = rw (lines_of-printed step steps h.word_ids) (lines-printed (step ∷ steps) h.word_ids);
 })
 
 pub plan_in-printed : (steps : List Step) → IsPlan steps → plan_in (plan_text steps) ≡ Ok steps
-plan_in-printed steps h = plan_in-ok (plan_text steps) steps (StandsForPlan-printed steps h)
+plan_in-printed steps h = plan_in-ok (plan_text steps) steps (ParsesToPlan-printed steps h)
 
-pub ruleset printed_laws = (StandsForPlan-printed, plan_in-printed)
+pub ruleset printed_laws = (ParsesToPlan-printed, plan_in-printed)

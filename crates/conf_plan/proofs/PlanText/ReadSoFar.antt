@@ -6,7 +6,7 @@ use Rattle.std.proofs.lemmas.List.Elements.{All-nil, All-push}
 use Rattle.ascii_text.specs.Words.{words}
 use Rattle.conf_change.specs.declared.step.Step.{Step}
 use Rattle.conf_plan.specs.PlanSteps.{HasWordIds, IsPlan}
-use Rattle.conf_plan.specs.PlanText.{lines_of, SaysNothing}
+use Rattle.conf_plan.specs.PlanText.{lines_of, IsNothingToDo}
 use Rattle.conf_plan.specs.PlanCode.{step_in, and_steps, steps_in, plan_in}
 use Rattle.conf_plan.specs.declared.text.PlanTextFault.{PlanTextFault}
 use Rattle.conf_plan.specs.declared.text.PlanTextFault.TheVariants.{TooManySteps}
@@ -31,7 +31,7 @@ onto-none : (answer : Result (List Step) PlanTextFault) → answer ≡ onto [] a
 onto-none (Ok steps) = refl
 onto-none (Err fault) = refl
 
-pub IsReadSoFar-start : (text : List ℕ) → ¬ (SaysNothing text) → IsReadSoFar text text []
+pub IsReadSoFar-start : (text : List ℕ) → ¬ (IsNothingToDo text) → IsReadSoFar text text []
 IsReadSoFar-start text something = record { decides = plan_in-steps text something ∙ onto-none (steps_in 0 (lines_of text)); plan = IsPlan-empty }
 
 onto-more : (done : List Step) (number : ℕ) (step : Step) (rest : Result (List Step) PlanTextFault) → onto done (and_steps number (Some step) rest) ≡ onto (done ++ step ∷ []) rest

@@ -1,5 +1,5 @@
-//! The mode `check`: a script is run, and each directive that finds another text than it expects is reported, with the
-//! counts at the end.
+//! The mode `check`: a script is run, and each directive whose actual output differs from the expected one is reported,
+//! with the counts at the end.
 ghost use Rattle.std.specs.Prelude.{◌≡◌, ◌<◌, ◌+◌, ◌^◌, ◌++◌, ℕ, List, [], Option, OnOk, IfOk, IsOkUnless, if◌then◌else◌};
 ghost use Rattle.dd_file.specs.Rewritten.{entry, is_directive};
 ghost use Rattle.conf_tool.specs.Outputs.{checked_script};
@@ -29,7 +29,7 @@ pub(super) struct Checking {
 }
 
 impl Checking {
-    /// Begins in a new session, by the options.
+    /// A new session, with these options.
     pub(super) fn new(alloc: Global, options: Options) -> Result<Checking, ToolFault>
         ensures unwritten { IfOk result (λ mode. (held : Option (List ℕ)) → ⟦<Checking as PartByPart<Item>>⟧.HasAnswered mode (checked_script options.history options.floor) [] held held) }
         ensures memory { IsOkUnless result OutOfMemory }
@@ -41,7 +41,7 @@ impl Checking {
         })
     }
 
-    /// Obeys an item that is a directive, counts it, and takes down the report on it.
+    /// Runs an item that is a directive, counts it, and makes the report on it.
     fn check_item(&mut self, item: &Item) -> Result<(), NoMemory>
         requires { self.old.counts.directives < 2 ^ 30 }
         ensures session { OnOk result (self.new.session ≡ session_after self.old.session item.now) }

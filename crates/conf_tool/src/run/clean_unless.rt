@@ -1,4 +1,4 @@
-//! How a run ends where only a fault of its input counts.
+//! The result of a run that only an error in its input can spoil.
 ghost use Rattle.std.specs.Prelude.{◌≡◌};
 ghost use Rattle.conf_tool.specs.Outputs.{clean_unless};
 
@@ -6,7 +6,7 @@ use crate::status::Status;
 use crate::tool_fault::ToolFault;
 use dd_file::fault::FileFault;
 
-/// Clean where the input has no fault, and else that fault.
+/// The error in the input if there is one, and otherwise `Clean`.
 pub(super) fn clean_unless(fault: Option<FileFault>) -> Result<Status, ToolFault>
     ensures { result ≡ clean_unless fault }
 {

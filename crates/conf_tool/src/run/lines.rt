@@ -1,5 +1,4 @@
-//! The mode `lines`: each line of the input holds one change, and is answered by the configuration after it or by why
-//! it was refused.
+//! The mode `lines`: each line of the input is a change; the reply is the configuration after it, or why it is refused.
 ghost use Rattle.std.specs.Prelude.{◌≡◌, ℕ, List, [], Option, IfOk, IsOkUnless};
 ghost use Rattle.conf_change.specs.Configuration.{empty_configuration};
 ghost use Rattle.conf_tool.specs.Outputs.{lined_from};
@@ -18,11 +17,11 @@ use dd_file::line::Line;
 use dd_file::writing::write_all;
 use std::alloc::Global;
 
-/// The changer that the changes of the lines are made with.
+/// The changer that makes the changes of the lines.
 #[derive(Drop)]
 pub(super) struct LineByLine {
     changer: Changer<SessionIds>,
-    /// The answer to the last line.
+    /// The reply to the last line.
     text: Vec<u8>,
 }
 

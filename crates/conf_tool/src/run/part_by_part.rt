@@ -1,4 +1,4 @@
-//! The one loop of all modes: an input is read part by part, and each part is answered before the next is read.
+//! The loop of all modes: the input is read part by part, and the reply to each part is written before the next is read.
 ghost use Rattle.std.specs.Prelude.{◌≡◌, ◌<◌, ◌^◌, ◌||◌, ℕ, List, [], ◌∷◌, ◌++◌, length, Option, Err, false, is_err, OnOk, OnErr, IfErr, IfOk, IfSome};
 ghost use Rattle.std.specs.Io.KnownBytes.{Keeps};
 ghost use Rattle.dd_file.specs.Device.{AppendsPart, LosesPrefix};
@@ -22,10 +22,10 @@ use dd_file::fault::{FileFault, WriteFault};
 pub(super) trait PartByPart<P> {
     ghost mode: { ModeName };
 
-    /// Of an output these parts were answered, and the writer held the former bytes before that and holds the latter.
+    /// The replies to these parts were written: they took the writer's bytes from the former to the latter.
     ghost HasAnswered: { Self → (ScriptOf P → Output) → List P → Option (List ℕ) → Option (List ℕ) → Type 0 };
 
-    /// Writes what the mode answers to a part, of which fewer than 2^30 came before.
+    /// Writes the reply to a part, before which there were fewer than 2^30.
     fn answer<W: Sink>(&mut self, part: &P, writer: &mut W) -> Result<(), ToolFault>
         requires { (total : ScriptOf P → Output) × (parts : List P) × (before : Option (List ℕ)) × HasAnswered self.old total parts before (W.contents writer.old) × (length parts < 2 ^ 30) }
         ensures answered { OnOk result ((total : ScriptOf P → Output) (parts : List P) (before : Option (List ℕ)) →
@@ -36,7 +36,7 @@ pub(super) trait PartByPart<P> {
         ensures kinds { IfErr result (λ stop. IsStop mode stop ((total : ScriptOf P → Output) (parts more : List P) (fault : Option ReadFault) (before : Option (List ℕ)) →
             HasAnswered self.old total parts before (W.contents writer.old) → Wrote (total (script (parts ++ part.now ∷ more) fault)) (Err stop) before (W.contents writer.new))) };
 
-    /// Writes what the mode answers at the end of the input, or at its fault.
+    /// Writes the reply to the end of the input, or to the error in it.
     fn end<W: Sink>(
         &mut self,
         fault: Option<FileFault>,
@@ -49,16 +49,16 @@ pub(super) trait PartByPart<P> {
         ensures write { W.has_failed writer.new ≡ (W.has_failed writer.old || is_write_failure result) }
         ensures kinds { IfSome fault (CanBeFaulty mode) → CanAnswer mode result };
 
-    /// What was answered stays answered where what waits is flushed.
+    /// A flush does not change what was written.
     ghost stays: { (m : Self) (total : ScriptOf P → Output) (parts : List P) (before after later : Option (List ℕ)) →
         HasAnswered m total parts before after → Keeps after later → HasAnswered m total parts before later };
 
-    /// What was answered is a prefix of the output, whatever comes.
+    /// What was written is a prefix of the output, whatever input follows.
     ghost prefix: { (m : Self) (total : ScriptOf P → Output) (parts more : List P) (fault : Option ReadFault) (before after : Option (List ℕ)) →
         HasAnswered m total parts before after → AppendsPart before after (total (script (parts ++ more) fault)).text };
 }
 
-/// The next part. Where none is buffered, what waits is flushed before a reader is asked.
+/// The next part. If none is buffered, the output is flushed before the reader is called.
 fn next_part<P, S: Parts<P>, R: Source, W: Sink>(
     parts: &mut S,
     reader: &mut R,
@@ -78,7 +78,7 @@ fn next_part<P, S: Parts<P>, R: Source, W: Sink>(
     Ok(parts.read(reader, writer))
 }
 
-/// Answers the parts of an input in turn, to its end or to a fault.
+/// Replies to the parts of an input in turn, to its end or to an error.
 pub(super) fn run_by_part<P: Drop, S: Parts<P> + Drop, M: PartByPart<P> + Drop, R: Source, W: Sink>(
     mut parts: S,
     mut mode: M,

@@ -1,4 +1,4 @@
-//! The parts of an input that a mode answers one by one: its lines, or the items of a script.
+//! The parts of an input that a mode replies to one by one: lines, or the items of a script.
 ghost use Rattle.std.specs.Prelude.{◌≡◌, ℕ, List, Bool};
 ghost use Rattle.dd_file.specs.Position.{Position};
 ghost use Rattle.dd_file.specs.Reading.{Next, script_from, followed};
@@ -16,23 +16,23 @@ use dd_file::reader::Reader;
 
 /// Reads the parts of an input.
 pub(super) trait Parts<P> {
-    /// The part that comes next of an input, from a place on.
+    /// The next part of an input, from a position on.
     ghost coming: { Position → List ℕ → Next P };
 
-    /// The faults of an input, from a place on.
+    /// The errors in an input, from a position on.
     ghost IsFault: { Position → ReadFault → Type 0 };
 
-    /// Whether a part is buffered, at a place and of the bytes that are held there.
+    /// Whether a whole part is buffered, by the position and the buffered bytes.
     ghost is_buffered: { Position → List ℕ → Bool };
 
-    /// Where the reading stands.
+    /// The reader's state.
     ghost reading: { Self → ReaderState };
 
-    /// The next part where the whole of it is buffered. No reader is asked.
+    /// The next part, if all of it is buffered. The reader is not called.
     fn buffered<R: Source>(&mut self, reader: &R) -> Option<Result<Option<P>, FileFault>>
         ensures { BufferedReadsOn R.remaining R.has_failed (λ part. part) coming IsFault is_buffered (reading self.old) (reading self.new) reader.now result };
 
-    /// The next part; none at the end. What was answered was flushed, so that nothing waits while a reader is asked.
+    /// The next part; none at the end. The output is flushed before this call, which may wait for the reader.
     fn read<R: Source, W: Sink>(
         &mut self,
         reader: &mut R,
@@ -41,11 +41,11 @@ pub(super) trait Parts<P> {
         requires { W.reached writer.now ≡ W.contents writer.now }
         ensures { ReadsOn R.remaining R.has_failed (λ part. part) coming IsFault (reading self.old) (reading self.new) reader.old reader.new result };
 
-    /// Takes back a part that was answered, so that a later one may lie in its memory.
+    /// Takes a part back, to reuse its memory for a later one.
     fn take_back(&mut self, part: P)
         ensures { reading self.new ≡ reading self.old };
 
-    /// What is read is what comes next, and then the rest.
+    /// The input is its next part, and then the rest.
     ghost in_turn: { (place : Position) (bytes : List ℕ) → script_from coming place bytes ≡ followed (script_from coming) (coming place bytes) };
 }
 

@@ -1,5 +1,5 @@
-//! The mode `plan`: the input is pairs of lines, each naming a configuration. At the second line of a pair the plan is
-//! written from the first to the second.
+//! The mode `plan`: the input is pairs of lines, each line a configuration. At the second line of a pair, the plan from the
+//! first to the second is written.
 ghost use Rattle.std.specs.Prelude.{◌≡◌, ℕ, ◌+◌, ◌<◌, ◌^◌, ◌||◌, List, [], ◌∷◌, ◌++◌, Option, Some, Ok, true, nat_lt, IfOk, IfErr, IfSome, OnOk, OnErr, IsOkUnless, if◌then◌else◌};
 ghost use Rattle.std.specs.Io.KnownBytes.{Appends};
 ghost use Rattle.dd_file.specs.Device.{AppendsPart};
@@ -25,23 +25,23 @@ use dd_file::line::Line;
 use dd_file::writing::write_all;
 use std::alloc::Global;
 
-/// Where the reading of the pairs stands.
+/// How far the pairs have been read.
 #[derive(Drop)]
 pub(super) struct Planning {
     alloc: Global,
     options: PlanOptions,
     /// How many lines were read.
     lines: usize,
-    /// The number of the pair that is read, counted from 1.
+    /// The number of the current pair, counted from 1.
     pair: u64,
-    /// The first configuration of that pair, once it was read.
+    /// The first configuration of that pair, once it is read.
     now: Option<Config<SessionIds>>,
-    /// The worst status of the pairs before.
+    /// The worst status of the previous pairs.
     status: Status,
 }
 
 impl Planning {
-    /// Begins before the first line.
+    /// Before the first line.
     pub(super) fn new(alloc: Global, options: PlanOptions) -> Planning
         ensures { (held : Option (List ℕ)) → ⟦<Planning as PartByPart<Line>>⟧.HasAnswered result (planned_script options) [] held held }
     {
@@ -110,14 +110,14 @@ fn pair_answer(
     Ok((text, status))
 }
 
-// What stands before the output of the pair with this number.
+// The text before the output of the pair with this number.
 fn separator_before(number: u64, output: PlanOutput) -> &'static [u8]
     ensures { result.now ≡ (if nat_lt 1 number then separator output else []) }
 {
     if number > 1 { separator(output) } else { b"" }
 }
 
-// What parts the outputs of two pairs.
+// The text between the outputs of two pairs.
 fn separator(output: PlanOutput) -> &'static [u8]
     ensures { result.now ≡ separator output }
 {

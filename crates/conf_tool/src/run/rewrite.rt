@@ -1,4 +1,4 @@
-//! The mode `rewrite`: a script is run, and written again with what each directive found.
+//! The mode `rewrite`: a script is run, and printed again with the actual output of each directive.
 ghost use Rattle.std.specs.Prelude.{◌≡◌, ◌||◌, ℕ, List, [], Option, true, false, IfOk, IfErr, OnOk, OnErr, IsOkUnless};
 ghost use Rattle.dd_file.specs.Rewritten.{entry_text, has_blank_line, is_output};
 ghost use Rattle.dd_file.specs.RewriterState.{Continues, BreaksOff};
@@ -21,8 +21,8 @@ use dd_file::stage::Stage;
 use quorum_sets::NoMemory;
 use std::alloc::Global;
 
-/// Obeys an item that is a directive, and answers what was found: nothing for another item. After want of memory the
-/// session is as it was.
+/// Runs an item that is a directive, and returns its actual output, which is empty for other items. On `NoMemory` the
+/// session is unchanged.
 pub(super) fn run_item(
     alloc: Global,
     session: &mut Session,
@@ -40,7 +40,7 @@ pub(super) fn run_item(
     }
 }
 
-/// Writes an item with what was found for it.
+/// Writes an item with its actual output.
 fn write_entry<W: Sink>(
     rewriter: &mut Rewriter,
     writer: &mut W,
@@ -53,7 +53,7 @@ fn write_entry<W: Sink>(
     ensures written { OnOk result (Continues rewriter.old.newlines rewriter.new.newlines (W.contents writer.old) (W.contents writer.new) (entry_text item.now found.now)) }
     ensures part { OnErr result (BreaksOff rewriter.old.newlines (W.contents writer.old) (W.contents writer.new) (entry_text item.now found.now)) }
     ensures stage { OnOk result (rewriter.new.stage ≡ Stage.Ready) }
-    // After a fault the writer has failed, and without one no write failed in this call.
+    // On an error the writer has failed, and otherwise no write of this call has.
     ensures failed { OnErr result (W.has_failed writer.new ≡ true) }
     ensures sound { OnOk result (W.has_failed writer.new ≡ W.has_failed writer.old) }
 {
@@ -64,7 +64,7 @@ fn write_entry<W: Sink>(
     }
 }
 
-/// Obeys an item, and writes it with what was found. After want of memory nothing is written.
+/// Runs an item, and writes it with its actual output. On `NoMemory` nothing is written.
 pub(super) fn rewrite_item<W: Sink>(
     alloc: Global,
     session: &mut Session,
@@ -85,7 +85,7 @@ pub(super) fn rewrite_item<W: Sink>(
     Ok(())
 }
 
-/// The session that runs the items of a script, and what writes them again.
+/// The session that runs the items of a script, and the writer of the items.
 #[derive(Drop)]
 pub(super) struct Rewriting {
     alloc: Global,
@@ -94,7 +94,7 @@ pub(super) struct Rewriting {
 }
 
 impl Rewriting {
-    /// Begins in a new session, by the options.
+    /// A new session, with these options.
     pub(super) fn new(alloc: Global, options: Options) -> Result<Rewriting, ToolFault>
         ensures unwritten { IfOk result (λ mode. (held : Option (List ℕ)) → ⟦<Rewriting as PartByPart<Item>>⟧.HasAnswered mode (rewritten_script options.history options.floor) [] held held) }
         ensures memory { IsOkUnless result OutOfMemory }

@@ -16,7 +16,7 @@ use dd_file::rewriter::Rewriter;
 use dd_file::stage::Stage;
 use std::alloc::Global;
 
-/// Runs steps and writes their directives, or writes that there is nothing to do.
+/// Runs steps and writes them as directives, or a comment that there is nothing to do.
 pub(super) fn write_steps<W: Sink>(
     alloc: Global,
     session: &mut Session,
@@ -41,7 +41,7 @@ pub(super) fn write_steps<W: Sink>(
     Ok(())
 }
 
-/// Writes a comment with a text.
+/// Writes a comment with this text.
 pub(super) fn write_comment<W: Sink>(
     alloc: Global,
     session: &mut Session,

@@ -1,4 +1,4 @@
-//! The mode `undo`: a script is run, and then the script is written that undoes its last changes.
+//! The mode `undo`: a script is run, and then a second script is printed that undoes its last changes.
 ghost use Rattle.std.specs.Prelude.{◌≡◌, ◌≤◌, ◌||◌, ℕ, List, [], Option, IfOk, IfErr, OnOk, OnErr, IsOkUnless};
 ghost use Rattle.dd_file.specs.RewriterState.{Continues, BreaksOff};
 ghost use Rattle.conf_tool.specs.Outputs.{undone_script, undo_status};
@@ -22,7 +22,7 @@ use dd_file::rewriter::Rewriter;
 use dd_file::stage::Stage;
 use std::alloc::Global;
 
-/// The session that runs the items of a script, how many of its changes are undone, and what writes how.
+/// The session that runs the items of a script, how many of its changes to undo, and the writer of the undoing items.
 #[derive(Drop)]
 pub(super) struct Undoing {
     alloc: Global,
@@ -33,7 +33,7 @@ pub(super) struct Undoing {
 }
 
 impl Undoing {
-    /// Begins in a new session, by the options, to undo as many changes as they say, one at least.
+    /// A new session, with these options, which undo at least one change.
     pub(super) fn new(alloc: Global, options: Options) -> Result<Undoing, ToolFault>
         requires { 1 ≤ options.steps }
         ensures unwritten { IfOk result (λ mode. (held : Option (List ℕ)) → ⟦<Undoing as PartByPart<Item>>⟧.HasAnswered mode (undone_script options.history options.floor options.steps) [] held held) }
@@ -47,7 +47,7 @@ impl Undoing {
         })
     }
 
-    /// Obeys and writes what undoes the changes, or why they cannot be undone.
+    /// Runs and writes the steps that undo the changes, or writes why they cannot be undone.
     fn write_undo<W: Sink>(&mut self, writer: &mut W) -> Result<Status, ToolFault>
         requires { self.old.rewriter.stage ≡ Stage.Ready }
         ensures status { IfOk result (λ status. status ≡ undo_status (undo_plan_of self.old.session self.old.steps)) }
@@ -97,7 +97,7 @@ impl PartByPart<Item> for Undoing {
 
     ghost HasAnswered = { λ s. HasObeyed s.session s.rewriter s.steps };
 
-    // What a directive expects is not looked at, and nothing is written yet.
+    // The expected output is ignored, and nothing is written yet.
     fn answer<W: Sink>(&mut self, item: &Item, writer: &mut W) -> Result<(), ToolFault> {
         let _ = &*writer;
         run_item(self.alloc, &mut self.session, item)?;

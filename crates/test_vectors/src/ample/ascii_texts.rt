@@ -23,8 +23,8 @@ static BYTES: [(u8, bool); 11] = [
 
 #[test]
 fn knows_white_space(rt: HostRuntime) {
-    for (byte, wanted) in &BYTES {
-        assert!(rt; is_space(*byte) == *wanted, "byte {byte}");
+    for (byte, expected) in &BYTES {
+        assert!(rt; is_space(*byte) == *expected, "byte {byte}");
     }
 }
 
@@ -38,11 +38,14 @@ static ENDS: [(&[u8], &[u8], &[u8], &[u8]); 4] = [
 
 #[test]
 fn takes_white_space_off_the_ends(rt: HostRuntime) {
-    for (place, (text, behind, front, inside)) in ENDS.iter().enumerate() {
-        assert!(rt; without_leading_space(*text) == *behind, "row {place}");
-        assert!(rt; without_trailing_space(*text) == *front, "row {place}");
-        assert!(rt; trimmed(*text) == *inside, "row {place}");
-        assert!(rt; is_blank(*text) == inside.is_empty(), "row {place}");
+    for (index, (text, no_leading, no_trailing, neither)) in ENDS.iter().enumerate() {
+        assert!(rt; without_leading_space(*text) == *no_leading, "row {index}");
+        assert!(rt;
+            without_trailing_space(*text) == *no_trailing,
+            "row {index}"
+        );
+        assert!(rt; trimmed(*text) == *neither, "row {index}");
+        assert!(rt; is_blank(*text) == neither.is_empty(), "row {index}");
     }
 }
 
@@ -56,8 +59,8 @@ static WORDS: [(&[u8], Option<(&[u8], &[u8])>); 5] = [
 
 #[test]
 fn finds_the_first_word(rt: HostRuntime) {
-    for (place, (text, wanted)) in WORDS.iter().enumerate() {
-        assert!(rt; next_token(*text) == *wanted, "row {place}");
+    for (index, (text, expected)) in WORDS.iter().enumerate() {
+        assert!(rt; next_token(*text) == *expected, "row {index}");
     }
 }
 
@@ -71,9 +74,9 @@ static PIECES: [(&[u8], usize, Option<(&[u8], &[u8])>); 5] = [
 
 #[test]
 fn cuts_texts_behind_newlines(rt: HostRuntime) {
-    for (place, (text, len, wanted)) in PIECES.iter().enumerate() {
-        assert!(rt; first_line_len(*text) == *len, "row {place}");
-        assert!(rt; next_full_line(*text) == *wanted, "row {place}");
+    for (index, (text, len, expected)) in PIECES.iter().enumerate() {
+        assert!(rt; first_line_len(*text) == *len, "row {index}");
+        assert!(rt; next_full_line(*text) == *expected, "row {index}");
     }
 }
 
@@ -88,7 +91,7 @@ fn finds_the_place_of_a_byte(rt: HostRuntime) {
     assert!(rt; far_position_of(b"", b']') == 0);
 }
 
-// A piece, its line, and whether it ends in a newline.
+// A line with its newline, the line without it, and whether it ends in one.
 static LINES: [(&[u8], &[u8], bool); 5] = [
     (b"", b"", false),
     (b"a\r\n", b"a", true),
@@ -99,9 +102,9 @@ static LINES: [(&[u8], &[u8], bool); 5] = [
 
 #[test]
 fn takes_ends_off_lines(rt: HostRuntime) {
-    for (place, (full_line, line, whole)) in LINES.iter().enumerate() {
-        assert!(rt; line_of(*full_line) == *line, "row {place}");
-        assert!(rt; is_whole(*full_line) == *whole, "row {place}");
+    for (index, (full_line, line, whole)) in LINES.iter().enumerate() {
+        assert!(rt; line_of(*full_line) == *line, "row {index}");
+        assert!(rt; is_whole(*full_line) == *whole, "row {index}");
     }
     assert!(rt; without_end(b"a\\\\", b'\\') == b"a\\".as_slice());
     assert!(rt; without_end(b"a", b'\\') == b"a".as_slice());
@@ -119,7 +122,7 @@ static NUMBERS: [(&[u8], Option<u64>); 7] = [
 
 #[test]
 fn reads_numbers(rt: HostRuntime) {
-    for (place, (digits, wanted)) in NUMBERS.iter().enumerate() {
-        assert!(rt; read_number(*digits) == *wanted, "row {place}");
+    for (index, (digits, expected)) in NUMBERS.iter().enumerate() {
+        assert!(rt; read_number(*digits) == *expected, "row {index}");
     }
 }

@@ -5,28 +5,28 @@ use dd_file::blocks::Blocks;
 use dd_file::device::Sink;
 use dd_file::writing::write_all;
 
-// Writes 42,000 bytes in parts, and answers whether a fault was told.
+// Writes 42,000 bytes in parts, and returns whether an error was reported.
 fn write_parts<W: Sink>(writer: &mut W) -> bool {
-    let mut is_told = false;
+    let mut is_reported = false;
     for _ in 0..6_000 {
-        is_told |= write_all(writer, b"1234567").is_err();
+        is_reported |= write_all(writer, b"1234567").is_err();
     }
-    is_told
+    is_reported
 }
 
-// Whether a device takes so many bytes in three calls, a block in each, and a fault is told where it stops before the end.
+// Whether a writer gets this many bytes in three calls, one for each block, and an error is reported if it stops early.
 fn takes(rt: &impl Runtime, room: usize, stop: Stop) -> bool {
     let device = taking(rt.alloc(), 80_000, room, stop);
     let mut blocks = Blocks::new(rt.alloc(), device).expect(rt, "a block");
-    let was_told = write_parts(&mut blocks);
-    let is_told = blocks.flush().is_err();
+    let was_reported = write_parts(&mut blocks);
+    let is_reported = blocks.flush().is_err();
     let failed = blocks.failed();
     let device = blocks.into_inner().into_inner();
     (device.taken.len() == room)
         & (device.calls == 3)
         & (device.later_calls == 0)
-        & (was_told == failed)
-        & (is_told == failed)
+        & (was_reported == failed)
+        & (is_reported == failed)
         & (failed == (room < 42_000))
 }
 
@@ -41,14 +41,18 @@ fn nothing_is_written_after_a_fault(rt: HostRuntime) {
     assert!(rt; takes(&rt, 20_000, Stop::TakesNone));
 }
 
-// Whether two bytes that wait reach the device when they are written on, and the device passes them on.
+// Whether two buffered bytes reach the writer on a flush, and the writer is flushed too.
 fn writes_on(rt: &impl Runtime) -> bool {
     let device = taking(rt.alloc(), 20, 20, Stop::Fault);
     let mut blocks = Blocks::new(rt.alloc(), device).expect(rt, "a block");
-    let was_told = write_all(&mut blocks, b"12").is_err();
-    let is_told = blocks.write_on().is_err();
+    let was_reported = write_all(&mut blocks, b"12").is_err();
+    let is_reported = blocks.write_on().is_err();
     let device = blocks.into_inner().into_inner();
-    !was_told & !is_told & (device.taken.len() == 2) & (device.calls == 1) & (device.flushed == 2)
+    !was_reported
+        & !is_reported
+        & (device.taken.len() == 2)
+        & (device.calls == 1)
+        & (device.flushed == 2)
 }
 
 #[test]

@@ -22,21 +22,21 @@ static LIST: [Change; 4] = [
 ];
 
 // The first few changes of the list.
-fn front(count: usize) -> &'static [Change] {
+fn prefix(count: usize) -> &'static [Change] {
     LIST.get(..count).unwrap_or(&[])
 }
 
 fn changes(rt: &impl Runtime, count: usize) -> Changes {
-    Changes::from(front(count).to_vec(rt.alloc()).expect(rt, "a list"))
+    Changes::from(prefix(count).to_vec(rt.alloc()).expect(rt, "a list"))
 }
 
-// Whether lists of so many changes give back what they are made of, and equal their copies.
+// Whether lists of `count` changes give back what they are made of, and equal their copies.
 fn keeps(rt: &impl Runtime, count: usize) -> bool {
     let changes = changes(rt, count);
     let copy = changes.try_clone().expect(rt, "a copy");
-    let is_same = (changes == copy) & (changes.as_slice() == front(count));
+    let is_same = (changes == copy) & (changes.as_slice() == prefix(count));
     let vector: Vec<Change> = copy.into();
-    is_same & (vector.as_slice() == front(count))
+    is_same & (vector.as_slice() == prefix(count))
 }
 
 #[test]
@@ -47,8 +47,8 @@ fn lists_of_changes(rt: HostRuntime) {
 }
 
 // One of six steps that differ.
-fn step(rt: &impl Runtime, place: usize) -> Step {
-    match place {
+fn step(rt: &impl Runtime, index: usize) -> Step {
+    match index {
         0 => Step::Simple(changes(rt, 2)),
         1 => Step::Simple(changes(rt, 1)),
         2 => Step::EnterJoint(true, changes(rt, 2)),
@@ -58,19 +58,19 @@ fn step(rt: &impl Runtime, place: usize) -> Step {
     }
 }
 
-// Whether a step equals the one at its place alone.
-fn is_told_apart(rt: &impl Runtime, place: usize) -> bool {
-    let found = step(rt, place);
+// Whether a step equals only the one at its own index.
+fn equals_only_itself(rt: &impl Runtime, index: usize) -> bool {
+    let found = step(rt, index);
     let mut is_so = true;
     for at in 0..6 {
-        is_so &= (found == step(rt, at)) == (place == at);
+        is_so &= (found == step(rt, at)) == (index == at);
     }
     is_so
 }
 
 #[test]
 fn equal_lists_and_steps(rt: HostRuntime) {
-    for place in 0..6 {
-        assert!(rt; is_told_apart(&rt, place), "{place}");
+    for index in 0..6 {
+        assert!(rt; equals_only_itself(&rt, index), "{index}");
     }
 }

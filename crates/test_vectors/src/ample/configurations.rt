@@ -18,7 +18,7 @@ pub(crate) fn config_of(rt: &impl Runtime, sets: Sets, auto_leave: bool) -> Conf
     }
 }
 
-// What is wrong with a configuration, and the least id that shows it.
+// What is wrong with a configuration, and the least id for which it is.
 static CHECKED: [(Sets, bool, Result<(), Invariant>, Option<Violation>); 9] = [
     (
         [&[1], &[2, 3], &[], &[1, 2, 3]],
@@ -77,7 +77,7 @@ fn tells_what_is_broken(rt: HostRuntime) {
 
 const ONE: Sets = [&[3], &[1], &[2], &[1]];
 
-// What differs from a configuration in one set, or in the flag.
+// Configurations that differ from the first in one set, or in the flag.
 static OTHERS: [(Sets, bool); 5] = [
     ([&[3, 4], &[1], &[2], &[1]], true),
     ([&[3], &[1, 4], &[2], &[1]], true),
@@ -86,14 +86,14 @@ static OTHERS: [(Sets, bool); 5] = [
     (ONE, false),
 ];
 
-// Whether a configuration is the same as another, asked from either side.
+// Whether a configuration equals another, compared in both directions.
 fn is_same(rt: &impl Runtime, config: &Config<TreeIds>, sets: Sets, auto_leave: bool) -> bool {
     let other = config_of(rt, sets, auto_leave);
     config.same(&other) | other.same(config)
 }
 
-// Whether a configuration is the same as itself made again, and as none of the others.
-fn is_told_apart(rt: &impl Runtime) -> bool {
+// Whether a configuration equals one that is made in the same way, and none of the others.
+fn equals_only_itself(rt: &impl Runtime) -> bool {
     let config = config_of(rt, ONE, true);
     let mut is_other = false;
     for (sets, auto_leave) in &OTHERS {
@@ -104,5 +104,5 @@ fn is_told_apart(rt: &impl Runtime) -> bool {
 
 #[test]
 fn tells_equal_configurations(rt: HostRuntime) {
-    assert!(rt; is_told_apart(&rt));
+    assert!(rt; equals_only_itself(&rt));
 }

@@ -1,11 +1,11 @@
-//! Readers and writers that give and take little at once, and that fail where a test wants it, with the error after which
-//! other programs try again.
+//! Readers and writers that read and write little at once, and that fail where a test asks for it, with the error after
+//! which other programs try again.
 use dd_file::device::{FromRead, ToWrite};
 use std::alloc::Global;
 use std::io;
 use std::io::{ErrorKind, Read, Write};
 
-/// Gives one byte a call, and fails once, after so many bytes. It counts its calls.
+/// A reader of one byte per call, which fails once, after a number of bytes. It counts its calls.
 #[derive(Drop)]
 pub(crate) struct Trickle {
     pub(crate) calls: usize,
@@ -30,7 +30,7 @@ impl Read for Trickle {
     }
 }
 
-/// A reader that fails after so many bytes.
+/// A reader that fails after this many bytes.
 pub(crate) fn byte_by_byte(bytes: &'static [u8], until_fault: usize) -> FromRead<Trickle> {
     FromRead::new(Trickle {
         calls: 0,
@@ -46,16 +46,16 @@ pub(crate) enum Stop {
     TakesNone,
 }
 
-/// Takes at most so many bytes a call, and stops once, when it holds so many. It counts its calls, and passes on what it
-/// took where it is flushed, as a buffered writer does.
+/// A writer that accepts a limited number of bytes per call, and stops once, when it is full. It counts its calls, and
+/// passes its bytes on when it is flushed, as a buffered writer does.
 #[derive(Drop)]
 pub(crate) struct Taker {
     pub(crate) taken: Vec<u8>,
-    /// How many of these bytes it has passed on.
+    /// How many of these bytes it passed on.
     pub(crate) flushed: usize,
-    /// How many writes were asked of it.
+    /// How many times it was called to write.
     pub(crate) calls: usize,
-    /// How many writes and flushes were asked of it after it had stopped.
+    /// How many times it was called to write or flush after it had stopped.
     pub(crate) later_calls: usize,
     has_stopped: bool,
     at_once: usize,
@@ -96,7 +96,7 @@ impl Write for Taker {
     }
 }
 
-/// A writer that takes at most so many bytes a call, and stops once, when it holds so many.
+/// A writer that accepts at most this many bytes per call, and stops once, when it has this many.
 pub(crate) fn taking(alloc: Global, at_once: usize, room: usize, stop: Stop) -> ToWrite<Taker> {
     ToWrite::new(Taker {
         taken: Vec::new(alloc),

@@ -16,8 +16,8 @@ fn run_mode<R: Source, W: Sink>(
     run(alloc, mode, Options::default(), reader, writer)
 }
 
-// Whether a run whose reader gives a byte a call and fails after so many ends as it must, with a front part of the output.
-// The reader is asked for each byte and once more.
+// Whether a run ends as expected, with a prefix of the output, if its reader gives a byte per call and fails after this
+// many. The reader is called for each byte and once more.
 fn reads_until(alloc: Global, case: Case, before: usize) -> bool {
     let (mode, input, output, status) = case;
     let mut reader = byte_by_byte(input, before);
@@ -40,8 +40,8 @@ fn reads_until(alloc: Global, case: Case, before: usize) -> bool {
         & (fails | is_whole)
 }
 
-// Whether a run whose writer takes a byte a call and stops when it holds so many ends as it must, with the front part of
-// so many. After a fault nothing is asked of the writer, an empty write and a flush included.
+// Whether a run ends as expected if its writer accepts a byte per call and stops after this many, with a prefix of this
+// many bytes. After an error the writer is not called again, not even for an empty write or a flush.
 fn writes_until(alloc: Global, case: Case, cut: usize, stop: Stop) -> bool {
     let (mode, input, output, status) = case;
     let mut reader = FromRead::new(input);
@@ -50,7 +50,7 @@ fn writes_until(alloc: Global, case: Case, cut: usize, stop: Stop) -> bool {
     let fails = cut < output.len();
     let failed = writer.failed();
     let device = writer.into_inner();
-    let front = device.taken.as_slice();
+    let prefix = device.taken.as_slice();
     (outcome
         == if fails {
             Err(ToolFault::Write)
@@ -58,9 +58,9 @@ fn writes_until(alloc: Global, case: Case, cut: usize, stop: Stop) -> bool {
             Ok(status)
         })
         & (failed == fails)
-        & (front.len() == cut.min(output.len()))
-        & output.starts_with(front)
-        & (device.calls == front.len().saturating_add(usize::from(fails)))
+        & (prefix.len() == cut.min(output.len()))
+        & output.starts_with(prefix)
+        & (device.calls == prefix.len().saturating_add(usize::from(fails)))
         & (device.later_calls == 0)
 }
 
@@ -89,7 +89,7 @@ fn stops_at_a_failed_write(rt: HostRuntime) {
     }
 }
 
-// Whether a run over a block whose writer stops when it holds so many bytes ends as it must: the output comes with the
+// Whether a run over a block ends as expected if its writer stops after this many bytes: the output is written with the
 // last block, after the run.
 fn flushes_until(alloc: Global, case: Case, cut: usize) -> bool {
     let (mode, input, output, status) = case;
@@ -100,15 +100,15 @@ fn flushes_until(alloc: Global, case: Case, cut: usize) -> bool {
     let outcome = run_and_flush(alloc, mode, Options::default(), &mut reader, &mut blocks);
     let fails = cut < output.len();
     let device = blocks.into_inner().into_inner();
-    let front = device.taken.as_slice();
+    let prefix = device.taken.as_slice();
     (outcome
         == if fails {
             Err(ToolFault::Write)
         } else {
             Ok(status)
         })
-        & (front.len() == cut.min(output.len()))
-        & output.starts_with(front)
+        & (prefix.len() == cut.min(output.len()))
+        & output.starts_with(prefix)
         & (device.later_calls == 0)
 }
 

@@ -5,7 +5,7 @@ use crate::ample::runtime::Runtime;
 use conf_change::{Change, Changer, Kind, Progress, Refused};
 use quorum_sets::{InlineIds, MemberSet, TreeIds, symdiff};
 
-// The even numbers from 2 to twice the count, put in without order: no count that is used has the factor 7919.
+// The even numbers from 2 to twice the count, inserted out of order: no count that is used has the factor 7919.
 fn evens<S: MemberSet>(rt: &impl Runtime, count: u64) -> S
     requires { count ≤ 10000 }
 {
@@ -16,24 +16,24 @@ fn evens<S: MemberSet>(rt: &impl Runtime, count: u64) -> S
     set
 }
 
-// Whether the multiples of a number are the set's ids from the first place on. A tree walks up to a place, so not all places
-// are looked at.
+// Whether the multiples of a number are the set's ids from the first index on. A tree walks up to an index, so only some
+// indexes are tried.
 fn has_multiples<S: MemberSet>(set: &S, count: usize, of: u64) -> bool
     requires few { count ≤ 10000 }
     requires small { of ≤ 10 }
 {
     let mut is_so = (set.len() == count) & set.at(count).is_none();
-    for place in 0..count {
-        let id = (place as u64 + 1) * of;
+    for index in 0..count {
+        let id = (index as u64 + 1) * of;
         is_so &= set.contains(id) & !set.contains(id + 1);
-        if place % 89 < 9 {
-            is_so &= set.at(place) == Some(id);
+        if index % 89 < 9 {
+            is_so &= set.at(index) == Some(id);
         }
     }
     is_so
 }
 
-// Takes half of the ids, each second one, out of a set of even numbers, and puts others in that are there.
+// Removes every second id of a set of even numbers, and inserts others that it has already.
 fn takes_half_out<S: MemberSet>(rt: &impl Runtime, set: &mut S, count: u64) -> bool
     requires { count ≤ 10000 }
 {
@@ -49,7 +49,7 @@ fn takes_half_out<S: MemberSet>(rt: &impl Runtime, set: &mut S, count: u64) -> b
     is_so
 }
 
-// Half of the ids go again; the other half stay, and what was copied before keeps them all.
+// Half of the ids are removed again; the other half stay, and an earlier copy keeps them all.
 fn keeps_half<S: MemberSet>(rt: &impl Runtime, count: u64) -> bool
     requires { count ≤ 10000 }
 {
@@ -98,7 +98,7 @@ fn voters(rt: &impl Runtime, count: u64) -> Vec<Change> {
     changes
 }
 
-// Takes the even ids out, and makes voters of the others, from the count down to 1.
+// Removes the even ids, and makes voters of the others, from the count down to 1.
 fn halves(rt: &impl Runtime, count: u64) -> Vec<Change> {
     let mut changes = Vec::new(rt.alloc());
     for below in 0..count {
@@ -135,7 +135,7 @@ const KEPT: Progress = Progress {
     learner: false,
 };
 
-// Whether the odd ids are the incoming voters, so many are outgoing ones, and so many are members.
+// Whether the odd ids are the incoming voters, and the numbers of outgoing voters and of members are these.
 fn has_odd(changer: &Changer<InlineIds>, outgoing: usize, members: usize) -> bool {
     let tracker = changer.tracker();
     let config = tracker.config();

@@ -16,20 +16,20 @@ fn shows<T: Display>(rt: &impl Runtime, value: &T, message: &str) -> bool {
     shown.as_str() == message
 }
 
-// Whether a value of the rows equals the one at its place alone.
-fn is_told_apart<T: PartialEq>(rows: &[(T, &str)], place: usize, value: &T) -> bool {
+// Whether a value of the rows equals only the one at its own index.
+fn equals_only_itself<T: PartialEq>(rows: &[(T, &str)], index: usize, value: &T) -> bool {
     let mut is_so = true;
     for (at, (other, _)) in rows.iter().enumerate() {
-        is_so &= (value == other) == (place == at);
+        is_so &= (value == other) == (index == at);
     }
     is_so
 }
 
-// Whether each value shows its message, and equals itself alone.
+// Whether each value is printed as its message, and equals only itself.
 fn are_told<T: Display + PartialEq>(rt: &impl Runtime, rows: &[(T, &str)]) -> bool {
     let mut is_so = true;
-    for (place, (value, message)) in rows.iter().enumerate() {
-        is_so &= shows(rt, value, *message) & is_told_apart(rows, place, value);
+    for (index, (value, message)) in rows.iter().enumerate() {
+        is_so &= shows(rt, value, *message) & equals_only_itself(rows, index, value);
     }
     is_so
 }

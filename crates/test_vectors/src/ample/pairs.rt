@@ -1,5 +1,5 @@
-//! The pairs of the configurations of three ids that do not leave by themselves: how many steps the path by each strategy
-//! has, against a search of all runs.
+//! All pairs of configurations of three ids without auto-leave: how many steps the path by each strategy has, compared with
+//! a search of all runs.
 ghost use Rattle.std.specs.Prelude.{◌≡◌, ◌≤◌, true};
 ghost use Rattle.conf_change.specs.Configuration.{is_valid};
 
@@ -19,7 +19,7 @@ fn put(rt: &impl Runtime, ids: &mut TreeIds, id: u64) {
     ids.insert(id).expect(rt, "an id");
 }
 
-// The digits: no member, an incoming voter, an outgoing one, both, a learner, an outgoing voter that will learn.
+// The digits: not a member, an incoming voter, an outgoing one, both, a learner, an outgoing voter that is a next learner.
 fn put_as(rt: &impl Runtime, config: &mut Config<TreeIds>, roles: usize, id: u64) {
     if roles == 1 || roles == 3 {
         put(rt, &mut config.incoming, id);
@@ -111,7 +111,7 @@ fn changes_of(rt: &impl Runtime, digits: usize) -> Vec<Change> {
     changes
 }
 
-// Where all steps lead into a configuration that does not leave by itself.
+// Where all steps lead, except into configurations with auto-leave.
 fn all_nexts(rt: &impl Runtime, before: &Changer<TreeIds>) -> Vec<usize> {
     let mut nexts = Vec::new(rt.alloc());
     add_next(rt, &mut nexts, before, StepKind::Leave, &[]);
@@ -133,7 +133,7 @@ fn add_change_of(
     add_next(rt, nexts, before, StepKind::Simple, &[Change { kind, id }]);
 }
 
-// Where steps of one change lead that make a voter of a learner alone, and leaving a joint configuration.
+// Where steps of one change lead that make voters of learners only, and leaving a joint configuration.
 fn single_nexts(rt: &impl Runtime, before: &Changer<TreeIds>) -> Vec<usize> {
     let mut nexts = Vec::new(rt.alloc());
     add_next(rt, &mut nexts, before, StepKind::Leave, &[]);
@@ -190,7 +190,7 @@ fn add_nexts(found: &mut Vec<usize>, nexts: &[usize], steps: usize) {
     }
 }
 
-// The ends of the runs of so many steps are known: adds those of one step more.
+// From the ends of the runs of some number of steps, adds those of one step more.
 fn add_round(found: &mut Vec<usize>, edges: &[Vec<usize>], steps: usize)
     requires { steps ≤ 10 }
 {
@@ -201,7 +201,7 @@ fn add_round(found: &mut Vec<usize>, edges: &[Vec<usize>], steps: usize)
     }
 }
 
-// How many steps it takes at least from a configuration to each.
+// The least number of steps from a configuration to each other one.
 fn fewest_steps(rt: &impl Runtime, edges: &[Vec<usize>], from: usize) -> Vec<usize> {
     let mut found = vec![in rt.alloc(); NOWHERE; CODES].expect(rt, "numbers");
     add_nexts(&mut found, &[from], 0);
@@ -245,7 +245,7 @@ fn steps_by(
     })
 }
 
-// Whether the paths between two configurations have as many steps as they have to: the fewest of all runs, at most one more,
+// Whether the paths between two configurations have the right number of steps: the fewest of all runs, at most one more,
 // and the fewest of the runs of single changes, if there is one.
 fn is_pair(
     rt: &impl Runtime,
@@ -284,7 +284,7 @@ fn are_pairs(rt: &impl Runtime, graph: &Graph, from: usize, now: &Config<TreeIds
     is_so
 }
 
-// Of the configurations that differ in the names of their ids alone, one is enough to begin with.
+// Of configurations that are equal up to renaming their ids, one is enough to begin with.
 fn is_begun_with(code: usize) -> bool {
     code % 6 <= code / 6 % 6 && code / 6 % 6 <= code / 36
 }

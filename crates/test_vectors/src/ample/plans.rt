@@ -1,4 +1,4 @@
-//! Plans as they are applied, and their texts; where there is no path, and who has to catch up.
+//! Applying plans, and their texts; where there is no path, and which members have to catch up.
 ghost use Rattle.std.specs.Prelude.{◌≡◌, true};
 ghost use Rattle.conf_change.specs.Configuration.{is_valid};
 
@@ -19,11 +19,11 @@ const ONE: Sets = [&[1], &[], &[], &[]];
 
 const TWO: Sets = [&[1, 2], &[], &[], &[]];
 
-// What a changer at `voters=(1)` answers to the plan of a text, and whether it has these voters then.
+// The result of applying a text's plan to a changer at `voters=(1)`, and whether it has these voters then.
 fn is_stopped(
     rt: &impl Runtime,
     text: &str,
-    wanted: Result<(), StepRefused>,
+    expected: Result<(), StepRefused>,
     voters: Sets,
 ) -> bool {
     let plan = plan_of(rt, text);
@@ -34,7 +34,7 @@ fn is_stopped(
     });
     let stopped = apply_plan(&mut changer, &plan);
     let config = config_of(rt, voters, false);
-    made.is_ok() & (stopped == wanted) & changer.tracker().config().same(&config)
+    made.is_ok() & (stopped == expected) & changer.tracker().config().same(&config)
 }
 
 #[test]
@@ -46,7 +46,7 @@ fn stops_at_the_first_step_that_is_refused(rt: HostRuntime) {
     assert!(rt; is_stopped(&rt, "nothing to do", Ok(()), ONE));
 }
 
-// Texts, and the lines of the plans for which they stand.
+// Texts, and the lines of the plans that they are parsed as.
 static TEXTS: [(&str, &str); 7] = [
     ("nothing to do", "nothing to do\n"),
     (" simple\t\r\n", "simple\n"),
@@ -72,26 +72,26 @@ static TEXTS: [(&str, &str); 7] = [
     ),
 ];
 
-// Whether a plan equals, of those that the printed texts stand for, the one at its place alone.
-fn is_told_apart(rt: &impl Runtime, place: usize, plan: &Plan) -> bool {
+// Whether a plan equals only the one at its own index, among those of the printed texts.
+fn equals_only_itself(rt: &impl Runtime, index: usize, plan: &Plan) -> bool {
     let mut is_so = true;
     for (at, (_, text)) in TEXTS.iter().enumerate() {
-        is_so &= (*plan == plan_of(rt, *text)) == (place == at);
+        is_so &= (*plan == plan_of(rt, *text)) == (index == at);
     }
     is_so
 }
 
-fn is_printed(rt: &impl Runtime, plan: &Plan, wanted: &str) -> bool {
+fn is_printed(rt: &impl Runtime, plan: &Plan, expected: &str) -> bool {
     let mut text = Vec::new(rt.alloc());
-    print_plan(&mut text, plan).is_ok() & (text.as_slice() == wanted.as_bytes())
+    print_plan(&mut text, plan).is_ok() & (text.as_slice() == expected.as_bytes())
 }
 
 #[test]
 fn prints_what_it_reads(rt: HostRuntime) {
-    for (place, (text, wanted)) in TEXTS.iter().enumerate() {
+    for (index, (text, expected)) in TEXTS.iter().enumerate() {
         let plan = plan_of(&rt, *text);
-        assert!(rt; is_printed(&rt, &plan, *wanted), "row {place}");
-        assert!(rt; is_told_apart(&rt, place, &plan), "row {place}");
+        assert!(rt; is_printed(&rt, &plan, *expected), "row {index}");
+        assert!(rt; equals_only_itself(&rt, index, &plan), "row {index}");
     }
 }
 
@@ -144,20 +144,20 @@ fn is_without_path(
     strategy: Strategy,
     now: Sets,
     target: Sets,
-    wanted: NoPath,
+    expected: NoPath,
 ) -> bool {
     let now = config_of(rt, now, false);
     let target = config_of(rt, target, false);
     check(&now).is_ok()
         && check(&target).is_ok()
-        && no_path(rt, strategy, &now, &target) == Some(wanted)
+        && no_path(rt, strategy, &now, &target) == Some(expected)
 }
 
 #[test]
 fn goes_nowhere(rt: HostRuntime) {
-    for (row, (strategy, now, target, wanted)) in NO_PATHS.iter().enumerate() {
+    for (row, (strategy, now, target, expected)) in NO_PATHS.iter().enumerate() {
         assert!(rt;
-            is_without_path(&rt, *strategy, *now, *target, *wanted),
+            is_without_path(&rt, *strategy, *now, *target, *expected),
             "row {row}"
         );
     }
@@ -188,20 +188,26 @@ static CATCHING_UP: [(Sets, &str, Sets, &[u64]); 4] = [
     ),
 ];
 
-fn is_waited_for(rt: &impl Runtime, before: Sets, text: &str, after: Sets, wanted: &[u64]) -> bool {
+fn is_waited_for(
+    rt: &impl Runtime,
+    before: Sets,
+    text: &str,
+    after: Sets,
+    expected: &[u64],
+) -> bool {
     let before = config_of(rt, before, false);
     let after = config_of(rt, after, false);
     let plan = plan_of(rt, text);
     let step = plan.step(0).expect(rt, "a step");
     let ids = catching_up(rt.alloc(), &before, step, &after).expect(rt, "a set");
-    symdiff(&ids, &set_of(rt, wanted)) == 0
+    symdiff(&ids, &set_of(rt, expected)) == 0
 }
 
 #[test]
 fn waits_for_members_without_progress(rt: HostRuntime) {
-    for (row, (before, text, after, wanted)) in CATCHING_UP.iter().enumerate() {
+    for (row, (before, text, after, expected)) in CATCHING_UP.iter().enumerate() {
         assert!(rt;
-            is_waited_for(&rt, *before, *text, *after, *wanted),
+            is_waited_for(&rt, *before, *text, *after, *expected),
             "row {row}"
         );
     }

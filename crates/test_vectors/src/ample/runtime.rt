@@ -2,7 +2,7 @@
 use std::alloc::AllocGlobal;
 use std::process::Abort;
 
-/// Ends the test where something is wanting, and gives memory.
+/// Ends the test if something is missing, and gives memory.
 pub(crate) trait Runtime: Abort + AllocGlobal {}
 
 impl<R: Abort + AllocGlobal> Runtime for R {}

@@ -17,18 +17,18 @@ fn show_line(rt: &impl Runtime, shown: &mut Vec<u8>, line: &[u8]) {
     show(rt, shown, b">");
 }
 
-// The next line with an h before it where it was in hand; nothing at the end.
+// The next line, with an h before it if it was buffered; nothing at the end.
 fn show_next_line<R: Source>(
     rt: &impl Runtime,
     shown: &mut Vec<u8>,
     lines: &mut Lines,
     source: &mut R,
 ) {
-    let held = lines.next_buffered(source);
-    if held.is_some() {
+    let buffered = lines.next_buffered(source);
+    if buffered.is_some() {
         show(rt, shown, b"h");
     }
-    let found = match held {
+    let found = match buffered {
         Some(found) => found,
         None => lines.next(source),
     };
@@ -47,7 +47,7 @@ fn lines_of(rt: &impl Runtime, input: &str) -> Vec<u8> {
     shown
 }
 
-// Inputs, and their lines: what the first read gave is in hand, up to its last newline.
+// Inputs, and their lines: what the first read gave is buffered, up to its last newline.
 static LINES: [(&str, &str); 6] = [
     ("", ""),
     ("a\r\n\nb\r\r", "<a>h<><b\r>"),
@@ -87,7 +87,7 @@ fn show_argument(rt: &impl Runtime, shown: &mut Vec<u8>, argument: &Argument) {
     }
 }
 
-// The values of an argument, as they are walked, and nothing behind the last one.
+// The values of an argument in order, and nothing after the last one.
 fn show_values(rt: &impl Runtime, shown: &mut Vec<u8>, argument: &Argument) {
     let mut values = argument.values();
     for _ in 0..9 {
@@ -106,8 +106,8 @@ fn show_first_values(rt: &impl Runtime, shown: &mut Vec<u8>, item: &Item) {
     }
 }
 
-fn values_of(rt: &impl Runtime, head: &str) -> Vec<u8> {
-    let mut source = FromRead::new(head.as_bytes());
+fn values_of(rt: &impl Runtime, line: &str) -> Vec<u8> {
+    let mut source = FromRead::new(line.as_bytes());
     let mut items = Reader::new(rt.alloc()).expect(rt, "a reader");
     let mut shown = Vec::new(rt.alloc());
     let item = items.next(&mut source).expect(rt, "an item");
@@ -117,7 +117,7 @@ fn values_of(rt: &impl Runtime, head: &str) -> Vec<u8> {
     shown
 }
 
-// Heads of directives, and the values of their first argument: of a list, of one value with commas in it, and of none.
+// Directive lines, and the values of their first argument: a list, one value with commas in it, and none.
 static VALUES: [(&str, &str); 8] = [
     ("committed cfg=(1, 2 ,3)", "<1><2><3>"),
     ("committed cfg=( 10 )", "<10>"),
@@ -131,13 +131,13 @@ static VALUES: [(&str, &str); 8] = [
 
 #[test]
 fn walks_values(rt: HostRuntime) {
-    for (head, want) in &VALUES {
-        let shown = values_of(&rt, *head);
-        assert!(rt; shown.as_slice() == want.as_bytes(), "at {head}");
+    for (line, want) in &VALUES {
+        let shown = values_of(&rt, *line);
+        assert!(rt; shown.as_slice() == want.as_bytes(), "at {line}");
     }
 }
 
-// The line and the command, each argument with its values in brackets, the input and what is expected.
+// The line and the command, each argument with its values in brackets, the input and the expected output.
 fn show_directive(rt: &impl Runtime, shown: &mut Vec<u8>, directive: &Directive) {
     show(rt, shown, &[b'0' + (directive.line() % 10) as u8, b':']);
     show(rt, shown, directive.command());
@@ -165,7 +165,7 @@ fn show_fault(rt: &impl Runtime, shown: &mut Vec<u8>, fault: FileFault) {
     show(rt, shown, message.as_bytes());
 }
 
-// The next item or the end, which is told, or the message of a fault.
+// The next item, the end, or the message of an error.
 fn show_next_item<R: Source>(
     rt: &impl Runtime,
     shown: &mut Vec<u8>,
@@ -185,7 +185,7 @@ fn show_next_item<R: Source>(
     }
 }
 
-// Each item, and the message of the fault that ends them.
+// Each item, and the message of the error that ends them.
 fn items_of<R: Source>(rt: &impl Runtime, source: &mut R) -> Vec<u8> {
     let mut shown = Vec::new(rt.alloc());
     let mut reader = Reader::new(rt.alloc()).expect(rt, "a reader");
@@ -226,13 +226,13 @@ static SCRIPTS: [(&str, &str); 51] = [
     ("simple\n# no\n\nv1 \n----\n\n", "1:simple/# no\n\nv1/|"),
     ("\r", "lines:<>|"),
     ("simple\n----\n---- \n", "1:simple//---- \n|"),
-    // comments, and what is none
+    // comments, and lines that are not comments
     (
         "\t # a\n# b\\\n# c",
         "lines:<\t # a>|lines:<# b\\>|lines:<# c>|",
     ),
     ("a #\n", "line 1: bad directive"),
-    // heads of several lines
+    // directives over several lines
     (" a \\ \n\tb", "1:a b//|"),
     ("\\\n \nx", "lines:<\\>< >|3:x//|"),
     ("simple a=\\\n\n----\n", "1:simple a[]//|"),
@@ -250,7 +250,7 @@ static SCRIPTS: [(&str, &str); 51] = [
         "# a\n\nundo \\\r\nsteps=2\n\n v1\n----\n----\na \n\n----\n----\n",
         "lines:<# a>|lines:<>|3:undo steps[2]/v1/a \n\n|",
     ),
-    // four dashes, and what is none
+    // four dashes, and lines that are not
     (
         "a\n---\n-----\n---- -\n\t---- \nb",
         "1:a/---\n-----\n---- -/b\n|",
@@ -271,7 +271,7 @@ static SCRIPTS: [(&str, &str); 51] = [
     ("x a=((=#\\)", "1:x a[(=#\\]//|"),
     ("x a==1", "1:x a[=1]//|"),
     ("x a=\u{e9}", "1:x a[\u{e9}]//|"),
-    // what is no directive
+    // lines that are not directives
     ("subtest", "line 1: bad directive"),
     ("subtest a", "line 1: bad directive"),
     ("a=1", "line 1: bad directive"),
@@ -299,18 +299,18 @@ fn reads_items(rt: HostRuntime) {
     }
 }
 
-// The next item, which is shown with an h before it where it was in hand; nothing at the end.
+// The next item, printed with an h before it if it was buffered; nothing at the end.
 fn show_held_item<R: Source>(
     rt: &impl Runtime,
     shown: &mut Vec<u8>,
     reader: &mut Reader,
     source: &mut R,
 ) -> Option<Item> {
-    let held = reader.next_buffered(source);
-    if held.is_some() {
+    let buffered = reader.next_buffered(source);
+    if buffered.is_some() {
         show(rt, shown, b"h");
     }
-    let found = match held {
+    let found = match buffered {
         Some(found) => found,
         None => reader.next(source),
     };
@@ -319,10 +319,10 @@ fn show_held_item<R: Source>(
     Some(item)
 }
 
-// A script, and what is shown of it where the first read gives it whole.
+// A script, and its items as they are printed if the first read gives all of it.
 const HELD_SCRIPT: &[u8] = b"# a\nb\n\n----\n1\n\n\nc\n----\n2\n";
 
-const HELD_ITEMS: &[u8] = b"lines:<# a>|h2:b//1\n|hlines:<>|8:c//2\n|";
+const BUFFERED_ITEMS: &[u8] = b"lines:<# a>|h2:b//1\n|hlines:<>|8:c//2\n|";
 
 #[test]
 fn tells_items_in_hand(rt: HostRuntime) {
@@ -332,7 +332,7 @@ fn tells_items_in_hand(rt: HostRuntime) {
     for _ in 0..9 {
         let _item = show_held_item(&rt, &mut shown, &mut reader, &mut source);
     }
-    assert!(rt; shown.as_slice() == HELD_ITEMS);
+    assert!(rt; shown.as_slice() == BUFFERED_ITEMS);
 }
 
 #[test]
@@ -345,10 +345,10 @@ fn reads_into_items_that_are_given_back(rt: HostRuntime) {
             reader.reuse(item);
         }
     }
-    assert!(rt; shown.as_slice() == HELD_ITEMS);
+    assert!(rt; shown.as_slice() == BUFFERED_ITEMS);
 }
 
-// Lines, a line of input for each, and what is made of it: a directive, if there is one, and a comment of the line.
+// Lines, a line of input for each, and the items that are made of it: a directive, if there is one, and a comment.
 static MADE: [(&str, &str, &str); 3] = [
     (
         "enter-joint autoleave=true",

@@ -1,4 +1,4 @@
-//! Sets of ids, and the worked values of majorities, quorums, and of what is looked up.
+//! Sets of ids, and test vectors of majorities, quorums and lookups.
 use crate::ample::runtime::Runtime;
 use crate::sets::with_acks;
 use quorum_sets::{
@@ -29,13 +29,13 @@ static QUORUMS: [(&[u64], &[u64], &[u64], bool); 5] = [
 
 #[test]
 fn quorums(rt: HostRuntime) {
-    for (place, (incoming, outgoing, ids, wanted)) in QUORUMS.iter().enumerate() {
+    for (index, (incoming, outgoing, ids, expected)) in QUORUMS.iter().enumerate() {
         let incoming = set_of(&rt, *incoming);
         let outgoing = set_of(&rt, *outgoing);
         let ids = set_of(&rt, *ids);
         assert!(rt;
-            is_quorum((&incoming, &outgoing), &ids) == *wanted,
-            "row {place}"
+            is_quorum((&incoming, &outgoing), &ids) == *expected,
+            "row {index}"
         );
     }
 }
@@ -55,22 +55,22 @@ static TOLERATED: [(&[u64], &[u64], &[u64], Option<usize>); 9] = [
 
 #[test]
 fn failures_that_are_tolerated(rt: HostRuntime) {
-    for (place, (incoming, outgoing, uncounted, wanted)) in TOLERATED.iter().enumerate() {
+    for (index, (incoming, outgoing, uncounted, expected)) in TOLERATED.iter().enumerate() {
         let incoming = set_of(&rt, *incoming);
         let outgoing = set_of(&rt, *outgoing);
         let uncounted = set_of(&rt, *uncounted);
         assert!(rt;
-            may_be_down((&incoming, &outgoing), &uncounted) == *wanted,
-            "row {place}"
+            may_be_down((&incoming, &outgoing), &uncounted) == *expected,
+            "row {index}"
         );
         assert!(rt;
-            commits_without((&incoming, &outgoing), &uncounted) == wanted.is_some(),
-            "row {place}"
+            commits_without((&incoming, &outgoing), &uncounted) == expected.is_some(),
+            "row {index}"
         );
     }
 }
 
-// The voters of one pair, those of another, a set for each, and the least id that both have where both are quorums.
+// The voters of one pair, those of another, a set for each, and the least id of both sets if both are quorums.
 struct Sharing {
     before: (&'static [u64], &'static [u64]),
     after: (&'static [u64], &'static [u64]),
@@ -142,7 +142,7 @@ fn acknowledgements(rt: HostRuntime) {
     }
 }
 
-// Ids in the order of a walk that also goes back, and whether 2, 4 and 9 are asked for.
+// Ids in the order of a walk that also goes back, and whether each is one of 2, 4 and 9.
 static LOOKED_UP: [(u64, bool); 8] = [
     (1, false),
     (2, true),
@@ -157,8 +157,8 @@ static LOOKED_UP: [(u64, bool); 8] = [
 #[test]
 fn looked_up_in_a_walk(rt: HostRuntime) {
     let set = set_of(&rt, &[2, 4, 9]);
-    let mut place = 0;
+    let mut index = 0;
     for (id, there) in &LOOKED_UP {
-        assert!(rt; has_next(&set, &mut place, *id) == *there, "{id}");
+        assert!(rt; has_next(&set, &mut index, *id) == *there, "{id}");
     }
 }

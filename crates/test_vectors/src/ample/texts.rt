@@ -1,4 +1,4 @@
-//! Changes that are read of words.
+//! Changes that are parsed from tokens.
 use conf_change::Kind::Learner;
 use conf_change::{Change, TokenFault, read_change, read_changes_into};
 

@@ -1,4 +1,4 @@
-//! What is taken of a list of changes by each transition.
+//! The kind of step that each transition makes of a list of changes.
 use conf_change::{Change, Kind, StepKind, Transition, taken};
 
 const VOTER: Change = Change {
@@ -26,10 +26,10 @@ static LISTS: [(&[Change], StepKind); 5] = [
 
 #[test]
 fn each_change_of_a_list_counts(rt: HostRuntime) {
-    for (place, (changes, by_itself)) in LISTS.iter().enumerate() {
+    for (index, (changes, by_itself)) in LISTS.iter().enumerate() {
         let is_so = (taken(Transition::Auto, *changes) == *by_itself)
             & (taken(Transition::Implicit, *changes) == StepKind::Enter(true))
             & (taken(Transition::Explicit, *changes) == StepKind::Enter(false));
-        assert!(rt; is_so, "row {place}");
+        assert!(rt; is_so, "row {index}");
     }
 }

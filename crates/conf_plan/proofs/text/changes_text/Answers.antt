@@ -10,5 +10,5 @@ returns c =
     let first = c.in-Some.first.now in
     let rest = c.in-Some.rest.now in
     c.in_ok-append_changes.ensures.ok
-    ∙ ap (λ text. text ++ flat_map spaced_change rest) (c.in_ok-append_word.ensures.ok ∙ ap (λ text. text ++ change_text first) c.new-text.ensures.items)
+    ∙ ap (λ text. text ++ flat_map spaced_change rest) (c.in_ok-append_token.ensures.ok ∙ ap (λ text. text ++ change_text first) c.new-text.ensures.items)
     ∙ sym (ap (λ changes. join_with_byte 32 (map change_text changes)) c.in-Some.ensures.cases.0 ∙ join-changes (change_text first) rest)

@@ -2,7 +2,7 @@ use Rattle.std.proofs.Common.{◌≡◌, ◌≢◌, ◌<◌, Some, length, inl, 
 use Rattle.std.proofs.lemmas.Bool.Decides.{nat_tests}
 use Rattle.std.proofs.lemmas.Grind.{common_steps}
 use Rattle.ascii_text.specs.Words.{words}
-use Rattle.conf_plan.specs.PlanText.{SaysNothing}
+use Rattle.conf_plan.specs.PlanText.{IsNothingToDo}
 use Rattle.conf_plan.specs.PlanCode.{step_in}
 use Rattle.conf_plan.proofs.PlanText.PlanFromLines.{something-other_words, something-more_lines}
 use Rattle.conf_plan.proofs.PlanText.ReadSoFar.{IsReadSoFar-start, IsReadSoFar-more, IsPlan-push, IsReadSoFar-long}
@@ -13,7 +13,7 @@ pub loop-rest-init : goal.loop-rest-init
 loop-rest-init c =
     let text = c.args.text.now in
     let line = c.first_line.result.0.now in
-    let something : (SaysNothing text → ⊥) = elim c.else-is_empty.branch [
+    let something : (IsNothingToDo text → ⊥) = elim c.else-is_empty.branch [
       | else-is_empty-via-then-is_empty+else-is_nothing w ↦ something-other_words text line (c.first_line.ensures.last (grind (arith, nat_tests))) (grind (arith, nat_tests))
       | else-is_empty-via-else-is_empty w ↦ something-more_lines text line c.first_line.result.1.now (c.first_line.ensures.more (grind (arith, nat_tests)))
     ] in
