@@ -6,4 +6,3 @@ pub mod PairByPair
 pub mod BestPlan
 pub mod UndoneScript
 pub mod ServingPaths
-pub mod PlanScript

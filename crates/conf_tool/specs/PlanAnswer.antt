@@ -7,17 +7,15 @@ use Rattle.conf_plan.specs.PathBy.{has_path, path_by}
 use Rattle.conf_plan.specs.PlanText.{plan_text}
 use Rattle.plan_output.specs.Stages.{stalls}
 use Rattle.plan_output.specs.Table.{table_text}
-use Rattle.conf_tool.specs.PlanScript.{script_text}
 use Rattle.conf_tool.specs.declared.plan_options.PlanOptions.{PlanOptions}
 use Rattle.conf_tool.specs.declared.plan_options.PlanOutput.{PlanOutput}
-use Rattle.conf_tool.specs.declared.plan_options.PlanOutput.TheVariants.{Steps, Script, Table}
+use Rattle.conf_tool.specs.declared.plan_options.PlanOutput.TheVariants.{Steps, Table}
 use Rattle.conf_tool.specs.declared.status.Status.{Status}
 use Rattle.conf_tool.specs.declared.status.Status.TheVariants.{Clean, Different}
 
 -- the text of a path from a configuration, with these ids down
 abbrev pub text_as : PlanOutput → Option Ids → Configuration → List Step → List ℕ
 text_as Steps down now steps = plan_text steps
-text_as Script down now steps = script_text now steps
 text_as Table down now steps = table_text now steps down
 
 -- the same by the options

@@ -46,7 +46,7 @@ pub fn command_line<'a, S: AsStr>(
     let names = OptionNames {
         floors: &["0", "1"],
         strategies: &["shortest", "learners-first", "one-at-a-time"],
-        outputs: &["steps", "script", "table"],
+        outputs: &["steps", "table"],
     };
     read_words(alloc, words, names)
 }
@@ -197,7 +197,6 @@ fn output_named(name: &str) -> PlanOutput
     ensures { result ≡ output_named name.now }
 {
     match name {
-        "script" => PlanOutput::Script,
         "table" => PlanOutput::Table,
         _ => PlanOutput::Steps,
     }

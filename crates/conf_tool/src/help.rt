@@ -150,7 +150,6 @@ Strategies:
 
 Outputs:
   steps   one step a line
-  script  a script that starts from the current configuration; it checks clean
   table   who votes and learns at each step, and what the cluster endures there
 
 A plan does not see logs: a new member begins with an empty one. From [1 2 3] to

@@ -5,7 +5,6 @@ ghost use Rattle.conf_tool.specs.PlanAnswer.{path_status, path_text, plan_text_b
 ghost use Rattle.conf_tool.specs.declared.tool_fault.ToolFault.TheVariants.{NoMemory as OutOfMemory};
 
 use crate::plan_options::{PlanOptions, PlanOutput};
-use crate::run::plan_script::script_text;
 use crate::status::Status;
 use crate::tool_fault::ToolFault;
 use conf_change::Config;
@@ -72,7 +71,6 @@ fn path_text(
     let mut text = Vec::new(alloc);
     match options.output {
         PlanOutput::Steps => print_path(&mut text, path)?,
-        PlanOutput::Script => return script_text(alloc, now, path),
         PlanOutput::Table => add_table(alloc, &mut text, now, path, options.down.as_ref())?,
     }
     Ok(text)

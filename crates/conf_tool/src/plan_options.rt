@@ -11,8 +11,6 @@ use conf_session::SessionIds;
 pub enum PlanOutput {
     /// One step a line.
     Steps,
-    /// A script that starts from the current configuration and takes the steps.
-    Script,
     /// A row for the current configuration and one for each step, with what the cluster endures there.
     Table,
 }
