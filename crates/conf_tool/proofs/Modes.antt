@@ -4,4 +4,3 @@ pub mod Check
 pub mod Rewrite
 pub mod Undo
 pub mod Plan
-pub mod PlanScript
