@@ -13,7 +13,7 @@ int main(void) {
     uint8_t plan[512], after[512];
 
     struct confscript_answer planned =
-        confscript_plan(bytes(now), strlen(now), bytes(wanted), strlen(wanted), plan, sizeof plan);
+        confscript_plan(bytes(now), strlen(now), bytes(wanted), strlen(wanted), CONFSCRIPT_SHORTEST, plan, sizeof plan);
     if (planned.status != CONFSCRIPT_DONE) {
         fprintf(stderr, "no plan: status %u, number %llu\n", (unsigned)planned.status, (unsigned long long)planned.number);
         return 1;

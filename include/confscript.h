@@ -80,7 +80,19 @@ enum confscript_status {
     /* confscript_vote: a byte is neither 0 nor 1. */
     CONFSCRIPT_BAD_VOTE = 22,
     /* confscript_may_be_down: the voters are no quorum even with none down. */
-    CONFSCRIPT_NO_QUORUM = 23
+    CONFSCRIPT_NO_QUORUM = 23,
+
+    /* confscript_plan: the strategy is not an enum confscript_strategy. */
+    CONFSCRIPT_BAD_STRATEGY = 24,
+    /* There is no plan one at a time into a joint configuration. */
+    CONFSCRIPT_JOINT_TARGET = 25
+};
+
+/* How confscript_plan goes from one configuration to another. */
+enum confscript_strategy {
+    CONFSCRIPT_SHORTEST = 0,       /* by as few steps as possible, at most four */
+    CONFSCRIPT_LEARNERS_FIRST = 1, /* new voters are learners first, so that they can catch up before they vote */
+    CONFSCRIPT_ONE_AT_A_TIME = 2   /* a step changes one member; no plan leads into a joint configuration */
 };
 
 /* The number of confscript_vote, if it is done. */
@@ -105,21 +117,28 @@ uint32_t confscript_version(void);
 struct confscript_answer confscript_status_text(uint32_t status, uint8_t *out, size_t out_len);
 
 /*
- * Writes the plan from the configuration of one ConfState line to that of another, at most four steps. No other plan has
- * fewer steps, keeps the progress of a member that this one resets, or names a member in fewer changes. The voters before
- * and after each step overlap. A plan does not see logs: a new voter begins with an empty one, so from [1 2 3] to [3 4 5]
- * nothing commits until 4 or 5 has caught up. Both configurations must be valid and have an incoming voter. If there is
- * nothing to do, the text is `nothing to do`. The lines are written to `out`, without a byte 0 after them. The number is
- * how many bytes they have.
+ * Writes the plan from the configuration of one ConfState line to that of another, by an enum confscript_strategy. Both
+ * configurations must be valid and have an incoming voter. The voters before and after each step overlap, and no
+ * configuration on the way tolerates fewer failures than the weaker end. If there is nothing to do, the text is
+ * `nothing to do`. The lines are written to `out`, without a byte 0 after them. The number is how many bytes they have.
+ *
+ * - CONFSCRIPT_SHORTEST: at most four steps. No other plan has fewer steps, keeps the progress of a member that this one
+ *   resets, or names a member in fewer changes. A plan does not see logs: a new voter begins with an empty one, so from
+ *   [1 2 3] to [3 4 5] nothing commits until 4 or 5 has caught up.
+ * - CONFSCRIPT_LEARNERS_FIRST: at most one step more than the shortest plan. Each new voter is a learner before, so the caller
+ *   can let it catch up before it proposes the next step.
+ * - CONFSCRIPT_ONE_AT_A_TIME: each step changes one member, and each new voter is a learner before. No plan of this kind has
+ *   fewer steps. The second configuration must not be joint, unless it equals the first.
  *
  * A step `simple` may have several changes, of which one at most changes who votes. A store that proposes etcd's ConfChangeV2
  * takes them one at a time, each as a ConfChangeV2 of one change. As one ConfChangeV2 they would enter a joint configuration.
  */
 struct confscript_answer confscript_plan(const uint8_t *now, size_t now_len, const uint8_t *target, size_t target_len,
-                                         uint8_t *out, size_t out_len);
+                                         uint32_t strategy, uint8_t *out, size_t out_len);
 
 /*
  * Takes the steps of a plan, beginning with the configuration of a ConfState line. A single change is a plan of one line.
+ * A call takes at most four lines; a longer plan is taken four lines a call, each from the line that the call before wrote.
  * The ConfState line of the result is written to `out`, its lists in ascending order, without a newline or a byte 0 after
  * it. The number is how many bytes it has. The first configuration must be valid, and have an incoming voter or no members.
  */

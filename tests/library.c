@@ -65,9 +65,10 @@ typedef struct confscript_answer (*call)(void);
 
 static const char *first, *second;
 static size_t room;
+static uint32_t strategy = CONFSCRIPT_SHORTEST;
 
 static struct confscript_answer plan(void) {
-    return confscript_plan(bytes(first), strlen(first), bytes(second), strlen(second), out, room);
+    return confscript_plan(bytes(first), strlen(first), bytes(second), strlen(second), strategy, out, room);
 }
 static struct confscript_answer apply(void) {
     return confscript_apply(bytes(first), strlen(first), bytes(second), strlen(second), out, room);
@@ -125,7 +126,7 @@ static void texts(void) {
         "more than one voter changed without entering joint config", "the id 0", "a next learner is not an outgoing voter",
         "a next learner is an incoming voter", "a learner is a voter", "next learners without outgoing voters",
         "auto-leave without outgoing voters", "not as many values as ids", "a vote is neither 0 nor 1", "the voters are no quorum",
-        "unknown status"};
+        "unknown strategy", "the target is joint", "unknown status"};
     room = ROOM;
     for (code = 0; code < sizeof words / sizeof *words; code++)
         expect(words[code], status_text, CONFSCRIPT_DONE, strlen(words[code]), words[code]);
@@ -165,6 +166,29 @@ static void plans(void) {
     expect("plan: the first has no voter", plan, CONFSCRIPT_NO_VOTER, 1, "");
     on_texts(one, LINE("", "", "", "", "false"));
     expect("plan: the second has no voter", plan, CONFSCRIPT_NO_VOTER, 2, "");
+}
+
+static void strategies(void) {
+    const char *five = LINE("1 2 3 4 5", "", "", "", "false"), *joint = LINE("2", "1", "", "", "false");
+    const char *learners_first = "simple l6 l7\nenter-joint autoleave=false r1 r2 v6 v7\nleave-joint\n";
+    const char *one_at_a_time = "simple l6\nsimple v6\nsimple r1\nsimple l7\nsimple v7\nsimple r2\n";
+    on_texts(five, LINE("3 4 5 6 7", "", "", "", "false"));
+    strategy = CONFSCRIPT_LEARNERS_FIRST;
+    expect("strategy: learners first", plan, CONFSCRIPT_DONE, strlen(learners_first), learners_first);
+    strategy = CONFSCRIPT_ONE_AT_A_TIME;
+    expect("strategy: one at a time", plan, CONFSCRIPT_DONE, strlen(one_at_a_time), one_at_a_time);
+    room = strlen(one_at_a_time) - 1;
+    expect("strategy: one byte too small", plan, CONFSCRIPT_TOO_SMALL, strlen(one_at_a_time), "");
+    on_texts(LINE("1", "", "", "", "false"), joint);
+    expect("strategy: one at a time into a joint configuration", plan, CONFSCRIPT_JOINT_TARGET, 0, "");
+    on_texts(joint, joint);
+    expect("strategy: one at a time from a joint configuration to itself", plan, CONFSCRIPT_DONE, 14, "nothing to do\n");
+    on_texts("", "");
+    strategy = 3;
+    expect("strategy: not one", plan, CONFSCRIPT_BAD_STRATEGY, 0, "");
+    strategy = UINT32_MAX;
+    expect("strategy: the greatest number", plan, CONFSCRIPT_BAD_STRATEGY, 0, "");
+    strategy = CONFSCRIPT_SHORTEST;
 }
 
 static void applies(void) {
@@ -284,7 +308,26 @@ static void quorums(void) {
     expect("may be down: nobody votes", may_be_down, CONFSCRIPT_NO_QUORUM, 0, "");
 }
 
-/* Plans from each line to each other, and applies the plan: the other line comes out. */
+/* Applies a plan to a line, four lines a call, and writes the last result to `line`. */
+static struct confscript_answer applied(char *line, const char *steps) {
+    struct confscript_answer answer;
+    do {
+        const char *end = steps;
+        for (int i = 0; i < 4 && *end; i++) end = strchr(end, '\n') + 1;
+        char part[ROOM + 1];
+        memcpy(part, steps, end - steps);
+        part[end - steps] = '\0';
+        on_texts(line, part);
+        answer = called(apply, -1);
+        if (answer.status != CONFSCRIPT_DONE) return answer;
+        memcpy(line, out, answer.number);
+        line[answer.number] = '\0';
+        steps = end;
+    } while (*steps);
+    return answer;
+}
+
+/* Plans from each line to each other by each strategy, and applies the plan: the other line comes out. */
 static void rounds(void) {
     static const char *const lines[] = {
         LINE("1", "", "", "", "false"),
@@ -294,21 +337,27 @@ static void rounds(void) {
         LINE("7 18446744073709551615", "", "1 2", "", "false"),
     };
     size_t n = sizeof lines / sizeof *lines;
+    for (strategy = CONFSCRIPT_SHORTEST; strategy <= CONFSCRIPT_ONE_AT_A_TIME; strategy++)
     for (size_t i = 0; i < n; i++) for (size_t k = 0; k < n; k++) {
-        char steps[ROOM + 1], name[32];
+        char steps[ROOM + 1], line[ROOM + 1], name[64];
         on_texts(lines[i], lines[k]);
         struct confscript_answer planned = called(plan, -1);
-        snprintf(name, sizeof name, "round: %zu to %zu", i, k);
+        int is_joint = strstr(lines[k], "Outgoing:[]") == NULL;
+        snprintf(name, sizeof name, "round: %zu to %zu by %u", i, k, (unsigned)strategy);
+        if (strategy == CONFSCRIPT_ONE_AT_A_TIME && is_joint && i != k) { report(name, planned.status == CONFSCRIPT_JOINT_TARGET, planned); continue; }
         if (planned.status != CONFSCRIPT_DONE) { report(name, 0, planned); continue; }
         memcpy(steps, out, planned.number);
         steps[planned.number] = '\0';
-        on_texts(lines[i], steps);
-        expect(name, apply, CONFSCRIPT_DONE, strlen(lines[k]), lines[k]);
+        strcpy(line, lines[i]);
+        struct confscript_answer got = applied(line, steps);
+        report(name, got.status == CONFSCRIPT_DONE && strcmp(line, lines[k]) == 0, got);
     }
+    strategy = CONFSCRIPT_SHORTEST;
 }
 
 int main(void) {
     plans();
+    strategies();
     applies();
     checks();
     quorums();

@@ -43,15 +43,30 @@ const (
 	VoteWon     VoteResult = C.CONFSCRIPT_VOTE_WON
 )
 
-// Plan returns the plan from the configuration of one ConfState line to that of another.
+// Strategy is how a plan goes from one configuration to another.
+type Strategy uint32
+
+// The strategies. Shortest is that of Plan.
+const (
+	Shortest      Strategy = C.CONFSCRIPT_SHORTEST
+	LearnersFirst Strategy = C.CONFSCRIPT_LEARNERS_FIRST
+	OneAtATime    Strategy = C.CONFSCRIPT_ONE_AT_A_TIME
+)
+
+// Plan returns the shortest plan from the configuration of one ConfState line to that of another.
 func Plan(now, target string) (string, error) {
+	return PlanBy(Shortest, now, target)
+}
+
+// PlanBy returns the plan by a strategy from the configuration of one ConfState line to that of another.
+func PlanBy(strategy Strategy, now, target string) (string, error) {
 	from, to := []byte(now), []byte(target)
 	return written(func(out *C.uint8_t, room C.size_t) C.struct_confscript_answer {
-		return C.confscript_plan(start(from), C.size_t(len(from)), start(to), C.size_t(len(to)), out, room)
+		return C.confscript_plan(start(from), C.size_t(len(from)), start(to), C.size_t(len(to)), C.uint32_t(strategy), out, room)
 	})
 }
 
-// Apply returns the ConfState line of the configuration after the steps of a plan, or after a single change.
+// Apply returns the ConfState line of the configuration after the steps of a plan, at most four, or after a single change.
 func Apply(state, steps string) (string, error) {
 	from, by := []byte(state), []byte(steps)
 	return written(func(out *C.uint8_t, room C.size_t) C.struct_confscript_answer {

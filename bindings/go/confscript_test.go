@@ -20,6 +20,22 @@ func TestPlanAndApply(t *testing.T) {
 	}
 }
 
+func TestStrategies(t *testing.T) {
+	for strategy, want := range map[Strategy]string{
+		Shortest:      "enter-joint autoleave=false r1 v5\nleave-joint\n",
+		LearnersFirst: "simple l5\nenter-joint autoleave=false r1 v5\nleave-joint\n",
+		OneAtATime:    "simple l5\nsimple v5\nsimple r1\n",
+	} {
+		steps, err := PlanBy(strategy, now, target)
+		if err != nil || steps != want {
+			t.Errorf("PlanBy %d: %q, %v", strategy, steps, err)
+		}
+		if after, err := Apply(now, steps); err != nil || after != target {
+			t.Errorf("Apply: %q, %v", after, err)
+		}
+	}
+}
+
 func TestLongText(t *testing.T) {
 	ids := []string{}
 	for id := 1; id <= 500; id++ {
@@ -35,10 +51,14 @@ func TestRefusals(t *testing.T) {
 	_, first := Plan("", target)
 	_, second := Plan(now, "")
 	_, step := Apply(now, "leave-joint")
+	_, strategy := PlanBy(3, now, target)
+	_, joint := PlanBy(OneAtATime, now, strings.Replace(target, "Outgoing:[]", "Outgoing:[1 2 3]", 1))
 	for text, err := range map[string]error{
 		"not a ConfState line (1)":           first,
 		"not a ConfState line (2)":           second,
 		"can't leave a non-joint config (1)": step,
+		"unknown strategy":                   strategy,
+		"the target is joint":                joint,
 		"the id 0":                           Check(strings.Replace(now, "1 2", "0 2", 1)),
 	} {
 		if err == nil || err.Error() != text {

@@ -12,7 +12,7 @@ import ctypes
 import os
 from enum import IntEnum
 
-__all__ = ["Refused", "Vote", "apply", "check", "committed", "may_be_down", "plan", "version", "vote"]
+__all__ = ["Refused", "Strategy", "Vote", "apply", "check", "committed", "may_be_down", "plan", "version", "vote"]
 
 DONE, TOO_SMALL, NO_MEMORY, NO_QUORUM = 0, 1, 2, 23
 
@@ -23,6 +23,14 @@ class Refused(Exception):
     def __init__(self, status, number):
         super().__init__(f"{_text_of(status)} ({number})" if number else _text_of(status))
         self.status, self.number = status, number
+
+
+class Strategy(IntEnum):
+    """How a plan goes from one configuration to another."""
+
+    SHORTEST = 0
+    LEARNERS_FIRST = 1
+    ONE_AT_A_TIME = 2
 
 
 class Vote(IntEnum):
@@ -41,7 +49,7 @@ _library = ctypes.CDLL(os.environ.get("CONFSCRIPT_LIBRARY") or "libconfscript.so
 _BYTES, _IDS = (ctypes.c_char_p, ctypes.c_size_t), (ctypes.POINTER(ctypes.c_uint64), ctypes.c_size_t)
 _OUT = (ctypes.POINTER(ctypes.c_char), ctypes.c_size_t)
 for _name, _types in {
-    "plan": _BYTES * 2 + _OUT,
+    "plan": (*_BYTES * 2, ctypes.c_uint32, *_OUT),
     "apply": _BYTES * 2 + _OUT,
     "check": _BYTES,
     "committed": _IDS * 4,
@@ -86,13 +94,13 @@ def _text_of(status):
     return _written(_library.confscript_status_text, status)
 
 
-def plan(now, target):
-    """Returns the plan from the configuration of one ConfState line to that of another."""
-    return _written(_library.confscript_plan, *_bytes(now), *_bytes(target))
+def plan(now, target, strategy=Strategy.SHORTEST):
+    """Returns the plan by a strategy from the configuration of one ConfState line to that of another."""
+    return _written(_library.confscript_plan, *_bytes(now), *_bytes(target), strategy)
 
 
 def apply(state, steps):
-    """Returns the ConfState line of the configuration after the steps of a plan, or after a single change."""
+    """Returns the ConfState line of the configuration after the steps of a plan, at most four, or after a single change."""
     return _written(_library.confscript_apply, *_bytes(state), *_bytes(steps))
 
 

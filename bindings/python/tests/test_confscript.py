@@ -13,6 +13,15 @@ class Calls(unittest.TestCase):
         self.assertEqual(steps, "enter-joint autoleave=false r1 v5\nleave-joint\n")
         self.assertEqual(confscript.apply(NOW, steps), TARGET)
 
+    def test_strategies(self):
+        for strategy, steps in [
+            (confscript.Strategy.SHORTEST, "enter-joint autoleave=false r1 v5\nleave-joint\n"),
+            (confscript.Strategy.LEARNERS_FIRST, "simple l5\nenter-joint autoleave=false r1 v5\nleave-joint\n"),
+            (confscript.Strategy.ONE_AT_A_TIME, "simple l5\nsimple v5\nsimple r1\n"),
+        ]:
+            self.assertEqual(confscript.plan(NOW, TARGET, strategy), steps)
+            self.assertEqual(confscript.apply(NOW, steps), TARGET)
+
     def test_a_text_longer_than_the_first_room(self):
         many = "Voters:[%s] VotersOutgoing:[] Learners:[] LearnersNext:[] AutoLeave:false" % " ".join(map(str, range(1, 501)))
         self.assertEqual(confscript.apply(many, "simple u1"), many)
@@ -23,6 +32,8 @@ class Calls(unittest.TestCase):
             (lambda: confscript.plan(NOW, ""), 3, 2, "not a ConfState line (2)"),
             (lambda: confscript.apply(NOW, "leave-joint"), 11, 1, "can't leave a non-joint config (1)"),
             (lambda: confscript.check(NOW.replace("1 2", "0 2")), 15, 0, "the id 0"),
+            (lambda: confscript.plan(NOW, TARGET, 3), 24, 0, "unknown strategy"),
+            (lambda: confscript.plan(NOW, NOW.replace("Outgoing:[]", "Outgoing:[4]"), confscript.Strategy.ONE_AT_A_TIME), 25, 0, "the target is joint"),
         ]:
             with self.assertRaises(confscript.Refused) as raised:
                 call()

@@ -12,7 +12,9 @@ struct Answer {
 extern "C" {
     fn confscript_version() -> u32;
     fn confscript_status_text(status: u32, out: *mut u8, out_len: usize) -> Answer;
-    fn confscript_plan(now: *const u8, now_len: usize, target: *const u8, target_len: usize, out: *mut u8, out_len: usize) -> Answer;
+    fn confscript_plan(
+        now: *const u8, now_len: usize, target: *const u8, target_len: usize, strategy: u32, out: *mut u8, out_len: usize,
+    ) -> Answer;
     fn confscript_apply(state: *const u8, state_len: usize, plan: *const u8, plan_len: usize, out: *mut u8, out_len: usize) -> Answer;
     fn confscript_check(state: *const u8, state_len: usize) -> Answer;
     fn confscript_committed(
@@ -52,6 +54,8 @@ pub enum Error {
     DifferentLengths,
     BadVote,
     NoQuorum,
+    /// There is no plan one at a time into a joint configuration.
+    JointTarget,
 }
 
 impl Error {
@@ -67,6 +71,7 @@ impl Error {
             (21, _) => Error::DifferentLengths,
             (22, _) => Error::BadVote,
             (23, _) => Error::NoQuorum,
+            (25, _) => Error::JointTarget,
             (status @ 9..=14, number) => Error::Step(status, number),
             (status, _) => Error::Broken(status),
         }
@@ -86,6 +91,7 @@ impl Error {
             Error::DifferentLengths => 21,
             Error::BadVote => 22,
             Error::NoQuorum => 23,
+            Error::JointTarget => 25,
         }
     }
 }
@@ -104,6 +110,18 @@ impl fmt::Display for Error {
 }
 
 impl std::error::Error for Error {}
+
+/// How a plan goes from one configuration to another.
+#[derive(Clone, Copy, Debug, Default, PartialEq, Eq)]
+pub enum Strategy {
+    /// By as few steps as possible.
+    #[default]
+    Shortest = 0,
+    /// New voters are learners first, so that they can catch up before they vote.
+    LearnersFirst = 1,
+    /// A step changes one member; no plan leads into a joint configuration.
+    OneAtATime = 2,
+}
 
 /// The result of a vote.
 #[derive(Clone, Copy, Debug, PartialEq, Eq)]
@@ -131,13 +149,20 @@ fn written(call: impl Fn(&mut [u8]) -> Answer) -> Result<String, Error> {
     }
 }
 
-/// The plan from the configuration of one ConfState line to that of another.
+/// The shortest plan from the configuration of one ConfState line to that of another.
 pub fn plan(now: &str, target: &str) -> Result<String, Error> {
-    // SAFETY: each pointer is a slice's, and so not null, and the count its length.
-    written(|out| unsafe { confscript_plan(now.as_ptr(), now.len(), target.as_ptr(), target.len(), out.as_mut_ptr(), out.len()) })
+    plan_by(Strategy::Shortest, now, target)
 }
 
-/// The ConfState line of the configuration after the steps of a plan, or after a single change.
+/// The plan by a strategy from the configuration of one ConfState line to that of another.
+pub fn plan_by(strategy: Strategy, now: &str, target: &str) -> Result<String, Error> {
+    // SAFETY: each pointer is a slice's, and so not null, and the count its length.
+    written(|out| unsafe {
+        confscript_plan(now.as_ptr(), now.len(), target.as_ptr(), target.len(), strategy as u32, out.as_mut_ptr(), out.len())
+    })
+}
+
+/// The ConfState line of the configuration after the steps of a plan, at most four, or after a single change.
 pub fn apply(state: &str, steps: &str) -> Result<String, Error> {
     // SAFETY: as in `plan`.
     written(|out| unsafe { confscript_apply(state.as_ptr(), state.len(), steps.as_ptr(), steps.len(), out.as_mut_ptr(), out.len()) })

@@ -1,5 +1,5 @@
 //! The calls of the binding, as a Rust program meets them.
-use confscript::{apply, check, committed, may_be_down, plan, version, vote, Error, VoteResult};
+use confscript::{apply, check, committed, may_be_down, plan, plan_by, version, vote, Error, Strategy, VoteResult};
 
 const NOW: &str = "Voters:[1 2 3] VotersOutgoing:[] Learners:[] LearnersNext:[] AutoLeave:false";
 const TARGET: &str = "Voters:[2 3 5] VotersOutgoing:[] Learners:[] LearnersNext:[] AutoLeave:false";
@@ -9,6 +9,20 @@ fn plans_and_applies() {
     let steps = plan(NOW, TARGET).unwrap();
     assert_eq!(steps, "enter-joint autoleave=false r1 v5\nleave-joint\n");
     assert_eq!(apply(NOW, &steps).unwrap(), TARGET);
+}
+
+#[test]
+fn plans_by_each_strategy() {
+    for (strategy, steps) in [
+        (Strategy::default(), "enter-joint autoleave=false r1 v5\nleave-joint\n"),
+        (Strategy::LearnersFirst, "simple l5\nenter-joint autoleave=false r1 v5\nleave-joint\n"),
+        (Strategy::OneAtATime, "simple l5\nsimple v5\nsimple r1\n"),
+    ] {
+        assert_eq!(plan_by(strategy, NOW, TARGET).as_deref(), Ok(steps));
+        assert_eq!(apply(NOW, steps).as_deref(), Ok(TARGET));
+    }
+    let joint = TARGET.replace("Outgoing:[]", "Outgoing:[1 2 3]");
+    assert_eq!(plan_by(Strategy::OneAtATime, NOW, &joint), Err(Error::JointTarget));
 }
 
 #[test]

@@ -41,6 +41,14 @@ impl Path {
         self.steps.as_slice()
     }
 
+    // The steps in order, whose ids have 64 bits, so that they are read back if they are printed.
+    pub(crate) fn printable(&self) -> &[Step]
+        ensures steps { result.now ≡ self.now }
+        ensures word_ids { All HasWordIds self.now }
+    {
+        self.steps.as_slice()
+    }
+
     /// How many steps it has.
     pub fn len(&self) -> usize
         ensures { result ≡ length self.now }

@@ -65,12 +65,14 @@ pub fn print_plan(text: &mut Vec<u8>, plan: &Plan) -> Result<(), NoMemory>
     print_steps(text, plan.as_slice())
 }
 
-/// Appends the lines of a path, in the form of `print_plan`.
+/// Appends the lines of a path, in the form of `print_plan`. If they are at most four, they are read as a plan of the
+/// same steps.
 pub fn print_path(text: &mut Vec<u8>, path: &Path) -> Result<(), NoMemory>
     ensures ok { OnOk result (text.new.items ≡ text.old.items ++ plan_text path.now) }
+    ensures reads_back { length path.now ≤ 4 → plan_in (plan_text path.now) ≡ Ok path.now }
     ensures err { OnErr result (text.new.items ≡ text.old.items) }
 {
-    print_steps(text, path.as_slice())
+    print_steps(text, path.printable())
 }
 
 // Appends the lines of these steps, or nothing if memory runs out.

@@ -1,5 +1,5 @@
 pub mod Pairs
-pub mod VoteTold
+pub mod VoteAnswer
 pub mod SavedForms
-pub mod StepsTold
+pub mod StepsResult
 pub mod PlanLeads

@@ -1,9 +1,9 @@
--- Pairs of what stands at the same place of two lists.
+-- Pairs of the items at the same index of two lists.
 use Rattle.std.proofs.Common.{◌≡◌, ℕ, ◌+◌, ◌<◌, ◌∷◌, List, length, drop, get_or, ap, ◌∙◌}
 use Rattle.std.specs.List.{zip}
 use Rattle.std.proofs.lemmas.List.{drop_more}
 
--- the pair at a place, and those behind it
+-- the pair at an index, and those after it
 pub zip-drop : {K V : Type 0} (ids : List K) (values : List V) (i k : ℕ) (id : K) (value : V) → i + 1 ≡ k → i < length ids → i < length values
     → zip (drop i ids) (drop i values) ≡ (get_or ids i id, get_or values i value) ∷ zip (drop k ids) (drop k values)
 zip-drop ids values i k id value next one two =

@@ -12,7 +12,7 @@ use Rattle.conf_plan.specs.declared.text.PlanTextFault.{PlanTextFault}
 use Rattle.conf_plan.specs.declared.text.PlanTextFault.TheVariants as fault
 use Rattle.confscript_c.specs.Answer.{answer, no_memory}
 use Rattle.confscript_c.specs.Reading.{read_as}
-use Rattle.confscript_c.specs.Written.{Told}
+use Rattle.confscript_c.specs.Written.{TextResult}
 use Rattle.confscript_c.specs.declared.answer.Answer.{Answer}
 use Rattle.confscript_c.specs.declared.status.Status.TheVariants.{NotAConfiguration, BadLine, TooManySteps, AlreadyJoint, ZeroVoterJoint, NotJoint, SimpleInJoint, RemovedAllVoters, MoreThanOneVoter}
 
@@ -26,34 +26,34 @@ restored_of (Err why) = Err why
 restored_of (Ok saved) = restored_one (restored saved)
 
 -- why a text is no plan
-abbrev pub fault_told : PlanTextFault → Answer
-fault_told (fault.BadLine number) = answer BadLine number
-fault_told fault.TooManySteps = answer TooManySteps 0
-fault_told fault.NoMemory = no_memory
+abbrev pub text_fault_answer : PlanTextFault → Answer
+text_fault_answer (fault.BadLine number) = answer BadLine number
+text_fault_answer fault.TooManySteps = answer TooManySteps 0
+text_fault_answer fault.NoMemory = no_memory
 
 -- why the step with this number is refused
-abbrev pub refusal_told : Refused → ℕ → Answer
-refusal_told refused.AlreadyJoint number = answer AlreadyJoint number
-refusal_told refused.ZeroVoterJoint number = answer ZeroVoterJoint number
-refusal_told refused.NotJoint number = answer NotJoint number
-refusal_told refused.SimpleInJoint number = answer SimpleInJoint number
-refusal_told refused.RemovedAllVoters number = answer RemovedAllVoters number
-refusal_told refused.MoreThanOneVoter number = answer MoreThanOneVoter number
-refusal_told refused.NoMemory number = no_memory
+abbrev pub refusal_answer : Refused → ℕ → Answer
+refusal_answer refused.AlreadyJoint number = answer AlreadyJoint number
+refusal_answer refused.ZeroVoterJoint number = answer ZeroVoterJoint number
+refusal_answer refused.NotJoint number = answer NotJoint number
+refusal_answer refused.SimpleInJoint number = answer SimpleInJoint number
+refusal_answer refused.RemovedAllVoters number = answer RemovedAllVoters number
+refusal_answer refused.MoreThanOneVoter number = answer MoreThanOneVoter number
+refusal_answer refused.NoMemory number = no_memory
 
-abbrev pub then_told : ℕ → Outcome → (Configuration → Told) → Told
-then_told number (Err why) rest = Err (refusal_told why number)
-then_told number (Ok next) rest = rest next
+abbrev pub then_result : ℕ → Outcome → (Configuration → TextResult) → TextResult
+then_result number (Err why) rest = Err (refusal_answer why number)
+then_result number (Ok next) rest = rest next
 
--- the line of the configuration behind the steps, of which the first has this number; or why one of them is refused, the first that is
-abbrev pub steps_told : ℕ → Configuration → List Step → Told
-steps_told number c [] = Ok (conf_state_text (lists_of c))
-steps_told number c (step ∷ steps) = then_told number (outcome c step) (λ next. steps_told (number + 1) next steps)
+-- the line of the configuration after the steps, of which the first has this number; or why one of them is refused, the first that is
+abbrev pub steps_result : ℕ → Configuration → List Step → TextResult
+steps_result number c [] = Ok (conf_state_text (lists_of c))
+steps_result number c (step ∷ steps) = then_result number (outcome c step) (λ next. steps_result (number + 1) next steps)
 
-abbrev pub applied : Result Configuration Answer → Result (List Step) PlanTextFault → Told
+abbrev pub applied : Result Configuration Answer → Result (List Step) PlanTextFault → TextResult
 applied (Err why) steps = Err why
-applied (Ok c) (Err fault) = Err (fault_told fault)
-applied (Ok c) (Ok steps) = steps_told 1 c steps
+applied (Ok c) (Err fault) = Err (text_fault_answer fault)
+applied (Ok c) (Ok steps) = steps_result 1 c steps
 
-abbrev pub apply_told : List ℕ → List ℕ → Told
-apply_told state plan = applied (restored_of (read_as 1 (conf_state_in state))) (plan_in plan)
+abbrev pub apply_result : List ℕ → List ℕ → TextResult
+apply_result state plan = applied (restored_of (read_as 1 (conf_state_in state))) (plan_in plan)

@@ -12,7 +12,7 @@ use Rattle.confscript_c.specs.declared.answer.Answer.{Answer}
 use Rattle.confscript_c.specs.declared.status.Status.{Status}
 use Rattle.confscript_c.specs.declared.status.Status.TheVariants.{RepeatedId, ZeroId, NextNotOutgoing, NextAndIncoming, LearnerAndVoter, NotJointButNext, NotJointButAutoLeave}
 
--- the status that tells of a broken invariant
+-- the status of a broken invariant
 abbrev pub status_of : Invariant → Status
 status_of broken.ZeroId = ZeroId
 status_of broken.NextNotOutgoing = NextNotOutgoing
@@ -21,18 +21,18 @@ status_of broken.LearnerAndVoter = LearnerAndVoter
 status_of broken.NotJointButNext = NotJointButNext
 status_of broken.NotJointButAutoLeave = NotJointButAutoLeave
 
-abbrev pub broken_told : Option Invariant → Answer
-broken_told None = done 0
-broken_told (Some invariant) = answer (status_of invariant) 0
+abbrev pub broken_answer : Option Invariant → Answer
+broken_answer None = done 0
+broken_answer (Some invariant) = answer (status_of invariant) 0
 
 -- the first invariant that is broken, where each list names each id once
-abbrev pub described_told : Option Configuration → Answer
-described_told None = answer RepeatedId 0
-described_told (Some c) = broken_told (first_broken c)
+abbrev pub described_answer : Option Configuration → Answer
+described_answer None = answer RepeatedId 0
+described_answer (Some c) = broken_answer (first_broken c)
 
-abbrev pub saved_told : Result ConfStateLists Answer → Answer
-saved_told (Err why) = why
-saved_told (Ok saved) = described_told (described saved)
+abbrev pub saved_answer : Result ConfStateLists Answer → Answer
+saved_answer (Err why) = why
+saved_answer (Ok saved) = described_answer (described saved)
 
-abbrev pub check_told : List ℕ → Answer
-check_told line = saved_told (read_as 1 (conf_state_in line))
+abbrev pub check_answer : List ℕ → Answer
+check_answer line = saved_answer (read_as 1 (conf_state_in line))

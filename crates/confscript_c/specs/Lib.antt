@@ -5,5 +5,5 @@ pub mod Written
 pub mod Reading
 pub mod Checked
 pub mod Applied
-pub mod PlanTold
+pub mod Planning
 pub mod Version

@@ -1,4 +1,4 @@
--- What is committed and how a vote stands, where ids and what is known of each come as two lists.
+-- Committed indexes, results of votes and tolerance, where ids and their values come as two lists.
 use Rattle.std.specs.Prelude.{ℕ, Bool, not, ◌==◌, ◌||◌, List, length, map, nat_eq, Option, Some, None, if◌then◌else◌}
 use Rattle.std.specs.List.{zip, list_all}
 use Rattle.std.specs.Ordering.{nat_cmp}
@@ -19,19 +19,19 @@ use Rattle.confscript_c.specs.declared.status.Status.TheVariants.{RepeatedId, Di
 abbrev pub voters_named : List ℕ → List ℕ → Voters
 voters_named incoming outgoing = pair (ids_of incoming) (ids_of outgoing)
 
--- what is known of each id: the value at its place
+-- the value of each id: the one at its index
 abbrev pub known : {V : Type 0} → List ℕ → List V → finite.FinMap nat_cmp V
 known ids values = finite.from_entries (zip ids values)
 
--- there is a value for each id and no id stands twice, else the call is refused
+-- there is a value for each id and no id is named twice, else the call is refused
 abbrev pub of_each : {V : Type 0} → List ℕ → List V → Answer → Answer
 of_each ids values otherwise =
     if not (nat_eq (length ids) (length values)) then answer DifferentLengths 0
     else (if not (names_once ids) then answer RepeatedId 0 else otherwise)
 
 -- the committed index of a pair of sets
-abbrev pub committed_told : List ℕ → List ℕ → List ℕ → List ℕ → Answer
-committed_told incoming outgoing ids acknowledged =
+abbrev pub committed_answer : List ℕ → List ℕ → List ℕ → List ℕ → Answer
+committed_answer incoming outgoing ids acknowledged =
     of_each ids acknowledged (done (joint_committed_index (voters_named incoming outgoing) (known ids acknowledged)))
 
 -- 0 is no, 1 is yes, and nothing else is a vote
@@ -46,18 +46,18 @@ vote_number VotePending = 0
 vote_number VoteLost = 1
 vote_number VoteWon = 2
 
--- how the vote of a pair of sets stands
-abbrev pub vote_told : List ℕ → List ℕ → List ℕ → List ℕ → Answer
-vote_told incoming outgoing ids votes =
+-- the result of a vote of a pair of sets
+abbrev pub vote_answer : List ℕ → List ℕ → List ℕ → List ℕ → Answer
+vote_answer incoming outgoing ids votes =
     of_each ids votes
     (if not (list_all is_vote votes) then answer BadVote 0
     else done (vote_number (joint_vote_result (voters_named incoming outgoing) (known ids (map is_yes votes)))))
 
 -- how many ids may be down, or that the voters are no quorum even with none down
-abbrev pub count_told : Option ℕ → Answer
-count_told (Some count) = done count
-count_told None = answer NoQuorum 0
+abbrev pub count_answer : Option ℕ → Answer
+count_answer (Some count) = done count
+count_answer None = answer NoQuorum 0
 
 -- how many ids may be down while the voters of a pair of sets, without the uncounted ones, are a quorum
-abbrev pub may_be_down_told : List ℕ → List ℕ → List ℕ → Answer
-may_be_down_told incoming outgoing uncounted = count_told (may_be_down (voters_named incoming outgoing) (ids_of uncounted))
+abbrev pub may_be_down_answer : List ℕ → List ℕ → List ℕ → Answer
+may_be_down_answer incoming outgoing uncounted = count_answer (may_be_down (voters_named incoming outgoing) (ids_of uncounted))

@@ -1,7 +1,7 @@
 -- The codes of the statuses.
 use Rattle.std.specs.Prelude.{ℕ, List, codes, ◌==◌, if◌then◌else◌}
 use Rattle.confscript_c.specs.declared.status.Status.{Status}
-use Rattle.confscript_c.specs.declared.status.Status.TheVariants.{Done, TooSmall, NoMemory, BadConfState, RepeatedId, NotAConfiguration, NoVoter, BadLine, TooManySteps, AlreadyJoint, ZeroVoterJoint, NotJoint, SimpleInJoint, RemovedAllVoters, MoreThanOneVoter, ZeroId, NextNotOutgoing, NextAndIncoming, LearnerAndVoter, NotJointButNext, NotJointButAutoLeave, DifferentLengths, BadVote, NoQuorum}
+use Rattle.confscript_c.specs.declared.status.Status.TheVariants.{Done, TooSmall, NoMemory, BadConfState, RepeatedId, NotAConfiguration, NoVoter, BadLine, TooManySteps, AlreadyJoint, ZeroVoterJoint, NotJoint, SimpleInJoint, RemovedAllVoters, MoreThanOneVoter, ZeroId, NextNotOutgoing, NextAndIncoming, LearnerAndVoter, NotJointButNext, NotJointButAutoLeave, DifferentLengths, BadVote, NoQuorum, BadStrategy, JointTarget}
 
 abbrev pub code_of : Status → ℕ
 code_of Done = 0
@@ -28,6 +28,8 @@ code_of NotJointButAutoLeave = 20
 code_of DifferentLengths = 21
 code_of BadVote = 22
 code_of NoQuorum = 23
+code_of BadStrategy = 24
+code_of JointTarget = 25
 
 -- what a status means, in words; a refused step as the program prints it
 abbrev pub text_of : Status → List ℕ
@@ -55,6 +57,8 @@ text_of NotJointButAutoLeave = codes "auto-leave without outgoing voters"
 text_of DifferentLengths = codes "not as many values as ids"
 text_of BadVote = codes "a vote is neither 0 nor 1"
 text_of NoQuorum = codes "the voters are no quorum"
+text_of BadStrategy = codes "unknown strategy"
+text_of JointTarget = codes "the target is joint"
 
 -- the same by the code; any other number is no status
 abbrev pub text_of_code : ℕ → List ℕ
@@ -83,4 +87,6 @@ text_of_code code =
     else (if code == 21 then text_of DifferentLengths
     else (if code == 22 then text_of BadVote
     else (if code == 23 then text_of NoQuorum
-    else codes "unknown status")))))))))))))))))))))))
+    else (if code == 24 then text_of BadStrategy
+    else (if code == 25 then text_of JointTarget
+    else codes "unknown status")))))))))))))))))))))))))

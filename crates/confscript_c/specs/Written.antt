@@ -4,21 +4,21 @@ use Rattle.confscript_c.specs.Answer.{answer, done, no_memory}
 use Rattle.confscript_c.specs.declared.answer.Answer.{Answer}
 use Rattle.confscript_c.specs.declared.status.Status.TheVariants.{TooSmall}
 
--- what a call works out: a text, or why it refuses
-abbrev pub Told : Type 0
-Told = Result (List ℕ) Answer
+-- the result of a call that writes a text: the text, or why the call refuses
+abbrev pub TextResult : Type 0
+TextResult = Result (List ℕ) Answer
 
 -- the answer where there is room for so many bytes: how many the text has, and whether it fits
-abbrev pub answer_to : Told → ℕ → Answer
+abbrev pub answer_to : TextResult → ℕ → Answer
 answer_to (Ok text) room = if nat_le (length text) room then done (length text) else answer TooSmall (length text)
 answer_to (Err why) room = why
 
--- what the buffer holds then: a text that fits, and behind it what was there; else what was there
-abbrev pub buffer_after : Told → List ℕ → List ℕ
+-- what the buffer holds then: a text that fits, and after it what was there; else what was there
+abbrev pub buffer_after : TextResult → List ℕ → List ℕ
 buffer_after (Ok text) buffer = if nat_le (length text) (length buffer) then text ++ drop (length text) buffer else buffer
 buffer_after (Err why) buffer = buffer
 
--- the call answers and writes as told; or memory was wanting, and nothing is written
-abbrev pub Writes : Told → List ℕ → Answer → List ℕ → Type 0
-Writes told before result after =
-    ((result ≡ answer_to told (length before)) × (after ≡ buffer_after told before)) ⊎ ((result ≡ no_memory) × (after ≡ before))
+-- the call answers and writes as wanted; or memory ran out, and nothing is written
+abbrev pub Writes : TextResult → List ℕ → Answer → List ℕ → Type 0
+Writes wanted before result after =
+    ((result ≡ answer_to wanted (length before)) × (after ≡ buffer_after wanted before)) ⊎ ((result ≡ no_memory) × (after ≡ before))

@@ -4,7 +4,7 @@ ghost use Rattle.conf_change.specs.ConfState.{lists_of};
 ghost use Rattle.conf_change.specs.ConfStateLine.{conf_state_in, conf_state_text};
 ghost use Rattle.conf_plan.specs.PlanCode.{plan_in};
 ghost use Rattle.confscript_c.specs.Answer.{no_memory};
-ghost use Rattle.confscript_c.specs.Applied.{apply_told, restored_of, steps_told, fault_told, refusal_told};
+ghost use Rattle.confscript_c.specs.Applied.{apply_result, restored_of, steps_result, text_fault_answer, refusal_answer};
 ghost use Rattle.confscript_c.specs.Reading.{read_as};
 ghost use Rattle.confscript_c.specs.Written.{Writes};
 
@@ -17,7 +17,7 @@ use conf_plan::{Plan, PlanTextFault, StepRefused, apply_plan, read_plan};
 use quorum_sets::{InlineIds, NoMemory};
 use std::alloc::Global;
 
-/// Takes the steps of a plan from the configuration of a ConfState line, and writes the line of the one behind them.
+/// Takes the steps of a plan from the configuration of a ConfState line, and writes the line of the result.
 #[unsafe(no_mangle)]
 pub extern "C" fn confscript_apply(
     alloc: Global,
@@ -25,7 +25,7 @@ pub extern "C" fn confscript_apply(
     plan: &[u8],
     out: &mut [u8],
 ) -> Answer
-    ensures { Writes (apply_told state.now plan.now) out.old result out.new }
+    ensures { Writes (apply_result state.now plan.now) out.old result out.new }
 {
     match line_after(alloc, state, plan) {
         Ok(line) => write_text(line.as_slice(), out),
@@ -33,10 +33,10 @@ pub extern "C" fn confscript_apply(
     }
 }
 
-// The line of the configuration behind the steps of a plan.
+// The line of the configuration after the steps of a plan.
 fn line_after(alloc: Global, state: &[u8], plan: &[u8]) -> Result<Vec<u8>, Answer>
-    ensures line { IfOk result (λ line. apply_told state.now plan.now ≡ Ok line.items) }
-    ensures refused { IfErr result (λ why. (why ≡ no_memory) ⊎ (apply_told state.now plan.now ≡ Err why)) }
+    ensures line { IfOk result (λ line. apply_result state.now plan.now ≡ Ok line.items) }
+    ensures refused { IfErr result (λ why. (why ≡ no_memory) ⊎ (apply_result state.now plan.now ≡ Err why)) }
 {
     let mut changer = read_changer(alloc, state)?;
     let plan = read_steps(alloc, plan)?;
@@ -57,10 +57,10 @@ fn read_changer(alloc: Global, state: &[u8]) -> Result<Changer<InlineIds>, Answe
     }
 }
 
-// The plan that a text stands for.
+// The plan of a text.
 fn read_steps(alloc: Global, text: &[u8]) -> Result<Plan, Answer>
     ensures plan { IfOk result (λ plan. plan_in text.now ≡ Ok plan) }
-    ensures refused { IfErr result (λ why. (why ≡ no_memory) ⊎ MatchResult (plan_in text.now) (λ _. ⊥) (λ fault. why ≡ fault_told fault)) }
+    ensures refused { IfErr result (λ why. (why ≡ no_memory) ⊎ MatchResult (plan_in text.now) (λ _. ⊥) (λ fault. why ≡ text_fault_answer fault)) }
 {
     match read_plan(alloc, text) {
         Ok(plan) => Ok(plan),
@@ -72,8 +72,8 @@ fn read_steps(alloc: Global, text: &[u8]) -> Result<Plan, Answer>
 
 // Takes the steps of a plan.
 fn take(changer: &mut Changer<InlineIds>, plan: &Plan) -> Result<(), Answer>
-    ensures taken { OnOk result (steps_told 1 changer.old.tracker.config plan.now ≡ Ok (conf_state_text (lists_of changer.new.tracker.config))) }
-    ensures refused { IfErr result (λ why. (why ≡ no_memory) ⊎ (steps_told 1 changer.old.tracker.config plan.now ≡ Err why)) }
+    ensures taken { OnOk result (steps_result 1 changer.old.tracker.config plan.now ≡ Ok (conf_state_text (lists_of changer.new.tracker.config))) }
+    ensures refused { IfErr result (λ why. (why ≡ no_memory) ⊎ (steps_result 1 changer.old.tracker.config plan.now ≡ Err why)) }
 {
     match apply_plan(changer, plan) {
         Ok(()) => Ok(()),
@@ -83,7 +83,7 @@ fn take(changer: &mut Changer<InlineIds>, plan: &Plan) -> Result<(), Answer>
 
 // Why the step with this number is refused.
 fn refusal(refused: Refused, number: u64) -> Answer
-    ensures { result ≡ refusal_told refused number }
+    ensures { result ≡ refusal_answer refused number }
 {
     match refused {
         Refused::AlreadyJoint => Answer::new(Status::AlreadyJoint, number),

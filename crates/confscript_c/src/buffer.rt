@@ -1,12 +1,12 @@
-//! Writing what was worked out into the caller's buffer.
+//! Writing a text into the caller's buffer.
 ghost use Rattle.std.specs.Prelude.{◌≡◌, Ok, length};
 ghost use Rattle.confscript_c.specs.Written.{answer_to, buffer_after};
 
 use crate::answer::Answer;
 use crate::status::Status;
 
-/// Writes a text to the front of a buffer where it fits, and answers how many bytes it has; else writes nothing, and tells
-/// how many bytes it takes.
+/// Writes a text to the start of a buffer if it fits, and returns how many bytes it has. Otherwise it writes nothing, and
+/// returns how many bytes the text takes.
 pub(crate) fn write_text(text: &[u8], buffer: &mut [u8]) -> Answer
     ensures answer { result ≡ answer_to (Ok text.now) (length buffer.old) }
     ensures written { buffer.new ≡ buffer_after (Ok text.now) buffer.old }

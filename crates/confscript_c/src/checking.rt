@@ -1,7 +1,7 @@
 //! What is wrong with a configuration.
 ghost use Rattle.std.specs.Prelude.{◌≡◌, ◌⊎◌, Ok, IfOk, IfErr};
 ghost use Rattle.confscript_c.specs.Answer.{no_memory};
-ghost use Rattle.confscript_c.specs.Checked.{check_told, saved_told, broken_told, status_of};
+ghost use Rattle.confscript_c.specs.Checked.{check_answer, saved_answer, broken_answer, status_of};
 ghost use Rattle.conf_change.specs.Configuration.{first_broken};
 
 use crate::answer::Answer;
@@ -11,10 +11,10 @@ use conf_change::{ConfState, Config, Invariant, RestoreFault, check, described};
 use quorum_sets::InlineIds;
 use std::alloc::Global;
 
-/// Tells the first broken invariant of the configuration that a ConfState line names.
+/// Reports the first broken invariant of the configuration that a ConfState line names.
 #[unsafe(no_mangle)]
 pub extern "C" fn confscript_check(alloc: Global, state: &[u8]) -> Answer
-    ensures { (result ≡ no_memory) ⊎ (result ≡ check_told state.now) }
+    ensures { (result ≡ no_memory) ⊎ (result ≡ check_answer state.now) }
 {
     match read_saved(alloc, 1, state) {
         Ok(saved) => check_saved(alloc, &saved),
@@ -23,7 +23,7 @@ pub extern "C" fn confscript_check(alloc: Global, state: &[u8]) -> Answer
 }
 
 fn check_saved(alloc: Global, saved: &ConfState) -> Answer
-    ensures { (result ≡ no_memory) ⊎ (result ≡ saved_told (Ok saved.now)) }
+    ensures { (result ≡ no_memory) ⊎ (result ≡ saved_answer (Ok saved.now)) }
 {
     match described(alloc, saved) {
         Ok(config) => checked(&config),
@@ -33,7 +33,7 @@ fn check_saved(alloc: Global, saved: &ConfState) -> Answer
 }
 
 fn checked(config: &Config<InlineIds>) -> Answer
-    ensures { result ≡ broken_told (first_broken config.now) }
+    ensures { result ≡ broken_answer (first_broken config.now) }
 {
     match check(config) {
         Ok(()) => Answer::done(0),
@@ -41,7 +41,7 @@ fn checked(config: &Config<InlineIds>) -> Answer
     }
 }
 
-// The status that tells of a broken invariant.
+// The status of a broken invariant.
 fn status_of(broken: Invariant) -> Status
     ensures { result ≡ status_of broken }
 {

@@ -1,4 +1,4 @@
-//! What is committed, and how a vote stands.
+//! Committed indexes, results of votes, and how many ids may be down.
 ghost use Rattle.std.specs.Prelude.{◌≡◌, ◌⊎◌, true, false, not, ◌&&◌, length, map, nat_eq, IfOk, IfErr};
 ghost use Rattle.std.specs.List.{zip, list_all};
 ghost use Rattle.std.specs.Ordering.{nat_cmp};
@@ -8,7 +8,7 @@ ghost use Rattle.quorum_sets.specs.Votes.{joint_vote_result};
 ghost use Rattle.conf_change.specs.ConfState.{names_once};
 ghost use Rattle.confscript_c.specs.Answer.{no_memory};
 ghost use Rattle.confscript_c.specs.Quorums as says;
-ghost use Rattle.confscript_c.specs.Quorums.{committed_told, vote_told, may_be_down_told, voters_named, is_vote, is_yes};
+ghost use Rattle.confscript_c.specs.Quorums.{committed_answer, vote_answer, may_be_down_answer, voters_named, is_vote, is_yes};
 
 use crate::answer::Answer;
 use crate::status::Status;
@@ -18,8 +18,8 @@ use quorum_sets::{
 use std::alloc::Global;
 use std::collections::BTreeMap;
 
-/// The committed index of a pair of voter sets, or of one set where `outgoing` is empty: the id at each place of `ids` has
-/// acknowledged the index at that place, and an id that is not there counts as 0.
+/// The committed index of a pair of voter sets, or of one set where `outgoing` is empty: each id of `ids` has
+/// acknowledged the index at its position in `acknowledged`, and any other id has acknowledged 0.
 #[unsafe(no_mangle)]
 pub extern "C" fn confscript_committed(
     alloc: Global,
@@ -28,7 +28,7 @@ pub extern "C" fn confscript_committed(
     ids: &[u64],
     acknowledged: &[u64],
 ) -> Answer
-    ensures { (result ≡ no_memory) ⊎ (result ≡ committed_told incoming.now outgoing.now ids.now acknowledged.now) }
+    ensures { (result ≡ no_memory) ⊎ (result ≡ committed_answer incoming.now outgoing.now ids.now acknowledged.now) }
 {
     committed_answer(alloc, incoming, outgoing, ids, acknowledged).unwrap_or(Answer::no_memory())
 }
@@ -40,7 +40,7 @@ fn committed_answer(
     ids: &[u64],
     acknowledged: &[u64],
 ) -> Result<Answer, NoMemory>
-    ensures { IfOk result (λ told. told ≡ committed_told incoming.now outgoing.now ids.now acknowledged.now) }
+    ensures { IfOk result (λ answer. answer ≡ committed_answer incoming.now outgoing.now ids.now acknowledged.now) }
 {
     if ids.len() != acknowledged.len() {
         return Ok(Answer::new(Status::DifferentLengths, 0));
@@ -69,8 +69,8 @@ fn index_of(
     joint_committed(alloc, &incoming, &outgoing, &acks)
 }
 
-/// How the vote of a pair of voter sets stands, or of one set where `outgoing` is empty: the id at each place of `ids` said
-/// yes where the byte at that place is 1, and no where it is 0; an id that is not there has not voted.
+/// The result of a vote of a pair of voter sets, or of one set where `outgoing` is empty: an id of `ids` voted yes if the
+/// byte at its position in `votes` is 1, and no if it is 0; any other id has not voted.
 #[unsafe(no_mangle)]
 pub extern "C" fn confscript_vote(
     alloc: Global,
@@ -79,7 +79,7 @@ pub extern "C" fn confscript_vote(
     ids: &[u64],
     votes: &[u8],
 ) -> Answer
-    ensures { (result ≡ no_memory) ⊎ (result ≡ vote_told incoming.now outgoing.now ids.now votes.now) }
+    ensures { (result ≡ no_memory) ⊎ (result ≡ vote_answer incoming.now outgoing.now ids.now votes.now) }
 {
     vote_answer(alloc, incoming, outgoing, ids, votes).unwrap_or(Answer::no_memory())
 }
@@ -91,7 +91,7 @@ fn vote_answer(
     ids: &[u64],
     votes: &[u8],
 ) -> Result<Answer, NoMemory>
-    ensures { IfOk result (λ told. told ≡ vote_told incoming.now outgoing.now ids.now votes.now) }
+    ensures { IfOk result (λ answer. answer ≡ vote_answer incoming.now outgoing.now ids.now votes.now) }
 {
     if ids.len() != votes.len() {
         return Ok(Answer::new(Status::DifferentLengths, 0));
@@ -102,25 +102,25 @@ fn vote_answer(
     if !are_votes(votes) {
         return Ok(Answer::new(Status::BadVote, 0));
     }
-    let said = truths(alloc, votes)?;
-    let result = result_of(alloc, incoming, outgoing, ids, said.as_slice())?;
+    let yes = truths(alloc, votes)?;
+    let result = result_of(alloc, incoming, outgoing, ids, yes.as_slice())?;
     Ok(Answer::done(vote_number(result)))
 }
 
-// How the vote of the sets of two lists stands.
+// The result of a vote of the sets of two lists.
 fn result_of(
     alloc: Global,
     incoming: &[u64],
     outgoing: &[u64],
     ids: &[u64],
-    said: &[bool],
+    yes: &[bool],
 ) -> Result<VoteResult, NoMemory>
-    requires { length ids.now ≡ length said.now }
-    ensures { IfOk result (λ vote. vote ≡ joint_vote_result (voters_named incoming.now outgoing.now) (says.known ids.now said.now)) }
+    requires { length ids.now ≡ length yes.now }
+    ensures { IfOk result (λ vote. vote ≡ joint_vote_result (voters_named incoming.now outgoing.now) (says.known ids.now yes.now)) }
 {
     let incoming = InlineIds::of_list(alloc, incoming)?;
     let outgoing = InlineIds::of_list(alloc, outgoing)?;
-    let votes = known(alloc, ids, said)?;
+    let votes = known(alloc, ids, yes)?;
     Ok(joint_vote(&incoming, &outgoing, &votes))
 }
 
@@ -133,7 +133,7 @@ pub extern "C" fn confscript_may_be_down(
     outgoing: &[u64],
     uncounted: &[u64],
 ) -> Answer
-    ensures { (result ≡ no_memory) ⊎ (result ≡ may_be_down_told incoming.now outgoing.now uncounted.now) }
+    ensures { (result ≡ no_memory) ⊎ (result ≡ may_be_down_answer incoming.now outgoing.now uncounted.now) }
 {
     may_be_down_answer(alloc, incoming, outgoing, uncounted).unwrap_or(Answer::no_memory())
 }
@@ -144,7 +144,7 @@ fn may_be_down_answer(
     outgoing: &[u64],
     uncounted: &[u64],
 ) -> Result<Answer, NoMemory>
-    ensures { IfOk result (λ told. told ≡ may_be_down_told incoming.now outgoing.now uncounted.now) }
+    ensures { IfOk result (λ answer. answer ≡ may_be_down_answer incoming.now outgoing.now uncounted.now) }
 {
     let incoming = InlineIds::of_list(alloc, incoming)?;
     let outgoing = InlineIds::of_list(alloc, outgoing)?;
@@ -153,7 +153,7 @@ fn may_be_down_answer(
 }
 
 fn count_answer(count: Option<usize>) -> Answer
-    ensures { result ≡ says.count_told count }
+    ensures { result ≡ says.count_answer count }
 {
     match count {
         Some(count) => Answer::done(count as u64),
@@ -168,9 +168,9 @@ fn are_votes(votes: &[u8]) -> bool
     votes.iter().all(|byte| *byte == 0 || *byte == 1)
 }
 
-// What each byte says.
+// Whether each byte is a yes.
 fn truths(alloc: Global, votes: &[u8]) -> Result<Vec<bool>, NoMemory>
-    ensures { IfOk result (λ said. said.items ≡ map is_yes votes.now) }
+    ensures { IfOk result (λ truths. truths.items ≡ map is_yes votes.now) }
 {
     Ok(votes.iter().map(|byte| *byte == 1).collect(alloc)?)
 }
@@ -185,15 +185,15 @@ fn vote_number(vote: VoteResult) -> u64
     }
 }
 
-// Whether no id stands twice.
+// Whether each id is in the list once.
 fn names_once(alloc: Global, ids: &[u64]) -> Result<bool, NoMemory>
     ensures { IfOk result (λ once. once ≡ names_once ids.now) }
 {
     Ok(InlineIds::of_list(alloc, ids)?.len() == ids.len())
 }
 
-// What is known of each id: the value at its place. The last are put in first, for no reason but that the map is then
-// that of the list of pairs.
+// The value of each id: the one at its index. The last are inserted first, only because the map is then that of the list
+// of pairs.
 fn known<V: Copy + Drop>(
     alloc: Global,
     ids: &[u64],
@@ -203,8 +203,8 @@ fn known<V: Copy + Drop>(
     ensures { IfOk result (λ map. finite.from_entries {R = nat_cmp} map.entries ≡ says.known ids.now values.now) }
 {
     let mut map = BTreeMap::new(alloc);
-    for place in (0..ids.len()).rev() {
-        map.insert(ids[place], values[place])?;
+    for index in (0..ids.len()).rev() {
+        map.insert(ids[index], values[index])?;
     }
     Ok(map)
 }

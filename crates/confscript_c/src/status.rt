@@ -33,6 +33,8 @@ pub enum Status {
     DifferentLengths = 21,
     BadVote = 22,
     NoQuorum = 23,
+    BadStrategy = 24,
+    JointTarget = 25,
 }
 
 impl Status {
@@ -72,6 +74,8 @@ impl Status {
             Status::DifferentLengths => "not as many values as ids",
             Status::BadVote => "a vote is neither 0 nor 1",
             Status::NoQuorum => "the voters are no quorum",
+            Status::BadStrategy => "unknown strategy",
+            Status::JointTarget => "the target is joint",
         }
     }
 }
@@ -113,6 +117,8 @@ fn text_of_code(code: u32) -> &'static str
         21 => Status::DifferentLengths.text(),
         22 => Status::BadVote.text(),
         23 => Status::NoQuorum.text(),
+        24 => Status::BadStrategy.text(),
+        25 => Status::JointTarget.text(),
         _ => "unknown status",
     }
 }

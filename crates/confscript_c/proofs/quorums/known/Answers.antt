@@ -7,23 +7,23 @@ use Rattle.quorum_sets.proofs.Offered.{from_entries-inserted}
 use Rattle.confscript_c.proofs.Pairs.{zip-drop}
 use Rattle.confscript_c.proofs.quorums.known.Goals as goal
 
-pub loop-place-preserved : goal.loop-place-preserved
-loop-place-preserved g c =
+pub loop-index-preserved : goal.loop-index-preserved
+loop-index-preserved g c =
     let ids = c.args.ids.now in
     let values = c.args.values.now in
-    let k = c.loop-place.place in
-    let some = c.loop-place-test.true in
-    let few = c.loop-place.auto.place in
+    let k = c.loop-index.index in
+    let some = c.loop-index-test.true in
+    let few = c.loop-index.auto.index in
     let same = c.requires in
     let next : (k - 1) + 1 ≡ k = omega arith in
     let one : k - 1 < length ids = omega arith in
     let two : k - 1 < length values = omega arith in
-    from_entries-inserted c.loop-place.map c.insert.new.self (get_or ids (k - 1) 0) c.index-values-place.result c.in_ok-insert.ensures.updates
-    ∙ (λ j. finite.insert (c.loop-place.invariant j) (get_or ids (k - 1) 0) (c.index-values-place.is j))
-    ∙ sym (ap finite.from_entries (zip-drop ids values (k - 1) k 0 c.index-values-place.result next one two))
+    from_entries-inserted c.loop-index.map c.insert.new.self (get_or ids (k - 1) 0) c.index-values-index.result c.in_ok-insert.ensures.updates
+    ∙ (λ j. finite.insert (c.loop-index.invariant j) (get_or ids (k - 1) 0) (c.index-values-index.is j))
+    ∙ sym (ap finite.from_entries (zip-drop ids values (k - 1) k 0 c.index-values-index.result next one two))
 
-pub loop-place-init : goal.loop-place-init
-loop-place-init g c =
+pub loop-index-init : goal.loop-index-init
+loop-index-init g c =
     let ids = c.args.ids.now in
     let none : c.new-map.result.entries ≡ [] = c.new-map.ensures.empty in
     let past : length ids ≤ length ids = omega arith in
@@ -32,7 +32,7 @@ loop-place-init g c =
 
 pub returns : goal.returns
 returns g c =
-    let first = c.loop-place-test.false in
-    let at : c.loop-place.place ≡ 0 = omega arith in
-    let P : ℕ → Type 0 = λ n. finite.from_entries {R = nat_cmp} c.loop-place.map.entries ≡ finite.from_entries (zip (drop n c.args.ids.now) (drop n c.args.values.now)) in
-    subst P at c.loop-place.invariant
+    let first = c.loop-index-test.false in
+    let at : c.loop-index.index ≡ 0 = omega arith in
+    let P : ℕ → Type 0 = λ n. finite.from_entries {R = nat_cmp} c.loop-index.map.entries ≡ finite.from_entries (zip (drop n c.args.ids.now) (drop n c.args.values.now)) in
+    subst P at c.loop-index.invariant

@@ -1,5 +1,5 @@
-use Rattle.std.proofs.Common.{◌≡◌, ℕ, List, true, ap, inl, inr, ◌∙◌, sym}
-use Rattle.std.specs.Prelude.{Option, Some, None, Ok, Err, option_and_then}
+use Rattle.std.proofs.Common.{◌≡◌, ℕ, true, ap}
+use Rattle.std.specs.Prelude.{Option, Some, None, Ok, option_and_then}
 use Rattle.conf_change.specs.Configuration.{Configuration, is_valid, has_voter}
 use Rattle.conf_change.specs.ConfState.{ConfStateLists}
 use Rattle.conf_change.specs.Described.{described}
