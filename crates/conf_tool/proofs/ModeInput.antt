@@ -3,3 +3,4 @@
 pub mod PlaceReached
 pub mod Faults
 pub mod LineReplies
+pub mod JsonLines

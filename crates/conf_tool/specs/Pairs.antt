@@ -1,12 +1,17 @@
 -- The pairs of lines in the input of the mode `plan`: the first line of a pair is the current configuration, the second the target.
-use Rattle.std.specs.Prelude.{◌≡◌, ◌⊎◌, ℕ, ◌+◌, Bool, not, ◌||◌, List, [], ◌∷◌, filter, Result, Ok, Err}
-use Rattle.ascii_text.specs.WhiteSpace.{is_blank}
+use Rattle.std.specs.Prelude.{◌≡◌, ◌⊎◌, ℕ, ◌+◌, Bool, not, ◌||◌, List, [], ◌∷◌, filter, codes, nat_eq, Option, Some, None, option_and_then, Result, Ok, Err, if◌then◌else◌}
+use Rattle.std.specs.List.{starts_with}
+use Rattle.std.specs.Str.{is_utf8}
+use Rattle.serde_json.specs.Read.{read}
+use Rattle.raft_json.specs.ConfStateJson.{conf_state_of_json}
+use Rattle.ascii_text.specs.WhiteSpace.{is_blank, trimmed}
 use Rattle.dd_file.specs.Script.{is_comment}
 use Rattle.conf_change.specs.Configuration.{Configuration}
-use Rattle.conf_change.specs.Violation.{configuration_in}
+use Rattle.conf_change.specs.ConfState.{ConfStateLists}
+use Rattle.conf_change.specs.Violation.{valid_of, configuration_in}
 use Rattle.conf_change.specs.declared.configuration_line.ConfigurationFault.{ConfigurationFault}
 use Rattle.conf_tool.specs.declared.configurations_fault.ConfigurationsFault.{ConfigurationsFault}
-use Rattle.conf_tool.specs.declared.configurations_fault.ConfigurationsFault.TheVariants.{BadLine}
+use Rattle.conf_tool.specs.declared.configurations_fault.ConfigurationsFault.TheVariants.{BadLine, BadJson}
 use Rattle.conf_tool.specs.declared.tool_fault.ToolFault.{ToolFault}
 use Rattle.conf_tool.specs.declared.tool_fault.ToolFault.TheVariants.{Configurations, NoMemory}
 
@@ -33,9 +38,22 @@ abbrev pub at_line : ℕ → Result Configuration ConfigurationFault → Result 
 at_line number (Ok c) = Ok c
 at_line number (Err fault) = Err (BadLine number fault)
 
+-- a line that is read as JSON
+abbrev pub is_json : List ℕ → Bool
+is_json line = starts_with nat_eq (trimmed line) (codes "{")
+
+-- the saved configuration of which a line is the JSON
+abbrev pub saved_in_json : List ℕ → Option ConfStateLists
+saved_in_json line = if is_utf8 line then option_and_then conf_state_of_json (read line) else None
+
+-- the valid configuration that a saved form describes
+abbrev pub at_json : ℕ → Option ConfStateLists → Result Configuration ConfigurationsFault
+at_json number None = Err (BadJson number)
+at_json number (Some saved) = at_line number (valid_of saved)
+
 -- the valid configuration on a line
 abbrev pub configuration_at : NumberedLine → Result Configuration ConfigurationsFault
-configuration_at line = at_line line.number (configuration_in line.text)
+configuration_at line = if is_json line.text then at_json line.number (saved_in_json line.text) else at_line line.number (configuration_in line.text)
 
 -- two configurations, or what is wrong with the first, or else with the second
 abbrev pub both_of : Result Configuration ConfigurationsFault → Result Configuration ConfigurationsFault → Result (Configuration × Configuration) ConfigurationsFault

@@ -102,7 +102,7 @@ const PAIRS: &[u8] = b"# first\n\
     Voters:[1] VotersOutgoing:[] Learners:[] LearnersNext:[] AutoLeave:false\n  # target\n\
     Voters:[] VotersOutgoing:[] Learners:[1] LearnersNext:[] AutoLeave:false\n\
     Voters:[1] VotersOutgoing:[] Learners:[] LearnersNext:[] AutoLeave:false\n\
-    Voters:[1] VotersOutgoing:[] Learners:[2] LearnersNext:[] AutoLeave:false\n \n";
+    {\"learners\":[2],\"voters\":[1],\"voters_outgoing\":null}\n \n";
 
 const PLANS: &[u8] = b"simple v2\n\n# no plan: the target has no voter\n\nsimple l2\n";
 

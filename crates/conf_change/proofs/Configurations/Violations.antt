@@ -180,18 +180,20 @@ valid_of-described saved c e =
     ap (λ o. unless_violated (named_by saved) (option_or (option_map ListedTwice o) (violation_of (named_by saved)))) is.once
     ∙ ap (λ d. unless_violated d (violation_of d)) is.named
 
--- what a line names is valid
-pub is_valid-from_configuration_in : (line : List ℕ) (c : Configuration) → configuration_in line ≡ Ok c → is_valid c ≡ true
-is_valid-from_configuration_in line c e = by_line (conf_state_in line) e
+-- what a saved form or a line names is valid
+pub is_valid-from_valid_of : (saved : ConfStateLists) (c : Configuration) → valid_of saved ≡ Ok c → is_valid c ≡ true
+is_valid-from_valid_of saved c e = by_repeat (repeat_in saved) e
   where
     by_violation : (d : Configuration) (o : Option Violation) → violation_of d ≡ o → unless_violated d o ≡ Ok c → is_valid c ≡ true
     by_violation d None none e = let same : d ≡ c = cc in ap is_valid (sym same) ∙ is_valid-from_none d none
     by_violation d (Some violation) none e = cc
+    by_repeat : (o : Option ℕ) → unless_violated (named_by saved) (option_or (option_map ListedTwice o) (violation_of (named_by saved))) ≡ Ok c → is_valid c ≡ true
+    by_repeat None e = by_violation (named_by saved) (violation_of (named_by saved)) refl e
+    by_repeat (Some id) e = cc
 
-    by_repeat : (saved : ConfStateLists) (o : Option ℕ) → unless_violated (named_by saved) (option_or (option_map ListedTwice o) (violation_of (named_by saved))) ≡ Ok c → is_valid c ≡ true
-    by_repeat saved None e = by_violation (named_by saved) (violation_of (named_by saved)) refl e
-    by_repeat saved (Some id) e = cc
-
+pub is_valid-from_configuration_in : (line : List ℕ) (c : Configuration) → configuration_in line ≡ Ok c → is_valid c ≡ true
+is_valid-from_configuration_in line c e = by_line (conf_state_in line) e
+  where
     by_line : (o : Option ConfStateLists) → unless_bad o ≡ Ok c → is_valid c ≡ true
     by_line None e = cc
-    by_line (Some saved) e = by_repeat saved (repeat_in saved) e
+    by_line (Some saved) e = is_valid-from_valid_of saved c e

@@ -1,17 +1,18 @@
 -- That `plan` prints the texts of its pairs in turn, and that each pair is of valid configurations.
-use Rattle.std.proofs.Common.{◌≡◌, ℕ, ◌+◌, ◌≤◌, true, cond, List, [], ◌∷◌, ◌++◌, refl, ◌∙◌, ap, subst, arith, lt-ltb}
+use Rattle.std.proofs.Common.{◌≡◌, ℕ, ◌+◌, ◌≤◌, Bool, true, false, cond, List, [], ◌∷◌, ◌++◌, refl, ◌∙◌, ap, subst, arith, lt-ltb}
 use Rattle.std.specs.Prelude.{Option, Some, None, Result, Ok, Err, nat_lt, if◌then◌else◌}
 use Rattle.std.specs.List.{AllZip}
 use Rattle.std.proofs.lemmas.List.{append_assoc, append-nil}
 use Rattle.dd_file.specs.Reading.{listing_of}
 use Rattle.dd_file.specs.declared.fault.FileFault.{FileFault}
 use Rattle.conf_change.specs.Configuration.{Configuration, is_valid}
-use Rattle.conf_change.specs.Violation.{configuration_in}
+use Rattle.conf_change.specs.ConfState.{ConfStateLists}
+use Rattle.conf_change.specs.Violation.{valid_of, configuration_in}
 use Rattle.conf_change.specs.declared.configuration_line.ConfigurationFault.{ConfigurationFault}
-use Rattle.conf_change.proofs.Offered.{is_valid-from_configuration_in}
+use Rattle.conf_change.proofs.Offered.{is_valid-from_configuration_in, is_valid-from_valid_of}
 use Rattle.conf_tool.specs.Laws.{pair_before, named_pairs, pairs_in, texts_from, parted_by}
 use Rattle.conf_tool.specs.Outputs.{separator, pair_text, pair_then, ends_within, planned_pairs, planned_output}
-use Rattle.conf_tool.specs.Pairs.{NumberedLine, numbered, configuration_lines, at_line, configuration_at, both_of}
+use Rattle.conf_tool.specs.Pairs.{NumberedLine, numbered, configuration_lines, is_json, saved_in_json, at_line, at_json, configuration_at, both_of}
 use Rattle.conf_tool.specs.PlanAnswer.{plan_text_between}
 use Rattle.conf_tool.specs.declared.configurations_fault.ConfigurationsFault.{ConfigurationsFault}
 use Rattle.conf_tool.specs.declared.plan_options.PlanOptions.{PlanOptions}
@@ -27,8 +28,20 @@ named-valid : (number : ℕ) (line : List ℕ) (found : Result Configuration Con
 named-valid number line (Ok d) c is e = let same : d ≡ c = cc in is_valid-from_configuration_in line c (is ∙ ap Ok same)
 named-valid number line (Err fault) c is e = cc
 
+saved-valid : (number : ℕ) (saved : ConfStateLists) (found : Result Configuration ConfigurationFault) (c : Configuration) → valid_of saved ≡ found → ◌≡◌ {A = Found} (at_line number found) (Ok c) → is_valid c ≡ true
+saved-valid number saved (Ok d) c is e = let same : d ≡ c = cc in is_valid-from_valid_of saved c (is ∙ ap Ok same)
+saved-valid number saved (Err fault) c is e = cc
+
+json-valid : (number : ℕ) (saved : Option ConfStateLists) (c : Configuration) → ◌≡◌ {A = Found} (at_json number saved) (Ok c) → is_valid c ≡ true
+json-valid number None c e = cc
+json-valid number (Some saved) c e = saved-valid number saved (valid_of saved) c refl e
+
+either-valid : (json : Bool) (line : NumberedLine) (c : Configuration) → ◌≡◌ {A = Found} (cond json (at_json line.number (saved_in_json line.text)) (at_line line.number (configuration_in line.text))) (Ok c) → is_valid c ≡ true
+either-valid true line c e = json-valid line.number (saved_in_json line.text) c e
+either-valid false line c e = named-valid line.number line.text (configuration_in line.text) c refl e
+
 pub configuration_at-valid : (line : NumberedLine) (c : Configuration) → configuration_at line ≡ Ok c → is_valid c ≡ true
-configuration_at-valid line c e = named-valid line.number line.text (configuration_in line.text) c refl e
+configuration_at-valid line c e = either-valid (is_json line.text) line c e
 
 -- both configurations of a pair are valid
 pub record AreValid (pair : Pair) : Type 0 where
