@@ -9,9 +9,7 @@ pub enum ConfigurationsFault {
     #[error("line {0}: {1}")]
     BadLine(usize, ConfigurationFault),
     /// The line with this number begins with `{`, and is not the JSON of a saved configuration.
-    #[error(
-        "line {0}: bad JSON: expected {{\"voters\":[1,2],\"voters_outgoing\":[],\"learners\":[3],\"learners_next\":[],\"auto_leave\":false}}"
-    )]
+    #[error("line {0}: bad JSON: expected {{\"voters\":[1,2],\"voters_outgoing\":[],\"learners\":[3],\"learners_next\":[],\"auto_leave\":false}}")]
     BadJson(usize),
     /// The input has no pair of lines, or ends after the first line of one.
     #[error("expected two lines")]

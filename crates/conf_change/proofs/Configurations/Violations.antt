@@ -187,6 +187,7 @@ is_valid-from_valid_of saved c e = by_repeat (repeat_in saved) e
     by_violation : (d : Configuration) (o : Option Violation) → violation_of d ≡ o → unless_violated d o ≡ Ok c → is_valid c ≡ true
     by_violation d None none e = let same : d ≡ c = cc in ap is_valid (sym same) ∙ is_valid-from_none d none
     by_violation d (Some violation) none e = cc
+
     by_repeat : (o : Option ℕ) → unless_violated (named_by saved) (option_or (option_map ListedTwice o) (violation_of (named_by saved))) ≡ Ok c → is_valid c ≡ true
     by_repeat None e = by_violation (named_by saved) (violation_of (named_by saved)) refl e
     by_repeat (Some id) e = cc

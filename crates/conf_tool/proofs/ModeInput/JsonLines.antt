@@ -17,6 +17,7 @@ saved_in_json-none line never = by_test (is_utf8 line) refl
     by_saved : (o : Option ConfStateLists) → is_utf8 line ≡ true → option_and_then conf_state_of_json (read line) ≡ o → o ≡ None
     by_saved None text is = refl
     by_saved (Some saved) text is = absurd (never saved (IsUtf8-from_is_utf8 line text, is))
+
     by_test : (b : Bool) → is_utf8 line ≡ b → cond b (option_and_then conf_state_of_json (read line)) None ≡ None
     by_test true text = by_saved (option_and_then conf_state_of_json (read line)) text refl
     by_test false text = refl

@@ -225,7 +225,8 @@ const BAD_LINE: &str =
     "line 1: bad conf state: expected Voters:[1 2] VotersOutgoing:[] Learners:[3] LearnersNext:[] \
     AutoLeave:false";
 
-const BAD_JSON: &str = "line 3: bad JSON: expected {\"voters\":[1,2],\"voters_outgoing\":[],\"learners\":[3],\"learners_next\":[],\
+const BAD_JSON: &str =
+    "line 3: bad JSON: expected {\"voters\":[1,2],\"voters_outgoing\":[],\"learners\":[3],\"learners_next\":[],\
     \"auto_leave\":false}";
 
 static CONFIGURATIONS: [(ConfigurationsFault, &str); 5] = [
