@@ -19,7 +19,7 @@ use Rattle.conf_tool.specs.declared.mode.Mode.TheVariants.{Lines, Check, Rewrite
 use Rattle.conf_tool.specs.declared.options.Options.{Options}
 use Rattle.conf_tool.specs.declared.plan_options.PlanOptions.{PlanOptions}
 use Rattle.conf_tool.specs.declared.plan_options.PlanOutput.{PlanOutput}
-use Rattle.conf_tool.specs.declared.plan_options.PlanOutput.TheVariants.{Steps, Table}
+use Rattle.conf_tool.specs.declared.plan_options.PlanOutput.TheVariants.{Steps, Table, Json}
 use Rattle.conf_tool.specs.declared.status.Status.{Status}
 use Rattle.conf_tool.specs.declared.status.Status.TheVariants.{Clean, Different}
 use Rattle.conf_session.specs.declared.undo_fault.UndoFault.{UndoFault}
@@ -112,6 +112,7 @@ ends outcome = record { text = []; outcome = outcome }
 abbrev pub separator : PlanOutput → List ℕ
 separator Steps = newline
 separator Table = newline
+separator Json = []
 
 -- the text of the pair with this number, counted from 1
 abbrev pub pair_text : PlanOptions → ℕ → Configuration → Configuration → List ℕ

@@ -1,26 +1,39 @@
 -- The output of the mode `plan`: the plan between two configurations, or why there is none.
-use Rattle.std.specs.Prelude.{ℕ, List, Option, Some, None, codes, if◌then◌else◌}
+use Rattle.std.specs.Prelude.{ℕ, List, ◌++◌, Option, Some, None, codes, if◌then◌else◌}
 use Rattle.quorum_sets.specs.Ids.{Ids}
 use Rattle.conf_change.specs.Configuration.{Configuration, has_voter}
 use Rattle.conf_change.specs.declared.step.Step.{Step}
 use Rattle.conf_plan.specs.PathBy.{has_path, path_by}
 use Rattle.conf_plan.specs.PlanText.{plan_text}
+use Rattle.ascii_text.specs.Lines.{newline}
+use Rattle.plan_output.specs.Json.{json_text, line_text, no_plan_json}
 use Rattle.plan_output.specs.Stages.{stalls}
 use Rattle.plan_output.specs.Table.{table_text}
 use Rattle.conf_tool.specs.declared.plan_options.PlanOptions.{PlanOptions}
 use Rattle.conf_tool.specs.declared.plan_options.PlanOutput.{PlanOutput}
-use Rattle.conf_tool.specs.declared.plan_options.PlanOutput.TheVariants.{Steps, Table}
+use Rattle.conf_tool.specs.declared.plan_options.PlanOutput.TheVariants.{Steps, Table, Json}
 use Rattle.conf_tool.specs.declared.status.Status.{Status}
 use Rattle.conf_tool.specs.declared.status.Status.TheVariants.{Clean, Different}
 
--- the text of a path from a configuration, with these ids down
-abbrev pub text_as : PlanOutput → Option Ids → Configuration → List Step → List ℕ
-text_as Steps down now steps = plan_text steps
-text_as Table down now steps = table_text now steps down
+-- the text of a path from a configuration, for the pair with this number and with these ids down
+abbrev pub text_as : PlanOutput → ℕ → Option Ids → Configuration → List Step → List ℕ
+text_as Steps number down now steps = plan_text steps
+text_as Table number down now steps = table_text now steps down
+text_as Json number down now steps = json_text number now steps down
 
 -- the same by the options
-abbrev pub path_text : PlanOptions → Configuration → List Step → List ℕ
-path_text options now steps = text_as options.output options.down now steps
+abbrev pub path_text : PlanOptions → ℕ → Configuration → List Step → List ℕ
+path_text options number now steps = text_as options.output number options.down now steps
+
+-- a comment that says why there is no plan
+abbrev pub no_plan_comment : List ℕ → List ℕ
+no_plan_comment why = codes "# no plan: " ++ why ++ newline
+
+-- why the pair with this number has no plan
+abbrev pub no_plan_text : PlanOutput → ℕ → List ℕ → List ℕ
+no_plan_text Steps number why = no_plan_comment why
+no_plan_text Table number why = no_plan_comment why
+no_plan_text Json number why = line_text (no_plan_json number why)
 
 -- different if ids are down and the path stalls
 abbrev pub path_status : Option Ids → Configuration → List Step → Status
@@ -30,8 +43,9 @@ path_status (Some down) now steps = if stalls now steps down then Different else
 -- the text of the path by the strategy, or why there is none
 abbrev pub plan_text_between : PlanOptions → ℕ → Configuration → Configuration → List ℕ
 plan_text_between options number now target =
-    if has_voter now then (if has_voter target then (if has_path options.strategy now target then path_text options now (path_by options.strategy now target)
-    else codes "# no plan: the target is joint\n") else codes "# no plan: the target has no voter\n") else codes "# no plan: the current configuration has no voter\n"
+    if has_voter now then (if has_voter target then (if has_path options.strategy now target then path_text options number now (path_by options.strategy now target)
+    else no_plan_text options.output number (codes "the target is joint")) else no_plan_text options.output number (codes "the target has no voter"))
+    else no_plan_text options.output number (codes "the current configuration has no voter")
 
 -- different if there is no plan, or if it stalls
 abbrev pub plan_status : PlanOptions → Configuration → Configuration → Status

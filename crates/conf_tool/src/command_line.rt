@@ -46,7 +46,7 @@ pub fn command_line<'a, S: AsStr>(
     let names = OptionNames {
         floors: &["0", "1"],
         strategies: &["shortest", "learners-first", "one-at-a-time"],
-        outputs: &["steps", "table"],
+        outputs: &["steps", "table", "json"],
     };
     read_words(alloc, words, names)
 }
@@ -198,6 +198,7 @@ fn output_named(name: &str) -> PlanOutput
 {
     match name {
         "table" => PlanOutput::Table,
+        "json" => PlanOutput::Json,
         _ => PlanOutput::Steps,
     }
 }

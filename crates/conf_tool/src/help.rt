@@ -151,6 +151,7 @@ Strategies:
 Outputs:
   steps   one step a line
   table   who votes and learns at each step, and what the cluster endures there
+  json    an object for each step, with what is proposed to etcd for it
 
 A plan does not see logs: a new member begins with an empty one. From [1 2 3] to
 [3 4 5] the shortest plan commits nothing until 4 or 5 has caught up.

@@ -1,7 +1,7 @@
 //! What the mode `plan` answers: the plan between two configurations, or why there is none.
 ghost use Rattle.std.specs.Prelude.{◌≡◌, true, IfOk, IsOkUnless};
 ghost use Rattle.conf_change.specs.Configuration.{is_valid, is_restorable};
-ghost use Rattle.conf_tool.specs.PlanAnswer.{path_status, path_text, plan_text_between, plan_status};
+ghost use Rattle.conf_tool.specs.PlanAnswer.{no_plan_comment, no_plan_text, path_status, path_text, plan_text_between, plan_status};
 ghost use Rattle.conf_tool.specs.declared.tool_fault.ToolFault.TheVariants.{NoMemory as OutOfMemory};
 
 use crate::plan_options::{PlanOptions, PlanOutput};
@@ -10,7 +10,7 @@ use crate::tool_fault::ToolFault;
 use conf_change::Config;
 use conf_plan::{NoPath, Path, plan_by, print_path};
 use conf_session::SessionIds;
-use plan_output::{add_table, stalls};
+use plan_output::{add_json_lines, add_no_plan_line, add_table, stalls};
 use quorum_sets::NoMemory;
 use std::alloc::Global;
 
@@ -30,13 +30,17 @@ pub(crate) fn plan_answer(
     ensures memory { IsOkUnless result OutOfMemory }
 {
     match plan_by(alloc, options.strategy, now, target) {
-        Ok(path) => path_answer(alloc, options, now, &path),
+        Ok(path) => path_answer(alloc, options, number, now, &path),
         Err(NoPath::NoVoterNow) => no_plan(
             alloc,
-            b"# no plan: the current configuration has no voter\n",
+            options.output,
+            number,
+            "the current configuration has no voter",
         ),
-        Err(NoPath::NoVoterTarget) => no_plan(alloc, b"# no plan: the target has no voter\n"),
-        Err(NoPath::JointTarget) => no_plan(alloc, b"# no plan: the target is joint\n"),
+        Err(NoPath::NoVoterTarget) => {
+            no_plan(alloc, options.output, number, "the target has no voter")
+        }
+        Err(NoPath::JointTarget) => no_plan(alloc, options.output, number, "the target is joint"),
         Err(NoPath::NoMemory) => Err(ToolFault::NoMemory),
     }
 }
@@ -45,15 +49,16 @@ pub(crate) fn plan_answer(
 fn path_answer(
     alloc: Global,
     options: &PlanOptions,
+    number: u64,
     now: &Config<SessionIds>,
     path: &Path,
 ) -> Result<(Vec<u8>, Status), ToolFault>
     requires { is_restorable now.now ≡ true }
-    ensures text { IfOk result (λ answer. answer.0.items ≡ path_text options.now now.now path.now) }
+    ensures text { IfOk result (λ answer. answer.0.items ≡ path_text options.now number now.now path.now) }
     ensures status { IfOk result (λ answer. answer.1 ≡ path_status options.now.down now.now path.now) }
     ensures memory { IsOkUnless result OutOfMemory }
 {
-    let text = path_text(alloc, options, now, path)?;
+    let text = path_text(alloc, options, number, now, path)?;
     let status = path_status(alloc, options, now, path)?;
     Ok((text, status))
 }
@@ -62,16 +67,19 @@ fn path_answer(
 fn path_text(
     alloc: Global,
     options: &PlanOptions,
+    number: u64,
     now: &Config<SessionIds>,
     path: &Path,
 ) -> Result<Vec<u8>, NoMemory>
     requires { is_restorable now.now ≡ true }
-    ensures { IfOk result (λ text. text.items ≡ path_text options.now now.now path.now) }
+    ensures { IfOk result (λ text. text.items ≡ path_text options.now number now.now path.now) }
 {
     let mut text = Vec::new(alloc);
+    let down = options.down.as_ref();
     match options.output {
         PlanOutput::Steps => print_path(&mut text, path)?,
-        PlanOutput::Table => add_table(alloc, &mut text, now, path, options.down.as_ref())?,
+        PlanOutput::Table => add_table(alloc, &mut text, now, path, down)?,
+        PlanOutput::Json => add_json_lines(alloc, &mut text, number, now, path, down)?,
     }
     Ok(text)
 }
@@ -92,11 +100,46 @@ fn path_status(
     }
 }
 
-// Why there is no plan.
-fn no_plan(alloc: Global, why: &[u8]) -> Result<(Vec<u8>, Status), ToolFault>
-    ensures text { IfOk result (λ answer. answer.0.items ≡ why.now) }
+// Why the pair with this number has no plan.
+fn no_plan(
+    alloc: Global,
+    output: PlanOutput,
+    number: u64,
+    why: &str,
+) -> Result<(Vec<u8>, Status), ToolFault>
+    ensures text { IfOk result (λ answer. answer.0.items ≡ no_plan_text output number why.now) }
     ensures status { IfOk result (λ answer. answer.1 ≡ Status.Different) }
     ensures memory { IsOkUnless result OutOfMemory }
 {
-    Ok((why.to_vec(alloc)?, Status::Different))
+    let text = no_plan_text(alloc, output, number, why)?;
+    Ok((text, Status::Different))
+}
+
+// The text that says it.
+fn no_plan_text(
+    alloc: Global,
+    output: PlanOutput,
+    number: u64,
+    why: &str,
+) -> Result<Vec<u8>, NoMemory>
+    ensures { IfOk result (λ text. text.items ≡ no_plan_text output number why.now) }
+{
+    match output {
+        PlanOutput::Steps | PlanOutput::Table => no_plan_comment(alloc, why),
+        PlanOutput::Json => {
+            let mut text = Vec::new(alloc);
+            add_no_plan_line(alloc, &mut text, number, why)?;
+            Ok(text)
+        }
+    }
+}
+
+// A comment that says why there is no plan.
+fn no_plan_comment(alloc: Global, why: &str) -> Result<Vec<u8>, NoMemory>
+    ensures { IfOk result (λ text. text.items ≡ no_plan_comment why.now) }
+{
+    let mut text = Vec::from_slice(alloc, b"# no plan: ")?;
+    text.extend_from_slice(why.as_bytes())?;
+    text.push(b'\n')?;
+    Ok(text)
 }

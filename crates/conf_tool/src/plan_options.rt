@@ -13,6 +13,8 @@ pub enum PlanOutput {
     Steps,
     /// A row for the current configuration and one for each step, with what the cluster endures there.
     Table,
+    /// An object for each step, for programs that embed etcd's raft.
+    Json,
 }
 
 /// The strategy of a plan, the form in which it is printed, and the ids that are down, if any are given.

@@ -28,7 +28,7 @@ between-voters : (options : PlanOptions) (number : ℕ) (now target : Configurat
     plan_text_between options number now target ≡ plan_text (planned now target)
 between-voters options number now target shortest steps a b =
     text-of_path options number now target a b (ap (λ s. has_path s now target) shortest)
-    ∙ (λ i. text_as (steps i) options.down now (path_by (shortest i) now target))
+    ∙ (λ i. text_as (steps i) number options.down now (path_by (shortest i) now target))
 
 status-voters : (options : PlanOptions) (now target : Configuration) → options.strategy ≡ Shortest → options.down ≡ None → has_voter now ≡ true → has_voter target ≡ true → plan_status options now target ≡ Clean
 status-voters options now target shortest none a b =

@@ -17,7 +17,7 @@ use Rattle.conf_tool.proofs.Theorems.PairByPair.{Pair, AreValid, each-named, pla
 
 -- where there is a path, its text is printed
 pub text-of_path : (options : PlanOptions) (number : ℕ) (now target : Configuration) → has_voter now ≡ true → has_voter target ≡ true → has_path options.strategy now target ≡ true →
-    plan_text_between options number now target ≡ path_text options now (path_by options.strategy now target)
+    plan_text_between options number now target ≡ path_text options number now (path_by options.strategy now target)
 text-of_path options number now target a b p = simp (a, b, p) refl
 
 pub status-of_path : (options : PlanOptions) (now target : Configuration) → has_voter now ≡ true → has_voter target ≡ true → has_path options.strategy now target ≡ true →
@@ -30,7 +30,7 @@ AllServe = (strategy : Strategy) (now target : Configuration) → IsValidWithVot
 pair-serves : AllServe → (options : PlanOptions) → options.output ≡ Steps → (number : ℕ) (pair : Pair) → AreValid pair → IsServingPath options.strategy pair (plan_text_between options number pair.0 pair.1)
 pair-serves serve options steps number pair valid = λ voter_now voter_target path. (
   path_by options.strategy pair.0 pair.1,
-  text-of_path options number pair.0 pair.1 voter_now voter_target path ∙ ap (λ output. text_as output options.down pair.0 (path_by options.strategy pair.0 pair.1)) steps,
+  text-of_path options number pair.0 pair.1 voter_now voter_target path ∙ ap (λ output. text_as output number options.down pair.0 (path_by options.strategy pair.0 pair.1)) steps,
   serve options.strategy pair.0 pair.1 (record { valid = valid.now; voter = voter_now }) (record { valid = valid.target; voter = voter_target }) path,
 )
 

@@ -123,6 +123,7 @@ fn separator(output: PlanOutput) -> &'static [u8]
 {
     match output {
         PlanOutput::Steps | PlanOutput::Table => b"\n",
+        PlanOutput::Json => b"",
     }
 }
 

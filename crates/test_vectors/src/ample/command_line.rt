@@ -173,7 +173,7 @@ fn takes_words_to_undo(rt: HostRuntime) {
 }
 
 // Words for the mode that plans, and the strategy, the output and the ids that are down.
-static PLANNING: [(&[&str], Strategy, PlanOutput, Option<&[u64]>); 8] = [
+static PLANNING: [(&[&str], Strategy, PlanOutput, Option<&[u64]>); 9] = [
     (
         &["confscript", "plan"],
         Strategy::Shortest,
@@ -209,6 +209,12 @@ static PLANNING: [(&[&str], Strategy, PlanOutput, Option<&[u64]>); 8] = [
         Strategy::Shortest,
         PlanOutput::Table,
         Some(&[4]),
+    ),
+    (
+        &["confscript", "plan", "--output", "json"],
+        Strategy::Shortest,
+        PlanOutput::Json,
+        None,
     ),
     (
         &["confscript", "plan", "--down=6,4,06", "f"],
