@@ -7,7 +7,7 @@ use Rattle.quorum_sets.proofs.Offered.{has-no_ids}
 use Rattle.conf_change.specs.Configuration.{Configuration, is_valid, is_joint, has_voter}
 use Rattle.conf_change.specs.Change.{result_of, last_effective, is_learner_after, is_next_after}
 use Rattle.conf_change.specs.Outcome.{outcome, with_outgoing, after_leave, leave_outcome}
-use Rattle.conf_change.specs.Transition.{step_taken}
+use Rattle.conf_change.specs.Transition.{step_for}
 use Rattle.conf_change.specs.declared.change.Change.{Change}
 use Rattle.conf_change.specs.declared.change.Kind.{Kind}
 use Rattle.conf_change.specs.declared.change.Kind.TheVariants.{Voter, Learner, Remove, Update}
@@ -122,7 +122,7 @@ pub simple-proposed : (before after : Configuration) (changes : List Change) →
 simple-proposed before after [] valid voter e =
     let least = least_voter before voter in
     let update : List Change = update_of (Some least.0) in
-    ap (λ o. settled before (step_taken Auto (update_of o))) least.1
+    ap (λ o. settled before (step_for Auto (update_of o))) least.1
     ∙ ap settles (simple_by_result before update [] (result_of-update_of before (Some least.0)))
     ∙ settled-simple before after [] valid e
 simple-proposed before after (change ∷ []) valid voter e = settled-simple before after (change ∷ []) valid e

@@ -3,7 +3,7 @@ use Rattle.std.specs.Prelude.{ℕ, true, false, List, [], ◌∷◌, Option, Som
 use Rattle.quorum_sets.specs.Ids.{ascending}
 use Rattle.conf_change.specs.Configuration.{Configuration}
 use Rattle.conf_change.specs.Outcome.{Outcome, outcome, leave_outcome}
-use Rattle.conf_change.specs.Transition.{step_taken}
+use Rattle.conf_change.specs.Transition.{step_for}
 use Rattle.conf_change.specs.declared.change.Change.{Change}
 use Rattle.conf_change.specs.declared.change.Kind.TheVariants.{Update}
 use Rattle.conf_change.specs.declared.step.Step.{Step}
@@ -36,7 +36,7 @@ transition_of LeaveJoint = Auto
 
 -- the step that etcd takes for the proposal
 abbrev pub proposed_step : Configuration → Step → Step
-proposed_step c step = step_taken (transition_of step) (proposed_changes c step)
+proposed_step c step = step_for (transition_of step) (proposed_changes c step)
 
 -- a joint configuration with auto-leave is left automatically
 abbrev pub settles : Outcome → Outcome

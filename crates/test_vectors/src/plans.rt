@@ -232,7 +232,7 @@ fn leads<S: MemberSet>(
 }
 
 // How many steps of a plan a changer takes: all of them, unless memory runs out.
-fn steps_taken<S: MemberSet>(changer: &mut Changer<S>, plan: &Plan) -> Option<usize> {
+fn steps_for<S: MemberSet>(changer: &mut Changer<S>, plan: &Plan) -> Option<usize> {
     match apply_plan(changer, plan) {
         Ok(()) => Some(plan.len()),
         Err(
@@ -266,12 +266,12 @@ fn takes<S: MemberSet>(
     shown: &[Shown],
 ) -> bool {
     let whole = Some(plan.len());
-    let steps = steps_taken(changer, plan);
+    let steps = steps_for(changer, plan);
     let stands = is_shown_after(alloc, changer, steps, shown);
     if steps == whole {
         return stands;
     }
-    stands & (steps_taken(other, plan) == whole) & is_shown_after(alloc, other, whole, shown)
+    stands & (steps_for(other, plan) == whole) & is_shown_after(alloc, other, whole, shown)
 }
 
 // Whether the members of a changer acknowledge these indexes.
