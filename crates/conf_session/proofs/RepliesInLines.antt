@@ -112,7 +112,7 @@ FirstBads = (text : List ℕ) (bad : BadToken) → changes_in text ≡ Err bad �
 bad-in_lines : FirstBads → (text : List ℕ) (bad : BadToken) → changes_in text ≡ Err bad → is_reply_line (bad_token_text bad) ≡ true
 bad-in_lines first_bads text bad e =
     let is : IsFirstBad (words text) bad = first_bads text bad e in
-    token-in_lines bad (bytes-black (token_of bad) (among is.before (token_of bad) is.after (ap (list_all has_no_white) (sym is.place) ∙ words-whole text)))
+    token-in_lines bad (bytes-black (token_of bad) (among is.before (token_of bad) is.after (ap (list_all has_no_white) (sym is.position) ∙ words-whole text)))
 
 input-in_lines : FirstBads → (kind : InputKind) (text found : List ℕ) → read_input kind text ≡ Err found → IsReplyText found
 input-in_lines first_bads Changes text found e = at (changes_in text) refl e where
