@@ -91,8 +91,8 @@ impl Undoing {
         if plan.len() == 0 {
             return self.write_comment(b"nothing to do", writer);
         }
-        for place in 0..plan.len() {
-            if let Some(step) = plan.step(place) {
+        for index in 0..plan.len() {
+            if let Some(step) = plan.step(index) {
                 let directive = step_directive(self.alloc, step)?;
                 self.write_item(directive, writer)?;
             }

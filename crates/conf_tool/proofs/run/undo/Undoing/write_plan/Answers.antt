@@ -23,30 +23,30 @@ returns-then-len-eq0-clause-part g c =
     (subst (λ items. BreaksOff c.args.self.now.rewriter.newlines (g.W.Sink.contents c.args.writer.now) (g.W.Sink.contents c.write_comment.new.writer) (obeyed_text c.args.self.now.session items))
     (sym (no-steps c.args.plan.now none))) c.write_comment.ensures.part
 
-pub loop-place-preserved : goal.loop-place-preserved
-loop-place-preserved g c = elim c.match-step.branch [
+pub loop-index-preserved : goal.loop-index-preserved
+loop-index-preserved g c = elim c.match-step.branch [
   | in-Some+in_ok-directive+in_ok-write_item w ↦
-      let so_far = c.loop-place.invariant in
+      let so_far = c.loop-index.invariant in
       rw (w.self-is, w.writer-is) (record {
-        so_far = steps-more _ _ _ _ _ _ _ _ _ c.args.plan.now c.loop-place.place w.in-Some.step.now w.in_ok-directive.directive (sym w.in-Some.ensures) w.in_ok-directive.ensures so_far.so_far
+        so_far = steps-more _ _ _ _ _ _ _ _ _ c.args.plan.now c.loop-index.index w.in-Some.step.now w.in_ok-directive.directive (sym w.in-Some.ensures) w.in_ok-directive.ensures so_far.so_far
             w.in_ok-write_item.ensures.session w.in_ok-write_item.ensures.written;
         ready = w.in_ok-write_item.ensures.stage;
         unfailed = w.in_ok-write_item.ensures.write ∙ or-false _ ∙ so_far.unfailed;
       })
-  | in_default w ↦ slice_get-not_past c.args.plan.now c.loop-place.place c.len-place-end.result w.in_default.ensures c.len-place-end.ensures.len c.loop-place-test.true
+  | in_default w ↦ slice_get-not_past c.args.plan.now c.loop-index.index c.len-index-end.result w.in_default.ensures c.len-index-end.ensures.len c.loop-index-test.true
 ]
 
 pub returns-in_err-directive-clause-part : goal.returns-in_err-directive-clause-part
 returns-in_err-directive-clause-part g c =
     let p = err_from_is_err_and c.from_residual.result c.from_residual.ensures.1 in
-    rw p.1 (steps-stopped _ _ _ _ _ _ c.args.plan.now c.loop-place.place c.in-Some.step.now (sym c.in-Some.ensures) c.loop-place.invariant.so_far)
+    rw p.1 (steps-stopped _ _ _ _ _ _ c.args.plan.now c.loop-index.index c.in-Some.step.now (sym c.in-Some.ensures) c.loop-index.invariant.so_far)
 
 pub returns-in_err-write_item-clause-part : goal.returns-in_err-write_item-clause-part
 returns-in_err-write_item-clause-part g c =
     let p = err_from_is_err_and c.from_residual-in_err-write_item.result c.from_residual-in_err-write_item.ensures.1 in
-    rw p.1 (steps-broken _ _ _ _ _ _ _ c.args.plan.now c.loop-place.place c.in-Some.step.now _ (sym c.in-Some.ensures) c.in_ok-directive.ensures c.loop-place.invariant.so_far c.in_err-write_item.ensures.part)
+    rw p.1 (steps-broken _ _ _ _ _ _ _ c.args.plan.now c.loop-index.index c.in-Some.step.now _ (sym c.in-Some.ensures) c.in_ok-directive.ensures c.loop-index.invariant.so_far c.in_err-write_item.ensures.part)
 
 pub returns-clause-written : goal.returns-clause-written
 returns-clause-written g c =
-    steps-over _ _ _ _ _ _ c.args.plan.now c.loop-place.place c.len-place-end.result c.len-place-end.ensures.len (λ none. c.if-len-eq0.false (c.len.ensures.len ∙ sym c.len-place-end.ensures.len ∙ none))
-    c.loop-place-test.false c.loop-place.invariant.so_far
+    steps-over _ _ _ _ _ _ c.args.plan.now c.loop-index.index c.len-index-end.result c.len-index-end.ensures.len (λ none. c.if-len-eq0.false (c.len.ensures.len ∙ sym c.len-index-end.ensures.len ∙ none))
+    c.loop-index-test.false c.loop-index.invariant.so_far
