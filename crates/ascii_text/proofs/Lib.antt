@@ -1,7 +1,7 @@
 pub mod Offered
 mod AppendedTexts
 mod WhiteSpace
-mod WordLemmas
+mod TokenLemmas
 mod LineEnds
 mod FullLines
 mod NumberLemmas

@@ -1,5 +1,5 @@
 pub mod Append
 pub mod WhiteSpace
-pub mod Words
+pub mod Tokens
 pub mod Lines
 pub mod Number

@@ -5,12 +5,12 @@ use Rattle.std.specs.Prelude.{ℕ, suc, Bool, false, List, [], ◌∷◌, ◌++�
 abbrev pub newline : List ℕ
 newline = 10 ∷ []
 
--- a byte in front of the first full line
+-- a byte before the first full line
 abbrev pub before_first_line : ℕ → List (List ℕ) → List (List ℕ)
 before_first_line b [] = (b ∷ []) ∷ []
 before_first_line b (full_line ∷ full_lines) = (b ∷ full_line) ∷ full_lines
 
--- the full lines of a text: it is cut after each newline; the last one has no newline if the text does not end in one
+-- the full lines of a text: it is split after each newline; the last one has no newline if the text does not end in one
 abbrev pub full_lines : List ℕ → List (List ℕ)
 full_lines [] = []
 full_lines (b ∷ bs) = if b == 10 then newline ∷ full_lines bs else before_first_line b (full_lines bs)

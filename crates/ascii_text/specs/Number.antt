@@ -2,7 +2,7 @@
 use Rattle.std.specs.Prelude.{◌≡◌, ℕ, ◌<◌, ◌^◌, ◌&&◌, List, Option, Some, None, nat_lt, if◌then◌else◌}
 use Rattle.std.specs.Str.{all_ascii_digits}
 use Rattle.std.specs.Str.Parse.{IsNumeral, digits_value}
-use Rattle.ascii_text.specs.Words.{has_bytes}
+use Rattle.ascii_text.specs.Tokens.{has_bytes}
 
 -- the bytes are decimal digits of this value
 pub record ParsesToNumber (digits : List ℕ) (number : ℕ) : Type 0 where

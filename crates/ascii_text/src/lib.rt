@@ -1,13 +1,13 @@
-//! White space, words, lines and numbers in a text of bytes, and the calls that append to one.
+//! White space, tokens, lines and numbers in a text of bytes, and the calls that append to one.
 //!
-//! Configurations, plans and script files are all read from the same bytes, so what a word or a line is stands here once.
-//! White space is the six bytes 9 to 13 and 32. A word is a run of bytes that are not white space. A line ends before its
+//! Configurations, plans and script files are all read from the same bytes, so what a token or a line is stands here once.
+//! White space is the six bytes 9 to 13 and 32. A token is a run of bytes that are not white space. A line ends before its
 //! newline, and one carriage return before the newline is dropped. A number is decimal digits, of at most 2^64-1. Bytes
-//! above 127 have no meaning of their own: they are part of a word or a line like any other byte.
+//! above 127 have no meaning of their own: they are part of a token or a line like any other byte.
 //!
 //! ```text
 //! "simple v1\r\nv2\n"
-//!    word     simple
+//!    token    simple
 //!    line     simple v1
 //!    the rest v2\n
 //! ```
@@ -18,7 +18,7 @@ pub mod lines;
 mod no_memory;
 pub mod number;
 pub mod position;
+pub mod tokens;
 pub mod white_space;
-pub mod words;
 
 pub use no_memory::NoMemory;

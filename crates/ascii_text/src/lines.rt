@@ -18,8 +18,8 @@ pub fn first_line_len(bytes: &[u8]) -> usize
 /// The first full line of a text, and the text after it. An empty text has none (own).
 pub fn next_full_line(text: &[u8]) -> Option<(&[u8], &[u8])>
     ensures full_lines { MatchOption result (full_lines text.now ≡ [])
-        (λ found. full_lines text.now ≡ found.0.now ∷ full_lines found.1.now) }
-    ensures shorter { IfSome result (λ found. length found.1.now < length text.now) }
+        (λ parts. full_lines text.now ≡ parts.0.now ∷ full_lines parts.1.now) }
+    ensures shorter { IfSome result (λ parts. length parts.1.now < length text.now) }
 {
     if text.is_empty() {
         return None;

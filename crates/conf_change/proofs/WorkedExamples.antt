@@ -10,7 +10,7 @@ use Rattle.conf_change.specs.Progress.{keeps_progress}
 use Rattle.conf_change.specs.declared.config.Invariant.TheVariants.{ZeroId, NextNotOutgoing, NextAndIncoming}
 use Rattle.conf_change.specs.declared.refused.Refused.TheVariants.{NotJoint, ZeroVoterJoint, SimpleInJoint, RemovedAllVoters}
 use Rattle.conf_change.specs.declared.step.Step.TheVariants.{Simple, EnterJoint}
-use Rattle.ascii_text.specs.Words.{words}
+use Rattle.ascii_text.specs.Tokens.{tokens_in}
 use Rattle.conf_change.specs.ChangeList.{changes_in, unknown_token, unknown_input, bad_number}
 use Rattle.conf_change.specs.ConfStateLine.{conf_state_in}
 use Rattle.conf_change.specs.ConfState.{ConfStateLists, restored}
@@ -58,8 +58,8 @@ nobody_4 : (has (result_of one_voter many).incoming 4 ≡ false) × (has (result
 nobody_4 = (has-incoming_after one_voter many 4, has-learners_after one_voter many 4)
 
 -- ---- texts
-two_words : words (codes " v1 \n l2") ≡ codes "v1" ∷ codes "l2" ∷ []
-two_words = refl
+two_tokens : tokens_in (codes " v1 \n l2") ≡ codes "v1" ∷ codes "l2" ∷ []
+two_tokens = refl
 
 read_two : changes_in (codes " v1 \n l02") ≡ Ok (change Voter 1 ∷ change Learner 2 ∷ [])
 read_two = refl

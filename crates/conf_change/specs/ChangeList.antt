@@ -1,7 +1,7 @@
 -- Change lists: which changes a text denotes, and what is wrong with a text that denotes none.
 use Rattle.std.specs.Prelude.{◌≡◌, ◌≢◌, ℕ, ◌<◌, ◌==◌, List, [], ◌∷◌, ◌++◌, length, slice_index, Option, Some, None, Result, Ok, Err, if◌then◌else◌}
 use Rattle.std.specs.List.{AllZip}
-use Rattle.ascii_text.specs.Words.{words}
+use Rattle.ascii_text.specs.Tokens.{tokens_in}
 use Rattle.ascii_text.specs.Number.{ParsesToNumber, number_in}
 use Rattle.conf_change.specs.declared.change.Change.{Change}
 use Rattle.conf_change.specs.declared.change.Kind.{Kind}
@@ -24,7 +24,7 @@ pub record ParsesTo (token : List ℕ) (change : Change) : Type 0 where
 
 -- the text denotes these changes: its tokens parse to them, one token per change
 abbrev pub Denotes : List ℕ → List Change → Type 0
-Denotes text changes = AllZip ParsesTo (words text) changes
+Denotes text changes = AllZip ParsesTo (tokens_in text) changes
 
 -- a bad token, with the reason
 pub data BadToken : Type 0 where
@@ -96,4 +96,4 @@ changes_in_tokens (token ∷ tokens) = and_more (change_in token) (changes_in_to
 
 -- the changes that a text denotes, or its first bad token
 abbrev pub changes_in : List ℕ → Result (List Change) BadToken
-changes_in text = changes_in_tokens (words text)
+changes_in text = changes_in_tokens (tokens_in text)

@@ -1,7 +1,7 @@
 -- ConfState lines: how one is printed, and which ConfState a text denotes.
 use Rattle.std.specs.Prelude.{◌≡◌, ℕ, Bool, true, false, ◌==◌, List, [], ◌∷◌, ◌++◌, length, take, drop, codes, Option, Some, None, option_map, option_and_then, bytes_eq, if◌then◌else◌}
 use Rattle.std.specs.List.{AllZip, join_with_byte, slice_split, position_or_len, before_first}
-use Rattle.ascii_text.specs.Words.{has_bytes}
+use Rattle.ascii_text.specs.Tokens.{has_bytes}
 use Rattle.ascii_text.specs.WhiteSpace.{trimmed}
 use Rattle.ascii_text.specs.Number.{ParsesToNumber, number_in}
 use Rattle.conf_change.specs.Text.{spaced_numbers}

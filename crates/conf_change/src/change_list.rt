@@ -1,11 +1,11 @@
 //! Reading lists of changes, as the test scripts of etcd's raft packages write them: `v1 l2 r3`.
 ghost use Rattle.std.specs.Prelude.{◌≡◌, Ok, Err, [], length, IfOk, OnOk, OnErr, IfErr, IfSome, IsSomeAnd, MatchResult};
-ghost use Rattle.ascii_text.specs.Words.{words};
+ghost use Rattle.ascii_text.specs.Tokens.{tokens_in};
 ghost use Rattle.conf_change.specs.ChangeList.{Denotes, IsFirstBad, bad_token, change_in, changes_in, kind_in};
 
 use crate::change::{Change, Kind};
 use ascii_text::number::read_number;
-use ascii_text::words::next_token;
+use ascii_text::tokens::next_token;
 use std::alloc::{AllocError, AllocFailed, Global};
 use thiserror::Error;
 
@@ -49,8 +49,8 @@ impl From<AllocError> for TokenFault<'_> {
 /// 2^64 and may have leading zeros; the first bad token is the error. A text without tokens is the empty list.
 pub fn read_changes(alloc: Global, text: &[u8]) -> Result<Vec<Change>, TokenFault<'_>>
     ensures denotes { IfOk result (λ changes. Denotes text.now changes.items) }
-    ensures one_per_token { IfOk result (λ changes. length changes.items ≡ length (words text.now)) }
-    ensures first_bad { IfErr result (λ fault. IfSome (bad_token fault) (IsFirstBad (words text.now))) }
+    ensures one_per_token { IfOk result (λ changes. length changes.items ≡ length (tokens_in text.now)) }
+    ensures first_bad { IfErr result (λ fault. IfSome (bad_token fault) (IsFirstBad (tokens_in text.now))) }
 
     // As a function of the text:
     ensures value { IfOk result (λ changes. changes_in text.now ≡ Ok changes.items) }
@@ -67,8 +67,8 @@ pub fn read_changes_into<'a>(
     text: &'a [u8],
 ) -> Result<(), TokenFault<'a>>
     ensures denotes { OnOk result (Denotes text.now changes.new.items) }
-    ensures one_per_token { OnOk result (length changes.new.items ≡ length (words text.now)) }
-    ensures first_bad { IfErr result (λ fault. IfSome (bad_token fault) (IsFirstBad (words text.now))) }
+    ensures one_per_token { OnOk result (length changes.new.items ≡ length (tokens_in text.now)) }
+    ensures first_bad { IfErr result (λ fault. IfSome (bad_token fault) (IsFirstBad (tokens_in text.now))) }
     ensures left { OnErr result (changes.new.items ≡ []) }
 
     // As a function of the text:

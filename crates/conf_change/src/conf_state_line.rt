@@ -117,7 +117,7 @@ fn read_field<'a>(
     prefix: &[u8],
     text: &'a [u8],
 ) -> Result<(Vec<u64>, &'a [u8]), ConfStateFault>
-    ensures ok { IfOk result (λ found. field_in prefix.now text.now ≡ Some (found.0.items, found.1.now)) }
+    ensures ok { IfOk result (λ read. field_in prefix.now text.now ≡ Some (read.0.items, read.1.now)) }
     ensures bad { result ≡ Err ConfStateFault.BadConfState → field_in prefix.now text.now ≡ None }
 {
     let text = text

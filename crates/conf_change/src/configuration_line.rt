@@ -89,7 +89,7 @@ fn listed_twice(alloc: Global, state: &ConfState) -> ConfigurationFault
 
 // The first id that one of the four lists names twice.
 fn repeat_in(alloc: Global, state: &ConfState) -> Result<Option<u64>, NoMemory>
-    ensures { IfOk result (λ found. found ≡ repeat_in state.now) }
+    ensures { IfOk result (λ id. id ≡ repeat_in state.now) }
 {
     let voters = first_repeat(alloc, &state.voters)?;
     let voters_outgoing = first_repeat(alloc, &state.voters_outgoing)?;
@@ -100,7 +100,7 @@ fn repeat_in(alloc: Global, state: &ConfState) -> Result<Option<u64>, NoMemory>
 
 // The first id of a list that it names again.
 fn first_repeat(alloc: Global, list: &[u64]) -> Result<Option<u64>, NoMemory>
-    ensures { IfOk result (λ found. found ≡ first_repeat list.now) }
+    ensures { IfOk result (λ id. id ≡ first_repeat list.now) }
 {
     let mut later = TreeIds::empty(alloc);
     let mut repeat = None;

@@ -6,7 +6,7 @@ ghost use Rattle.conf_change.specs.Acknowledgement.{ack_answer, changer_with_pro
 ghost use Rattle.conf_change.specs.declared.change.Change.{Change};
 ghost use Rattle.conf_change.specs.Change.{last_effective, is_incoming_after, is_learner_after, is_next_after, result_of};
 ghost use Rattle.conf_change.specs.Configuration.{ValidByMember, is_valid, voters_of};
-ghost use Rattle.ascii_text.specs.Words.{words};
+ghost use Rattle.ascii_text.specs.Tokens.{tokens_in};
 ghost use Rattle.conf_change.specs.ChangeList.{Denotes, BadToken, IsFirstBad, changes_in};
 ghost use Rattle.conf_change.specs.declared.floor.Floor.{Floor};
 ghost use Rattle.conf_change.specs.declared.progress.Progress.{Progress};
@@ -22,7 +22,7 @@ ghost use Rattle.conf_change.specs.ConfStateLine.{DenotesConfState, conf_state_i
 /// first bad token.
 pub fn one_list_per_text()
     ensures ok { (text : List ℕ) (changes : List Change) → (Denotes text changes) ↔ (changes_in text ≡ Ok changes) }
-    ensures err { (text : List ℕ) (bad : BadToken) → (IsFirstBad (words text) bad) ↔ (changes_in text ≡ Err bad) }
+    ensures err { (text : List ℕ) (bad : BadToken) → (IsFirstBad (tokens_in text) bad) ↔ (changes_in text ≡ Err bad) }
     ensures one { (text : List ℕ) (a b : List Change) → Denotes text a → Denotes text b → a ≡ b }
 {}
 

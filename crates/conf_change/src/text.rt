@@ -102,7 +102,7 @@ fn append_labelled(text: &mut Vec<u8>, label: &[u8], number: u64) -> Result<(), 
     Ok(())
 }
 
-/// Appends the message of a refusal, without a newline, as etcd's `confchange` package words it.
+/// Appends the message of a refusal, without a newline, as etcd's `confchange` package has it.
 pub fn write_refused(text: &mut Vec<u8>, refused: Refused) -> Result<(), NoMemory>
     requires { refused ≢ Refused.NoMemory }
     ensures ok { OnOk result (text.new.items ≡ text.old.items ++ refused_text refused) }

@@ -1,7 +1,7 @@
 -- The text of a plan, read and printed.
 
 pub mod LineByLine
-pub mod StepFromWords
+pub mod StepFromTokens
 pub mod PlanFromLines
 pub mod ReadSoFar
 pub mod PrintedPlan

@@ -51,7 +51,7 @@ pub record IsBest (now : Configuration) (steps : List Step) (target : Configurat
   pub run : IsRun now steps target
   pub shortest : (other : List Step) → IsRun now other target → length steps ≤ length other
   pub sparing : (other : List Step) (id : ℕ) → Preserves now other target id → Preserves now steps target id
-  pub spared : (id : ℕ) → (Preserves now steps target id) ↔ ((is_member now id && is_member target id && outlasts_leave now steps id) ≡ true)
+  pub preserved : (id : ℕ) → (Preserves now steps target id) ↔ ((is_member now id && is_member target id && outlasts_leave now steps id) ≡ true)
   pub fewest : (other : List Step) (id : ℕ) → IsRun now other target → times_named id steps ≤ times_named id other
   pub plain : All (λ step. All IsPlain (changes_of step)) steps
   pub overlap : IsRunWith (λ before step after. Overlap (voters_of before) (voters_of after)) now steps target

@@ -1,12 +1,12 @@
 -- The parser of plans, as a function.
 use Rattle.std.specs.Prelude.{ℕ, ◌+◌, Bool, true, false, ◌&&◌, ◌==◌, List, [], ◌∷◌, codes, Option, Some, None, option_map, Result, Ok, Err, bytes_eq, if◌then◌else◌}
 use Rattle.std.specs.Result.{result_ok}
-use Rattle.ascii_text.specs.Words.{words}
+use Rattle.ascii_text.specs.Tokens.{tokens_in}
 use Rattle.conf_change.specs.ChangeList.{changes_in_tokens}
 use Rattle.conf_change.specs.declared.change.Change.{Change}
 use Rattle.conf_change.specs.declared.step.Step.{Step}
 use Rattle.conf_change.specs.declared.step.Step.TheVariants.{Simple, EnterJoint, LeaveJoint}
-use Rattle.conf_plan.specs.PlanText.{flag_word, lines_of}
+use Rattle.conf_plan.specs.PlanText.{flag_token, lines_of}
 use Rattle.conf_plan.specs.declared.text.PlanTextFault.{PlanTextFault}
 use Rattle.conf_plan.specs.declared.text.PlanTextFault.TheVariants.{BadLine, TooManySteps}
 
@@ -16,7 +16,7 @@ list_in tokens = result_ok (changes_in_tokens tokens)
 
 -- the flag that a token is parsed as
 abbrev pub flag_in : List ℕ → Option Bool
-flag_in word = if bytes_eq word (flag_word true) then Some true else (if bytes_eq word (flag_word false) then Some false else None)
+flag_in token = if bytes_eq token (flag_token true) then Some true else (if bytes_eq token (flag_token false) then Some false else None)
 
 abbrev pub enter_with : Option Bool → List (List ℕ) → Option Step
 enter_with None tokens = None
@@ -49,7 +49,7 @@ and_steps number (Some step) (Ok steps) = Ok (step ∷ steps)
 abbrev pub steps_in : ℕ → List (List ℕ) → Result (List Step) PlanTextFault
 steps_in before [] = Ok []
 steps_in before (line ∷ lines) =
-    if before == 4 then Err TooManySteps else and_steps (before + 1) (step_in (words line)) (steps_in (before + 1) lines)
+    if before == 4 then Err TooManySteps else and_steps (before + 1) (step_in (tokens_in line)) (steps_in (before + 1) lines)
 
 -- the tokens are those of `nothing to do`
 abbrev pub is_nothing : List (List ℕ) → Bool
@@ -58,7 +58,7 @@ is_nothing _ = false
 
 -- the steps that the lines of a plan are parsed as
 abbrev pub plan_in_lines : List (List ℕ) → Result (List Step) PlanTextFault
-plan_in_lines (line ∷ []) = if is_nothing (words line) then Ok [] else steps_in 0 (line ∷ [])
+plan_in_lines (line ∷ []) = if is_nothing (tokens_in line) then Ok [] else steps_in 0 (line ∷ [])
 plan_in_lines lines = steps_in 0 lines
 
 -- the plan that a text is parsed as, or why it is none

@@ -1,7 +1,7 @@
 -- The text of a plan: how it is printed, and which texts are parsed as which plans.
 use Rattle.std.specs.Prelude.{◌≡◌, ℕ, ◌+◌, ◌≤◌, Bool, ◌==◌, ◌⊎◌, List, [], ◌∷◌, ◌++◌, length, map, flat_map, filter, codes, decimal, if◌then◌else◌}
 use Rattle.std.specs.List.{AllZip, join_with_byte, slice_split}
-use Rattle.ascii_text.specs.Words.{has_bytes, words}
+use Rattle.ascii_text.specs.Tokens.{has_bytes, tokens_in}
 use Rattle.conf_change.specs.ChangeList.{letter_of, ParsesTo}
 use Rattle.conf_change.specs.ConfStateLine.{truth_text}
 use Rattle.conf_change.specs.declared.change.Change.{Change}
@@ -11,14 +11,14 @@ use Rattle.conf_change.specs.Step.{changes_of}
 use Rattle.conf_plan.specs.declared.text.PlanTextFault.{PlanTextFault}
 use Rattle.conf_plan.specs.declared.text.PlanTextFault.TheVariants.{BadLine, TooManySteps, NoMemory}
 
-abbrev pub flag_word : Bool → List ℕ
-flag_word auto_leave = codes "autoleave=" ++ truth_text auto_leave
+abbrev pub flag_token : Bool → List ℕ
+flag_token auto_leave = codes "autoleave=" ++ truth_text auto_leave
 
 -- the tokens before the changes on a step's line: the command and its flag
-abbrev pub command_words : Step → List (List ℕ)
-command_words (Simple _) = codes "simple" ∷ []
-command_words (EnterJoint auto_leave _) = codes "enter-joint" ∷ flag_word auto_leave ∷ []
-command_words LeaveJoint = codes "leave-joint" ∷ []
+abbrev pub command_tokens : Step → List (List ℕ)
+command_tokens (Simple _) = codes "simple" ∷ []
+command_tokens (EnterJoint auto_leave _) = codes "enter-joint" ∷ flag_token auto_leave ∷ []
+command_tokens LeaveJoint = codes "leave-joint" ∷ []
 
 -- ---- printing
 -- a change: its letter, and its id without leading zeros
@@ -31,7 +31,7 @@ spaced_change change = 32 ∷ change_text change
 
 -- a step's line: its tokens with one space between
 abbrev pub line_text : Step → List ℕ
-line_text step = join_with_byte 32 (command_words step ++ map change_text (changes_of step))
+line_text step = join_with_byte 32 (command_tokens step ++ map change_text (changes_of step))
 
 abbrev pub line_and_newline : Step → List ℕ
 line_and_newline step = line_text step ++ codes "\n"
@@ -58,14 +58,14 @@ lines_of text = if has_bytes text then without_empty_end (slice_split is_newline
 -- the tokens of the line are the step's command and then its changes, with any white space around them
 pub record IsLineOf (line : List ℕ) (step : Step) : Type 0 where
   pub tokens : List (List ℕ)
-  pub line_words : words line ≡ command_words step ++ tokens
+  pub line_tokens : tokens_in line ≡ command_tokens step ++ tokens
   pub parsed : AllZip ParsesTo tokens (changes_of step)
 
 -- the text is the one line `nothing to do`
 pub record IsNothingToDo (text : List ℕ) : Type 0 where
   pub line : List ℕ
   pub alone : lines_of text ≡ line ∷ []
-  pub line_words : words line ≡ codes "nothing" ∷ codes "to" ∷ codes "do" ∷ []
+  pub line_tokens : tokens_in line ≡ codes "nothing" ∷ codes "to" ∷ codes "do" ∷ []
 
 -- the lines of the text, from one to four, are those of the steps in order
 pub record IsTextOf (text : List ℕ) (steps : List Step) : Type 0 where

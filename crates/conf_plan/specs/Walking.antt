@@ -3,7 +3,7 @@ use Rattle.std.specs.Prelude.{◌≡◌, ℕ, ◌+◌, ◌^◌, ◌<◌, ◌≤�
 use Rattle.std.specs.List.{All}
 use Rattle.quorum_sets.specs.Ids.{Ids, ascending, size}
 use Rattle.conf_change.specs.declared.step.Step.{Step}
-use Rattle.conf_plan.specs.PlanSteps.{HasWordIds}
+use Rattle.conf_plan.specs.PlanSteps.{HasTokenIds}
 
 -- the first id is at most the second, and having no id left is later than each id
 abbrev pub IsNoLater : Option ℕ → Option ℕ → Type 0
@@ -30,4 +30,4 @@ pub record IsStanding (ids : Ids) (index : ℕ) (next : Option ℕ) : Type 0 whe
 -- these steps are appended; their ids are numbers of 64 bits
 pub record IsAdded (before more after : List Step) : Type 0 where
   pub whole : after ≡ before ++ more
-  pub word_ids : All HasWordIds more
+  pub token_ids : All HasTokenIds more

@@ -29,7 +29,7 @@ pub fn apply_plan<S: MemberSet>(changer: &mut Changer<S>, plan: &Plan) -> Result
     ensures stopped { IfErr result (λ stop. StopsAt changer.old plan.now stop.step stop.refused changer.new) }
     ensures sound { IsSound changer.new.tracker }
     ensures reached { OnOk result ((target : Configuration) → IsRun changer.old.tracker.config plan.now target → changer.new.tracker.config ≡ target) }
-    ensures spared { OnOk result ((id : ℕ) → Preserves changer.old.tracker.config plan.now changer.new.tracker.config id → HasKeptProgress changer.old changer.new id) }
+    ensures preserved { OnOk result ((id : ℕ) → Preserves changer.old.tracker.config plan.now changer.new.tracker.config id → HasKeptProgress changer.old changer.new id) }
     ensures sparing { OnOk result ((target : Configuration) (other : List Step) (id : ℕ) → plan.now ≡ planned changer.old.tracker.config target
         → Preserves changer.old.tracker.config other target id → HasKeptProgress changer.old changer.new id) }
     ensures best { OnOk result ((target : Configuration) → plan.now ≡ planned changer.old.tracker.config target → IsValidWithVoter changer.old.tracker.config

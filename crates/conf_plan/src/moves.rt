@@ -21,7 +21,7 @@ pub(crate) fn moves_to<S: MemberSet>(
     to_learners: &S,
 ) -> Result<Vec<Change>, NoMemory>
     ensures moves { IfOk result (λ changes. changes.items ≡ moves (single_with (S.ids incoming.now) (S.ids learners.now)) (S.ids to_voters.now) (S.ids to_learners.now)) }
-    ensures word_ids { IfOk result (λ changes. All (λ change. change.id < 2 ^ 64) changes.items) }
+    ensures token_ids { IfOk result (λ changes. All (λ change. change.id < 2 ^ 64) changes.items) }
 {
     let mut changes = Vec::with_capacity(alloc, USUAL_CHANGES)?;
     let mut voter_walk = Walk::begin(incoming);

@@ -1,7 +1,7 @@
 //! Paths: lists of steps of any length.
 ghost use Rattle.std.specs.Prelude.{◌≡◌, length, option_copied, slice_get};
 ghost use Rattle.std.specs.List.{All};
-ghost use Rattle.conf_plan.specs.PlanSteps.{HasWordIds};
+ghost use Rattle.conf_plan.specs.PlanSteps.{HasTokenIds};
 
 use conf_change::Step;
 use std::marker::Model;
@@ -16,19 +16,19 @@ impl Model for Path {
     ghost use Rattle.std.specs.Prelude.{List};
     ghost use Rattle.std.specs.List.{All};
     ghost use Rattle.conf_change.specs.declared.step.Step.{Step};
-    ghost use Rattle.conf_plan.specs.PlanSteps.{HasWordIds};
+    ghost use Rattle.conf_plan.specs.PlanSteps.{HasTokenIds};
 
     ghost Value = { List Step };
 
     ghost view = { λ path. path.steps.items };
 
-    ghost invariant = { λ path. All HasWordIds path.steps.items };
+    ghost invariant = { λ path. All HasTokenIds path.steps.items };
 }
 
 impl Path {
     // The path of these steps.
     pub(crate) fn of_steps(steps: Vec<Step>) -> Path
-        requires { All HasWordIds steps.items }
+        requires { All HasTokenIds steps.items }
         ensures { result ≡ steps.items }
     {
         Path { steps }
@@ -44,7 +44,7 @@ impl Path {
     // The steps in order, whose ids have 64 bits, so that they are read back if they are printed.
     pub(crate) fn printable(&self) -> &[Step]
         ensures steps { result.now ≡ self.now }
-        ensures word_ids { All HasWordIds self.now }
+        ensures token_ids { All HasTokenIds self.now }
     {
         self.steps.as_slice()
     }

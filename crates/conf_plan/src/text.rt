@@ -1,11 +1,11 @@
 //! The text of a plan: a line for each step, or `nothing to do`. The form of the lines is own.
 ghost use Rattle.std.specs.Prelude.{◌≡◌, ◌⊎◌, ◌<◌, ◌≤◌, [], ◌∷◌, ◌++◌, List, Ok, Err, length, map, flat_map, IfOk, IfErr, OnOk, OnErr};
 ghost use Rattle.std.specs.List.{join_with_byte};
-ghost use Rattle.ascii_text.specs.Words.{words};
+ghost use Rattle.ascii_text.specs.Tokens.{tokens_in};
 ghost use Rattle.conf_change.specs.ChangeList.{letter_of};
 ghost use Rattle.conf_change.specs.Text.{Extends};
 ghost use Rattle.conf_change.specs.declared.step.Step.{Step};
-ghost use Rattle.conf_plan.specs.PlanText.{ParsesToPlan, HasFault, command_words, change_text, spaced_change, line_and_newline, plan_text, lines_of};
+ghost use Rattle.conf_plan.specs.PlanText.{ParsesToPlan, HasFault, command_tokens, change_text, spaced_change, line_and_newline, plan_text, lines_of};
 ghost use Rattle.conf_plan.specs.PlanCode as code;
 ghost use Rattle.conf_plan.specs.PlanCode.{plan_in, step_in, enter_in, list_in};
 ghost use Rattle.conf_plan.specs.declared.text.PlanTextFault.{PlanTextFault};
@@ -14,7 +14,7 @@ use crate::path::Path;
 use crate::step_list::Plan;
 use ascii_text::append::append_number;
 use ascii_text::position::far_position_of;
-use ascii_text::words::next_token;
+use ascii_text::tokens::next_token;
 use conf_change::{Change, Changes, Kind, Step, TokenFault, read_changes};
 use quorum_sets::NoMemory;
 use std::alloc::{AllocFailed, Global};
@@ -122,7 +122,7 @@ fn append_line(text: &mut Vec<u8>, step: &Step) -> Result<(), NoMemory>
 
 /// The command of a step's line.
 pub fn command_text(step: &Step) -> &'static [u8]
-    ensures { result.now ≡ join_with_byte 32 (command_words step.now) }
+    ensures { result.now ≡ join_with_byte 32 (command_tokens step.now) }
 {
     match step {
         Step::Simple(_) => b"simple",
@@ -240,7 +240,7 @@ fn first_line(text: &[u8]) -> (&[u8], &[u8])
 
 // Whether the line is `nothing to do`.
 fn is_nothing(line: &[u8]) -> bool
-    ensures { result ≡ code.is_nothing (words line.now) }
+    ensures { result ≡ code.is_nothing (tokens_in line.now) }
 {
     let Some((first, rest)) = next_token(line) else {
         return false;
@@ -259,7 +259,7 @@ fn is_nothing(line: &[u8]) -> bool
 
 // The step that a line is parsed as, if it is one.
 fn read_step(alloc: Global, line: &[u8]) -> Result<Option<Step>, NoMemory>
-    ensures { IfOk result (λ found. found ≡ step_in (words line.now)) }
+    ensures { IfOk result (λ read. read ≡ step_in (tokens_in line.now)) }
 {
     let Some((command, rest)) = next_token(line) else {
         return Ok(None);
@@ -277,7 +277,7 @@ fn read_step(alloc: Global, line: &[u8]) -> Result<Option<Step>, NoMemory>
 
 // Entering a joint configuration: a flag, then changes.
 fn read_enter(alloc: Global, text: &[u8]) -> Result<Option<Step>, NoMemory>
-    ensures { IfOk result (λ found. found ≡ enter_in (words text.now)) }
+    ensures { IfOk result (λ read. read ≡ enter_in (tokens_in text.now)) }
 {
     let Some((flag, rest)) = next_token(text) else {
         return Ok(None);
@@ -304,7 +304,7 @@ fn read_flag(token: &[u8]) -> Option<bool>
 
 // The changes of a list, if each token is parsed as one.
 fn read_list(alloc: Global, text: &[u8]) -> Result<Option<Changes>, NoMemory>
-    ensures { IfOk result (λ found. found ≡ list_in (words text.now)) }
+    ensures { IfOk result (λ read. read ≡ list_in (tokens_in text.now)) }
 {
     match read_changes(alloc, text) {
         Ok(list) => Ok(Some(Changes::from(list))),

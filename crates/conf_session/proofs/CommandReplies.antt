@@ -32,8 +32,8 @@ members-one_more old now new members i id p at so_far more =
     ∙ ap (λ t. old ++ t) (sym (flat_map-front member_line members i (id, p) at))
 
 -- what is found can stand, where it can for the reply
-pub reply-valid_output : {E : Type 0} (r : Result ReplyParts E) (changer next : ChangerState) {a b : Reply} → a ≡ b → IsValidOutput b.found → IfOk r (λ reply. reply_in changer next reply ≡ a) → IfOk r (λ reply. IsValidOutput reply.found)
-reply-valid_output (Ok reply) changer next e stands h = let P : Reply → Type 0 = λ x. IsValidOutput x.found in subst P (sym (h ∙ e)) stands
+pub reply-valid_output : {E : Type 0} (r : Result ReplyParts E) (changer next : ChangerState) {a b : Reply} → a ≡ b → IsValidOutput b.actual → IfOk r (λ reply. reply_in changer next reply ≡ a) → IfOk r (λ reply. IsValidOutput reply.actual)
+reply-valid_output (Ok reply) changer next e stands h = let P : Reply → Type 0 = λ x. IsValidOutput x.actual in subst P (sym (h ∙ e)) stands
 reply-valid_output (Err fault) changer next e stands h = tt
 
 -- a configuration, a newline and the members after a text

@@ -8,8 +8,8 @@ use Rattle.std.proofs.lemmas.List.{append_assoc, append-nil}
 use Rattle.std.proofs.lemmas.List.Folds.{list_all-append}
 use Rattle.ascii_text.specs.Lines.{newline, full_lines, before_first_line, line_of, lines_of, without_last}
 use Rattle.ascii_text.specs.WhiteSpace.{is_space, is_blank, without_leading_space, without_trailing_space, trimmed}
-use Rattle.ascii_text.proofs.Offered.{without_trailing_space-without_last, blank-behind, ends-before_blank, ends-before_other, is_blank-without_trailing_space, leads-blank, leads-behind_blank, leads-behind_other, leads-ends, words-at_space, words-ends}
-use Rattle.ascii_text.specs.Words.{words}
+use Rattle.ascii_text.proofs.Offered.{without_trailing_space-without_last, blank-behind, ends-before_blank, ends-before_other, is_blank-without_trailing_space, leads-blank, leads-behind_blank, leads-behind_other, leads-ends, tokens_in-at_space, tokens_in-ends}
+use Rattle.ascii_text.specs.Tokens.{tokens_in}
 use Rattle.conf_session.specs.ReplyLines.{is_line_byte}
 
 -- ---- the pieces of a text: lines with their newlines, and a last one that may have none
@@ -30,13 +30,13 @@ full_lines-cut (b ∷ text) = cut-byte (b == 10) b text (full_lines text) refl (
 
 -- ---- words and lines, line by line
 -- the words of a text are those of its lines
-words-cut : (text : List ℕ) (ps : List (List ℕ)) → IsCut text ps → words text ≡ flat_map words (map without_trailing_space ps)
-words-cut text ps NoLine = refl
-words-cut text ps (LastLine line) = words-ends line ∙ sym (append-nil (words (without_trailing_space line)))
-words-cut text ps (Line line rest more is) =
-    ap words (append_assoc line newline rest) ∙ words-at_space line 10 rest refl
-    ∙ ap (λ ws. ws ++ words rest) (words-ends line ∙ ap words (sym (ends-before_blank line newline refl)))
-    ∙ ap (λ ws. words (without_trailing_space (line ++ newline)) ++ ws) (words-cut rest more is)
+tokens_in-cut : (text : List ℕ) (ps : List (List ℕ)) → IsCut text ps → tokens_in text ≡ flat_map tokens_in (map without_trailing_space ps)
+tokens_in-cut text ps NoLine = refl
+tokens_in-cut text ps (LastLine line) = tokens_in-ends line ∙ sym (append-nil (tokens_in (without_trailing_space line)))
+tokens_in-cut text ps (Line line rest more is) =
+    ap tokens_in (append_assoc line newline rest) ∙ tokens_in-at_space line 10 rest refl
+    ∙ ap (λ ws. ws ++ tokens_in rest) (tokens_in-ends line ∙ ap tokens_in (sym (ends-before_blank line newline refl)))
+    ∙ ap (λ ws. tokens_in (without_trailing_space (line ++ newline)) ++ ws) (tokens_in-cut rest more is)
 
 blank-cut : (text : List ℕ) (ps : List (List ℕ)) → IsCut text ps → is_blank text ≡ list_all is_blank (map without_trailing_space ps)
 blank-cut text ps NoLine = refl
@@ -97,8 +97,8 @@ ends-line_of (p ∷ ps) =
 abbrev pub ends_of : List ℕ → List (List ℕ)
 ends_of text = map without_trailing_space (lines_of text)
 
-pub words-in_lines : (text : List ℕ) → words text ≡ flat_map words (ends_of text)
-words-in_lines text = words-cut text (full_lines text) (full_lines-cut text) ∙ ap (flat_map words) (sym (ends-line_of (full_lines text)))
+pub tokens_in-in_lines : (text : List ℕ) → tokens_in text ≡ flat_map tokens_in (ends_of text)
+tokens_in-in_lines text = tokens_in-cut text (full_lines text) (full_lines-cut text) ∙ ap (flat_map tokens_in) (sym (ends-line_of (full_lines text)))
 
 pub trimmed-in_lines : (text : List ℕ) → IsOneLine (has_one (ends_of text)) (first_line (ends_of text)) (trimmed text)
 trimmed-in_lines text =

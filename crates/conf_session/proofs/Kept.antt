@@ -147,7 +147,7 @@ step-due : ChangeLaws → (session : SessionState) (step : Step) (made : Result 
 step-due laws session step (Ok after) e = (step, (laws.accepted session.changer after step).1 e)
 step-due laws session step (Err refused) e = tt
 
-restored-due : ChangeLaws → (session : SessionState) (saved : ConfStateLists) (found : Option Configuration) → restored saved ≡ found → IsDue session (after_restored session.changer found).effect
+restored-due : ChangeLaws → (session : SessionState) (saved : ConfStateLists) (actual : Option Configuration) → restored saved ≡ actual → IsDue session (after_restored session.changer actual).effect
 restored-due laws session saved None e = tt
 restored-due laws session saved (Some c) e = laws.begun session.changer.tracker.floor session.changer.last_index c (((laws.described saved c).0 e).1)
 
@@ -193,8 +193,8 @@ voter-due laws plans session count older false is some e voter =
     let Due : Bool → Type 0 = λ b. IsDue session (after_planned session count (cond b (Ok (planned (current session) older)) (Err NoVoterTarget))).effect in
     subst Due (sym voter) tt
 
-planned-due : ChangeLaws → PlanLaws → (session : SessionState) (count : ℕ) (found : Option Configuration) → IsSession session → 1 ≤ count → slice_get session.kept (count - 1) ≡ found →
-    IsDue session (after_planned session count (plan_back session found)).effect
+planned-due : ChangeLaws → PlanLaws → (session : SessionState) (count : ℕ) (actual : Option Configuration) → IsSession session → 1 ≤ count → slice_get session.kept (count - 1) ≡ actual →
+    IsDue session (after_planned session count (plan_back session actual)).effect
 planned-due laws plans session count None is some e = tt
 planned-due laws plans session count (Some older) is some e = voter-due laws plans session count older (has_voter older) is some e refl
 
@@ -217,7 +217,7 @@ command-due laws plans Unknown session input values is some = tt
 
 if_read-due : {V : Type 0} (session : SessionState) (reply : V → Reply) (read : Result V (List ℕ)) → ((v : V) → read ≡ Ok v → IsDue session (reply v).effect) → IsDue session (if_read reply read).effect
 if_read-due session reply (Ok v) h = h v refl
-if_read-due session reply (Err found) h = tt
+if_read-due session reply (Err actual) h = tt
 
 row-due : ChangeLaws → PlanLaws → (row : Row) (session : SessionState) (text : List ℕ) (arguments : List ArgumentText) → IsSession session → IsDue session (reply_by row session text arguments).effect
 row-due laws plans row session text arguments is =
@@ -275,8 +275,8 @@ planned-by_voter : UndoLaw → (session : SessionState) (count : ℕ) (older : C
 planned-by_voter law session count older steps true kept earlier voter made = leads-back law session count older steps kept voter earlier (sym (same-steps _ _ made))
 planned-by_voter law session count older steps false kept earlier voter made = let bad : ⊥ = cc in absurd bad
 
-planned-by_kept : UndoLaw → (session : SessionState) (count : ℕ) (steps : List Step) (found : Option Configuration) → slice_get session.kept (count - 1) ≡ found
-    → ((older : Configuration) → slice_get session.kept (count - 1) ≡ Some older → IsEarlier session count older) → plan_back session found ≡ Ok steps → LeadsBack session count steps
+planned-by_kept : UndoLaw → (session : SessionState) (count : ℕ) (steps : List Step) (actual : Option Configuration) → slice_get session.kept (count - 1) ≡ actual
+    → ((older : Configuration) → slice_get session.kept (count - 1) ≡ Some older → IsEarlier session count older) → plan_back session actual ≡ Ok steps → LeadsBack session count steps
 planned-by_kept law session count steps None kept earlier made = let bad : ⊥ = cc in absurd bad
 planned-by_kept law session count steps (Some older) kept earlier made = planned-by_voter law session count older steps (has_voter older) kept (earlier older kept) refl made
 

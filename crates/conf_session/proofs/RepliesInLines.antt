@@ -13,7 +13,7 @@ use Rattle.conf_change.specs.ChangerState.{ChangerState}
 use Rattle.conf_change.specs.Acknowledgement.{ack_answer}
 use Rattle.conf_change.specs.Configuration.{Configuration}
 use Rattle.ascii_text.specs.WhiteSpace.{is_space}
-use Rattle.ascii_text.specs.Words.{has_bytes, words}
+use Rattle.ascii_text.specs.Tokens.{has_bytes, tokens_in}
 use Rattle.conf_change.specs.ChangeList.{BadToken, unknown_token, unknown_input, bad_number, token_of, IsFirstBad, changes_in}
 use Rattle.conf_change.specs.ConfState.{ConfStateLists, lists_of, restored}
 use Rattle.conf_change.specs.ConfStateLine.{conf_state_in, conf_state_text}
@@ -50,7 +50,7 @@ use Rattle.conf_session.proofs.ChartLines.{chart-in_lines, index-in_lines, vote-
 use Rattle.conf_session.proofs.ReplyLines.{and-first, and-second, and-both, reply_line-append, progress-in_lines, refused-in_lines, undo_fault-in_lines, conf_state-in_lines, line-in_lines, reply_text-append, plan-in_lines, tracker-in_lines}
 
 abbrev HasReplyText : Reply → Type 0
-HasReplyText reply = IsReplyText reply.found
+HasReplyText reply = IsReplyText reply.actual
 
 replied_line-in_lines : (text : List ℕ) → is_reply_line text ≡ true → HasReplyText (replied_line text)
 replied_line-in_lines text h = line-in_lines text h
@@ -64,7 +64,7 @@ unequal true h = absurd (h refl)
 unequal false h = refl
 
 abbrev has_no_white : List ℕ → Bool
-has_no_white word = list_all (λ b. not (is_space b)) word
+has_no_white token = list_all (λ b. not (is_space b)) token
 
 onto-whole : (b : ℕ) (pieces : List (List ℕ)) → is_space b ≡ false → list_all has_no_white pieces ≡ true → list_all has_no_white (onto_first b pieces) ≡ true
 onto-whole b [] e h = and-both _ _ (and-both _ _ (ap not e) refl) refl
@@ -86,19 +86,19 @@ filter-whole : (test : List ℕ → Bool) (pieces : List (List ℕ)) → list_al
 filter-whole test [] h = refl
 filter-whole test (piece ∷ pieces) h = filter-step test piece (filter test pieces) (test piece) (and-first _ _ h) (filter-whole test pieces (and-second _ _ h))
 
-words-whole : (text : List ℕ) → list_all has_no_white (words text) ≡ true
-words-whole text = filter-whole has_bytes (slice_split is_space text) (split-whole text)
+tokens_in-whole : (text : List ℕ) → list_all has_no_white (tokens_in text) ≡ true
+tokens_in-whole text = filter-whole has_bytes (slice_split is_space text) (split-whole text)
 
-among : (before : List (List ℕ)) (word : List ℕ) (after : List (List ℕ)) → list_all has_no_white (before ++ word ∷ after) ≡ true → has_no_white word ≡ true
-among [] word after h = and-first _ _ h
-among (w ∷ before) word after h = among before word after (and-second _ _ h)
+among : (before : List (List ℕ)) (token : List ℕ) (after : List (List ℕ)) → list_all has_no_white (before ++ token ∷ after) ≡ true → has_no_white token ≡ true
+among [] token after h = and-first _ _ h
+among (w ∷ before) token after h = among before token after (and-second _ _ h)
 
 byte-black : (b : ℕ) → not (is_space b) ≡ true → is_line_byte b ≡ true
 byte-black b h = grind (arith, nat_tests)
 
-bytes-black : (word : List ℕ) → has_no_white word ≡ true → list_all is_line_byte word ≡ true
+bytes-black : (token : List ℕ) → has_no_white token ≡ true → list_all is_line_byte token ≡ true
 bytes-black [] h = refl
-bytes-black (b ∷ word) h = and-both _ _ (byte-black b (and-first _ _ h)) (bytes-black word (and-second _ _ h))
+bytes-black (b ∷ token) h = and-both _ _ (byte-black b (and-first _ _ h)) (bytes-black token (and-second _ _ h))
 
 token-in_lines : (bad : BadToken) → list_all is_line_byte (token_of bad) ≡ true → is_reply_line (bad_token_text bad) ≡ true
 token-in_lines (unknown_token token) h = reply_line-append (codes "unknown token ") token refl refl h
@@ -107,29 +107,29 @@ token-in_lines (bad_number token) h = reply_line-append (codes "bad number: ") t
 
 -- the first bad token of a text is one of its words
 abbrev FirstBads : Type 0
-FirstBads = (text : List ℕ) (bad : BadToken) → changes_in text ≡ Err bad → IsFirstBad (words text) bad
+FirstBads = (text : List ℕ) (bad : BadToken) → changes_in text ≡ Err bad → IsFirstBad (tokens_in text) bad
 
 bad-in_lines : FirstBads → (text : List ℕ) (bad : BadToken) → changes_in text ≡ Err bad → is_reply_line (bad_token_text bad) ≡ true
 bad-in_lines first_bads text bad e =
-    let is : IsFirstBad (words text) bad = first_bads text bad e in
-    token-in_lines bad (bytes-black (token_of bad) (among is.before (token_of bad) is.after (ap (list_all has_no_white) (sym is.position) ∙ words-whole text)))
+    let is : IsFirstBad (tokens_in text) bad = first_bads text bad e in
+    token-in_lines bad (bytes-black (token_of bad) (among is.before (token_of bad) is.after (ap (list_all has_no_white) (sym is.position) ∙ tokens_in-whole text)))
 
-input-in_lines : FirstBads → (kind : InputKind) (text found : List ℕ) → read_input kind text ≡ Err found → IsReplyText found
-input-in_lines first_bads Changes text found e = at (changes_in text) refl e where
-  at : (read : Result (List Change) BadToken) → changes_in text ≡ read → changes_read read ≡ Err found → IsReplyText found
+input-in_lines : FirstBads → (kind : InputKind) (text actual : List ℕ) → read_input kind text ≡ Err actual → IsReplyText actual
+input-in_lines first_bads Changes text actual e = at (changes_in text) refl e where
+  at : (read : Result (List Change) BadToken) → changes_in text ≡ read → changes_read read ≡ Err actual → IsReplyText actual
   at (Ok changes) is e = cc
-  at (Err bad) is e = let same : line (bad_token_text bad) ≡ found = cc in subst IsReplyText same (line-in_lines (bad_token_text bad) (bad-in_lines first_bads text bad is))
-input-in_lines first_bads NoChange text found e = at (changes_in text) refl e where
-  at : (read : Result (List Change) BadToken) → changes_in text ≡ read → no_change_read read ≡ Err found → IsReplyText found
+  at (Err bad) is e = let same : line (bad_token_text bad) ≡ actual = cc in subst IsReplyText same (line-in_lines (bad_token_text bad) (bad-in_lines first_bads text bad is))
+input-in_lines first_bads NoChange text actual e = at (changes_in text) refl e where
+  at : (read : Result (List Change) BadToken) → changes_in text ≡ read → no_change_read read ≡ Err actual → IsReplyText actual
   at (Ok []) is e = cc
-  at (Ok (change ∷ changes)) is e = let same : no_input_line ≡ found = cc in subst IsReplyText same no_input-in_lines
-  at (Err bad) is e = let same : line (bad_token_text bad) ≡ found = cc in subst IsReplyText same (line-in_lines (bad_token_text bad) (bad-in_lines first_bads text bad is))
-input-in_lines first_bads ConfStateLine text found e = at (conf_state_in text) e where
-  at : (read : Option ConfStateLists) → conf_state_read read ≡ Err found → IsReplyText found
-  at None e = let same : line (codes "bad conf state") ≡ found = cc in subst IsReplyText same (line-in_lines (codes "bad conf state") refl)
+  at (Ok (change ∷ changes)) is e = let same : no_input_line ≡ actual = cc in subst IsReplyText same no_input-in_lines
+  at (Err bad) is e = let same : line (bad_token_text bad) ≡ actual = cc in subst IsReplyText same (line-in_lines (bad_token_text bad) (bad-in_lines first_bads text bad is))
+input-in_lines first_bads ConfStateLine text actual e = at (conf_state_in text) e where
+  at : (read : Option ConfStateLists) → conf_state_read read ≡ Err actual → IsReplyText actual
+  at None e = let same : line (codes "bad conf state") ≡ actual = cc in subst IsReplyText same (line-in_lines (codes "bad conf state") refl)
   at (Some saved) e = cc
-input-in_lines first_bads Nothing [] found e = cc
-input-in_lines first_bads Nothing (b ∷ text) found e = let same : no_input_line ≡ found = cc in subst IsReplyText same no_input-in_lines
+input-in_lines first_bads Nothing [] actual e = cc
+input-in_lines first_bads Nothing (b ∷ text) actual e = let same : no_input_line ≡ actual = cc in subst IsReplyText same no_input-in_lines
 
 -- ---- the arguments
 apart : (b n : ℕ) → is_key_byte n ≡ false → is_key_byte b ≡ true → not (b == n) ≡ true
@@ -165,19 +165,19 @@ parameter-bytes Outgoing = refl
 parameter-bytes Indexes = refl
 parameter-bytes Votes = refl
 
-values-in_lines : (bad : Option (List ℕ)) (missing : Option Parameter) (values : Values) (found : List ℕ) → ((key : List ℕ) → bad ≡ Some key → is_key key ≡ true) → values_read bad missing values ≡ Err found → IsReplyText found
-values-in_lines (Some key) missing values found h e =
-    let same : line (codes "bad argument: " ++ key) ≡ found = cc in
+values-in_lines : (bad : Option (List ℕ)) (missing : Option Parameter) (values : Values) (actual : List ℕ) → ((key : List ℕ) → bad ≡ Some key → is_key key ≡ true) → values_read bad missing values ≡ Err actual → IsReplyText actual
+values-in_lines (Some key) missing values actual h e =
+    let same : line (codes "bad argument: " ++ key) ≡ actual = cc in
     subst IsReplyText same (line-in_lines (codes "bad argument: " ++ key) (reply_line-append (codes "bad argument: ") key refl refl (bytes-key key (and-second _ _ (h key refl)))))
-values-in_lines None (Some parameter) values found h e =
-    let same : line (codes "missing argument: " ++ key_of parameter) ≡ found = cc in
+values-in_lines None (Some parameter) values actual h e =
+    let same : line (codes "missing argument: " ++ key_of parameter) ≡ actual = cc in
     subst IsReplyText same (line-in_lines (codes "missing argument: " ++ key_of parameter) (reply_line-append (codes "missing argument: ") (key_of parameter) refl refl (parameter-bytes parameter)))
-values-in_lines None None values found h e = cc
+values-in_lines None None values actual h e = cc
 
-arguments-in_lines : (parameters : Option (List Parameter)) (arguments : List ArgumentText) (found : List ℕ) → are_keys arguments ≡ true → read_arguments parameters arguments ≡ Err found → IsReplyText found
-arguments-in_lines None arguments found keys e = cc
-arguments-in_lines (Some parameters) arguments found keys e =
-    values-in_lines (bad_argument parameters arguments) (missing_argument parameters arguments) (values_in arguments) found (λ key bad. bad-key parameters [] arguments key keys bad) e
+arguments-in_lines : (parameters : Option (List Parameter)) (arguments : List ArgumentText) (actual : List ℕ) → are_keys arguments ≡ true → read_arguments parameters arguments ≡ Err actual → IsReplyText actual
+arguments-in_lines None arguments actual keys e = cc
+arguments-in_lines (Some parameters) arguments actual keys e =
+    values-in_lines (bad_argument parameters arguments) (missing_argument parameters arguments) (values_in arguments) actual (λ key bad. bad-key parameters [] arguments key keys bad) e
 
 -- ---- the commands
 step-in_lines : (made : Result ChangerState Refused) → HasReplyText (after_step made)
@@ -223,13 +223,13 @@ command-in_lines Vote session input values =
     one_each-in_lines (ids_named values) values.votes (vote_text result) (replied_line-in_lines (vote_text result) (vote-in_lines result))
 command-in_lines Unknown session input values = replied_line-in_lines (codes "unknown command") refl
 
-if_read-in_lines : {V : Type 0} (reply : V → Reply) (read : Result V (List ℕ)) → ((found : List ℕ) → read ≡ Err found → IsReplyText found) → ((v : V) → HasReplyText (reply v)) → HasReplyText (if_read reply read)
+if_read-in_lines : {V : Type 0} (reply : V → Reply) (read : Result V (List ℕ)) → ((actual : List ℕ) → read ≡ Err actual → IsReplyText actual) → ((v : V) → HasReplyText (reply v)) → HasReplyText (if_read reply read)
 if_read-in_lines reply (Ok v) bad good = good v
-if_read-in_lines reply (Err found) bad good = bad found refl
+if_read-in_lines reply (Err actual) bad good = bad actual refl
 
-pub reply-in_lines : FirstBads → (session : SessionState) (directive : DirectiveText) → has_keys directive.arguments ≡ true → IsReplyText (reply_to session directive).found
+pub reply-in_lines : FirstBads → (session : SessionState) (directive : DirectiveText) → has_keys directive.arguments ≡ true → IsReplyText (reply_to session directive).actual
 reply-in_lines first_bads session directive keys =
     let row = row_of directive.command in
     if_read-in_lines _ (read_input row.input directive.input) (input-in_lines first_bads row.input directive.input)
-    (λ input. if_read-in_lines _ (read_arguments row.parameters directive.arguments) (λ found. arguments-in_lines row.parameters directive.arguments found keys)
+    (λ input. if_read-in_lines _ (read_arguments row.parameters directive.arguments) (λ actual. arguments-in_lines row.parameters directive.arguments actual keys)
     (λ values. command-in_lines row.command session input values))

@@ -28,7 +28,7 @@ use Rattle.conf_change.specs.declared.change.Kind.{Kind}
 use Rattle.conf_change.specs.declared.change.Kind.TheVariants.{Voter, Learner, Remove, Update}
 use Rattle.conf_change.specs.declared.step.Step.{Step}
 use Rattle.conf_change.specs.declared.step.Step.TheVariants.{Simple, EnterJoint, LeaveJoint}
-use Rattle.conf_plan.specs.PlanText.{change_text, flag_word, line_and_newline, plan_text, line_text as step_text}
+use Rattle.conf_plan.specs.PlanText.{change_text, flag_token, line_and_newline, plan_text, line_text as step_text}
 use Rattle.conf_session.specs.Undo.{undo_fault_text}
 use Rattle.conf_session.specs.declared.undo_fault.UndoFault.{UndoFault}
 use Rattle.conf_session.specs.declared.undo_fault.UndoFault.TheVariants.{NotKept, NoVoterTarget, NoMemory as NoMemoryToUndo}
@@ -303,30 +303,30 @@ change-bytes : (change : Change) → IsBytes (change_text change)
 change-bytes change = all-append is_line_byte (letter_of change.kind ∷ []) (decimal change.id) (kind-bytes change.kind) (decimal-bytes change.id)
 
 -- words with one space between
-pub spaced-words : (words : List (List ℕ)) → list_all (λ word. list_all is_line_byte word) words ≡ true → IsBytes (join_with_byte 32 words)
-spaced-words [] h = refl
-spaced-words (word ∷ []) h = and-first _ _ h
-spaced-words (word ∷ next ∷ words) h = all-append is_line_byte word (32 ∷ join_with_byte 32 (next ∷ words)) (and-first _ _ h) (spaced-words (next ∷ words) (and-second _ _ h))
+pub spaced-tokens_in : (tokens_in : List (List ℕ)) → list_all (λ token. list_all is_line_byte token) tokens_in ≡ true → IsBytes (join_with_byte 32 tokens_in)
+spaced-tokens_in [] h = refl
+spaced-tokens_in (token ∷ []) h = and-first _ _ h
+spaced-tokens_in (token ∷ next ∷ tokens_in) h = all-append is_line_byte token (32 ∷ join_with_byte 32 (next ∷ tokens_in)) (and-first _ _ h) (spaced-tokens_in (next ∷ tokens_in) (and-second _ _ h))
 
-pub changes-words : (changes : List Change) → list_all (λ word. list_all is_line_byte word) (map change_text changes) ≡ true
-changes-words [] = refl
-changes-words (change ∷ changes) = and-both _ _ (change-bytes change) (changes-words changes)
+pub changes-tokens_in : (changes : List Change) → list_all (λ token. list_all is_line_byte token) (map change_text changes) ≡ true
+changes-tokens_in [] = refl
+changes-tokens_in (change ∷ changes) = and-both _ _ (change-bytes change) (changes-tokens_in changes)
 
 -- a word, and others after it
-words-line : (word : List ℕ) (words : List (List ℕ)) → IsLine word → list_all (λ w. list_all is_line_byte w) words ≡ true → IsLine (join_with_byte 32 (word ∷ words))
-words-line word [] h k = h
-words-line word (next ∷ words) h k = h ▸ IsTail-from_bytes (32 ∷ join_with_byte 32 (next ∷ words)) (spaced-words (next ∷ words) k)
+tokens_in-line : (token : List ℕ) (tokens_in : List (List ℕ)) → IsLine token → list_all (λ w. list_all is_line_byte w) tokens_in ≡ true → IsLine (join_with_byte 32 (token ∷ tokens_in))
+tokens_in-line token [] h k = h
+tokens_in-line token (next ∷ tokens_in) h k = h ▸ IsTail-from_bytes (32 ∷ join_with_byte 32 (next ∷ tokens_in)) (spaced-tokens_in (next ∷ tokens_in) k)
 
-flag-bytes : (auto_leave : Bool) → IsBytes (flag_word auto_leave)
+flag-bytes : (auto_leave : Bool) → IsBytes (flag_token auto_leave)
 flag-bytes true = refl
 flag-bytes false = refl
 
 step-line : (step : Step) → IsLine (step_text step)
-step-line (Simple changes) = words-line (codes "simple") (map change_text changes) (IsLine-from_mark (codes "simple") refl refl) (changes-words changes)
+step-line (Simple changes) = tokens_in-line (codes "simple") (map change_text changes) (IsLine-from_mark (codes "simple") refl refl) (changes-tokens_in changes)
 step-line (EnterJoint auto_leave changes) =
-    words-line (codes "enter-joint") (flag_word auto_leave ∷ map change_text changes) (IsLine-from_mark (codes "enter-joint") refl refl)
-    (and-both _ _ (flag-bytes auto_leave) (changes-words changes))
-step-line LeaveJoint = words-line (codes "leave-joint") [] (IsLine-from_mark (codes "leave-joint") refl refl) refl
+    tokens_in-line (codes "enter-joint") (flag_token auto_leave ∷ map change_text changes) (IsLine-from_mark (codes "enter-joint") refl refl)
+    (and-both _ _ (flag-bytes auto_leave) (changes-tokens_in changes))
+step-line LeaveJoint = tokens_in-line (codes "leave-joint") [] (IsLine-from_mark (codes "leave-joint") refl refl) refl
 
 step-lines : (steps : List Step) → list_all is_reply_line (map step_text steps) ≡ true
 step-lines [] = refl

@@ -8,7 +8,7 @@ use Rattle.ascii_text.specs.Lines.{line_of}
 use Rattle.dd_file.specs.DirectiveLine.{ArgumentText}
 use Rattle.dd_file.specs.Laws.{IsSameDirective}
 use Rattle.ascii_text.proofs.Offered.{full_lines-first}
-use Rattle.ascii_text.specs.Words.{words}
+use Rattle.ascii_text.specs.Tokens.{tokens_in}
 use Rattle.conf_change.specs.ChangeList.{changes_in, changes_in_tokens}
 use Rattle.conf_change.specs.ConfState.{ConfStateLists}
 use Rattle.conf_change.specs.ConfStateLine.{line_in, conf_state_in}
@@ -22,12 +22,12 @@ use Rattle.conf_session.specs.declared.input.InputKind.{InputKind}
 use Rattle.conf_session.specs.declared.input.InputKind.TheVariants.{Changes, NoChange, ConfStateLine, Nothing}
 use Rattle.conf_session.specs.ReplyLines.{is_line_byte}
 use Rattle.conf_session.proofs.ReplyLines.{saved-bytes}
-use Rattle.conf_session.proofs.InputLines.{IsOneLine, has_one, first_line, ends_of, words-in_lines, trimmed-in_lines}
+use Rattle.conf_session.proofs.InputLines.{IsOneLine, has_one, first_line, ends_of, tokens_in-in_lines, trimmed-in_lines}
 
 -- a text with a newline between its two ends is no saved configuration
 no-conf_state : (text : List ℕ) → list_all is_line_byte (trimmed text) ≡ false → conf_state_in text ≡ None
 no-conf_state text h = at (conf_state_in text) refl where
-  at : (found : Option ConfStateLists) → conf_state_in text ≡ found → conf_state_in text ≡ None
+  at : (actual : Option ConfStateLists) → conf_state_in text ≡ actual → conf_state_in text ≡ None
   at None e = e
   at (Some saved) e = let whole = saved-bytes text saved (DenotesConfState-from_some text saved e) in absurd cc
 
@@ -39,7 +39,7 @@ conf_state-same input other same = at (has_one (ends_of other)) (subst (λ ls. I
   at false e f = no-conf_state input e ∙ sym (no-conf_state other f)
 
 changes-same : (input other : List ℕ) → ends_of input ≡ ends_of other → changes_in input ≡ changes_in other
-changes-same input other same = ap changes_in_tokens (words-in_lines input ∙ ap (flat_map words) same ∙ sym (words-in_lines other))
+changes-same input other same = ap changes_in_tokens (tokens_in-in_lines input ∙ ap (flat_map tokens_in) same ∙ sym (tokens_in-in_lines other))
 
 -- bytes have a line
 some-line : (b : ℕ) (bs : List ℕ) → [] ≡ ends_of (b ∷ bs) → ⊥
@@ -66,5 +66,5 @@ reply-same session again directive command arguments input =
     ∙ ap (λ args. reply args (read_input row.input again.input)) arguments
     ∙ ap (reply directive.arguments) (input-same row.input again.input directive.input input)
 
-pub same-answer : (n : ℕ) (found : List ℕ) (directive again : DirectiveText) (session : SessionState) → IsSameDirective n found directive again → answer session again ≡ answer session directive
-same-answer n found directive again session same = ap (answered session) (reply-same session again directive same.command same.arguments same.input)
+pub same-answer : (n : ℕ) (actual : List ℕ) (directive again : DirectiveText) (session : SessionState) → IsSameDirective n actual directive again → answer session again ≡ answer session directive
+same-answer n actual directive again session same = ap (answered session) (reply-same session again directive same.command same.arguments same.input)

@@ -110,7 +110,7 @@ reply_of Unknown session input values = replied_line (codes "unknown command")
 -- the reply to what was read, or the line that reports why it could not be
 abbrev pub if_read : {V : Type 0} → (V → Reply) → Result V (List ℕ) → Reply
 if_read reply (Ok read) = reply read
-if_read reply (Err found) = replied found
+if_read reply (Err actual) = replied actual
 
 -- the reply of a row: the input is read first, then the arguments, and then the command is run
 abbrev pub reply_by : Row → SessionState → List ℕ → List ArgumentText → Reply
@@ -123,12 +123,12 @@ reply_to session directive = reply_by (row_of directive.command) session directi
 
 -- the output, and the session afterwards
 pub record Answer : Type 0 where
-  pub found : List ℕ
+  pub actual : List ℕ
   pub session : SessionState
 
 -- the answer with a reply: the session after its effect
 abbrev pub answered : SessionState → Reply → Answer
-answered session reply = record { found = reply.found; session = after_directive session reply.effect }
+answered session reply = record { actual = reply.actual; session = after_directive session reply.effect }
 
 -- The answer to a directive. A refused one changes only the last index.
 abbrev pub answer : SessionState → DirectiveText → Answer

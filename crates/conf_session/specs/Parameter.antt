@@ -2,7 +2,7 @@
 use Rattle.std.specs.Prelude.{ℕ, Bool, true, false, ◌||◌, List, [], ◌∷◌, Option, Some, None, is_some, option_map, option_and_then, nat_lt, if◌then◌else◌, codes, bytes_eq}
 use Rattle.std.specs.List.{list_all}
 use Rattle.ascii_text.specs.Number.{number_in}
-use Rattle.conf_change.specs.declared.transition.Transition.{Transition as HowTaken}
+use Rattle.conf_change.specs.declared.transition.Transition.{Transition as HowApplied}
 use Rattle.conf_change.specs.declared.transition.Transition.TheVariants.{Auto, Implicit, Explicit}
 use Rattle.conf_session.specs.declared.parameter.Parameter.{Parameter}
 use Rattle.conf_session.specs.declared.parameter.Parameter.TheVariants.{AutoLeave, Transition, Steps, Id, Index, Incoming, Outgoing, Indexes, Votes}
@@ -37,7 +37,7 @@ abbrev pub flag_in : List (List ℕ) → Option Bool
 flag_in values = if has_only (codes "true") values then Some true else (if has_only (codes "false") values then Some false else None)
 
 -- the transition that the only value denotes
-abbrev pub transition_in : List (List ℕ) → Option HowTaken
+abbrev pub transition_in : List (List ℕ) → Option HowApplied
 transition_in values =
     if has_only (codes "auto") values then Some Auto
     else (if has_only (codes "implicit") values then Some Implicit

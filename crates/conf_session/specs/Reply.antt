@@ -12,12 +12,12 @@ use Rattle.conf_session.specs.declared.effect.Effect.TheVariants as effect
 
 -- the output, and how the session changes
 pub record Reply : Type 0 where
-  pub found : List ℕ
+  pub actual : List ℕ
   pub effect : SessionChange
 
--- the same as the code has it: an effect says whether the next changer takes the place of the current one
+-- the same as the code has it: an effect tells whether the next changer replaces the current one
 pub record ReplyParts : Type 0 where
-  pub found : List ℕ
+  pub actual : List ℕ
   pub effect : Effect
 
 -- the changer after an acknowledgement; unchanged if it is refused
@@ -34,11 +34,11 @@ session_change changer next (effect.Undone count) = Undone next count
 
 -- the reply that the code's parts denote
 abbrev pub reply_in : ChangerState → ChangerState → ReplyParts → Reply
-reply_in changer next parts = record { found = parts.found; effect = session_change changer next parts.effect }
+reply_in changer next parts = record { actual = parts.actual; effect = session_change changer next parts.effect }
 
 -- an output after which the session is unchanged
 abbrev pub replied : List ℕ → Reply
-replied found = record { found = found; effect = Nothing }
+replied actual = record { actual = actual; effect = Nothing }
 
 -- one line after which the session is unchanged
 abbrev pub replied_line : List ℕ → Reply
@@ -46,12 +46,12 @@ replied_line text = replied (line text)
 
 -- an accepted change, with the changer after it
 abbrev pub stepped : ChangerState → Reply
-stepped after = record { found = tracker_text after.tracker; effect = Stepped after }
+stepped after = record { actual = tracker_text after.tracker; effect = Stepped after }
 
 -- a restored configuration, with the changer that has it
 abbrev pub begun_again : ChangerState → Reply
-begun_again after = record { found = tracker_text after.tracker; effect = Restored after }
+begun_again after = record { actual = tracker_text after.tracker; effect = Restored after }
 
 -- an acknowledged index, with the progress of its member
 abbrev pub acknowledged_by : ChangerState → ℕ → Progress → Reply
-acknowledged_by after id p = record { found = line (progress_text id p); effect = Acknowledged after }
+acknowledged_by after id p = record { actual = line (progress_text id p); effect = Acknowledged after }

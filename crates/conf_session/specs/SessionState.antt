@@ -29,7 +29,7 @@ abbrev pub current : SessionState → Configuration
 current session = session.changer.tracker.config
 
 -- ---- how it changes
--- not at all; or this changer takes the place of its own: after an acknowledgement, after an accepted change, restored, or
+-- not at all; or this changer replaces its own: after an acknowledgement, after an accepted change, restored, or
 -- with the last changes undone, as many as the number
 pub data SessionChange : Type 0 where
   Nothing : SessionChange

@@ -15,7 +15,7 @@ mod vote;
 
 use crate::buffers::Buffers;
 use crate::input::{Input, InputKind};
-use crate::laws::found_text_stands;
+use crate::laws::actual_output_is_valid;
 use crate::parameter::Parameter;
 use crate::reply::Reply;
 use crate::reply_texts::{conf_state_line, line_of};
@@ -130,9 +130,9 @@ pub(crate) fn run_directive(
     directive: &Directive,
 ) -> Result<Reply, NoMemory>
     ensures reply { IfOk result (λ reply. reply_in session.now.changer buffers.new.next reply ≡ spec.reply_to session.now directive.now) }
-    ensures valid_output { IfOk result (λ reply. IsValidOutput reply.found) }
+    ensures valid_output { IfOk result (λ reply. IsValidOutput reply.actual) }
 {
-    found_text_stands();
+    actual_output_is_valid();
     let row = row_of(directive.command());
     run_row(
         alloc,
@@ -156,11 +156,11 @@ fn run_row(
     ensures { IfOk result (λ reply. reply_in session.now.changer buffers.new.next reply
         ≡ spec.reply_by (spec.row_with row.now.command row.now.input (option_map (λ p. p.now) row.now.parameters)) session.now text.now arguments.now) }
 {
-    if let Err(found) = buffers.input.read(row.input, text)? {
-        return Ok(Reply::of_text(found));
+    if let Err(actual) = buffers.input.read(row.input, text)? {
+        return Ok(Reply::of_text(actual));
     }
-    if let Err(found) = buffers.values.read_arguments(row.parameters, arguments)? {
-        return Ok(Reply::of_text(found));
+    if let Err(actual) = buffers.values.read_arguments(row.parameters, arguments)? {
+        return Ok(Reply::of_text(actual));
     }
     let Buffers {
         next,

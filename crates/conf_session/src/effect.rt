@@ -7,11 +7,11 @@ pub(crate) enum Effect {
     Nothing,
     /// The member of this id acknowledged this index.
     Acknowledged(u64, u64),
-    /// A change was accepted: the next changer takes the place of the current one, whose configuration is kept.
+    /// A change was accepted: the next changer replaces the current one, whose configuration is kept.
     Stepped,
-    /// The next changer takes the place of the current one, and no earlier configuration is kept.
+    /// The next changer replaces the current one, and no earlier configuration is kept.
     Restored,
-    /// This many changes were undone: the next changer takes the place of the current one, and the configurations before
+    /// This many changes were undone: the next changer replaces the current one, and the configurations before
     /// those changes are dropped.
     Undone(usize),
 }

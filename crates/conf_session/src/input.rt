@@ -56,7 +56,7 @@ impl Input {
         kind: InputKind,
         text: &[u8],
     ) -> Result<Result<(), Vec<u8>>, NoMemory>
-        ensures { IfOk result (λ read. MatchResult read (λ _. spec.read_input kind text.now ≡ Ok self.new) (λ found. spec.read_input kind text.now ≡ Err found.items)) }
+        ensures { IfOk result (λ read. MatchResult read (λ _. spec.read_input kind text.now ≡ Ok self.new) (λ actual. spec.read_input kind text.now ≡ Err actual.items)) }
     {
         let alloc = *self.changes.allocator();
         self.changes.clear();
@@ -88,7 +88,7 @@ fn read_change_list(
     changes: &mut Vec<Change>,
     text: &[u8],
 ) -> Result<Result<(), Vec<u8>>, NoMemory>
-    ensures { IfOk result (λ read. MatchResult read (λ _. spec.read_input InputKind.Changes text.now ≡ Ok (spec.of_changes changes.new.items)) (λ found. spec.read_input InputKind.Changes text.now ≡ Err found.items)) }
+    ensures { IfOk result (λ read. MatchResult read (λ _. spec.read_input InputKind.Changes text.now ≡ Ok (spec.of_changes changes.new.items)) (λ actual. spec.read_input InputKind.Changes text.now ≡ Err actual.items)) }
 {
     match read_changes_into(changes, text) {
         Ok(()) => Ok(Ok(())),
@@ -102,7 +102,7 @@ fn read_no_change(
     changes: &mut Vec<Change>,
     text: &[u8],
 ) -> Result<Result<(), Vec<u8>>, NoMemory>
-    ensures { IfOk result (λ read. MatchResult read (λ _. spec.read_input InputKind.NoChange text.now ≡ Ok (spec.of_changes changes.new.items)) (λ found. spec.read_input InputKind.NoChange text.now ≡ Err found.items)) }
+    ensures { IfOk result (λ read. MatchResult read (λ _. spec.read_input InputKind.NoChange text.now ≡ Ok (spec.of_changes changes.new.items)) (λ actual. spec.read_input InputKind.NoChange text.now ≡ Err actual.items)) }
 {
     match read_changes_into(changes, text) {
         Ok(()) if changes.is_empty() => Ok(Ok(())),
@@ -117,7 +117,7 @@ fn read_saved(
     saved: &mut ConfState,
     text: &[u8],
 ) -> Result<Result<(), Vec<u8>>, NoMemory>
-    ensures { IfOk result (λ read. MatchResult read (λ _. spec.read_input InputKind.ConfStateLine text.now ≡ Ok (record { changes = []; saved = saved.new })) (λ found. spec.read_input InputKind.ConfStateLine text.now ≡ Err found.items)) }
+    ensures { IfOk result (λ read. MatchResult read (λ _. spec.read_input InputKind.ConfStateLine text.now ≡ Ok (record { changes = []; saved = saved.new })) (λ actual. spec.read_input InputKind.ConfStateLine text.now ≡ Err actual.items)) }
 {
     match read_conf_state(alloc, text) {
         Ok(read) => {
@@ -130,7 +130,7 @@ fn read_saved(
 }
 
 fn read_nothing(alloc: Global, text: &[u8]) -> Result<Result<(), Vec<u8>>, NoMemory>
-    ensures { IfOk result (λ read. MatchResult read (λ _. spec.read_input InputKind.Nothing text.now ≡ Ok (spec.of_changes [])) (λ found. spec.read_input InputKind.Nothing text.now ≡ Err found.items)) }
+    ensures { IfOk result (λ read. MatchResult read (λ _. spec.read_input InputKind.Nothing text.now ≡ Ok (spec.of_changes [])) (λ actual. spec.read_input InputKind.Nothing text.now ≡ Err actual.items)) }
 {
     if text.is_empty() {
         Ok(Ok(()))
@@ -141,7 +141,7 @@ fn read_nothing(alloc: Global, text: &[u8]) -> Result<Result<(), Vec<u8>>, NoMem
 
 // The line that reports that the command takes no input.
 fn no_input_line(alloc: Global) -> Result<Vec<u8>, NoMemory>
-    ensures { IfOk result (λ found. found.items ≡ spec.no_input_line) }
+    ensures { IfOk result (λ actual. actual.items ≡ spec.no_input_line) }
 {
     line_of(alloc, b"this command takes no input", b"")
 }

@@ -18,8 +18,8 @@ use conf_plan::laws::{one_changer_after_steps, undo_of_run};
 
 /// The reply to a directive is a valid output: whole lines, one at least, none of which is blank, is four dashes or ends
 /// in a carriage return.
-pub fn found_text_stands()
-    ensures { (session : SessionState) (directive : DirectiveText) → has_keys directive.arguments ≡ true → IsValidOutput (answer session directive).found }
+pub fn actual_output_is_valid()
+    ensures { (session : SessionState) (directive : DirectiveText) → has_keys directive.arguments ≡ true → IsValidOutput (answer session directive).actual }
 {
     one_list_per_text();
 }

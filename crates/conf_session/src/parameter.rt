@@ -3,7 +3,7 @@ ghost use Rattle.std.specs.Prelude.{◌≡◌};
 ghost use Rattle.conf_session.specs.Parameter as spec;
 
 use ascii_text::number::read_number;
-use conf_change::Transition as HowTaken;
+use conf_change::Transition as HowApplied;
 use dd_file::item::Argument;
 
 /// A parameter of a command.
@@ -83,15 +83,15 @@ pub(crate) fn flag_in(argument: &Argument) -> Option<bool>
 }
 
 /// The transition that is its only value.
-pub(crate) fn transition_in(argument: &Argument) -> Option<HowTaken>
+pub(crate) fn transition_in(argument: &Argument) -> Option<HowApplied>
     ensures { result ≡ spec.transition_in argument.now.values }
 {
     if has_only(argument, b"auto") {
-        Some(HowTaken::Auto)
+        Some(HowApplied::Auto)
     } else if has_only(argument, b"implicit") {
-        Some(HowTaken::Implicit)
+        Some(HowApplied::Implicit)
     } else if has_only(argument, b"explicit") {
-        Some(HowTaken::Explicit)
+        Some(HowApplied::Explicit)
     } else {
         None
     }

@@ -8,7 +8,7 @@ use std::marker::Model;
 /// The output of a command, and its effect on the session.
 #[derive(Drop)]
 pub(crate) struct Reply {
-    found: Vec<u8>,
+    actual: Vec<u8>,
     effect: Effect,
 }
 
@@ -17,30 +17,30 @@ impl Model for Reply {
 
     ghost Value = { spec.ReplyParts };
 
-    ghost view = { λ r. record { found = r.found.items; effect = r.effect } };
+    ghost view = { λ r. record { actual = r.actual.items; effect = r.effect } };
 }
 
 impl Reply {
     /// An output with an effect.
-    pub(crate) fn new(found: Vec<u8>, effect: Effect) -> Reply
-        ensures { result ≡ record { found = found.items; effect = effect } }
+    pub(crate) fn new(actual: Vec<u8>, effect: Effect) -> Reply
+        ensures { result ≡ record { actual = actual.items; effect = effect } }
     {
-        Reply { found, effect }
+        Reply { actual, effect }
     }
 
     /// An output with no effect.
-    pub(crate) fn of_text(found: Vec<u8>) -> Reply
-        ensures { result ≡ record { found = found.items; effect = Effect.Nothing } }
+    pub(crate) fn of_text(actual: Vec<u8>) -> Reply
+        ensures { result ≡ record { actual = actual.items; effect = Effect.Nothing } }
     {
-        Reply::new(found, Effect::Nothing)
+        Reply::new(actual, Effect::Nothing)
     }
 
     /// Both parts.
     pub(crate) fn into_parts(self) -> (Vec<u8>, Effect)
-        ensures found { result.0.items ≡ self.found }
+        ensures actual { result.0.items ≡ self.actual }
         ensures effect { result.1 ≡ self.effect }
     {
-        let Reply { found, effect } = self;
-        (found, effect)
+        let Reply { actual, effect } = self;
+        (actual, effect)
     }
 }

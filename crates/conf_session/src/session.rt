@@ -102,16 +102,16 @@ impl Session {
     /// Runs a directive and returns its output: one line or more, none of them blank. The last index rises by one after
     /// each directive, refused ones too, and stays at the greatest. On `NoMemory` the session is unchanged.
     pub fn step(&mut self, directive: &Directive) -> Result<Vec<u8>, NoMemory>
-        ensures found { IfOk result (λ found. found.items ≡ (answer self.old directive.now).found) }
-        ensures valid_output { IfOk result (λ found. IsValidOutput found.items) }
+        ensures actual { IfOk result (λ actual. actual.items ≡ (answer self.old directive.now).actual) }
+        ensures valid_output { IfOk result (λ actual. IsValidOutput actual.items) }
         ensures session { OnOk result (self.new ≡ (answer self.old directive.now).session) }
         ensures unchanged { OnErr result (self.new ≡ self.old) }
     {
         self.state.is_session();
         answer_keeps_session();
         let reply = run_directive(self.alloc, &self.state, &mut self.buffers, directive)?;
-        let (found, effect) = reply.into_parts();
+        let (actual, effect) = reply.into_parts();
         self.state.apply(effect, &mut self.buffers.next);
-        Ok(found)
+        Ok(actual)
     }
 }

@@ -80,7 +80,7 @@ impl Values {
         arguments: &[Argument],
     ) -> Result<Result<(), Vec<u8>>, NoMemory>
         ensures { IfOk result (λ read. MatchResult read (λ _. spec.read_arguments (option_map (λ p. p.now) parameters.entry) arguments.now ≡ Ok self.new)
-            (λ found. spec.read_arguments (option_map (λ p. p.now) parameters.entry) arguments.now ≡ Err found.items)) }
+            (λ actual. spec.read_arguments (option_map (λ p. p.now) parameters.entry) arguments.now ≡ Err actual.items)) }
     {
         self.clear();
         let Some(parameters) = parameters else {

@@ -2,14 +2,14 @@
 use Rattle.std.specs.Prelude.{◌≡◌, ◌≤◌, ℕ, ◌+◌, ◌||◌, true, List, [], ◌∷◌, ◌++◌, flat_map, count_by, nat_lt, length, Option, Some, None, Result, Ok, Err, IfSome}
 use Rattle.std.specs.List.{list_any}
 use Rattle.std.specs.Io.KnownBytes.{Appends, Keeps}
-use Rattle.dd_file.specs.Reading.{Script}
+use Rattle.dd_file.specs.Grammar.{Script}
 use Rattle.dd_file.specs.Rewritten.{Entry, is_directive, without_double_end}
 use Rattle.dd_file.specs.RewriterState.{RewriterState, HasWritten}
 use Rattle.dd_file.specs.declared.item.Item.{Item}
 use Rattle.dd_file.specs.declared.fault.FileFault.{FileFault}
 use Rattle.dd_file.specs.declared.stage.Stage.TheVariants.{Ready}
 use Rattle.conf_session.specs.SessionState.{SessionState}
-use Rattle.conf_tool.specs.Reports.{answered_entries, obeyed_text, differs, report, counts_line}
+use Rattle.conf_tool.specs.Reports.{answered_entries, answered_text, differs, report, counts_line}
 use Rattle.conf_tool.specs.Outputs.{Output, clean_unless, check_status, session_after_all, undone_unless, worse_of, pair_then, ends_within, planned_pairs}
 use Rattle.conf_change.specs.Configuration.{Configuration, is_valid}
 use Rattle.conf_tool.specs.Pairs.{NumberedLine, numbered, configuration_lines, configuration_at, both_of}
@@ -27,14 +27,14 @@ abbrev pub prepended : {A : Type 0} → List A → Script A → Script A
 prepended parts rest = script (parts ++ rest.items) rest.fault
 
 -- a text before an output
-abbrev pub with_front : List ℕ → Output → Output
-with_front text output = record { text = text ++ output.text; outcome = output.outcome }
+abbrev pub with_prefix : List ℕ → Output → Output
+with_prefix text output = record { text = text ++ output.text; outcome = output.outcome }
 
 -- The replies to these parts were written, and the output for what is left comes after them.
-pub record WroteFront {A : Type 0} (total left : Script A → Output) (parts : List A) (before after : Option (List ℕ)) : Type 0 where
+pub record WrotePrefix {A : Type 0} (total left : Script A → Output) (parts : List A) (before after : Option (List ℕ)) : Type 0 where
   pub text : List ℕ
   pub wrote : Appends before after text
-  pub is : (rest : Script A) → total (prepended parts rest) ≡ with_front text (left rest)
+  pub is : (rest : Script A) → total (prepended parts rest) ≡ with_prefix text (left rest)
 
 -- For `check`, with the counts so far: no more directives than parts.
 abbrev pub rest_checked : ℕ → ℕ → List Entry → Option FileFault → Output
@@ -50,12 +50,12 @@ check_left session directives mismatches rest = rest_checked directives mismatch
 
 -- the replies of `check` to these parts were written
 pub record HasChecked (session : SessionState) (directives mismatches : ℕ) (total : Script Item → Output) (parts : List Item) (before after : Option (List ℕ)) : Type 0 where
-  pub front : WroteFront total (check_left session directives mismatches) parts before after
+  pub prefix : WrotePrefix total (check_left session directives mismatches) parts before after
   pub few : directives ≤ length parts
 
 -- For `rewrite`, which may hold the last newline back until it knows what follows.
 abbrev pub rewrite_left : SessionState → Script Item → Output
-rewrite_left session rest = record { text = obeyed_text session rest.items; outcome = clean_unless rest.fault }
+rewrite_left session rest = record { text = answered_text session rest.items; outcome = clean_unless rest.fault }
 
 -- an output with its end looked at
 abbrev pub ended : Output → Output
@@ -66,17 +66,17 @@ pub record HasRewritten (session : SessionState) (rewriter : RewriterState) (tot
   pub text : List ℕ
   pub wrote : HasWritten rewriter.newlines before after text
   pub ready : rewriter.stage ≡ Ready
-  pub is : (rest : Script Item) → total (prepended parts rest) ≡ ended (with_front text (rewrite_left session rest))
+  pub is : (rest : Script Item) → total (prepended parts rest) ≡ ended (with_prefix text (rewrite_left session rest))
 
 -- For `undo`, which runs what it reads, and writes at the end.
 abbrev pub undo_left : SessionState → ℕ → Script Item → Output
 undo_left session count rest = undone_unless (session_after_all session rest.items) count rest.fault
 
 -- `undo` has read these parts
-pub record HasObeyed (session : SessionState) (rewriter : RewriterState) (count : ℕ) (total : Script Item → Output) (parts : List Item) (before after : Option (List ℕ)) : Type 0 where
+pub record HasRun (session : SessionState) (rewriter : RewriterState) (count : ℕ) (total : Script Item → Output) (parts : List Item) (before after : Option (List ℕ)) : Type 0 where
   pub unwritten : Keeps before after
   pub ready : rewriter.stage ≡ Ready
-  pub nothing : (held : Option (List ℕ)) → HasWritten rewriter.newlines held held []
+  pub nothing : (buffered : Option (List ℕ)) → HasWritten rewriter.newlines buffered buffered []
   pub is : (rest : Script Item) → total (prepended parts rest) ≡ undo_left session count rest
 
 -- For `plan`: what is left after the first line of a pair, by its configuration, ..
@@ -99,7 +99,7 @@ plan_left options count number now status rest = with_status status (pairs_left 
 
 -- the replies of `plan` to these lines were written, with at most as many pairs
 pub record HasPlanned (options : PlanOptions) (count number : ℕ) (now : Option Configuration) (status : Status) (total : Script (List ℕ) → Output) (parts : List (List ℕ)) (before after : Option (List ℕ)) : Type 0 where
-  pub front : WroteFront total (plan_left options count number now status) parts before after
+  pub prefix : WrotePrefix total (plan_left options count number now status) parts before after
   pub counted : count ≡ length parts
   pub few : number ≤ length parts + 1
   pub valid : IfSome now (λ c. is_valid c ≡ true)

@@ -5,19 +5,19 @@ use Rattle.std.proofs.lemmas.List.{append-nil}
 use Rattle.std.specs.Prelude.{Option, Some, None}
 use Rattle.std.specs.Io.KnownBytes.{Appends, Keeps}
 use Rattle.dd_file.specs.Device.{AppendsPart}
-use Rattle.dd_file.specs.Reading.{Script}
+use Rattle.dd_file.specs.Grammar.{Script}
 use Rattle.dd_file.specs.RewriterState.{RewriterState, HasWritten}
 use Rattle.dd_file.specs.declared.item.Item.{Item}
 use Rattle.dd_file.specs.declared.fault.FileFault.{FileFault}
 use Rattle.dd_file.proofs.Offered.{part-append}
 use Rattle.conf_session.specs.SessionState.{SessionState}
 use Rattle.conf_tool.specs.Outputs.{Output}
-use Rattle.conf_tool.specs.Answered.{script, WroteFront, HasChecked, HasRewritten, HasObeyed, HasPlanned, rewrite_left, plan_left}
+use Rattle.conf_tool.specs.Answered.{script, WrotePrefix, HasChecked, HasRewritten, HasRun, HasPlanned, rewrite_left, plan_left}
 use Rattle.conf_change.specs.Configuration.{Configuration}
 use Rattle.conf_tool.specs.declared.plan_options.PlanOptions.{PlanOptions}
 use Rattle.conf_tool.specs.declared.status.Status.{Status}
 
-pub keeps-still : (held : Option (List ℕ)) → Keeps held held
+pub keeps-still : (buffered : Option (List ℕ)) → Keeps buffered buffered
 keeps-still None = tt
 keeps-still (Some bytes) = refl
 
@@ -60,12 +60,12 @@ kept-written newlines start mid new text written k = record {
 }
 
 -- a flush, for each mode
-pub kept-front : {A : Type 0} (total left : Script A → Output) (parts : List A) (before mid new : Option (List ℕ)) → WroteFront total left parts before mid → Keeps mid new → WroteFront total left parts before new
-kept-front total left parts before mid new front k = record { text = front.text; wrote = kept-appends before mid new front.text front.wrote k; is = front.is }
+pub kept-prefix : {A : Type 0} (total left : Script A → Output) (parts : List A) (before mid new : Option (List ℕ)) → WrotePrefix total left parts before mid → Keeps mid new → WrotePrefix total left parts before new
+kept-prefix total left parts before mid new prefix k = record { text = prefix.text; wrote = kept-appends before mid new prefix.text prefix.wrote k; is = prefix.is }
 
 pub kept-checked : (session : SessionState) (directives mismatches : ℕ) (total : Script Item → Output) (parts : List Item) (before mid new : Option (List ℕ)) →
     HasChecked session directives mismatches total parts before mid → Keeps mid new → HasChecked session directives mismatches total parts before new
-kept-checked session directives mismatches total parts before mid new checked k = record { front = kept-front total _ parts before mid new checked.front k; few = checked.few }
+kept-checked session directives mismatches total parts before mid new checked k = record { prefix = kept-prefix total _ parts before mid new checked.prefix k; few = checked.few }
 
 pub kept-rewritten : (session : SessionState) (rewriter : RewriterState) (total : Script Item → Output) (parts : List Item) (before mid new : Option (List ℕ)) →
     HasRewritten session rewriter total parts before mid → Keeps mid new → HasRewritten session rewriter total parts before new
@@ -76,19 +76,19 @@ kept-rewritten session rewriter total parts before mid new rewritten k = record 
   is = rewritten.is;
 }
 
-pub kept-obeyed : (session : SessionState) (rewriter : RewriterState) (count : ℕ) (total : Script Item → Output) (parts : List Item) (before mid new : Option (List ℕ)) →
-    HasObeyed session rewriter count total parts before mid → Keeps mid new → HasObeyed session rewriter count total parts before new
-kept-obeyed session rewriter count total parts before mid new obeyed k = record {
-  unwritten = keeps-keeps before mid new obeyed.unwritten k;
-  ready = obeyed.ready;
-  nothing = obeyed.nothing;
-  is = obeyed.is;
+pub kept-ran : (session : SessionState) (rewriter : RewriterState) (count : ℕ) (total : Script Item → Output) (parts : List Item) (before mid new : Option (List ℕ)) →
+    HasRun session rewriter count total parts before mid → Keeps mid new → HasRun session rewriter count total parts before new
+kept-ran session rewriter count total parts before mid new ran k = record {
+  unwritten = keeps-keeps before mid new ran.unwritten k;
+  ready = ran.ready;
+  nothing = ran.nothing;
+  is = ran.is;
 }
 
 pub kept-planned : (options : PlanOptions) (count number : ℕ) (now : Option Configuration) (status : Status) (total : Script (List ℕ) → Output) (parts : List (List ℕ)) (before mid new : Option (List ℕ)) →
     HasPlanned options count number now status total parts before mid → Keeps mid new → HasPlanned options count number now status total parts before new
 kept-planned options count number now status total parts before mid new planned k = record {
-  front = kept-front total (plan_left options count number now status) parts before mid new planned.front k;
+  prefix = kept-prefix total (plan_left options count number now status) parts before mid new planned.prefix k;
   counted = planned.counted;
   few = planned.few;
   valid = planned.valid;
@@ -99,17 +99,17 @@ part-nothing None text = tt
 part-nothing (Some bytes) text = ([], text, refl, sym (append-nil bytes))
 
 -- what was written is a prefix of the output, whatever follows
-pub wrote-front : {A : Type 0} (total left : Script A → Output) (parts more : List A) (fault : Option FileFault) (before mid : Option (List ℕ)) →
-    WroteFront total left parts before mid → AppendsPart before mid (total (script (parts ++ more) fault)).text
-wrote-front total left parts more fault before mid front =
-    subst (λ (o : Output). AppendsPart before mid o.text) (sym (front.is (script more fault))) (part-append before mid front.text (left (script more fault)).text front.wrote)
+pub wrote-prefix : {A : Type 0} (total left : Script A → Output) (parts more : List A) (fault : Option FileFault) (before mid : Option (List ℕ)) →
+    WrotePrefix total left parts before mid → AppendsPart before mid (total (script (parts ++ more) fault)).text
+wrote-prefix total left parts more fault before mid prefix =
+    subst (λ (o : Output). AppendsPart before mid o.text) (sym (prefix.is (script more fault))) (part-append before mid prefix.text (left (script more fault)).text prefix.wrote)
 
-pub rewritten-front : (s : SessionState) (rewriter : RewriterState) (total : Script Item → Output) (parts more : List Item) (fault : Option FileFault) (before mid : Option (List ℕ)) →
+pub rewritten-prefix : (s : SessionState) (rewriter : RewriterState) (total : Script Item → Output) (parts more : List Item) (fault : Option FileFault) (before mid : Option (List ℕ)) →
     HasRewritten s rewriter total parts before mid → AppendsPart before mid (total (script (parts ++ more) fault)).text
-rewritten-front s rewriter total parts more fault before mid rewritten =
+rewritten-prefix s rewriter total parts more fault before mid rewritten =
     subst (λ (o : Output). AppendsPart before mid o.text) (sym (rewritten.is (script more fault))) (rewritten.wrote.begun (rewrite_left s (script more fault)).text)
 
 -- nothing is written before the end
-pub obeyed-front : (s : SessionState) (rewriter : RewriterState) (count : ℕ) (total : Script Item → Output) (parts : List Item) (before held : Option (List ℕ)) (text : List ℕ) →
-    HasObeyed s rewriter count total parts before held → AppendsPart before held text
-obeyed-front s rewriter count total parts before held text obeyed = kept-part before before held text (part-nothing before text) obeyed.unwritten
+pub ran-prefix : (s : SessionState) (rewriter : RewriterState) (count : ℕ) (total : Script Item → Output) (parts : List Item) (before buffered : Option (List ℕ)) (text : List ℕ) →
+    HasRun s rewriter count total parts before buffered → AppendsPart before buffered text
+ran-prefix s rewriter count total parts before buffered text ran = kept-part before before buffered text (part-nothing before text) ran.unwritten

@@ -4,7 +4,7 @@ use Rattle.ascii_text.specs.Lines.{newline}
 use Rattle.conf_change.specs.Configuration.{Configuration}
 use Rattle.conf_change.specs.Outcome.{Outcome, outcome}
 use Rattle.conf_change.specs.ChangeList.{BadToken, changes_in, changes_in_tokens}
-use Rattle.ascii_text.specs.Words.{words}
+use Rattle.ascii_text.specs.Tokens.{tokens_in}
 use Rattle.conf_change.specs.Text.{config_text, refused_text, bad_token_text}
 use Rattle.conf_change.specs.declared.change.Change.{Change}
 use Rattle.conf_change.specs.declared.step.Step.TheVariants.{Simple}
@@ -29,16 +29,16 @@ reply_to_changes c (Ok changes) = reply_to_outcome c (outcome c (Simple changes)
 reply_to_changes c (Err bad) = text_alone c (bad_token_text bad)
 
 -- the reply to a token, which may or may not be parsed as a change
-abbrev pub reply_to_word : Configuration → List ℕ → LineReply
-reply_to_word c word = reply_to_changes c (changes_in_tokens (word ∷ []))
+abbrev pub reply_to_token : Configuration → List ℕ → LineReply
+reply_to_token c token = reply_to_changes c (changes_in_tokens (token ∷ []))
 
 -- the line has one token
-abbrev pub has_one_word : List ℕ → Bool
-has_one_word line = length (words line) == 1
+abbrev pub has_one_token : List ℕ → Bool
+has_one_token line = length (tokens_in line) == 1
 
 -- a line of one token is its change, and any other line is bad
 abbrev pub line_reply : Configuration → List ℕ → LineReply
-line_reply c line = if has_one_word line then reply_to_changes c (changes_in line) else text_alone c (codes "one change expected")
+line_reply c line = if has_one_token line then reply_to_changes c (changes_in line) else text_alone c (codes "one change expected")
 
 -- the replies to lines in turn, each with a newline
 abbrev pub line_replies : Configuration → List (List ℕ) → List ℕ

@@ -2,7 +2,7 @@
 use Rattle.std.specs.Prelude.{ℕ, ◌+◌, Bool, true, false, List, [], ◌∷◌, ◌++◌, flat_map, nat_lt, Option, Some, None, Result, Ok, Err, if◌then◌else◌}
 use Rattle.ascii_text.specs.Lines.{newline}
 use Rattle.std.specs.List.{list_any}
-use Rattle.dd_file.specs.Reading.{Script, script_of, listing_of}
+use Rattle.dd_file.specs.Grammar.{Script, script_of, listing_of}
 use Rattle.dd_file.specs.Rewritten.{Entry, rewritten_text}
 use Rattle.dd_file.specs.declared.item.Item.{Item}
 use Rattle.dd_file.specs.declared.fault.FileFault.{FileFault}

@@ -63,4 +63,4 @@ both_of (Ok now) (Ok target) = Ok (now, target)
 
 -- the error of a run at a line that is not a configuration: what is wrong with the line, or out of memory
 abbrev pub IsFaultOf : {A : Type 0} → Result A ConfigurationsFault → ToolFault → Type 0
-IsFaultOf found fault = (fault ≡ NoMemory) ⊎ ((bad : ConfigurationsFault) × (fault ≡ Configurations bad) × (found ≡ Err bad))
+IsFaultOf read fault = (fault ≡ NoMemory) ⊎ ((bad : ConfigurationsFault) × (fault ≡ Configurations bad) × (read ≡ Err bad))

@@ -25,7 +25,7 @@ text_as Json number down now steps = json_text number now steps down
 abbrev pub path_text : PlanOptions → ℕ → Configuration → List Step → List ℕ
 path_text options number now steps = text_as options.output number options.down now steps
 
--- a comment that says why there is no plan
+-- a comment with the reason why there is no plan
 abbrev pub no_plan_comment : List ℕ → List ℕ
 no_plan_comment why = codes "# no plan: " ++ why ++ newline
 

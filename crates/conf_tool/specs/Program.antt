@@ -55,8 +55,8 @@ abbrev pub wants_mode : App → App
 wants_mode app = record { top = record app.top { subcommand_required = true }; subs = app.subs }
 
 -- the version can be asked for
-abbrev pub tells_version : App → App
-tells_version app = record { top = record app.top { has_version = true }; subs = app.subs }
+abbrev pub with_version : App → App
+with_version app = record { top = record app.top { has_version = true }; subs = app.subs }
 
 -- the program with one more mode
 abbrev pub with_mode : App → App → App
@@ -65,7 +65,7 @@ with_mode mode app = with_subcommand app mode.top
 abbrev pub program : OptionNames → App
 program names =
     with_mode (plan_command (codes "plan") names) (with_mode (undo_command (codes "undo") names.floors) (with_mode (script_command (codes "rewrite") names.floors)
-    (with_mode (script_command (codes "check") names.floors) (with_mode (mode_command (codes "lines")) (wants_mode (tells_version (new_app (codes "confscript"))))))))
+    (with_mode (script_command (codes "check") names.floors) (with_mode (mode_command (codes "lines")) (wants_mode (with_version (new_app (codes "confscript"))))))))
 
 -- the names that an option has
 abbrev pub AreNames : Bor (List (Bor Text)) → List Text → Type 0
@@ -93,12 +93,12 @@ mode_named name =
 -- the mode and the options of a parsed subcommand
 abbrev pub asked_mode : Option (Text × List Row) → Mode
 asked_mode None = Lines
-asked_mode (Some found) = mode_named found.0
+asked_mode (Some matches) = mode_named matches.0
 
 -- the value that it gives an argument
 abbrev pub asked_text : Text → Option (Text × List Row) → Option Text
 asked_text id None = None
-asked_text id (Some found) = first_of id found.1
+asked_text id (Some matches) = first_of id matches.1
 
 -- the initial next index of an option: one if it is left out
 abbrev pub floor_named : Text → Floor
@@ -137,9 +137,9 @@ IsIdsFault text NoMemory = ⊤
 
 -- The arguments are refused for this reason: that of `clap`, or that the ids that are down are not a list of ids.
 abbrev pub IsRefusal : App → List Text → ArgumentFault → Type 0
-IsRefusal app words (Clap error) = HasKind (fault_of app words) error × (takes app words ≡ true → kind_of error ≡ OutOfMemory)
-IsRefusal app words BadIds = (fault_of app words ≡ []) × (asked_down (asked_text (codes "down") (subcommand_of app words)) ≡ None)
-IsRefusal app words NoMemory = ⊤
+IsRefusal app arguments (Clap error) = HasKind (fault_of app arguments) error × (takes app arguments ≡ true → kind_of error ≡ OutOfMemory)
+IsRefusal app arguments BadIds = (fault_of app arguments ≡ []) × (asked_down (asked_text (codes "down") (subcommand_of app arguments)) ≡ None)
+IsRefusal app arguments NoMemory = ⊤
 
 -- The number of an option: the default if it is left out, otherwise the one that its text denotes. If that is not from the
 -- least to the most, the arguments are refused.
@@ -150,13 +150,13 @@ IsAsked least most default (Some text) number =
     IsNumeral 10 digits → least ≤ digits_value 10 digits → digits_value 10 digits ≤ most → number ≡ digits_value 10 digits
 
 -- the invocation is that of the parsed subcommand
-pub record IsInvocation (found : Option (Text × List Row)) (invocation : Invocation) : Type 0 where
-  pub mode : invocation.mode ≡ asked_mode found
-  pub file : option_map (λ name. name.now) invocation.file ≡ asked_text (codes "FILE") found
-  pub history : IsAsked 0 1000 100 (asked_text (codes "history") found) invocation.options.history
-  pub steps : IsAsked 1 1000 1 (asked_text (codes "steps") found) invocation.options.steps
-  pub floor : invocation.options.floor ≡ asked_floor (asked_text (codes "next-floor") found)
-  pub strategy : invocation.options.plan.strategy ≡ asked_strategy (asked_text (codes "strategy") found)
-  pub output : invocation.options.plan.output ≡ asked_output (asked_text (codes "output") found)
-  pub down : asked_down (asked_text (codes "down") found) ≡ Some invocation.options.plan.down
+pub record IsInvocation (matches : Option (Text × List Row)) (invocation : Invocation) : Type 0 where
+  pub mode : invocation.mode ≡ asked_mode matches
+  pub file : option_map (λ name. name.now) invocation.file ≡ asked_text (codes "FILE") matches
+  pub history : IsAsked 0 1000 100 (asked_text (codes "history") matches) invocation.options.history
+  pub steps : IsAsked 1 1000 1 (asked_text (codes "steps") matches) invocation.options.steps
+  pub floor : invocation.options.floor ≡ asked_floor (asked_text (codes "next-floor") matches)
+  pub strategy : invocation.options.plan.strategy ≡ asked_strategy (asked_text (codes "strategy") matches)
+  pub output : invocation.options.plan.output ≡ asked_output (asked_text (codes "output") matches)
+  pub down : asked_down (asked_text (codes "down") matches) ≡ Some invocation.options.plan.down
   pub range : IsInRange invocation.options

@@ -10,10 +10,10 @@ use Rattle.conf_session.specs.Commands.{answer}
 use Rattle.conf_session.specs.ReplyTexts.{line}
 
 -- the actual output of an item: empty unless it is a directive
-abbrev pub found_for : SessionState → Item → List ℕ
-found_for session (Comment lines) = []
-found_for session (Blank lines) = []
-found_for session (Directive directive) = (answer session directive).found
+abbrev pub actual_for : SessionState → Item → List ℕ
+actual_for session (Comment lines) = []
+actual_for session (Blank lines) = []
+actual_for session (Directive directive) = (answer session directive).actual
 
 -- the session after an item: it runs a directive, and other items do not change it
 abbrev pub session_after : SessionState → Item → SessionState
@@ -24,17 +24,17 @@ session_after session (Directive directive) = (answer session directive).session
 -- the items in turn, each with its actual output after the previous ones
 abbrev pub answered_entries : SessionState → List Item → List Entry
 answered_entries session [] = []
-answered_entries session (item ∷ items) = entry item (found_for session item) ∷ answered_entries (session_after session item) items
+answered_entries session (item ∷ items) = entry item (actual_for session item) ∷ answered_entries (session_after session item) items
 
 -- the text of the items, each with its actual output
-abbrev pub obeyed_text : SessionState → List Item → List ℕ
-obeyed_text session items = flat_map (λ (entry : Entry). entry_text entry.item entry.output) (answered_entries session items)
+abbrev pub answered_text : SessionState → List Item → List ℕ
+answered_text session items = flat_map (λ (entry : Entry). entry_text entry.item entry.output) (answered_entries session items)
 
 -- the item is a directive whose expected output is different
 abbrev pub expects_other : List ℕ → Item → Bool
-expects_other found (Comment lines) = false
-expects_other found (Blank lines) = false
-expects_other found (Directive directive) = not (bytes_eq found directive.expected)
+expects_other actual (Comment lines) = false
+expects_other actual (Blank lines) = false
+expects_other actual (Directive directive) = not (bytes_eq actual directive.expected)
 
 -- an entry differs: the actual output of its directive is not the expected one
 abbrev pub differs : Entry → Bool
@@ -46,14 +46,14 @@ marked sign text = flat_map (λ full_line. line (sign ++ without_last 10 full_li
 
 -- a directive's line number and command, its expected and its actual output
 abbrev pub difference_text : List ℕ → DirectiveText → List ℕ
-difference_text found directive =
-    line (decimal directive.line ++ codes ": " ++ directive.command) ++ marked (codes "- ") directive.expected ++ marked (codes "+ ") found
+difference_text actual directive =
+    line (decimal directive.line ++ codes ": " ++ directive.command) ++ marked (codes "- ") directive.expected ++ marked (codes "+ ") actual
 
 -- the report on an item with this actual output
 abbrev pub report_of : List ℕ → Item → List ℕ
-report_of found (Comment lines) = []
-report_of found (Blank lines) = []
-report_of found (Directive directive) = if not (bytes_eq found directive.expected) then difference_text found directive else []
+report_of actual (Comment lines) = []
+report_of actual (Blank lines) = []
+report_of actual (Directive directive) = if not (bytes_eq actual directive.expected) then difference_text actual directive else []
 
 -- the report on an entry: nothing, unless it differs
 abbrev pub report : Entry → List ℕ

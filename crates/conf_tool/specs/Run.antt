@@ -140,10 +140,10 @@ stands_for_whole (Err NoMemory) = false
 
 -- What a result means for whether the writer has failed, before and after. After a failed read or `NoMemory`, a write may
 -- have failed too.
-abbrev pub TellsWrite : Bool → Bool → Result Status ToolFault → Type 0
-TellsWrite before after (Ok status) = after ≡ before
-TellsWrite before after (Err (Script fault)) = after ≡ before
-TellsWrite before after (Err (Configurations fault)) = after ≡ before
-TellsWrite before after (Err Read) = ⊤
-TellsWrite before after (Err Write) = after ≡ true
-TellsWrite before after (Err NoMemory) = ⊤
+abbrev pub ReportsWrite : Bool → Bool → Result Status ToolFault → Type 0
+ReportsWrite before after (Ok status) = after ≡ before
+ReportsWrite before after (Err (Script fault)) = after ≡ before
+ReportsWrite before after (Err (Configurations fault)) = after ≡ before
+ReportsWrite before after (Err Read) = ⊤
+ReportsWrite before after (Err Write) = after ≡ true
+ReportsWrite before after (Err NoMemory) = ⊤

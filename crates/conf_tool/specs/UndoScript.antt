@@ -12,7 +12,7 @@ use Rattle.conf_change.specs.Step.{changes_of}
 use Rattle.conf_change.specs.declared.change.Change.{Change}
 use Rattle.conf_change.specs.declared.step.Step.{Step}
 use Rattle.conf_change.specs.declared.step.Step.TheVariants.{Simple, EnterJoint, LeaveJoint}
-use Rattle.conf_plan.specs.PlanText.{command_words, change_text}
+use Rattle.conf_plan.specs.PlanText.{command_tokens, change_text}
 use Rattle.conf_session.specs.Commands.{answer, answered}
 use Rattle.conf_session.specs.Reply.{stepped}
 use Rattle.conf_session.specs.SessionState.{SessionState}
@@ -27,7 +27,7 @@ step_command LeaveJoint = record { name = codes "leave-joint"; arguments = [] }
 
 -- its directive line
 abbrev pub step_line : Step → List ℕ
-step_line step = join_with_byte 32 (command_words step)
+step_line step = join_with_byte 32 (command_tokens step)
 
 -- changes as a line of input, if there are any
 abbrev pub change_lines : List Change → List (List ℕ)

@@ -16,7 +16,7 @@ pub enum ArgumentFault {
 }
 
 impl From<Error> for ArgumentFault {
-    ghost from_gives = { λ error told. told ≡ fault.Clap error };
+    ghost from_gives = { λ error converted. converted ≡ fault.Clap error };
 
     fn from(error: Error) -> ArgumentFault {
         ArgumentFault::Clap(error)
@@ -24,7 +24,7 @@ impl From<Error> for ArgumentFault {
 }
 
 impl From<NoMemory> for ArgumentFault {
-    ghost from_gives = { λ _ told. told ≡ fault.NoMemory };
+    ghost from_gives = { λ _ converted. converted ≡ fault.NoMemory };
 
     fn from(_error: NoMemory) -> ArgumentFault {
         ArgumentFault::NoMemory

@@ -1,7 +1,7 @@
 //! The arguments of the command line.
 ghost use Rattle.std.specs.Prelude.{◌≡◌, ◌≤◌, ◌<◌, ◌^◌, [], Some, true, false, map, codes, option_map, MatchResult, IfOk, IfErr};
 ghost use Rattle.clap.specs.Words.{app_of, fault_of, first_of, found_of, kind_of, new_app, new_rule, rows_of, rule_of, subcommand_of, subcommand_rows_of};
-ghost use Rattle.conf_tool.specs.Program.{program as the_program, OfProgram, wants_mode, tells_version, with_mode, mode_command, script_command, undo_command, plan_command, number_rule, names_rule, text_rule, asked_mode, mode_named, asked_text, asked_floor, floor_named, asked_strategy, strategy_named, asked_output, output_named, asked_down, IsAsked, IsInvocation, IsIdsFault, IsRefusal};
+ghost use Rattle.conf_tool.specs.Program.{program as the_program, OfProgram, wants_mode, with_version, with_mode, mode_command, script_command, undo_command, plan_command, number_rule, names_rule, text_rule, asked_mode, mode_named, asked_text, asked_floor, floor_named, asked_strategy, strategy_named, asked_output, output_named, asked_down, IsAsked, IsInvocation, IsIdsFault, IsRefusal};
 ghost use Rattle.conf_tool.specs.Ranges.{IsInRange};
 
 use crate::argument_fault::ArgumentFault;
@@ -35,32 +35,32 @@ struct OptionNames<'a> {
 /// What the arguments ask for, of which the first is the program's name.
 pub fn command_line<'a, S: AsStr>(
     alloc: Global,
-    words: &'a [S],
+    arguments: &'a [S],
 ) -> Result<Invocation<'a>, ArgumentFault>
     // The arguments are refused exactly if `clap` refuses them, or if `--down` is not a list of ids.
-    ensures refused { OfProgram (λ the_program. MatchResult result (λ _. fault_of the_program (map S.text words.entry.now) ≡ []) (IsRefusal the_program (map S.text words.entry.now))) }
+    ensures refused { OfProgram (λ the_program. MatchResult result (λ _. fault_of the_program (map S.text arguments.entry.now) ≡ []) (IsRefusal the_program (map S.text arguments.entry.now))) }
 
     // What is asked for is what `clap` reads in them.
-    ensures asked { OfProgram (λ the_program. IfOk result (IsInvocation (subcommand_of the_program (map S.text words.entry.now)))) }
+    ensures asked { OfProgram (λ the_program. IfOk result (IsInvocation (subcommand_of the_program (map S.text arguments.entry.now)))) }
 {
     let names = OptionNames {
         floors: &["0", "1"],
         strategies: &["shortest", "learners-first", "one-at-a-time"],
         outputs: &["steps", "table", "json"],
     };
-    read_words(alloc, words, names)
+    read_arguments(alloc, arguments, names)
 }
 
 // What the arguments ask for, where the options have these names.
-fn read_words<'a, S: AsStr>(
+fn read_arguments<'a, S: AsStr>(
     alloc: Global,
-    words: &'a [S],
+    arguments: &'a [S],
     names: OptionNames<'a>,
 ) -> Result<Invocation<'a>, ArgumentFault>
-    ensures refused { MatchResult result (λ _. fault_of (the_program names.entry) (map S.text words.entry.now) ≡ []) (IsRefusal (the_program names.entry) (map S.text words.entry.now)) }
-    ensures asked { IfOk result (IsInvocation (subcommand_of (the_program names.entry) (map S.text words.entry.now))) }
+    ensures refused { MatchResult result (λ _. fault_of (the_program names.entry) (map S.text arguments.entry.now) ≡ []) (IsRefusal (the_program names.entry) (map S.text arguments.entry.now)) }
+    ensures asked { IfOk result (IsInvocation (subcommand_of (the_program names.entry) (map S.text arguments.entry.now))) }
 {
-    let matches = program(alloc, names)?.try_get_matches_from(words)?;
+    let matches = program(alloc, names)?.try_get_matches_from(arguments)?;
     invocation_of(alloc, &matches)
 }
 
@@ -73,10 +73,10 @@ fn invocation_of<'a>(
     ensures fault { IfErr result (IsIdsFault (asked_text (codes "down") (subcommand_rows_of matches.now))) }
 {
     match matches.subcommand() {
-        Some((name, found)) => Ok(Invocation {
+        Some((name, matches)) => Ok(Invocation {
             mode: mode_of(name),
-            options: options_of(alloc, found)?,
-            file: file_of(found),
+            options: options_of(alloc, matches)?,
+            file: file_of(matches),
         }),
         None => Ok(Invocation {
             mode: Mode::Lines,
@@ -87,44 +87,44 @@ fn invocation_of<'a>(
 }
 
 // The options of a mode, each with its default if it is left out.
-fn options_of(alloc: Global, found: &ArgMatches<'_>) -> Result<Options, ArgumentFault>
-    ensures history { IfOk result (λ options. IsAsked 0 1000 100 (first_of (codes "history") (rows_of (found_of found.now))) options.history) }
-    ensures steps { IfOk result (λ options. IsAsked 1 1000 1 (first_of (codes "steps") (rows_of (found_of found.now))) options.steps) }
-    ensures floor { IfOk result (λ options. options.floor ≡ asked_floor (first_of (codes "next-floor") (rows_of (found_of found.now)))) }
-    ensures strategy { IfOk result (λ options. options.plan.strategy ≡ asked_strategy (first_of (codes "strategy") (rows_of (found_of found.now)))) }
-    ensures output { IfOk result (λ options. options.plan.output ≡ asked_output (first_of (codes "output") (rows_of (found_of found.now)))) }
-    ensures down { IfOk result (λ options. asked_down (first_of (codes "down") (rows_of (found_of found.now))) ≡ Some options.plan.down) }
+fn options_of(alloc: Global, matches: &ArgMatches<'_>) -> Result<Options, ArgumentFault>
+    ensures history { IfOk result (λ options. IsAsked 0 1000 100 (first_of (codes "history") (rows_of (found_of matches.now))) options.history) }
+    ensures steps { IfOk result (λ options. IsAsked 1 1000 1 (first_of (codes "steps") (rows_of (found_of matches.now))) options.steps) }
+    ensures floor { IfOk result (λ options. options.floor ≡ asked_floor (first_of (codes "next-floor") (rows_of (found_of matches.now)))) }
+    ensures strategy { IfOk result (λ options. options.plan.strategy ≡ asked_strategy (first_of (codes "strategy") (rows_of (found_of matches.now)))) }
+    ensures output { IfOk result (λ options. options.plan.output ≡ asked_output (first_of (codes "output") (rows_of (found_of matches.now)))) }
+    ensures down { IfOk result (λ options. asked_down (first_of (codes "down") (rows_of (found_of matches.now))) ≡ Some options.plan.down) }
     ensures range { IfOk result IsInRange }
-    ensures fault { IfErr result (IsIdsFault (first_of (codes "down") (rows_of (found_of found.now)))) }
+    ensures fault { IfErr result (IsIdsFault (first_of (codes "down") (rows_of (found_of matches.now)))) }
 {
     Ok(Options {
-        history: number_of(found, "history", 0, 1000, 100),
-        steps: number_of(found, "steps", 1, 1000, 1),
-        floor: floor_of(found),
+        history: number_of(matches, "history", 0, 1000, 100),
+        steps: number_of(matches, "steps", 1, 1000, 1),
+        floor: floor_of(matches),
         plan: PlanOptions {
-            strategy: strategy_of(found),
-            output: output_of(found),
-            down: down_of(alloc, found)?,
+            strategy: strategy_of(matches),
+            output: output_of(matches),
+            down: down_of(alloc, matches)?,
         },
     })
 }
 
 // The file to read, if one is named.
-fn file_of<'a>(found: &ArgMatches<'a>) -> Option<&'a str>
-    ensures { option_map (λ name. name.now) result ≡ first_of (codes "FILE") (rows_of (found_of found.now)) }
+fn file_of<'a>(matches: &ArgMatches<'a>) -> Option<&'a str>
+    ensures { option_map (λ name. name.now) result ≡ first_of (codes "FILE") (rows_of (found_of matches.now)) }
 {
-    found.get_str("FILE")
+    matches.get_str("FILE")
 }
 
 // The number of an option, or the default if it is left out. `clap` accepts no number below the least or above the most.
-fn number_of(found: &ArgMatches<'_>, id: &str, least: usize, most: usize, default: usize) -> usize
+fn number_of(matches: &ArgMatches<'_>, id: &str, least: usize, most: usize, default: usize) -> usize
     requires least { least ≤ default }
     requires most { default ≤ most }
-    ensures asked { IsAsked least most default (first_of id.now (rows_of (found_of found.now))) result }
+    ensures asked { IsAsked least most default (first_of id.now (rows_of (found_of matches.now))) result }
     ensures least { least ≤ result }
     ensures most { result ≤ most }
 {
-    match found.get_str(id) {
+    match matches.get_str(id) {
         None => default,
         Some(text) => match text.parse::<usize>() {
             Ok(number) => {
@@ -140,11 +140,11 @@ fn number_of(found: &ArgMatches<'_>, id: &str, least: usize, most: usize, defaul
 }
 
 // The ids that are down, if the option is given.
-fn down_of(alloc: Global, found: &ArgMatches<'_>) -> Result<Option<SessionIds>, ArgumentFault>
-    ensures down { IfOk result (λ down. asked_down (first_of (codes "down") (rows_of (found_of found.now))) ≡ Some down) }
-    ensures fault { IfErr result (IsIdsFault (first_of (codes "down") (rows_of (found_of found.now)))) }
+fn down_of(alloc: Global, matches: &ArgMatches<'_>) -> Result<Option<SessionIds>, ArgumentFault>
+    ensures down { IfOk result (λ down. asked_down (first_of (codes "down") (rows_of (found_of matches.now))) ≡ Some down) }
+    ensures fault { IfErr result (IsIdsFault (first_of (codes "down") (rows_of (found_of matches.now)))) }
 {
-    match found.get_str("down") {
+    match matches.get_str("down") {
         Some(text) => Ok(Some(ids_of(alloc, text)?)),
         None => Ok(None),
     }
@@ -162,10 +162,10 @@ fn ids_of(alloc: Global, text: &str) -> Result<SessionIds, ArgumentFault>
 }
 
 // The strategy of the option, or the shortest plan if it is left out.
-fn strategy_of(found: &ArgMatches<'_>) -> Strategy
-    ensures { result ≡ asked_strategy (first_of (codes "strategy") (rows_of (found_of found.now))) }
+fn strategy_of(matches: &ArgMatches<'_>) -> Strategy
+    ensures { result ≡ asked_strategy (first_of (codes "strategy") (rows_of (found_of matches.now))) }
 {
-    match found.get_str("strategy") {
+    match matches.get_str("strategy") {
         Some(text) => strategy_named(text),
         None => Strategy::Shortest,
     }
@@ -183,10 +183,10 @@ fn strategy_named(name: &str) -> Strategy
 }
 
 // The form of the option, or steps if it is left out.
-fn output_of(found: &ArgMatches<'_>) -> PlanOutput
-    ensures { result ≡ asked_output (first_of (codes "output") (rows_of (found_of found.now))) }
+fn output_of(matches: &ArgMatches<'_>) -> PlanOutput
+    ensures { result ≡ asked_output (first_of (codes "output") (rows_of (found_of matches.now))) }
 {
-    match found.get_str("output") {
+    match matches.get_str("output") {
         Some(text) => output_named(text),
         None => PlanOutput::Steps,
     }
@@ -204,20 +204,20 @@ fn output_named(name: &str) -> PlanOutput
 }
 
 // The initial next index of the option, or one if it is left out.
-fn floor_of(found: &ArgMatches<'_>) -> Floor
-    ensures { result ≡ asked_floor (first_of (codes "next-floor") (rows_of (found_of found.now))) }
+fn floor_of(matches: &ArgMatches<'_>) -> Floor
+    ensures { result ≡ asked_floor (first_of (codes "next-floor") (rows_of (found_of matches.now))) }
 {
-    match found.get_str("next-floor") {
+    match matches.get_str("next-floor") {
         Some(text) => floor_named(text),
         None => Floor::One,
     }
 }
 
 // The initial next index of a name.
-fn floor_named(word: &str) -> Floor
-    ensures { result ≡ floor_named word.now }
+fn floor_named(name: &str) -> Floor
+    ensures { result ≡ floor_named name.now }
 {
-    match word {
+    match name {
         "0" => Floor::Zero,
         _ => Floor::One,
     }
@@ -270,7 +270,7 @@ fn program<'a>(alloc: Global, names: OptionNames<'a>) -> Result<Command<'a>, Err
 
 // The program without its modes.
 fn without_modes<'a>(alloc: Global) -> Command<'a>
-    ensures { app_of result ≡ wants_mode (tells_version (new_app (codes "confscript"))) }
+    ensures { app_of result ≡ wants_mode (with_version (new_app (codes "confscript"))) }
 {
     Command::new(alloc, "confscript")
         .about("Simulates membership changes of etcd's raft library")

@@ -11,12 +11,12 @@ use std::alloc::Global;
 
 /// The ids of a list, if it is one: numbers from 1 to 2^64-1 with one comma between, at least one. They may repeat.
 pub(crate) fn ids_listed(alloc: Global, text: &[u8]) -> Result<Option<Vec<u64>>, NoMemory>
-    ensures { IfOk result (λ found. option_map (λ ids. ids.items) found ≡ ids_listed text.now) }
+    ensures { IfOk result (λ read. option_map (λ ids. ids.items) read ≡ ids_listed text.now) }
 {
     let mut ids = Vec::new(alloc);
     let mut rest = text;
     loop {
-        let (full_line, behind) = first_piece(rest);
+        let (full_line, behind) = first_part(rest);
         let Some(id) = read_id(full_line) else {
             return Ok(None);
         };
@@ -29,7 +29,7 @@ pub(crate) fn ids_listed(alloc: Global, text: &[u8]) -> Result<Option<Vec<u64>>,
 }
 
 // The text before the first comma, and the text from that comma on.
-fn first_piece(text: &[u8]) -> (&[u8], &[u8])
+fn first_part(text: &[u8]) -> (&[u8], &[u8])
     ensures last { length result.1.now ≡ 0 → slice_split is_comma text.now ≡ result.0.now ∷ [] }
     ensures more { 0 < length result.1.now → slice_split is_comma text.now ≡ result.0.now ∷ slice_split is_comma (drop 1 result.1.now) }
     ensures within { length result.1.now ≤ length text.now }

@@ -3,9 +3,9 @@ ghost use Rattle.conf_tool.specs.Laws.{RewrittenClean, JoinedClean, UndoScriptLe
 
 use conf_change::laws::one_list_per_text;
 use conf_plan::laws::{one_plan_per_text, paths_serve, planned_is_best};
-use conf_session::laws::{answers_keep_session, found_text_stands, undo_plan_leads_back};
+use conf_session::laws::{actual_output_is_valid, answers_keep_session, undo_plan_leads_back};
 use dd_file::laws::{
-    directive_is_given, items_are_given, items_have_keys, joined_items, written_script,
+    directive_is_well_formed, items_are_well_formed, items_have_keys, joined_items, written_script,
 };
 
 /// A rewritten script checks clean, if its last item is not a blank of several lines and the rewritten text is within the
@@ -13,9 +13,9 @@ use dd_file::laws::{
 pub fn rewritten_clean()
     ensures { RewrittenClean }
 {
-    found_text_stands();
+    actual_output_is_valid();
     written_script();
-    items_are_given();
+    items_are_well_formed();
     items_have_keys();
 }
 
@@ -25,9 +25,9 @@ pub fn rewritten_clean()
 pub fn joined_clean()
     ensures { JoinedClean }
 {
-    found_text_stands();
+    actual_output_is_valid();
     written_script();
-    directive_is_given();
+    directive_is_well_formed();
     joined_items();
 }
 
@@ -36,9 +36,9 @@ pub fn joined_clean()
 pub fn undo_script_leads_back()
     ensures { UndoScriptLeadsBack }
 {
-    found_text_stands();
+    actual_output_is_valid();
     written_script();
-    directive_is_given();
+    directive_is_well_formed();
     answers_keep_session();
     undo_plan_leads_back();
     one_plan_per_text();

@@ -1,11 +1,11 @@
 //! The reply of the mode `lines` to one line.
 ghost use Rattle.std.specs.Prelude.{◌≡◌, [], ◌∷◌, ◌++◌, false, Ok, MatchOption, OnOk};
 ghost use Rattle.ascii_text.specs.Lines.{newline};
-ghost use Rattle.ascii_text.specs.Words.{words};
-ghost use Rattle.conf_tool.specs.LineReply as says;
-ghost use Rattle.conf_tool.specs.LineReply.{line_reply, reply_to_changes, reply_to_word};
+ghost use Rattle.ascii_text.specs.Tokens.{tokens_in};
+ghost use Rattle.conf_tool.specs.LineReply as spec;
+ghost use Rattle.conf_tool.specs.LineReply.{line_reply, reply_to_changes, reply_to_token};
 
-use ascii_text::words::next_token;
+use ascii_text::tokens::next_token;
 use conf_change::{
     Change, Changer, Refused, read_change, write_config, write_refused, write_token_fault,
 };
@@ -31,8 +31,8 @@ fn reply(changer: &mut Changer<SessionIds>, line: &[u8], text: &mut Vec<u8>) -> 
     ensures text { OnOk result (text.new.items ≡ text.old.items ++ (line_reply changer.old.tracker.config line.now).text) }
     ensures after { OnOk result (changer.new.tracker.config ≡ (line_reply changer.old.tracker.config line.now).after) }
 {
-    match only_word(line) {
-        Some(word) => answer_word(changer, word, text),
+    match only_token(line) {
+        Some(token) => answer_token(changer, token, text),
         None => {
             text.extend_from_slice(b"one change expected")?;
             Ok(())
@@ -41,13 +41,13 @@ fn reply(changer: &mut Changer<SessionIds>, line: &[u8], text: &mut Vec<u8>) -> 
 }
 
 // The token of a line that has exactly one.
-fn only_word(line: &[u8]) -> Option<&[u8]>
-    ensures { MatchOption result (says.has_one_word line.now ≡ false) (λ word. words line.now ≡ word.now ∷ []) }
+fn only_token(line: &[u8]) -> Option<&[u8]>
+    ensures { MatchOption result (spec.has_one_token line.now ≡ false) (λ token. tokens_in line.now ≡ token.now ∷ []) }
 {
     match next_token(line) {
-        Some((word, rest)) => {
+        Some((token, rest)) => {
             if next_token(rest).is_none() {
-                Some(word)
+                Some(token)
             } else {
                 None
             }
@@ -57,15 +57,15 @@ fn only_word(line: &[u8]) -> Option<&[u8]>
 }
 
 // Makes the change that a token is parsed as, and appends the reply.
-fn answer_word(
+fn answer_token(
     changer: &mut Changer<SessionIds>,
-    word: &[u8],
+    token: &[u8],
     text: &mut Vec<u8>,
 ) -> Result<(), NoMemory>
-    ensures text { OnOk result (text.new.items ≡ text.old.items ++ (reply_to_word changer.old.tracker.config word.now).text) }
-    ensures after { OnOk result (changer.new.tracker.config ≡ (reply_to_word changer.old.tracker.config word.now).after) }
+    ensures text { OnOk result (text.new.items ≡ text.old.items ++ (reply_to_token changer.old.tracker.config token.now).text) }
+    ensures after { OnOk result (changer.new.tracker.config ≡ (reply_to_token changer.old.tracker.config token.now).after) }
 {
-    match read_change(word) {
+    match read_change(token) {
         Ok(change) => make_change(changer, change, text),
         Err(fault) => write_token_fault(text, fault),
     }

@@ -115,7 +115,7 @@ fn no_plan(
     Ok((text, Status::Different))
 }
 
-// The text that says it.
+// Its text.
 fn no_plan_text(
     alloc: Global,
     output: PlanOutput,
@@ -134,7 +134,7 @@ fn no_plan_text(
     }
 }
 
-// A comment that says why there is no plan.
+// A comment with the reason why there is no plan.
 fn no_plan_comment(alloc: Global, why: &str) -> Result<Vec<u8>, NoMemory>
     ensures { IfOk result (λ text. text.items ≡ no_plan_comment why.now) }
 {

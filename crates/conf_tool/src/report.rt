@@ -69,16 +69,16 @@ impl Counts {
 pub(crate) fn append_difference(
     text: &mut Vec<u8>,
     directive: &Directive,
-    found: &[u8],
+    actual: &[u8],
 ) -> Result<(), NoMemory>
-    ensures { OnOk result (text.new.items ≡ text.old.items ++ difference_text found.now directive.now) }
+    ensures { OnOk result (text.new.items ≡ text.old.items ++ difference_text actual.now directive.now) }
 {
     append_count(text, directive.line())?;
     text.extend_from_slice(b": ")?;
     text.extend_from_slice(directive.command())?;
     text.push(b'\n')?;
     append_marked(text, b'-', directive.expected())?;
-    append_marked(text, b'+', found)
+    append_marked(text, b'+', actual)
 }
 
 // Appends a count in decimal.

@@ -4,7 +4,7 @@ ghost use Rattle.dd_file.specs.Device.{LosesPrefix};
 ghost use Rattle.dd_file.specs.Gathered.{gathering_writer, NothingWaits};
 ghost use Rattle.conf_tool.specs.Outputs.{output_of};
 ghost use Rattle.conf_tool.specs.Ranges.{IsInRange};
-ghost use Rattle.conf_tool.specs.Run.{Answers, CanAnswer, TellsWrite, is_read_failure, is_write_failure, stands_for_whole};
+ghost use Rattle.conf_tool.specs.Run.{Answers, CanAnswer, ReportsWrite, is_read_failure, is_write_failure, stands_for_whole};
 
 mod check;
 mod clean_unless;
@@ -110,7 +110,7 @@ pub fn run_and_flush<R: Source, W: Sink>(
 
     // A failed read and `NoMemory` take precedence over a failed write.
     ensures read { R.has_failed reader.new ≡ (R.has_failed reader.old || is_read_failure result) }
-    ensures write { TellsWrite (W.has_failed (gathering_writer writer.old)) (W.has_failed (gathering_writer writer.new)) result }
+    ensures write { ReportsWrite (W.has_failed (gathering_writer writer.old)) (W.has_failed (gathering_writer writer.new)) result }
     ensures kinds { CanAnswer mode result }
 {
     let outcome = run(alloc, mode, options, reader, writer);

@@ -25,7 +25,7 @@ pub enum ToolFault {
 }
 
 impl From<FileFault> for ToolFault {
-    ghost from_gives = { λ fault told. told ≡ as_tool_fault fault };
+    ghost from_gives = { λ fault converted. converted ≡ as_tool_fault fault };
 
     fn from(fault: FileFault) -> ToolFault {
         match fault {

@@ -1,6 +1,6 @@
 //! The items of the script that undoes changes.
 ghost use Rattle.std.specs.Prelude.{◌≡◌, IfOk, map};
-ghost use Rattle.conf_tool.specs.UndoScript as says;
+ghost use Rattle.conf_tool.specs.UndoScript as spec;
 
 use conf_change::{Change, Step};
 use conf_plan::{changes_text, command_text};
@@ -10,7 +10,7 @@ use std::alloc::Global;
 
 /// The directive of a step, which expects no output yet.
 pub(crate) fn step_directive(alloc: Global, step: &Step) -> Result<Item, NoMemory>
-    ensures { IfOk result (λ item. item ≡ says.step_directive step.now) }
+    ensures { IfOk result (λ item. item ≡ spec.step_directive step.now) }
 {
     let line = Vec::from_slice(alloc, command_text(step))?;
     let input = change_lines(alloc, step.changes())?;
@@ -22,7 +22,7 @@ pub(crate) fn step_directive(alloc: Global, step: &Step) -> Result<Item, NoMemor
 
 // Changes as a line of input, if there are any.
 fn change_lines(alloc: Global, changes: &[Change]) -> Result<Vec<Vec<u8>>, NoMemory>
-    ensures { IfOk result (λ lines. map (λ line. line.items) lines.items ≡ says.change_lines changes.now) }
+    ensures { IfOk result (λ lines. map (λ line. line.items) lines.items ≡ spec.change_lines changes.now) }
 {
     let mut lines = Vec::new(alloc);
     if !changes.is_empty() {
@@ -33,7 +33,7 @@ fn change_lines(alloc: Global, changes: &[Change]) -> Result<Vec<Vec<u8>>, NoMem
 
 /// A comment with this text.
 pub(crate) fn comment(alloc: Global, text: &[u8]) -> Result<Item, NoMemory>
-    ensures { IfOk result (λ item. item ≡ says.comment text.now) }
+    ensures { IfOk result (λ item. item ≡ spec.comment text.now) }
 {
     let mut line = Vec::from_slice(alloc, b"# ")?;
     line.extend_from_slice(text)?;

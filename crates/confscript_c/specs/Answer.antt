@@ -1,4 +1,4 @@
--- What a call answers: a status, and the number that goes with it.
+-- What a call answers: a status, and its number.
 use Rattle.std.specs.Prelude.{ℕ}
 use Rattle.confscript_c.specs.Status.{code_of}
 use Rattle.confscript_c.specs.declared.answer.Answer.{Answer}

@@ -11,7 +11,7 @@ use Rattle.conf_plan.specs.PlanCode.{plan_in}
 use Rattle.conf_plan.specs.declared.text.PlanTextFault.{PlanTextFault}
 use Rattle.conf_plan.specs.declared.text.PlanTextFault.TheVariants as fault
 use Rattle.confscript_c.specs.Answer.{answer, no_memory}
-use Rattle.confscript_c.specs.Reading.{read_as}
+use Rattle.confscript_c.specs.InputLines.{read_as}
 use Rattle.confscript_c.specs.Written.{TextResult}
 use Rattle.confscript_c.specs.declared.answer.Answer.{Answer}
 use Rattle.confscript_c.specs.declared.status.Status.TheVariants.{NotAConfiguration, BadLine, TooManySteps, AlreadyJoint, ZeroVoterJoint, NotJoint, SimpleInJoint, RemovedAllVoters, MoreThanOneVoter}

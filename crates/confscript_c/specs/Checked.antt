@@ -7,7 +7,7 @@ use Rattle.conf_change.specs.Described.{described}
 use Rattle.conf_change.specs.declared.config.Invariant.{Invariant}
 use Rattle.conf_change.specs.declared.config.Invariant.TheVariants as broken
 use Rattle.confscript_c.specs.Answer.{answer, done}
-use Rattle.confscript_c.specs.Reading.{read_as}
+use Rattle.confscript_c.specs.InputLines.{read_as}
 use Rattle.confscript_c.specs.declared.answer.Answer.{Answer}
 use Rattle.confscript_c.specs.declared.status.Status.{Status}
 use Rattle.confscript_c.specs.declared.status.Status.TheVariants.{RepeatedId, ZeroId, NextNotOutgoing, NextAndIncoming, LearnerAndVoter, NotJointButNext, NotJointButAutoLeave}

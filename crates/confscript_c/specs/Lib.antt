@@ -2,7 +2,7 @@ pub mod Status
 pub mod Answer
 pub mod Quorums
 pub mod Written
-pub mod Reading
+pub mod InputLines
 pub mod Checked
 pub mod Applied
 pub mod Planning

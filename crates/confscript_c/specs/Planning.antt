@@ -11,7 +11,7 @@ use Rattle.conf_plan.specs.declared.strategy.Strategy.{Strategy}
 use Rattle.conf_plan.specs.declared.strategy.Strategy.TheVariants.{Shortest, LearnersFirst, OneAtATime}
 use Rattle.confscript_c.specs.Answer.{answer}
 use Rattle.confscript_c.specs.Applied.{apply_result, restored_of, steps_result, applied}
-use Rattle.confscript_c.specs.Reading.{read_as, configuration_at}
+use Rattle.confscript_c.specs.InputLines.{read_as, configuration_at}
 use Rattle.confscript_c.specs.Written.{TextResult}
 use Rattle.confscript_c.specs.declared.answer.Answer.{Answer}
 use Rattle.confscript_c.specs.declared.status.Status.TheVariants.{NoVoter, BadStrategy, JointTarget}

@@ -5,7 +5,7 @@ ghost use Rattle.confscript_c.specs.Answer.{answer, done, no_memory};
 use crate::status::Status;
 use quorum_sets::NoMemory;
 
-/// A status, and the number that goes with it.
+/// A status, and its number.
 #[repr(C)]
 #[derive(Clone, Copy)]
 pub struct Answer {

@@ -5,12 +5,12 @@ ghost use Rattle.conf_change.specs.ConfStateLine.{conf_state_in, conf_state_text
 ghost use Rattle.conf_plan.specs.PlanCode.{plan_in};
 ghost use Rattle.confscript_c.specs.Answer.{no_memory};
 ghost use Rattle.confscript_c.specs.Applied.{apply_result, restored_of, steps_result, text_fault_answer, refusal_answer};
-ghost use Rattle.confscript_c.specs.Reading.{read_as};
+ghost use Rattle.confscript_c.specs.InputLines.{read_as};
 ghost use Rattle.confscript_c.specs.Written.{Writes};
 
 use crate::answer::Answer;
 use crate::buffer::write_text;
-use crate::reading::read_saved;
+use crate::input_lines::read_saved;
 use crate::status::Status;
 use conf_change::{Changer, Config, Refused, RestoreFault, conf_state, write_conf_state};
 use conf_plan::{Plan, PlanTextFault, StepRefused, apply_plan, read_plan};

@@ -5,7 +5,7 @@ ghost use Rattle.confscript_c.specs.Checked.{check_answer, saved_answer, broken_
 ghost use Rattle.conf_change.specs.Configuration.{first_broken};
 
 use crate::answer::Answer;
-use crate::reading::read_saved;
+use crate::input_lines::read_saved;
 use crate::status::Status;
 use conf_change::{ConfState, Config, Invariant, RestoreFault, check, described};
 use quorum_sets::InlineIds;

@@ -16,9 +16,9 @@ mod answer;
 mod applying;
 mod buffer;
 mod checking;
+mod input_lines;
 mod planning;
 mod quorums;
-mod reading;
 mod status;
 mod version;
 

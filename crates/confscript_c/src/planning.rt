@@ -7,7 +7,7 @@ ghost use Rattle.confscript_c.specs.Written.{Writes};
 
 use crate::answer::Answer;
 use crate::buffer::write_text;
-use crate::reading::configuration_at;
+use crate::input_lines::configuration_at;
 use crate::status::Status;
 use conf_change::Config;
 use conf_plan::{NoPath, Strategy, plan_by, print_path};

@@ -7,7 +7,7 @@ ghost use Rattle.quorum_sets.specs.Committed.{joint_committed_index};
 ghost use Rattle.quorum_sets.specs.Votes.{joint_vote_result};
 ghost use Rattle.conf_change.specs.ConfState.{names_once};
 ghost use Rattle.confscript_c.specs.Answer.{no_memory};
-ghost use Rattle.confscript_c.specs.Quorums as says;
+ghost use Rattle.confscript_c.specs.Quorums as spec;
 ghost use Rattle.confscript_c.specs.Quorums.{committed_answer, vote_answer, may_be_down_answer, voters_named, is_vote, is_yes};
 
 use crate::answer::Answer;
@@ -61,7 +61,7 @@ fn index_of(
     acknowledged: &[u64],
 ) -> Result<u64, NoMemory>
     requires { length ids.now ≡ length acknowledged.now }
-    ensures { IfOk result (λ index. index ≡ joint_committed_index (voters_named incoming.now outgoing.now) (says.known ids.now acknowledged.now)) }
+    ensures { IfOk result (λ index. index ≡ joint_committed_index (voters_named incoming.now outgoing.now) (spec.known ids.now acknowledged.now)) }
 {
     let incoming = InlineIds::of_list(alloc, incoming)?;
     let outgoing = InlineIds::of_list(alloc, outgoing)?;
@@ -116,7 +116,7 @@ fn result_of(
     yes: &[bool],
 ) -> Result<VoteResult, NoMemory>
     requires { length ids.now ≡ length yes.now }
-    ensures { IfOk result (λ vote. vote ≡ joint_vote_result (voters_named incoming.now outgoing.now) (says.known ids.now yes.now)) }
+    ensures { IfOk result (λ vote. vote ≡ joint_vote_result (voters_named incoming.now outgoing.now) (spec.known ids.now yes.now)) }
 {
     let incoming = InlineIds::of_list(alloc, incoming)?;
     let outgoing = InlineIds::of_list(alloc, outgoing)?;
@@ -153,7 +153,7 @@ fn may_be_down_answer(
 }
 
 fn count_answer(count: Option<usize>) -> Answer
-    ensures { result ≡ says.count_answer count }
+    ensures { result ≡ spec.count_answer count }
 {
     match count {
         Some(count) => Answer::done(count as u64),
@@ -176,7 +176,7 @@ fn truths(alloc: Global, votes: &[u8]) -> Result<Vec<bool>, NoMemory>
 }
 
 fn vote_number(vote: VoteResult) -> u64
-    ensures { result ≡ says.vote_number vote }
+    ensures { result ≡ spec.vote_number vote }
 {
     match vote {
         VoteResult::VotePending => 0,
@@ -200,7 +200,7 @@ fn known<V: Copy + Drop>(
     values: &[V],
 ) -> Result<BTreeMap<u64, V>, NoMemory>
     requires { length ids.now ≡ length values.now }
-    ensures { IfOk result (λ map. finite.from_entries {R = nat_cmp} map.entries ≡ says.known ids.now values.now) }
+    ensures { IfOk result (λ map. finite.from_entries {R = nat_cmp} map.entries ≡ spec.known ids.now values.now) }
 {
     let mut map = BTreeMap::new(alloc);
     for index in (0..ids.len()).rev() {

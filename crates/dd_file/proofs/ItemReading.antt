@@ -1,7 +1,7 @@
 -- The next item of an input, from the lines that are read.
 
 pub mod OneMoreLine
-pub mod PhaseByPhase
+pub mod StateByState
 pub mod NoMoreLine
 pub mod LinesSoFar
 pub mod UntilDone

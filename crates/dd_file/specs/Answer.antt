@@ -2,7 +2,7 @@
 use Rattle.std.specs.Prelude.{◌≡◌, ◌≤◌, ◌<◌, ◌+◌, ℕ, Bool, true, false, ◌||◌, ◌⊎◌, List, [], ◌++◌, length, Option, Some, None, Result, Ok, Err, ⊤, IfOk, IfSome, IfErr, OnOk}
 use Rattle.std.specs.Io.KnownBytes.{IsAtEnd}
 use Rattle.dd_file.specs.Position.{Position, longest_input, longest_lookahead}
-use Rattle.dd_file.specs.Reading.{Next, Over, Found, Faulty}
+use Rattle.dd_file.specs.Grammar.{Next, Over, Found, Faulty}
 use Rattle.dd_file.specs.ReaderState.{ReaderState, IsOver}
 use Rattle.dd_file.specs.Device.{LosesPrefix}
 use Rattle.dd_file.specs.declared.fault.FileFault.{FileFault}
@@ -30,14 +30,14 @@ next_in_answer view new more (Ok (Some found)) = Found (view found) new.position
 next_in_answer view new more (Err fault) = Faulty fault
 
 -- reading was cut short: the result says nothing of the input
-abbrev pub IsCutShort : {X : Type 0} → Result X FileFault → Type 0
-IsCutShort result = (result ≡ Err Read) ⊎ (result ≡ Err NoMemory)
+abbrev pub IsInterrupted : {X : Type 0} → Result X FileFault → Type 0
+IsInterrupted result = (result ≡ Err Read) ⊎ (result ≡ Err NoMemory)
 
 -- The result is the next item or line of each input that agrees with what was read, or reading was cut short.
 -- It is not specified for a reader whose bytes are unknown.
 abbrev pub IsNextOfInput : {X A : Type 0} → (X → A) → (Position → List ℕ → Next A) → ReaderState → ReaderState → Option (List ℕ) → Option (List ℕ) → Result (Option X) FileFault → Type 0
 IsNextOfInput view next old new before after result =
-    (input more : List ℕ) → Agrees old before after input more → IsCutShort result ⊎ (next old.position input ≡ next_in_answer view new more result)
+    (input more : List ℕ) → Agrees old before after input more → IsInterrupted result ⊎ (next old.position input ≡ next_in_answer view new more result)
 
 -- the result is that a read failed
 abbrev pub is_read_fault : {X : Type 0} → Result X FileFault → Bool

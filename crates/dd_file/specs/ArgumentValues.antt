@@ -3,7 +3,7 @@ use Rattle.std.specs.Prelude.{ℕ, Bool, true, ◌&&◌, ◌==◌, List, [], ◌
 use Rattle.std.specs.List.{list_any}
 use Rattle.ascii_text.specs.WhiteSpace.{trimmed}
 use Rattle.dd_file.specs.Parts.{suffix}
-use Rattle.dd_file.specs.DirectiveLine.{ArgumentText, is_closing, cut_at_commas, with_key, values_of, argument_of}
+use Rattle.dd_file.specs.DirectiveLine.{ArgumentText, is_closing, split_at_commas, with_key, values_of, argument_of}
 use Rattle.dd_file.specs.declared.values.Left.{Left}
 use Rattle.dd_file.specs.declared.values.Left.TheVariants.{Nothing, Plain, Listed}
 
@@ -33,4 +33,4 @@ ends_at_closing inside = list_any is_closing inside && (length (suffix is_closin
 abbrev pub values_left : Left → List ℕ → List (List ℕ)
 values_left Nothing rest = []
 values_left Plain rest = rest ∷ []
-values_left Listed rest = map trimmed (cut_at_commas rest)
+values_left Listed rest = map trimmed (split_at_commas rest)

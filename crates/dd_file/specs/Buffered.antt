@@ -4,7 +4,7 @@ use Rattle.std.specs.List.{list_any}
 use Rattle.ascii_text.specs.Lines.{full_lines, line_of, is_whole}
 use Rattle.dd_file.specs.Position.{Position, longest_input}
 use Rattle.dd_file.specs.Script.{FirstItem, first_of}
-use Rattle.dd_file.specs.Reading.{Next}
+use Rattle.dd_file.specs.Grammar.{Next}
 use Rattle.dd_file.specs.ReaderState.{ReaderState}
 use Rattle.dd_file.specs.Answer.{ReadsOn}
 use Rattle.dd_file.specs.declared.fault.FileFault.{FileFault}

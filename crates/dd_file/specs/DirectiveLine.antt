@@ -41,10 +41,10 @@ split_or_prepend false b (token ∷ tokens) = (b ∷ token) ∷ tokens
 abbrev pub inside_after : Bool → ℕ → Bool
 inside_after inside b = is_opening b || (inside && not (is_closing b))
 
--- the text cut at each white space that is not between parentheses
-abbrev pub cut_at_spaces : Bool → List ℕ → List (List ℕ)
-cut_at_spaces inside [] = [] ∷ []
-cut_at_spaces inside (b ∷ bs) = split_or_prepend (is_space b && not inside) b (cut_at_spaces (inside_after inside b) bs)
+-- the text split at each white space that is not between parentheses
+abbrev pub split_at_spaces : Bool → List ℕ → List (List ℕ)
+split_at_spaces inside [] = [] ∷ []
+split_at_spaces inside (b ∷ bs) = split_or_prepend (is_space b && not inside) b (split_at_spaces (inside_after inside b) bs)
 
 -- how many bytes come before the first white space that is not between parentheses
 abbrev pub token_len : Bool → List ℕ → ℕ
@@ -53,7 +53,7 @@ token_len inside (b ∷ bs) = if is_space b && not inside then 0 else suc (token
 
 -- the tokens of a text, separated by white space that is not between parentheses
 abbrev pub tokens_of : List ℕ → List (List ℕ)
-tokens_of text = filter (λ token. not (length token == 0)) (cut_at_spaces false text)
+tokens_of text = filter (λ token. not (length token == 0)) (split_at_spaces false text)
 
 -- letters, digits and - _ / , .
 abbrev pub is_key_byte : ℕ → Bool
@@ -67,14 +67,14 @@ is_key token = not (length token == 0) && list_all is_key_byte token
 abbrev pub is_plain : List ℕ → Bool
 is_plain bytes = list_all (λ b. not (is_space b || (is_opening b || is_closing b))) bytes
 
--- the text cut at each comma
-abbrev pub cut_at_commas : List ℕ → List (List ℕ)
-cut_at_commas [] = [] ∷ []
-cut_at_commas (b ∷ bs) = split_or_prepend (is_comma b) b (cut_at_commas bs)
+-- the text split at each comma
+abbrev pub split_at_commas : List ℕ → List (List ℕ)
+split_at_commas [] = [] ∷ []
+split_at_commas (b ∷ bs) = split_or_prepend (is_comma b) b (split_at_commas bs)
 
 -- the values between parentheses; white space alone has none
 abbrev pub listed : List ℕ → List (List ℕ)
-listed text = if is_blank text then [] else map trimmed (cut_at_commas text)
+listed text = if is_blank text then [] else map trimmed (split_at_commas text)
 
 -- the values after `=`: a list in parentheses, or one plain value
 abbrev pub values_of : List ℕ → Option (List (List ℕ))

@@ -4,14 +4,14 @@ use Rattle.std.specs.List.{list_all, list_any}
 use Rattle.ascii_text.specs.WhiteSpace.{is_blank}
 use Rattle.dd_file.specs.DirectiveLine.{CommandText, command_of}
 use Rattle.dd_file.specs.Script.{FirstItem, first_item, first_of, is_comment, is_continued, is_separator, is_dashes, begins_with_dashes, has_pair, directive, after_pair, in_double, in_single, body}
-use Rattle.dd_file.specs.declared.phase.Phase.{Phase}
-use Rattle.dd_file.specs.declared.phase.Phase.TheVariants.{Begin, CommentLine, BlankLines, DirectiveLines, NoCommand, Input, Separator, Single, Double, Pair, Complete, AfterPair}
+use Rattle.dd_file.specs.declared.draft_state.DraftState.{DraftState}
+use Rattle.dd_file.specs.declared.draft_state.DraftState.TheVariants.{Begin, CommentLine, BlankLines, DirectiveLines, NoCommand, Input, Separator, Single, Double, Pair, Complete, AfterPair}
 use Rattle.dd_file.specs.declared.item.Item.{Item}
 use Rattle.dd_file.specs.declared.item.Item.TheVariants.{Comment, Blank}
 use Rattle.dd_file.specs.declared.fault.FileFault.{FileFault}
 use Rattle.dd_file.specs.declared.fault.FileFault.TheVariants.{Read, NoMemory, BadDirective, AfterDouble, UnclosedDouble, InputTooLong}
 
--- An item so far: the number of its first line, its parts, how many lines it has, and its phase, which has the command of a
+-- An item so far: the number of its first line, its parts, how many lines it has, and its state, which has the command of a
 -- directive.
 pub record DraftText : Type 0 where
   pub line : ℕ
@@ -19,27 +19,27 @@ pub record DraftText : Type 0 where
   pub input : List (List ℕ)
   pub expected : List (List ℕ)
   pub count : ℕ
-  pub phase : Phase
+  pub state : DraftState
 
 -- an item without lines yet
 abbrev pub blank_draft : ℕ → DraftText
-blank_draft line = record { line = line; directive_lines = []; input = []; expected = []; count = 0; phase = Begin }
+blank_draft line = record { line = line; directive_lines = []; input = []; expected = []; count = 0; state = Begin }
 
--- the phase after directive lines, by their command
-abbrev pub phase_of_command : Option CommandText → Phase
-phase_of_command None = NoCommand
-phase_of_command (Some command) = Input command
+-- the state after directive lines, by their command
+abbrev pub state_of_command : Option CommandText → DraftState
+state_of_command None = NoCommand
+state_of_command (Some command) = Input command
 
--- the phase after directive lines, by their text; white space alone is a blank
-abbrev pub phase_after_directive_line : List ℕ → Phase
-phase_after_directive_line text = if is_blank text then BlankLines else phase_of_command (command_of text)
+-- the state after directive lines, by their text; white space alone is a blank
+abbrev pub state_after_directive_line : List ℕ → DraftState
+state_after_directive_line text = if is_blank text then BlankLines else state_of_command (command_of text)
 
--- one more line is counted, and the phase is this
-abbrev pub counted : DraftText → Phase → DraftText
-counted draft phase = record draft { count = draft.count + 1; phase = phase }
+-- one more line is counted, and the state is this
+abbrev pub counted : DraftText → DraftState → DraftText
+counted draft state = record draft { count = draft.count + 1; state = state }
 
 -- whether no further line belongs to the item
-abbrev pub is_done : Phase → Bool
+abbrev pub is_done : DraftState → Bool
 is_done Begin = false
 is_done CommentLine = true
 is_done BlankLines = true
@@ -62,8 +62,8 @@ after_separator draft more command =
 abbrev pub drafted : DraftText → CommandText → Item
 drafted draft command = directive draft.line command draft.directive_lines draft.input draft.expected
 
--- the item of the lines so far if these lines follow, by phase
-abbrev pub first_item_in : Phase → DraftText → List (List ℕ) → Option FirstItem
+-- the item of the lines so far if these lines follow, by state
+abbrev pub first_item_in : DraftState → DraftText → List (List ℕ) → Option FirstItem
 first_item_in Begin draft more = first_of draft.line more
 first_item_in CommentLine draft more = Some (first_item (Ok (Comment draft.directive_lines)) draft.count true)
 first_item_in BlankLines draft more = Some (first_item (Ok (Blank draft.directive_lines)) draft.count true)
@@ -79,7 +79,7 @@ first_item_in AfterPair draft more = Some (first_item (Err (AfterDouble (draft.l
 
 -- the item of the lines so far if these lines follow
 abbrev pub first_item_of : DraftText → List (List ℕ) → Option FirstItem
-first_item_of draft more = first_item_in draft.phase draft more
+first_item_of draft more = first_item_in draft.state draft more
 
 -- the first line begins a directive
 abbrev pub begins_directive : List (List ℕ) → Bool
@@ -92,8 +92,8 @@ ends_in_dashes [] = false
 ends_in_dashes (line ∷ []) = is_dashes line
 ends_in_dashes (line ∷ next ∷ lines) = ends_in_dashes (next ∷ lines)
 
--- the parts so far fit the phase: nothing in them ends them, and each line is counted
-abbrev pub FitsIn : Phase → DraftText → Type 0
+-- the parts so far fit the state: nothing in them ends them, and each line is counted
+abbrev pub FitsIn : DraftState → DraftText → Type 0
 FitsIn Begin draft = (draft.directive_lines ≡ []) × (draft.input ≡ []) × (draft.expected ≡ []) × (draft.count ≡ 0)
 FitsIn CommentLine draft = draft.input ≡ []
 FitsIn BlankLines draft = draft.input ≡ []
@@ -107,14 +107,14 @@ FitsIn (Pair command) draft = draft.count ≡ length draft.directive_lines + len
 FitsIn (Complete command) draft = ⊤
 FitsIn AfterPair draft = 1 < draft.count
 
--- the parts so far fit the phase of the draft
+-- the parts so far fit the state of the draft
 abbrev pub Fits : DraftText → Type 0
-Fits draft = FitsIn draft.phase draft
+Fits draft = FitsIn draft.state draft
 
 -- One more line was added: the item of the lines so far is the same as before if that line followed.
-pub record AddsIn (phase : Phase) (old new : DraftText) (line : List ℕ) : Type 0 where
+pub record AddsIn (state : DraftState) (old new : DraftText) (line : List ℕ) : Type 0 where
   pub fits : Fits new
-  pub first_item : (more : List (List ℕ)) → first_item_of new more ≡ first_item_in phase old (line ∷ more)
+  pub first_item : (more : List (List ℕ)) → first_item_of new more ≡ first_item_in state old (line ∷ more)
   pub count : new.count ≡ old.count + 1
   pub first : new.line ≡ old.line
 

@@ -1,7 +1,7 @@
 -- Items or lines that are read one after another.
 use Rattle.std.specs.Prelude.{◌≡◌, ℕ, ◌<◌, List, [], ◌∷◌, ◌++◌, length, Option}
 use Rattle.dd_file.specs.Position.{Position}
-use Rattle.dd_file.specs.Reading.{Next, Found}
+use Rattle.dd_file.specs.Grammar.{Next, Found}
 use Rattle.dd_file.specs.ReaderState.{ReaderState}
 use Rattle.dd_file.specs.Answer.{Agrees, MovesOn}
 
@@ -16,6 +16,6 @@ TakesBytes {A} next = (position suffix : Position) (bytes left : List ℕ) (item
 
 -- The items that calls have returned so far, from one state and reader to the ones after the calls, are the next ones of each
 -- input that agrees with what was read.
-pub record GivenSoFar {R A : Type 0} (remaining : R → Option (List ℕ)) (next : Position → List ℕ → Next A) (old now : ReaderState) (before after : R) (items : List A) : Type 0 where
+pub record ReadSoFar {R A : Type 0} (remaining : R → Option (List ℕ)) (next : Position → List ℕ → Next A) (old now : ReaderState) (before after : R) (items : List A) : Type 0 where
   pub moves : MovesOn remaining old now before after
   pub read : (input more : List ℕ) → Agrees old (remaining before) (remaining after) input more → ReadsTo next old.position input items now.position (now.buffered ++ more)

@@ -7,8 +7,8 @@ use Rattle.dd_file.specs.RewriterState.{Continues, BreaksOff}
 use Rattle.dd_file.specs.Answer.{Agrees}
 
 -- what two calls consumed is one prefix
-abbrev pub TakenInTurn : Type 0
-TakenInTurn = (before between after : Option (List ℕ)) → LosesPrefix before between → LosesPrefix between after → LosesPrefix before after
+abbrev pub ConsumedInTurn : Type 0
+ConsumedInTurn = (before between after : Option (List ℕ)) → LosesPrefix before between → LosesPrefix between after → LosesPrefix before after
 
 -- An input that agrees with what two calls read agrees with what the first one read; and what is buffered after that call,
 -- followed by the rest, agrees with what the second one read.
@@ -27,12 +27,12 @@ abbrev pub AppendedInTurn : Type 0
 AppendedInTurn = (old mid new : Option (List ℕ)) (xs ys : List ℕ) → Appends old mid xs → Appends mid new ys → Appends old new (xs ++ ys)
 
 -- bytes that are appended in two parts, cut short in the first
-abbrev pub CutInFirst : Type 0
-CutInFirst = (old new : Option (List ℕ)) (xs ys : List ℕ) → AppendsPart old new xs → AppendsPart old new (xs ++ ys)
+abbrev pub PartInFirst : Type 0
+PartInFirst = (old new : Option (List ℕ)) (xs ys : List ℕ) → AppendsPart old new xs → AppendsPart old new (xs ++ ys)
 
 -- bytes that are appended in two parts, cut short in the second
-abbrev pub CutInSecond : Type 0
-CutInSecond = (old mid new : Option (List ℕ)) (xs ys : List ℕ) → Appends old mid xs → AppendsPart mid new ys → AppendsPart old new (xs ++ ys)
+abbrev pub PartInSecond : Type 0
+PartInSecond = (old mid new : Option (List ℕ)) (xs ys : List ℕ) → Appends old mid xs → AppendsPart mid new ys → AppendsPart old new (xs ++ ys)
 
 -- a script that is rewritten in two parts
 abbrev pub ContinuesInTurn : Type 0

@@ -7,7 +7,7 @@ use Rattle.dd_file.specs.DirectiveText.{DirectiveText}
 use Rattle.dd_file.specs.DirectiveLine.{CommandText, command_of, has_keys}
 use Rattle.dd_file.specs.Script.{FirstItem, first_item, first_of, directive, is_comment, is_continued, is_separator}
 use Rattle.dd_file.specs.Position.{Position, longest_input}
-use Rattle.dd_file.specs.Reading.{followed, next_item, next_line, items_from, lines_from, script_of}
+use Rattle.dd_file.specs.Grammar.{followed, next_item, next_line, items_from, lines_from, script_of}
 use Rattle.dd_file.specs.Rewritten.{Entry, entry, entry_text, rewritten_text, is_output, is_directive, raw_lines_of}
 use Rattle.dd_file.specs.declared.item.Item.{Item}
 use Rattle.dd_file.specs.declared.item.Item.TheVariants.{Comment, Blank, Directive}
@@ -70,7 +70,7 @@ ends_in_long_blank (Directive directive ∷ []) = false
 ends_in_long_blank (item ∷ next ∷ items) = ends_in_long_blank (next ∷ items)
 
 -- an item of the grammar: the first item of some lines
-pub record IsGiven (item : Item) : Type 0 where
+pub record IsWellFormed (item : Item) : Type 0 where
   pub number : ℕ
   pub lines : List (List ℕ)
   pub are_lines : list_all is_line lines ≡ true
@@ -79,20 +79,20 @@ pub record IsGiven (item : Item) : Type 0 where
   pub first : first_of number lines ≡ Some (first_item (Ok item) count is_ended)
 
 -- items of the grammar
-abbrev pub AreGiven : List Item → Type 0
-AreGiven [] = ⊤
-AreGiven (item ∷ items) = IsGiven item × AreGiven items
+abbrev pub AreWellFormed : List Item → Type 0
+AreWellFormed [] = ⊤
+AreWellFormed (item ∷ items) = IsWellFormed item × AreWellFormed items
 
 -- The items of a script, up to its error if it has one, are items of the grammar.
-abbrev pub ItemsAreGiven : Type 0
-ItemsAreGiven = (input : List ℕ) → AreGiven (script_of input).items
+abbrev pub ItemsAreWellFormed : Type 0
+ItemsAreWellFormed = (input : List ℕ) → AreWellFormed (script_of input).items
 
 -- A directive with one directive line, lines of input and no expected output is an item of the grammar.
-abbrev pub DirectiveIsGiven : Type 0
-DirectiveIsGiven =
+abbrev pub DirectiveIsWellFormed : Type 0
+DirectiveIsWellFormed =
     (n : ℕ) (line : List ℕ) (input : List (List ℕ)) (command : CommandText) →
     is_comment line ≡ false → is_blank line ≡ false → is_continued line ≡ false → command_of (trimmed line) ≡ Some command →
-    list_any is_separator input ≡ false → list_all is_line (line ∷ input) ≡ true → IsGiven (directive n command (line ∷ []) input [])
+    list_any is_separator input ≡ false → list_all is_line (line ∷ input) ≡ true → IsWellFormed (directive n command (line ∷ []) input [])
 
 -- Items of the grammar that are written with actual outputs are read back without an error. (If they end in a blank of several
 -- lines, the newline that is dropped may leave a lone backslash on the last line.)
@@ -100,7 +100,7 @@ abbrev pub WrittenScript : Type 0
 WrittenScript =
     (entries : List Entry) →
     let items = map (λ entry. entry.item) entries in
-    AreGiven items → list_all (λ entry. is_output entry.output) entries ≡ true → ends_in_long_blank items ≡ false →
+    AreWellFormed items → list_all (λ entry. is_output entry.output) entries ≡ true → ends_in_long_blank items ≡ false →
     length (rewritten_text entries) ≤ longest_input →
     let again = script_of (rewritten_text entries) in (again.fault ≡ None) × AreReadAgain entries again.items
 

@@ -3,7 +3,7 @@ pub mod DirectiveLine
 pub mod DirectiveText
 pub mod Script
 pub mod Position
-pub mod Reading
+pub mod Grammar
 pub mod ReaderState
 pub mod Draft
 pub mod Answer

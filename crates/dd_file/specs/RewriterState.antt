@@ -25,7 +25,7 @@ IsOutputNext state = (state.stage ≡ NeedsOutput) ⊎ (state.stage ≡ Failed)
 abbrev pub HasBegun : Option (List ℕ) → Option (List ℕ) → List ℕ → Type 0
 HasBegun start now text = (rest : List ℕ) → AppendsPart start now (without_double_end (text ++ rest))
 
--- This text was written since the start, except that a newline at its end is held back, since the script may end there.
+-- This text was written since the start, except that a newline at its end is kept back, since the script may end there.
 pub record HasWritten (newlines : ℕ) (start now : Option (List ℕ)) (text : List ℕ) : Type 0 where
   pub counted : newlines ≡ newlines_at_end text
   pub gained : Appends start now (without_last 10 text)

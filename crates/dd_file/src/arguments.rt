@@ -49,7 +49,7 @@ pub(crate) fn ends_token(text: &[u8], position: usize) -> bool
     }
 }
 
-/// The length of a list in parentheses without its opening one. `None` if it is not closed, or its token goes on after it.
+/// The length of a list in parentheses without its opening one. `None` if it is not closed, or its token does not end after it.
 fn listed_len(inside: &[u8]) -> Option<usize>
     ensures { MatchOption result (is_some (values_of (first_token (40 ∷ inside.now))) ≡ false)
         (λ len. (len + 1 ≡ token_len false (40 ∷ inside.now)) × (is_some (values_of (first_token (40 ∷ inside.now))) ≡ true)) }

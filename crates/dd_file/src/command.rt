@@ -51,7 +51,7 @@ fn name_len(text: &[u8]) -> Option<usize>
 
 /// Parses the tokens of a text as arguments; `None` if one of them is not an argument.
 fn parse_arguments(alloc: Global, text: &[u8]) -> Result<Option<Vec<Argument>>, AllocError>
-    ensures { IfOk result (λ found. option_map (λ arguments. arguments.items) found ≡ arguments_of (tokens_of text.now)) }
+    ensures { IfOk result (λ read. option_map (λ arguments. arguments.items) read ≡ arguments_of (tokens_of text.now)) }
 {
     let mut arguments = Vec::new(alloc);
     let mut rest = text;
@@ -69,7 +69,7 @@ fn parse_arguments(alloc: Global, text: &[u8]) -> Result<Option<Vec<Argument>>, 
 
 /// Parses a directive line; `None` if it is not valid.
 pub(crate) fn parse_command(alloc: Global, text: &[u8]) -> Result<Option<Command>, AllocError>
-    ensures { IfOk result (λ found. found ≡ command_of text.now) }
+    ensures { IfOk result (λ read. read ≡ command_of text.now) }
 {
     let Some(begun) = from_token(text) else {
         return Ok(None);

@@ -2,14 +2,14 @@
 ghost use Rattle.std.specs.Prelude.{◌≡◌, ◌<◌, ◌+◌, ◌^◌, [], ◌∷◌, ◌++◌, true, false, length, IfOk, IfErr, OnOk};
 ghost use Rattle.std.specs.List.{list_all};
 ghost use Rattle.dd_file.specs.Script.{is_continued};
-ghost use Rattle.dd_file.specs.Draft.{blank_draft, counted, Fits, FitsIn, AddsIn, phase_after_directive_line, begins_directive, first_item_of, result_of_first, is_done, ends_in_dashes, IsDraftFault, at_line};
+ghost use Rattle.dd_file.specs.Draft.{blank_draft, counted, Fits, FitsIn, AddsIn, state_after_directive_line, begins_directive, first_item_of, result_of_first, is_done, ends_in_dashes, IsDraftFault, at_line};
 
 use crate::command::{Command, parse_command};
+use crate::draft_state::DraftState;
 use crate::fault::FileFault;
 use crate::item::{Directive, Item};
 use crate::joined_lines::joined;
 use crate::line_kinds::{is_comment, is_continued, is_dashes, is_separator};
-use crate::phase::Phase;
 use crate::raw_lines::RawLines;
 use ascii_text::white_space::{is_blank, trimmed};
 use std::alloc::{AllocError, Global};
@@ -27,7 +27,7 @@ pub(crate) struct Draft {
     directive_line_count: usize,
     expected: RawLines,
     count: usize,
-    phase: Phase,
+    state: DraftState,
 }
 
 impl Model for Draft {
@@ -42,7 +42,7 @@ impl Model for Draft {
       input = drop a.directive_line_count a.raw_lines;
       expected = a.expected;
       count = a.count;
-      phase = a.phase;
+      state = a.state;
     } };
 
     ghost invariant = { λ a. a.directive_line_count ≤ length a.raw_lines };
@@ -61,38 +61,38 @@ impl Draft {
             directive_line_count: 0,
             expected: RawLines::new(alloc),
             count: 0,
-            phase: Phase::Begin,
+            state: DraftState::Begin,
         }
     }
 
     /// Adds the next line, and returns whether it is the item's last one.
     pub(crate) fn add(&mut self, line: &[u8]) -> Result<bool, AllocError>
         requires fits { Fits self.old }
-        requires open_end { is_done self.old.phase ≡ false }
+        requires open_end { is_done self.old.state ≡ false }
         requires room { self.old.line + self.old.count < 2 ^ 62 }
-        ensures added { OnOk result (AddsIn self.old.phase self.old self.new line.now) }
-        ensures done { IfOk result (λ done. done ≡ is_done self.new.phase) }
+        ensures added { OnOk result (AddsIn self.old.state self.old self.new line.now) }
+        ensures done { IfOk result (λ done. done ≡ is_done self.new.state) }
     {
-        let phase = replace(&mut self.phase, Phase::Begin);
-        self.phase = self.next_phase(phase, line)?;
+        let state = replace(&mut self.state, DraftState::Begin);
+        self.state = self.next_state(state, line)?;
         self.count += 1;
-        Ok(self.phase.is_done())
+        Ok(self.state.is_done())
     }
 
-    /// Adds a line to the part that it belongs to, and returns the phase after it.
-    fn next_phase(&mut self, phase: Phase, line: &[u8]) -> Result<Phase, AllocError>
-        requires fits { FitsIn phase self.old }
-        requires open_end { is_done phase ≡ false }
-        ensures { IfOk result (λ next. AddsIn phase self.old (counted self.new next) line.now) }
+    /// Adds a line to the part that it belongs to, and returns the state after it.
+    fn next_state(&mut self, state: DraftState, line: &[u8]) -> Result<DraftState, AllocError>
+        requires fits { FitsIn state self.old }
+        requires open_end { is_done state ≡ false }
+        ensures { IfOk result (λ next. AddsIn state self.old (counted self.new next) line.now) }
     {
-        match phase {
-            Phase::Begin => self.add_first(line),
-            Phase::DirectiveLines => self.add_directive_line(line),
-            Phase::Input(command) => self.add_input(command, line),
-            Phase::Separator(command) => self.add_output(command, line),
-            Phase::Single(command) => self.add_single(command, line),
-            Phase::Double(command) => self.add_double(command, line),
-            Phase::Pair(command) => Ok(self.after_pair(command, line)),
+        match state {
+            DraftState::Begin => self.add_first(line),
+            DraftState::DirectiveLines => self.add_directive_line(line),
+            DraftState::Input(command) => self.add_input(command, line),
+            DraftState::Separator(command) => self.add_output(command, line),
+            DraftState::Single(command) => self.add_single(command, line),
+            DraftState::Double(command) => self.add_double(command, line),
+            DraftState::Pair(command) => Ok(self.after_pair(command, line)),
             done => Ok(done),
         }
     }
@@ -114,97 +114,97 @@ impl Draft {
         self.raw_lines.push(line)
     }
 
-    fn add_first(&mut self, line: &[u8]) -> Result<Phase, AllocError>
-        requires fits { FitsIn Phase.Begin self.old }
-        ensures { IfOk result (λ next. AddsIn Phase.Begin self.old (counted self.new next) line.now) }
+    fn add_first(&mut self, line: &[u8]) -> Result<DraftState, AllocError>
+        requires fits { FitsIn DraftState.Begin self.old }
+        ensures { IfOk result (λ next. AddsIn DraftState.Begin self.old (counted self.new next) line.now) }
     {
         if is_comment(line) {
             self.keep_directive_line(line)?;
-            Ok(Phase::CommentLine)
+            Ok(DraftState::CommentLine)
         } else if is_blank(line) {
             self.keep_directive_line(line)?;
-            Ok(Phase::BlankLines)
+            Ok(DraftState::BlankLines)
         } else {
             self.add_directive_line(line)
         }
     }
 
     /// The directive lines end with the first one that is not continued.
-    fn add_directive_line(&mut self, line: &[u8]) -> Result<Phase, AllocError>
+    fn add_directive_line(&mut self, line: &[u8]) -> Result<DraftState, AllocError>
         requires begins { begins_directive (self.old.directive_lines ++ line.now ∷ []) ≡ true }
         requires continued { list_all is_continued self.old.directive_lines ≡ true }
         requires empty { (self.old.input ≡ []) × (self.old.expected ≡ []) }
         requires counted { self.old.count ≡ length self.old.directive_lines }
-        ensures { IfOk result (λ next. AddsIn Phase.DirectiveLines self.old (counted self.new next) line.now) }
+        ensures { IfOk result (λ next. AddsIn DraftState.DirectiveLines self.old (counted self.new next) line.now) }
     {
         self.keep_directive_line(line)?;
         if is_continued(line) {
-            return Ok(Phase::DirectiveLines);
+            return Ok(DraftState::DirectiveLines);
         }
         if self.directive_line_count == 1 {
-            return phase_after_directive_line(self.alloc, trimmed(line));
+            return state_after_directive_line(self.alloc, trimmed(line));
         }
         let text = joined(self.alloc, &self.raw_lines)?;
-        phase_after_directive_line(self.alloc, text.as_slice())
+        state_after_directive_line(self.alloc, text.as_slice())
     }
 
-    fn add_input(&mut self, command: Command, line: &[u8]) -> Result<Phase, AllocError>
-        requires fits { FitsIn (Phase.Input command) self.old }
-        ensures { IfOk result (λ next. AddsIn (Phase.Input command) self.old (counted self.new next) line.now) }
+    fn add_input(&mut self, command: Command, line: &[u8]) -> Result<DraftState, AllocError>
+        requires fits { FitsIn (DraftState.Input command) self.old }
+        ensures { IfOk result (λ next. AddsIn (DraftState.Input command) self.old (counted self.new next) line.now) }
     {
         if is_separator(line) {
-            return Ok(Phase::Separator(command));
+            return Ok(DraftState::Separator(command));
         }
         self.keep_input(line)?;
-        Ok(Phase::Input(command))
+        Ok(DraftState::Input(command))
     }
 
     /// Dashes after the separator make it a double one.
-    fn add_output(&mut self, command: Command, line: &[u8]) -> Result<Phase, AllocError>
-        requires fits { FitsIn (Phase.Separator command) self.old }
-        ensures { IfOk result (λ next. AddsIn (Phase.Separator command) self.old (counted self.new next) line.now) }
+    fn add_output(&mut self, command: Command, line: &[u8]) -> Result<DraftState, AllocError>
+        requires fits { FitsIn (DraftState.Separator command) self.old }
+        ensures { IfOk result (λ next. AddsIn (DraftState.Separator command) self.old (counted self.new next) line.now) }
     {
         if is_dashes(line) {
-            return Ok(Phase::Double(command));
+            return Ok(DraftState::Double(command));
         }
         self.add_single(command, line)
     }
 
-    fn add_single(&mut self, command: Command, line: &[u8]) -> Result<Phase, AllocError>
-        requires fits { FitsIn (Phase.Single command) self.old }
-        ensures { IfOk result (λ next. AddsIn (Phase.Single command) self.old (counted self.new next) line.now) }
+    fn add_single(&mut self, command: Command, line: &[u8]) -> Result<DraftState, AllocError>
+        requires fits { FitsIn (DraftState.Single command) self.old }
+        ensures { IfOk result (λ next. AddsIn (DraftState.Single command) self.old (counted self.new next) line.now) }
     {
         if is_blank(line) {
-            return Ok(Phase::Complete(command));
+            return Ok(DraftState::Complete(command));
         }
         self.expected.push(line)?;
-        Ok(Phase::Single(command))
+        Ok(DraftState::Single(command))
     }
 
     /// Dashes are expected output unless dashes follow.
-    fn add_double(&mut self, command: Command, line: &[u8]) -> Result<Phase, AllocError>
-        requires fits { FitsIn (Phase.Double command) self.old }
-        ensures { IfOk result (λ next. AddsIn (Phase.Double command) self.old (counted self.new next) line.now) }
+    fn add_double(&mut self, command: Command, line: &[u8]) -> Result<DraftState, AllocError>
+        requires fits { FitsIn (DraftState.Double command) self.old }
+        ensures { IfOk result (λ next. AddsIn (DraftState.Double command) self.old (counted self.new next) line.now) }
     {
         if is_dashes(line) && ends_in_dashes(&self.expected) {
             self.expected.truncate(self.expected.count() - 1);
-            Ok(Phase::Pair(command))
+            Ok(DraftState::Pair(command))
         } else {
             self.expected.push(line)?;
-            Ok(Phase::Double(command))
+            Ok(DraftState::Double(command))
         }
     }
 
-    /// The phase after the line that comes after the closing pair of dashes.
-    fn after_pair(&self, command: Command, line: &[u8]) -> Phase
-        requires fits { FitsIn (Phase.Pair command) self.now }
-        ensures { AddsIn (Phase.Pair command) self.now (counted self.now result) line.now }
+    /// The state after the line that comes after the closing pair of dashes.
+    fn after_pair(&self, command: Command, line: &[u8]) -> DraftState
+        requires fits { FitsIn (DraftState.Pair command) self.now }
+        ensures { AddsIn (DraftState.Pair command) self.now (counted self.now result) line.now }
     {
         let _ = self;
         if is_blank(line) {
-            Phase::Complete(command)
+            DraftState::Complete(command)
         } else {
-            Phase::AfterPair
+            DraftState::AfterPair
         }
     }
 
@@ -233,21 +233,21 @@ impl Draft {
             directive_line_count,
             expected,
             count,
-            phase,
+            state,
         } = self;
-        let command = match phase {
-            Phase::Begin => return Ok(None),
-            Phase::CommentLine => return Ok(Some(Item::Comment(raw_lines))),
-            Phase::BlankLines => return Ok(Some(Item::Blank(raw_lines))),
-            Phase::DirectiveLines => return Err(FileFault::BadDirective(line)),
-            Phase::NoCommand => return Err(FileFault::BadDirective(line)),
-            Phase::Double(_) => return Err(FileFault::UnclosedDouble(line)),
-            Phase::AfterPair => return Err(FileFault::AfterDouble(line + (count - 1))),
-            Phase::Input(command)
-            | Phase::Separator(command)
-            | Phase::Single(command)
-            | Phase::Pair(command)
-            | Phase::Complete(command) => command,
+        let command = match state {
+            DraftState::Begin => return Ok(None),
+            DraftState::CommentLine => return Ok(Some(Item::Comment(raw_lines))),
+            DraftState::BlankLines => return Ok(Some(Item::Blank(raw_lines))),
+            DraftState::DirectiveLines => return Err(FileFault::BadDirective(line)),
+            DraftState::NoCommand => return Err(FileFault::BadDirective(line)),
+            DraftState::Double(_) => return Err(FileFault::UnclosedDouble(line)),
+            DraftState::AfterPair => return Err(FileFault::AfterDouble(line + (count - 1))),
+            DraftState::Input(command)
+            | DraftState::Separator(command)
+            | DraftState::Single(command)
+            | DraftState::Pair(command)
+            | DraftState::Complete(command) => command,
         };
         let expected = expected.into_text();
         Ok(Some(Item::Directive(Directive::new(
@@ -260,16 +260,16 @@ impl Draft {
     }
 }
 
-/// The phase after directive lines with this text, which may be blank, have a command, or be invalid.
-fn phase_after_directive_line(alloc: Global, text: &[u8]) -> Result<Phase, AllocError>
-    ensures { IfOk result (λ phase. phase ≡ phase_after_directive_line text.now) }
+/// The state after directive lines with this text, which may be blank, have a command, or be invalid.
+fn state_after_directive_line(alloc: Global, text: &[u8]) -> Result<DraftState, AllocError>
+    ensures { IfOk result (λ state. state ≡ state_after_directive_line text.now) }
 {
     if is_blank(text) {
-        return Ok(Phase::BlankLines);
+        return Ok(DraftState::BlankLines);
     }
     match parse_command(alloc, text)? {
-        Some(command) => Ok(Phase::Input(command)),
-        None => Ok(Phase::NoCommand),
+        Some(command) => Ok(DraftState::Input(command)),
+        None => Ok(DraftState::NoCommand),
     }
 }
 

@@ -1,8 +1,8 @@
 //! Laws of scripts that are rewritten or joined, and of what is read and written part by part.
 ghost use Rattle.std.specs.Prelude.{◌≡◌};
 ghost use Rattle.dd_file.specs.Gathered.{gathering_writer, NothingWaits};
-ghost use Rattle.dd_file.specs.InTurn.{TakenInTurn, ReadInTurn, AppendedInTurn, CutInFirst, CutInSecond, ContinuesInTurn, BreaksInFirst, BreaksInSecond};
-ghost use Rattle.dd_file.specs.Laws.{ItemsByNext, LinesByNext, WrittenItem, ItemsAreGiven, DirectiveIsGiven, WrittenScript, ItemsHaveKeys, CompleteByFirst, JoinedItems};
+ghost use Rattle.dd_file.specs.InTurn.{ConsumedInTurn, ReadInTurn, AppendedInTurn, PartInFirst, PartInSecond, ContinuesInTurn, BreaksInFirst, BreaksInSecond};
+ghost use Rattle.dd_file.specs.Laws.{ItemsByNext, LinesByNext, WrittenItem, ItemsAreWellFormed, DirectiveIsWellFormed, WrittenScript, ItemsHaveKeys, CompleteByFirst, JoinedItems};
 
 use crate::blocks::Blocks;
 use crate::device::Sink;
@@ -23,13 +23,13 @@ pub fn written_item()
 {}
 
 /// The items of a script, up to its error, are items of the grammar.
-pub fn items_are_given()
-    ensures { ItemsAreGiven }
+pub fn items_are_well_formed()
+    ensures { ItemsAreWellFormed }
 {}
 
 /// A directive of one line, with lines of input and no expected output, is an item of the grammar.
-pub fn directive_is_given()
-    ensures { DirectiveIsGiven }
+pub fn directive_is_well_formed()
+    ensures { DirectiveIsWellFormed }
 {}
 
 /// Items of the grammar that are written with actual outputs are read back. An empty line at the end may be missing.
@@ -54,15 +54,15 @@ pub fn joined_items()
 
 /// Two calls of a reader, one after the other: what they consume together, and the inputs that agree with both.
 pub fn read_in_turn()
-    ensures taken { TakenInTurn }
+    ensures taken { ConsumedInTurn }
     ensures agrees { ReadInTurn }
 {}
 
 /// What is appended in two parts, whole or cut short.
 pub fn appended_in_turn()
     ensures whole { AppendedInTurn }
-    ensures first { CutInFirst }
-    ensures second { CutInSecond }
+    ensures first { PartInFirst }
+    ensures second { PartInSecond }
 {}
 
 /// What a rewriter writes in two parts, whole or cut short.

@@ -4,7 +4,7 @@ ghost use Rattle.dd_file.specs.Position.{longest_input};
 ghost use Rattle.dd_file.specs.Buffered.{BufferedReadsOn, is_line_buffered, CanReadBuffered, passed};
 ghost use Rattle.ascii_text.specs.Lines.{line_of, without_last};
 ghost use Rattle.dd_file.specs.FullLineRead.{FullLineRead, FullLineFault};
-ghost use Rattle.dd_file.specs.Reading.{next_line};
+ghost use Rattle.dd_file.specs.Grammar.{next_line};
 ghost use Rattle.dd_file.specs.ReaderState.{fresh, IsWithin};
 ghost use Rattle.dd_file.specs.Answer.{ReadsOn, MovesOn, IsLineFault, is_read_fault};
 

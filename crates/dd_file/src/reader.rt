@@ -1,7 +1,7 @@
 //! Reading a script item by item.
 ghost use Rattle.std.specs.Prelude.{◌≡◌, [], None, true, false, IfOk, IfSome, IsOkUnless, OnOk};
 ghost use Rattle.dd_file.specs.Position.{longest_input};
-ghost use Rattle.dd_file.specs.Reading.{next_item};
+ghost use Rattle.dd_file.specs.Grammar.{next_item};
 ghost use Rattle.dd_file.specs.ReaderState.{fresh, IsWithin};
 ghost use Rattle.dd_file.specs.Buffered.{CanReadBuffered, BufferedReadsOn, is_item_buffered};
 ghost use Rattle.dd_file.specs.Answer.{ReadsOn, IsItemFault, fault_of};

@@ -38,14 +38,14 @@ fn count_newlines(newlines: u8, bytes: &[u8]) -> u8
     }
 }
 
-/// The newline that is written at the end: the one that was held back, unless another newline is before it.
+/// The newline that is written at the end: the one that was kept back, unless another newline is before it.
 fn last_newline(newlines: u8) -> &'static [u8]
     ensures { result.now ≡ (if newlines == 1 then newline else []) }
 {
     if newlines == 1 { b"\n" } else { b"" }
 }
 
-/// Writes the newline that was held back, if this many newlines end the text.
+/// Writes the newline that was kept back, if this many newlines end the text.
 fn write_pending_newline<W: Sink>(writer: &mut W, newlines: u8) -> Result<(), WriteFault>
     ensures ok { OnOk result (Appends (W.contents writer.old) (W.contents writer.new) (if newlines == 0 then [] else newline)) }
     ensures err { OnErr result (AppendsPart (W.contents writer.old) (W.contents writer.new) (if newlines == 0 then [] else newline)) }
@@ -58,7 +58,7 @@ fn write_pending_newline<W: Sink>(writer: &mut W, newlines: u8) -> Result<(), Wr
     write_all(writer, b"\n")
 }
 
-/// Writes more text after a text that ends in this many newlines. A newline at its end is held back. Returns how many
+/// Writes more text after a text that ends in this many newlines. A newline at its end is kept back. Returns how many
 /// newlines end the text then.
 fn write_text<W: Sink>(writer: &mut W, newlines: u8, text: &[u8]) -> Result<u8, WriteFault>
     ensures ok { IfOk result (λ count. Continues newlines count (W.contents writer.old) (W.contents writer.new) text.now) }
@@ -88,7 +88,7 @@ fn needs_double(text: &[u8]) -> bool
     false
 }
 
-/// What is written before an output: the newline that was held back, and the single or double dashes.
+/// What is written before an output: the newline that was kept back, and the single or double dashes.
 fn before_output(newlines: u8, double: bool) -> &'static [u8]
     ensures { result.now ≡ (if newlines == 0 then [] else newline) ++ opening double }
 {
@@ -109,7 +109,7 @@ fn after_output(double: bool) -> &'static [u8]
     if double { b"----\n----\n\n" } else { b"\n" }
 }
 
-/// Writes an output after single dashes or between double ones. The newline at its end is held back.
+/// Writes an output after single dashes or between double ones. The newline at its end is kept back.
 fn write_output<W: Sink>(
     writer: &mut W,
     newlines: u8,
@@ -130,7 +130,7 @@ fn write_output<W: Sink>(
     Ok(count_newlines(count_newlines(1, text), suffix))
 }
 
-/// Writes a script with its actual outputs. The last newline so far is held back until more text comes, since a script that
+/// Writes a script with its actual outputs. The last newline so far is kept back until more text comes, since a script that
 /// ends in two newlines is written with one.
 #[derive(Drop)]
 pub struct Rewriter {
@@ -229,7 +229,7 @@ impl Rewriter {
         self.finish_call(written, Stage::Ready)
     }
 
-    /// Ends the script: writes the newline that was held back, unless the text ends in two.
+    /// Ends the script: writes the newline that was kept back, unless the text ends in two.
     pub fn end<W: Sink>(&mut self, writer: &mut W) -> Result<(), WriteFault>
         requires { CanKeep self.old }
         ensures { WritesEnd W.contents W.has_failed self.old self.new writer.old writer.new result }

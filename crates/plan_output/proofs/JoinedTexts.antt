@@ -9,7 +9,7 @@ use Rattle.conf_change.specs.Step.{changes_of}
 use Rattle.conf_change.specs.declared.change.Change.{Change}
 use Rattle.conf_change.specs.declared.step.Step.{Step}
 use Rattle.conf_change.specs.declared.step.Step.TheVariants.{Simple, EnterJoint, LeaveJoint}
-use Rattle.conf_plan.specs.PlanText.{command_words, change_text, line_text}
+use Rattle.conf_plan.specs.PlanText.{command_tokens, change_text, line_text}
 use Rattle.plan_output.specs.Table.{gap, step_name}
 
 join-push : (x : List ℕ) (xs : List (List ℕ)) (y : List ℕ) → join_with_byte 32 (x ∷ (xs ++ y ∷ [])) ≡ join_with_byte 32 (x ∷ xs) ++ 32 ∷ y
@@ -30,7 +30,7 @@ changes_part [] = []
 changes_part (change ∷ changes) = 32 ∷ join_with_byte 32 (map change_text (change ∷ changes))
 
 abbrev parts : List ℕ → Step → List ℕ
-parts front step = front ++ join_with_byte 32 (command_words step) ++ changes_part (changes_of step)
+parts front step = front ++ join_with_byte 32 (command_tokens step) ++ changes_part (changes_of step)
 
 line_text-simple : (changes : List Change) → line_text (Simple changes) ≡ parts [] (Simple changes)
 line_text-simple [] = refl
@@ -49,7 +49,7 @@ line_text-parts LeaveJoint = refl
 
 step_name-parts : (number : ℕ) (step : Step) → parts (decimal number ++ codes " ") step ≡ step_name number step
 step_name-parts number step =
-    append_assoc (decimal number ++ codes " ") (join_with_byte 32 (command_words step)) (changes_part (changes_of step))
+    append_assoc (decimal number ++ codes " ") (join_with_byte 32 (command_tokens step)) (changes_part (changes_of step))
     ∙ sym (ap (λ line. decimal number ++ codes " " ++ line) (line_text-parts step))
 
 changes_part-none : (changes : List Change) → (length changes == 0) ≡ true → changes_part changes ≡ []
@@ -61,14 +61,14 @@ changes_part-some [] some = cc
 changes_part-some (change ∷ changes) some = refl
 
 pub step_name-alone : (number : ℕ) (step : Step) → (length (changes_of step) == 0) ≡ true
-    → decimal number ++ codes " " ++ join_with_byte 32 (command_words step) ≡ step_name number step
+    → decimal number ++ codes " " ++ join_with_byte 32 (command_tokens step) ≡ step_name number step
 step_name-alone number step none =
-    let front = decimal number ++ codes " " ++ join_with_byte 32 (command_words step) in
+    let front = decimal number ++ codes " " ++ join_with_byte 32 (command_tokens step) in
     sym (append-nil front) ∙ sym (ap (λ rest. front ++ rest) (changes_part-none (changes_of step) none)) ∙ step_name-parts number step
 
 pub step_name-changes : (number : ℕ) (step : Step) → (length (changes_of step) == 0) ≡ false
-    → decimal number ++ codes " " ++ join_with_byte 32 (command_words step) ++ codes " " ++ join_with_byte 32 (map change_text (changes_of step)) ≡ step_name number step
+    → decimal number ++ codes " " ++ join_with_byte 32 (command_tokens step) ++ codes " " ++ join_with_byte 32 (map change_text (changes_of step)) ≡ step_name number step
 step_name-changes number step some =
-    let front = decimal number ++ codes " " ++ join_with_byte 32 (command_words step) in
+    let front = decimal number ++ codes " " ++ join_with_byte 32 (command_tokens step) in
     append_assoc front (codes " ") (join_with_byte 32 (map change_text (changes_of step)))
     ∙ sym (ap (λ rest. front ++ rest) (changes_part-some (changes_of step) some)) ∙ step_name-parts number step

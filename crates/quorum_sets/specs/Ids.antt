@@ -1,5 +1,5 @@
 -- A finite set of ids, as a value: `FinSet nat_cmp`, which is `FinMap` with nothing at each key.
--- The words of `FinSet` say nothing of the order of its items, so these stand on those of `FinMap`.
+-- `FinSet` defines nothing on the order of its items, so these definitions use `FinMap`.
 use Rattle.std.specs.Prelude.{ℕ, ◌+◌, ◌*◌, Bool, not, List, ◌++◌, map, length, is_some, nat_eq, nat_lt, count_by, filter}
 use Rattle.std.specs.Ordering.{nat_cmp}
 use Rattle.std.specs.FinSet.{FinSet}

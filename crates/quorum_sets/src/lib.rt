@@ -19,12 +19,11 @@
 #![tactic(auto)]
 
 mod acknowledgement;
-mod charting;
+mod charts;
 mod commit;
 mod counting;
 mod difference;
 mod inline_ids;
-mod joining;
 pub mod laws;
 mod lookup;
 mod majority;
@@ -32,21 +31,22 @@ mod member_set;
 mod overlap;
 mod tolerance;
 mod tree_ids;
+mod unions;
 mod vote_source;
 mod voting;
 
 pub use acknowledgement::AckSource;
 pub use ascii_text::NoMemory;
-pub use charting::{chart, joint_chart};
+pub use charts::{chart, joint_chart};
 pub use commit::{committed, joint_committed};
 pub use difference::symdiff;
 pub use inline_ids::InlineIds;
-pub use joining::union;
 pub use lookup::has_next;
 pub use majority::{is_quorum, quorum};
 pub use member_set::MemberSet;
 pub use overlap::common_member;
 pub use tolerance::{commits_without, may_be_down};
 pub use tree_ids::TreeIds;
+pub use unions::union;
 pub use vote_source::VoteSource;
 pub use voting::{VoteResult, joint_vote, vote};

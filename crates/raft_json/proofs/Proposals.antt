@@ -15,7 +15,7 @@ use Rattle.conf_change.specs.declared.refused.Refused.TheVariants.{AlreadyJoint,
 use Rattle.conf_change.specs.declared.transition.Transition.TheVariants.{Auto}
 use Rattle.conf_change.specs.declared.step.Step.TheVariants.{Simple, EnterJoint}
 use Rattle.conf_change.proofs.Offered.{ValidByMember-from_is_valid, configuration-by_members, has-learners_after, has-next_after, has-after_leave, result_of-none, result_of-update, SimpleTaken-from_outcome, EnterTaken-from_outcome, outcome-enter_accepted, outcome-leave_accepted, outgoing-none}
-use Rattle.raft_json.specs.Proposal.{update_of, or_update, proposed_step, settles, settled}
+use Rattle.raft_json.specs.Proposal.{update_of, or_update, proposed_step, after_auto_leave, final_outcome}
 
 -- ---- a list without a change, and the update that is named for it
 result_of-update_of : (c : Configuration) (o : Option ℕ) → result_of c (update_of o) ≡ result_of c []
@@ -61,14 +61,14 @@ enter-proposed before true changes = enter_by_result before true (or_update befo
 enter-proposed before false changes = enter_by_result before false (or_update before changes) changes (result_of-or_update before (with_outgoing before false) changes)
 
 -- ---- a simple step ends without auto-leave
-settles-flag : (c : Configuration) → c.auto_leave ≡ false → settles (Ok c) ≡ Ok c
-settles-flag c e = ap (λ b. if b then leave_outcome c else Ok c) e
+after_auto_leave-flag : (c : Configuration) → c.auto_leave ≡ false → after_auto_leave (Ok c) ≡ Ok c
+after_auto_leave-flag c e = ap (λ b. if b then leave_outcome c else Ok c) e
 
-settled-simple : (before after : Configuration) (changes : List Change) → is_valid before ≡ true → outcome before (Simple changes) ≡ Ok after → settled before (Simple changes) ≡ Ok after
-settled-simple before after changes valid e =
+final_outcome-simple : (before after : Configuration) (changes : List Change) → is_valid before ≡ true → outcome before (Simple changes) ≡ Ok after → final_outcome before (Simple changes) ≡ Ok after
+final_outcome-simple before after changes valid e =
     let taken = SimpleTaken-from_outcome before after changes e in
     let flag = (ValidByMember-from_is_valid before valid).auto_leave taken.single in
-    ap settles e ∙ settles-flag after (sym (ap (λ (c : Configuration). c.auto_leave) taken.made) ∙ flag)
+    ap after_auto_leave e ∙ after_auto_leave-flag after (sym (ap (λ (c : Configuration). c.auto_leave) taken.made) ∙ flag)
 
 -- ---- through a joint configuration and out of it
 joined_learners : (o : Option Kind) (out was next : Bool) → next ≡ false → (is_learner_after o out was || is_next_after o out next) ≡ is_learner_after o false was
@@ -109,23 +109,23 @@ entered_and_left before changes valid single =
     (sym (valid_by.auto_leave single))
 
 through_joint : (before after : Configuration) (changes : List Change) → is_valid before ≡ true → has_voter before ≡ true
-    → outcome before (Simple changes) ≡ Ok after → settled before (EnterJoint true changes) ≡ Ok after
+    → outcome before (Simple changes) ≡ Ok after → final_outcome before (EnterJoint true changes) ≡ Ok after
 through_joint before after changes valid voter e =
     let taken = SimpleTaken-from_outcome before after changes e in
     let joint = result_of (with_outgoing before true) changes in
-    ap settles (outcome-enter_accepted before joint true changes taken.single voter refl taken.voter)
+    ap after_auto_leave (outcome-enter_accepted before joint true changes taken.single voter refl taken.voter)
     ∙ outcome-leave_accepted joint voter
     ∙ ap Ok (entered_and_left before changes valid taken.single ∙ taken.made)
 
 pub simple-proposed : (before after : Configuration) (changes : List Change) → is_valid before ≡ true → has_voter before ≡ true
-    → outcome before (Simple changes) ≡ Ok after → settled before (proposed_step before (Simple changes)) ≡ Ok after
+    → outcome before (Simple changes) ≡ Ok after → final_outcome before (proposed_step before (Simple changes)) ≡ Ok after
 simple-proposed before after [] valid voter e =
     let least = least_voter before voter in
     let update : List Change = update_of (Some least.0) in
-    ap (λ o. settled before (step_for Auto (update_of o))) least.1
-    ∙ ap settles (simple_by_result before update [] (result_of-update_of before (Some least.0)))
-    ∙ settled-simple before after [] valid e
-simple-proposed before after (change ∷ []) valid voter e = settled-simple before after (change ∷ []) valid e
+    ap (λ o. final_outcome before (step_for Auto (update_of o))) least.1
+    ∙ ap after_auto_leave (simple_by_result before update [] (result_of-update_of before (Some least.0)))
+    ∙ final_outcome-simple before after [] valid e
+simple-proposed before after (change ∷ []) valid voter e = final_outcome-simple before after (change ∷ []) valid e
 simple-proposed before after (change ∷ other ∷ changes) valid voter e = through_joint before after (change ∷ other ∷ changes) valid voter e
 
 pub simple-named : (before after : Configuration) (changes : List Change) → outcome before (Simple changes) ≡ Ok after → 0 < length (or_update before changes)

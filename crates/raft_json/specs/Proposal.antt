@@ -39,10 +39,10 @@ abbrev pub proposed_step : Configuration → Step → Step
 proposed_step c step = step_for (transition_of step) (proposed_changes c step)
 
 -- a joint configuration with auto-leave is left automatically
-abbrev pub settles : Outcome → Outcome
-settles (Ok c) = if c.auto_leave then leave_outcome c else Ok c
-settles (Err why) = Err why
+abbrev pub after_auto_leave : Outcome → Outcome
+after_auto_leave (Ok c) = if c.auto_leave then leave_outcome c else Ok c
+after_auto_leave (Err why) = Err why
 
 -- where a step leads etcd in the end, auto-leave included
-abbrev pub settled : Configuration → Step → Outcome
-settled c step = settles (outcome c step)
+abbrev pub final_outcome : Configuration → Step → Outcome
+final_outcome c step = after_auto_leave (outcome c step)

@@ -7,7 +7,7 @@ ghost use Rattle.conf_change.specs.declared.change.Change.{Change};
 ghost use Rattle.conf_change.specs.declared.step.Step.{Step};
 ghost use Rattle.conf_change.specs.declared.step.Step.TheVariants.{Simple, EnterJoint, LeaveJoint};
 ghost use Rattle.raft_json.specs.ConfStateJson.{conf_state_of_json, conf_state_json};
-ghost use Rattle.raft_json.specs.Proposal.{proposed_changes, proposed_step, settled};
+ghost use Rattle.raft_json.specs.Proposal.{proposed_changes, proposed_step, final_outcome};
 
 /// The JSON of a saved configuration denotes it.
 pub fn conf_state_json_reads_back()
@@ -21,7 +21,7 @@ pub fn conf_state_json_reads_back()
 /// leaving.
 pub fn etcd_ends_where_the_step_does()
     ensures simple { (before after : Configuration) (changes : List Change) → is_valid before ≡ true → has_voter before ≡ true
-        → outcome before (Simple changes) ≡ Ok after → settled before (proposed_step before (Simple changes)) ≡ Ok after }
+        → outcome before (Simple changes) ≡ Ok after → final_outcome before (proposed_step before (Simple changes)) ≡ Ok after }
     ensures one { (before : Configuration) (change : Change) → proposed_step before (Simple (change ∷ [])) ≡ Simple (change ∷ []) }
     ensures enter { (before after : Configuration) (auto_leave : Bool) (changes : List Change) → outcome before (EnterJoint auto_leave changes) ≡ Ok after
         → outcome before (proposed_step before (EnterJoint auto_leave changes)) ≡ Ok after }

@@ -89,7 +89,7 @@ const PLAN: &[u8] = b"leave-joint\n\
     enter-joint autoleave=false r3 r4 v5\n";
 
 // The target has no voter.
-const TO_NOBODY: &[u8] =
+const TO_EMPTY: &[u8] =
     b"Voters:[1] VotersOutgoing:[] Learners:[] LearnersNext:[] AutoLeave:false\n\
     Voters:[] VotersOutgoing:[] Learners:[] LearnersNext:[] AutoLeave:false\n";
 
@@ -127,7 +127,7 @@ pub(crate) static CASES: [Case; 14] = [
     (Mode::Undo, CUT, NO_PLAN, Status::Different),
     (Mode::Undo, BARE, NO_PLAN, Status::Different),
     (Mode::Plan, TWO, PLAN, Status::Clean),
-    (Mode::Plan, TO_NOBODY, NO_TARGET, Status::Different),
+    (Mode::Plan, TO_EMPTY, NO_TARGET, Status::Different),
     (Mode::Plan, PAIRS, PLANS, Status::Different),
 ];
 

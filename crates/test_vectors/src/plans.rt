@@ -341,7 +341,7 @@ static NO_PLANS: [(&str, PlanTextFault); 8] = [
 ];
 
 // A plan's text, and the command of its first step and its changes.
-static WORDS: [(&str, &str, &str); 5] = [
+static TOKENS_OF_STEPS: [(&str, &str, &str); 5] = [
     ("simple v1 r2 l03 u4\nleave-joint", "simple", "v1 r2 l3 u4"),
     (
         "enter-joint autoleave=true v18446744073709551615",
@@ -381,7 +381,7 @@ fn texts_of_plans(rt: HostRuntime) {
             "{text}"
         );
     }
-    for (text, command, changes) in &WORDS {
+    for (text, command, changes) in &TOKENS_OF_STEPS {
         assert!(rt; is_worded(rt.alloc(), *text, *command, *changes), "{text}");
     }
 }

@@ -58,8 +58,8 @@ or_not true = refl
 or_not false = refl
 
 -- the last word of one change
-abbrev word_of : Kind → Bool → Bool → Option Kind
-word_of kind named zero = cond (named && not zero && not (is_update kind)) (Some kind) None
+abbrev token_of : Kind → Bool → Bool → Option Kind
+token_of kind named zero = cond (named && not zero && not (is_update kind)) (Some kind) None
 
 abbrev member_after : Option Kind → Bool → Bool → Bool → Bool
 member_after summary incoming out learner = is_incoming_after summary incoming || out || is_learner_after summary out learner
@@ -67,11 +67,11 @@ member_after summary incoming out learner = is_incoming_after summary incoming |
 -- one more change: the entry that is brought in line is what the longer list leaves, and who has one left is a member
 record StepAt (next_index : ℕ) (kind : Kind) (named zero incoming out learner removed : Bool) (had : Option Progress) : Type 0 where
   entry_is :
-      let summary = word_of kind named zero in
+      let summary = token_of kind named zero in
       let before = entry_of next_index (incoming || out || learner) learner (progress_left_after removed out had) in
       cond named (entry_of next_index (member_after summary incoming out learner) (is_learner_after summary out learner) before) before
       ≡ entry_of next_index (member_after summary incoming out learner) (is_learner_after summary out learner) (progress_left_after (removed || (named && is_removal kind)) out had)
-  member_is : is_some (progress_left_after (removed || (named && is_removal kind)) out had) ≡ true → member_after (word_of kind named zero) incoming out learner ≡ true
+  member_is : is_some (progress_left_after (removed || (named && is_removal kind)) out had) ≡ true → member_after (token_of kind named zero) incoming out learner ≡ true
 
 step_at : (next_index : ℕ) (kind : Kind) (named zero incoming out learner removed : Bool) (had : Option Progress)
     → (zero ≡ true → had ≡ None) → (is_some (progress_left_after removed out had) ≡ true → (incoming || out || learner) ≡ true)
@@ -160,7 +160,7 @@ more_at next_index xs x before now after q none so_far made follows =
     let out = has before.config.outgoing q in
     let learner = has now.config.learners q in
     let had = finite.get before.progress q in
-    let summary = word_of x.kind (x.id == q) (q == 0) in
+    let summary = token_of x.kind (x.id == q) (q == 0) in
     let is_outgoing : has now.config.outgoing q ≡ out = ap (λ c. has c.outgoing q) so_far.applied.configuration in
     let member_now : is_member now.config q ≡ (incoming || out || learner) = ap (λ b. incoming || b || learner) is_outgoing in
     let was : finite.get now.progress q ≡ entry_of next_index (incoming || out || learner) learner (progress_left before xs q) =

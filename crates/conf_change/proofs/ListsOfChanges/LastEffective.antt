@@ -69,13 +69,13 @@ last_in-changes [] id = refl
 last_in-changes (x ∷ xs) id =
     (λ i. later_of (own_say x id (id == x.id) refl i) (last_in-changes xs id i)) ∙ sym (last_effective-cons x xs id)
 
-no_word : (b : Bool) → (let none : Option Kind = None in cond b none none ≡ none)
-no_word true = refl
-no_word false = refl
+no_token : (b : Bool) → (let none : Option Kind = None in cond b none none ≡ none)
+no_token true = refl
+no_token false = refl
 
 last_in-empty_summary : (members : List (ℕ × Progress)) (id : ℕ) → last_in (map (λ m. empty_summary m.0) members) id ≡ None
 last_in-empty_summary [] id = refl
-last_in-empty_summary (m ∷ ms) id = (λ i. later_of (no_word (id == m.0) i) (last_in-empty_summary ms id i))
+last_in-empty_summary (m ∷ ms) id = (λ i. later_of (no_token (id == m.0) i) (last_in-empty_summary ms id i))
 
 pub last_in-each : (members : List (ℕ × Progress)) (xs : List Change) (id : ℕ) → last_in (map (λ m. empty_summary m.0) members ++ map summary_of xs) id ≡ last_effective xs id
 last_in-each members xs id =

@@ -110,8 +110,8 @@ change-others c after x q gives other =
     let silent : last_effective (x ∷ []) q ≡ None = last_effective-one x q ∙ ap (λ b. cond (b && not (q == 0) && not (is_update x.kind)) (Some x.kind) None) other in
     let P : Configuration → Type 0 = λ d. (has d.incoming q ≡ has c.incoming q) × (has d.learners q ≡ has c.learners q) in
     subst P (SimpleTaken-from_outcome c after (x ∷ []) gives).made (
-      has-incoming_after c (x ∷ []) q ∙ ap (λ word. is_incoming_after word (has c.incoming q)) silent,
-      has-learners_after c (x ∷ []) q ∙ ap (λ word. is_learner_after word (has c.outgoing q) (has c.learners q)) silent,
+      has-incoming_after c (x ∷ []) q ∙ ap (λ token. is_incoming_after token (has c.incoming q)) silent,
+      has-learners_after c (x ∷ []) q ∙ ap (λ token. is_learner_after token (has c.outgoing q) (has c.learners q)) silent,
     )
 
 cost_of-one_less : (target c after : Configuration) (x : Change) (q : ℕ) → Gives c (Simple (x ∷ [])) after → ChangesOneLearnerFirst c (Simple (x ∷ [])) after

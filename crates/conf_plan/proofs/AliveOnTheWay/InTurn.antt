@@ -14,16 +14,16 @@ use Rattle.conf_change.specs.declared.change.Change.{Change}
 use Rattle.conf_change.specs.declared.change.Kind.{Kind}
 use Rattle.conf_change.specs.declared.step.Step.{Step}
 use Rattle.conf_plan.specs.OneAtATime.{one_change, join_steps, retire_step, in_turn, learner_change}
-use Rattle.conf_plan.specs.PlanSteps.{HasWordIds}
+use Rattle.conf_plan.specs.PlanSteps.{HasTokenIds}
 use Rattle.conf_plan.specs.Walking.{IsAdded}
 use Rattle.conf_plan.proofs.FindingMoves.FourSetWalk.{left-none, left-some}
 use Rattle.conf_plan.proofs.PlannedSteps.Cases.{added-nothing, added-more}
 
 -- a step of one change
 pub added-change : (before after : List Step) (kind : Kind) (id : ℕ) → id < 2 ^ 64 → after ≡ before ++ one_change kind id ∷ [] → IsAdded before (one_change kind id ∷ []) after
-added-change before after kind id word e = record {
+added-change before after kind id token e = record {
   whole = e;
-  word_ids = All-push HasWordIds [] (one_change kind id) (All-nil HasWordIds) (All-push (λ (change : Change). change.id < 2 ^ 64) [] (record { kind = kind; id = id }) (All-nil _) word);
+  token_ids = All-push HasTokenIds [] (one_change kind id) (All-nil HasTokenIds) (All-push (λ (change : Change). change.id < 2 ^ 64) [] (record { kind = kind; id = id }) (All-nil _) token);
 }
 
 -- ---- one turn

@@ -15,8 +15,8 @@ use Rattle.conf_plan.specs.Run.{Gives}
 use Rattle.conf_plan.proofs.FindingMoves.OfEachId.{change_of}
 
 -- the list of one change has its say on that id alone
-one_word : (kind : Kind) (id q : ℕ) → is_update kind ≡ false → (id == 0) ≡ false → last_effective (change_of id kind ∷ []) q ≡ cond (q == id) (Some kind) None
-one_word kind id q plain other =
+one_token : (kind : Kind) (id q : ℕ) → is_update kind ≡ false → (id == 0) ≡ false → last_effective (change_of id kind ∷ []) q ≡ cond (q == id) (Some kind) None
+one_token kind id q plain other =
     last_effective-one (change_of id kind) q
     ∙ (λ i. cond (nat_eq_equiv.symm id q i && not (q == 0) && not (plain i)) (Some kind) None)
     ∙ ap (λ b. cond b (Some kind) None) (same (q == id) (q == 0) (λ is. ap (λ n. n == 0) (eqb-true q id is) ∙ other))
@@ -53,14 +53,14 @@ one_change-joins voters learners id other =
     let c = single_with voters learners in
     let after = single_with (with_id voters id) (without_id learners id) in
     let changes = change_of id Voter ∷ [] in
-    let word = λ (q : ℕ). one_word Voter id q refl other in
+    let token = λ (q : ℕ). one_token Voter id q refl other in
     outcome-simple_accepted c after changes (ap not is_empty-no_ids)
     (configuration-by_members (result_of c changes) after
-    (λ q. has-incoming_after c changes q ∙ ap (λ o. is_incoming_after o (has voters q)) (word q) ∙ joins (q == id) (has voters q) ∙ sym (has-with_id voters id q))
+    (λ q. has-incoming_after c changes q ∙ ap (λ o. is_incoming_after o (has voters q)) (token q) ∙ joins (q == id) (has voters q) ∙ sym (has-with_id voters id q))
     refl
-    (λ q. has-learners_after c changes q ∙ ap (λ o. is_learner_after o (has no_ids q) (has learners q)) (word q)
+    (λ q. has-learners_after c changes q ∙ ap (λ o. is_learner_after o (has no_ids q) (has learners q)) (token q)
     ∙ stays_no_learner (q == id) (has no_ids q) (has learners q) ∙ sym (has-without_id learners id q))
-    (λ q. has-next_after c changes q ∙ ap (λ o. is_next_after o (has no_ids q) (has no_ids q)) (word q)
+    (λ q. has-next_after c changes q ∙ ap (λ o. is_next_after o (has no_ids q) (has no_ids q)) (token q)
     ∙ no_next Voter (λ was. refl) (q == id) (has no_ids q) (has no_ids q) (has-no_ids q) (has-no_ids q))
     refl)
     (ap not (has_some (with_id voters id) id (has-with_id voters id id ∙ or_left (id == id) (has voters id) (eq-eqb id id refl))))
@@ -100,13 +100,13 @@ one_change-retires learns voters learners id other left =
     let c = single_with voters learners in
     let after = single_with (without_id voters id) (cond learns (with_id learners id) (without_id learners id)) in
     let changes = change_of id kind ∷ [] in
-    let word = λ (q : ℕ). one_word kind id q (plain learns) other in
+    let token = λ (q : ℕ). one_token kind id q (plain learns) other in
     outcome-simple_accepted c after changes (ap not is_empty-no_ids)
     (configuration-by_members (result_of c changes) after
-    (λ q. has-incoming_after c changes q ∙ ap (λ o. is_incoming_after o (has voters q)) (word q) ∙ leaves_by kind (q == id) (has voters q) (stops learns (has voters q)) ∙ sym (has-without_id voters id q))
+    (λ q. has-incoming_after c changes q ∙ ap (λ o. is_incoming_after o (has voters q)) (token q) ∙ leaves_by kind (q == id) (has voters q) (stops learns (has voters q)) ∙ sym (has-without_id voters id q))
     refl
-    (λ q. has-learners_after c changes q ∙ ap (λ o. is_learner_after o (has no_ids q) (has learners q)) (word q) ∙ learns_after learns learners id q (has no_ids q) (has-no_ids q))
-    (λ q. has-next_after c changes q ∙ ap (λ o. is_next_after o (has no_ids q) (has no_ids q)) (word q)
+    (λ q. has-learners_after c changes q ∙ ap (λ o. is_learner_after o (has no_ids q) (has learners q)) (token q) ∙ learns_after learns learners id q (has no_ids q) (has-no_ids q))
+    (λ q. has-next_after c changes q ∙ ap (λ o. is_next_after o (has no_ids q) (has no_ids q)) (token q)
     ∙ no_next kind (waits_never learns) (q == id) (has no_ids q) (has no_ids q) (has-no_ids q) (has-no_ids q))
     refl)
     (ap not left)

@@ -173,9 +173,9 @@ planned-spares now target q settled_now settled member stays =
     ))
     (λ apart outlasts. planned_from_single-spares now target q (record { settled = settled_now; single = apart }) settled member stays)
 
-pub planned-spared : (now target : Configuration) (q : ℕ) → IsValidWithVoter now → IsValidWithVoter target
+pub planned-preserved : (now target : Configuration) (q : ℕ) → IsValidWithVoter now → IsValidWithVoter target
     → (Preserves now (planned now target) target q) ↔ ((is_member now q && is_member target q && outlasts_leave now (planned now target) q) ≡ true)
-planned-spared now target q settled_now settled = (
+planned-preserved now target q settled_now settled = (
   λ spares. and_from _ _ (and_from _ _ spares.0 (preserves-target now target _ q spares)) (preserves-outlasts now target _ q spares),
   λ each.
       let all = and_parts (is_member now q && is_member target q) _ each in

@@ -175,7 +175,7 @@ pub record IsWalked (c : Configuration) (voters learners : Ids) (voter_place lea
   pub voters_left : IsLeft voter_place bound c.incoming
   pub learners_left : IsLeft learner_place bound c.learners
   pub moved : changes ++ filter_map (move_of c voters learners) (ids_from bound (ascending (all_ids voters learners c.incoming c.learners))) ≡ moves c voters learners
-  pub word_ids : All (λ change. change.id < 2 ^ 64) changes
+  pub token_ids : All (λ change. change.id < 2 ^ 64) changes
 
 -- at the first place all of a set is left
 left-begun : (s : Ids) (place : ℕ) → place ≡ 0 → IsLeft place 0 s
@@ -191,7 +191,7 @@ IsWalked-begun c voters learners i l v m changes i_first l_first v_first m_first
       voters_left = left-begun c.incoming i i_first;
       learners_left = left-begun c.learners l l_first;
       moved = ap moved_from none ∙ ap (filter_map (move_of c voters learners)) (ids_from-start (ascending (all_ids voters learners c.incoming c.learners)));
-      word_ids = subst (All (λ change. change.id < 2 ^ 64)) (sym none) (All-nil _);
+      token_ids = subst (All (λ change. change.id < 2 ^ 64)) (sym none) (All-nil _);
     }
 
 -- the four sets at an id that is the first of those that are left
@@ -225,13 +225,13 @@ append_move : (changes rest : List Change) (kind : Option Kind) (id : ℕ)
 append_move changes rest None id = refl
 append_move changes rest (Some kind) id = sym (append_assoc changes ((record { kind = kind; id = id }) ∷ []) rest)
 
-abbrev IsWord : Change → Type 0
-IsWord change = change.id < 2 ^ 64
+abbrev IsToken : Change → Type 0
+IsToken change = change.id < 2 ^ 64
 
-words_with_move : (changes : List Change) (kind : Option Kind) (id : ℕ) → All (λ change. change.id < 2 ^ 64) changes → id < 2 ^ 64
+tokens_with_move : (changes : List Change) (kind : Option Kind) (id : ℕ) → All (λ change. change.id < 2 ^ 64) changes → id < 2 ^ 64
     → All (λ change. change.id < 2 ^ 64) (with_move changes kind id)
-words_with_move changes None id words fits = words
-words_with_move changes (Some kind) id words fits = All-push IsWord changes (record { kind = kind; id = id }) words fits
+tokens_with_move changes None id tokens_in fits = tokens_in
+tokens_with_move changes (Some kind) id tokens_in fits = All-push IsToken changes (record { kind = kind; id = id }) tokens_in fits
 
 pub IsWalked-one_more : (c : Configuration) (voters learners : Ids) (i l v m i' l' v' m' id : ℕ) (changes : List Change) (in_i in_l in_v in_m : Bool)
     → IsWalked c voters learners i l v m changes
@@ -265,7 +265,7 @@ IsWalked-one_more c voters learners i l v m i' l' v' m' id changes in_i in_l in_
           ∙ ap (λ ids. changes ++ filter_map (move_of c voters learners) ids)
           (sym (step_of_all voters learners c.incoming c.learners bound id v' m' i' l' in_v in_m in_i in_l step))
           ∙ walked.moved;
-      word_ids = words_with_move changes (kind_by in_v in_m in_i in_l) id walked.word_ids fits;
+      token_ids = tokens_with_move changes (kind_by in_v in_m in_i in_l) id walked.token_ids fits;
     }
   where
     holds_one : (a b c d : Bool) → (a ≡ true) ⊎ ((b ≡ true) ⊎ ((c ≡ true) ⊎ (d ≡ true))) → ((a || b) || (c || d)) ≡ true

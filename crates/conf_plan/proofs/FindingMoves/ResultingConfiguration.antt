@@ -78,15 +78,15 @@ pub moves-has_wanted : (c : Configuration) (out voters learners : Ids) (flag : B
 moves-has_wanted c out voters learners flag single wanted apart_out =
     let start = with_out c out flag in
     let valid = ValidByMember-from_is_valid c single.settled.valid in
-    let word = λ (q : ℕ). last_effective-moves c voters learners q (kind_of_move-zero c voters learners valid wanted) in
+    let token = λ (q : ℕ). last_effective-moves c voters learners q (kind_of_move-zero c voters learners valid wanted) in
     record {
       incoming = has-same_ids _ _ (λ q.
-          has-incoming_after start (moves c voters learners) q ∙ ap (λ o. is_incoming_after o (has c.incoming q)) (word q)
+          has-incoming_after start (moves c voters learners) q ∙ ap (λ o. is_incoming_after o (has c.incoming q)) (token q)
           ∙ incoming_wanted (has voters q) (has learners q) (has c.incoming q) (has c.learners q) (valid.learner_incoming q));
       learners = λ q.
-          has-learners_after start (moves c voters learners) q ∙ ap (λ o. is_learner_after o (has out q) (has c.learners q)) (word q)
+          has-learners_after start (moves c voters learners) q ∙ ap (λ o. is_learner_after o (has out q) (has c.learners q)) (token q)
           ∙ learners_wanted (has voters q) (has learners q) (has c.incoming q) (has c.learners q) (has out q) (wanted.apart q) (valid.learner_incoming q) (apart_out q);
       next = λ q.
-          has-next_after start (moves c voters learners) q ∙ (λ i. is_next_after (word q i) (has out q) (IsSingle-no_next c single q i))
+          has-next_after start (moves c voters learners) q ∙ (λ i. is_next_after (token q i) (has out q) (IsSingle-no_next c single q i))
           ∙ next_wanted (has voters q) (has learners q) (has c.incoming q) (has c.learners q) (has out q) (wanted.apart q) (apart_out q);
     }

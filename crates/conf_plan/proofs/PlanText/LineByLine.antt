@@ -5,7 +5,7 @@ use Rattle.std.proofs.lemmas.Bool.{lt-ltb, cases_lt}
 use Rattle.std.proofs.lemmas.List.{take_all, drop_all, drop-drop, length-drop}
 use Rattle.std.proofs.lemmas.List.Sums.{fails_before_first}
 use Rattle.std.proofs.lemmas.List.Splits.{length-slice_split, slice_split_none, slice_split_first}
-use Rattle.ascii_text.specs.Words.{has_bytes}
+use Rattle.ascii_text.specs.Tokens.{has_bytes}
 use Rattle.conf_plan.specs.PlanText.{is_newline, without_empty_end, lines_of}
 
 has_bytes-cons : (b : ℕ) (bs : List ℕ) → has_bytes (b ∷ bs) ≡ true

@@ -6,14 +6,14 @@ use Rattle.std.proofs.lemmas.Bool.{ne_eqb, true≢false, and_parts}
 use Rattle.std.proofs.lemmas.Bool.Decides.{nat_tests}
 use Rattle.std.proofs.lemmas.List.{length-append}
 use Rattle.std.proofs.lemmas.Slice.Eq.{bytes_eq-Decides}
-use Rattle.ascii_text.specs.Words.{words}
+use Rattle.ascii_text.specs.Tokens.{tokens_in}
 use Rattle.conf_change.specs.declared.step.Step.{Step}
 use Rattle.conf_plan.specs.PlanText.{lines_of, IsLineOf, IsNothingToDo, ParsesToPlan, HasFault}
 use Rattle.conf_plan.specs.PlanCode.{step_in, and_steps, steps_in, is_nothing, plan_in_lines, plan_in}
 use Rattle.conf_plan.specs.declared.text.PlanTextFault.{PlanTextFault}
 use Rattle.conf_plan.specs.declared.text.PlanTextFault.TheVariants.{BadLine, TooManySteps, NoMemory}
 use Rattle.conf_plan.proofs.PlanText.LineByLine.{lines_of-some}
-use Rattle.conf_plan.proofs.PlanText.StepFromWords.{step_in-some, IsLineOf-from_some, IsLineOf-none, step_in-none}
+use Rattle.conf_plan.proofs.PlanText.StepFromTokens.{step_in-some, IsLineOf-from_some, IsLineOf-none, step_in-none}
 
 -- ---- from the relations to the function
 steps_in-ok : (before : ℕ) (lines : List (List ℕ)) (steps : List Step) → AllZip IsLineOf lines steps → before + length steps ≤ 4 → steps_in before lines ≡ Ok steps
@@ -95,8 +95,8 @@ Tells-step count line lines step (Err NoMemory) is h = absurd h
 
 Tells-steps_in : (count : ℕ) (lines : List (List ℕ)) → count ≤ 4 → Tells count lines (steps_in count lines)
 Tells-steps_in count [] small = (omega arith, tt)
-Tells-steps_in count (line ∷ lines) small = go (eqb count 4) (step_in (words line)) refl refl (Tells-steps_in (count + 1) lines) where
-  go : (full : Bool) (found : Option Step) → eqb count 4 ≡ full → step_in (words line) ≡ found → (count + 1 ≤ 4 → Tells (count + 1) lines (steps_in (count + 1) lines))
+Tells-steps_in count (line ∷ lines) small = go (eqb count 4) (step_in (tokens_in line)) refl refl (Tells-steps_in (count + 1) lines) where
+  go : (full : Bool) (found : Option Step) → eqb count 4 ≡ full → step_in (tokens_in line) ≡ found → (count + 1 ≤ 4 → Tells (count + 1) lines (steps_in (count + 1) lines))
       → Tells count (line ∷ lines) (cond full (Err TooManySteps) (and_steps (count + 1) found (steps_in (count + 1) lines)))
   go true found is_full is_found later = record { before = []; fifth = line; after = lines; steps = []; position = refl; four = grind (arith, nat_tests); stand = tt }
   go false None is_full is_found later = record {
@@ -115,28 +115,28 @@ Tells-steps_in count (line ∷ lines) small = go (eqb count 4) (step_in (words l
       Tells-step count line lines step (steps_in (count + 1) lines) (IsLineOf-from_some line step is_found) (later room)
 
 -- ---- the line that says that there is nothing to do
-nothing_words-from_true : (tokens : List (List ℕ)) → is_nothing tokens ≡ true → tokens ≡ codes "nothing" ∷ codes "to" ∷ codes "do" ∷ []
-nothing_words-from_true [] e = absurd (true≢false (sym e))
-nothing_words-from_true (a ∷ []) e = absurd (true≢false (sym e))
-nothing_words-from_true (a ∷ b ∷ []) e = absurd (true≢false (sym e))
-nothing_words-from_true (a ∷ b ∷ c ∷ []) e =
+nothing_tokens-from_true : (tokens : List (List ℕ)) → is_nothing tokens ≡ true → tokens ≡ codes "nothing" ∷ codes "to" ∷ codes "do" ∷ []
+nothing_tokens-from_true [] e = absurd (true≢false (sym e))
+nothing_tokens-from_true (a ∷ []) e = absurd (true≢false (sym e))
+nothing_tokens-from_true (a ∷ b ∷ []) e = absurd (true≢false (sym e))
+nothing_tokens-from_true (a ∷ b ∷ c ∷ []) e =
     let all = and_parts (bytes_eq a (codes "nothing") && bytes_eq b (codes "to")) (bytes_eq c (codes "do")) e in
     let front = and_parts (bytes_eq a (codes "nothing")) (bytes_eq b (codes "to")) all.0 in
     rw ((bytes_eq-Decides a (codes "nothing")).0 front.0, (bytes_eq-Decides b (codes "to")).0 front.1, (bytes_eq-Decides c (codes "do")).0 all.1) refl
-nothing_words-from_true (a ∷ b ∷ c ∷ d ∷ tokens) e = absurd (true≢false (sym e))
+nothing_tokens-from_true (a ∷ b ∷ c ∷ d ∷ tokens) e = absurd (true≢false (sym e))
 
 plan_in-says_nothing : (text : List ℕ) → IsNothingToDo text → plan_in text ≡ Ok []
-plan_in-says_nothing text h = ap plan_in_lines h.alone ∙ rw h.line_words refl
+plan_in-says_nothing text h = ap plan_in_lines h.alone ∙ rw h.line_tokens refl
 
 alone_same : (a b : List ℕ) → a ∷ [] ≡ b ∷ [] → a ≡ b
 alone_same a b e = cc
 
 -- a line that is all of such a text has its words
-is_nothing_alone : (text line : List ℕ) → lines_of text ≡ line ∷ [] → IsNothingToDo text → is_nothing (words line) ≡ true
-is_nothing_alone text line are h = ap is_nothing (ap words (alone_same line h.line (sym are ∙ h.alone)) ∙ h.line_words)
+is_nothing_alone : (text line : List ℕ) → lines_of text ≡ line ∷ [] → IsNothingToDo text → is_nothing (tokens_in line) ≡ true
+is_nothing_alone text line are h = ap is_nothing (ap tokens_in (alone_same line h.line (sym are ∙ h.alone)) ∙ h.line_tokens)
 
-pub something-other_words : (text line : List ℕ) → lines_of text ≡ line ∷ [] → is_nothing (words line) ≡ false → ¬ (IsNothingToDo text)
-something-other_words text line are says h = true≢false (sym (is_nothing_alone text line are h) ∙ says)
+pub something-other_tokens : (text line : List ℕ) → lines_of text ≡ line ∷ [] → is_nothing (tokens_in line) ≡ false → ¬ (IsNothingToDo text)
+something-other_tokens text line are says h = true≢false (sym (is_nothing_alone text line are h) ∙ says)
 
 pub something-more_lines : (text line rest : List ℕ) → lines_of text ≡ line ∷ lines_of rest → ¬ (IsNothingToDo text)
 something-more_lines text line rest are h = let none = sym (are ∙ ap (λ lines. line ∷ lines) (lines_of-some rest).are) ∙ h.alone in absurd cc
@@ -144,16 +144,16 @@ something-more_lines text line rest are h = let none = sym (are ∙ ap (λ lines
 -- whether it is said, by the lines of the text
 decided : (text : List ℕ) → IsNothingToDo text ⊎ (¬ (IsNothingToDo text) × (plan_in text ≡ steps_in 0 (lines_of text)))
 decided text = go (lines_of text) refl where
-  single : (line : List ℕ) (says : Bool) → lines_of text ≡ line ∷ [] → is_nothing (words line) ≡ says → IsNothingToDo text ⊎ (¬ (IsNothingToDo text) × (plan_in text ≡ steps_in 0 (lines_of text)))
-  single line true are says = inl (record { line = line; alone = are; line_words = nothing_words-from_true (words line) says })
+  single : (line : List ℕ) (says : Bool) → lines_of text ≡ line ∷ [] → is_nothing (tokens_in line) ≡ says → IsNothingToDo text ⊎ (¬ (IsNothingToDo text) × (plan_in text ≡ steps_in 0 (lines_of text)))
+  single line true are says = inl (record { line = line; alone = are; line_tokens = nothing_tokens-from_true (tokens_in line) says })
   single line false are says = inr (
-    something-other_words text line are says,
+    something-other_tokens text line are says,
     ap plan_in_lines are ∙ rw says (sym (ap (steps_in 0) are)),
   )
 
   go : (lines : List (List ℕ)) → lines_of text ≡ lines → IsNothingToDo text ⊎ (¬ (IsNothingToDo text) × (plan_in text ≡ steps_in 0 (lines_of text)))
   go [] are = inr ((λ h. let none = sym are ∙ h.alone in absurd cc), ap plan_in_lines are ∙ sym (ap (steps_in 0) are))
-  go (line ∷ []) are = single line (is_nothing (words line)) are refl
+  go (line ∷ []) are = single line (is_nothing (tokens_in line)) are refl
   go (line ∷ next ∷ lines) are = inr ((λ h. let none = sym are ∙ h.alone in absurd cc), ap plan_in_lines are ∙ sym (ap (steps_in 0) are))
 
 pub plan_in-steps : (text : List ℕ) → ¬ (IsNothingToDo text) → plan_in text ≡ steps_in 0 (lines_of text)
@@ -167,7 +167,7 @@ steps_say_something : (text : List ℕ) (steps : List Step) → AllZip IsLineOf 
 steps_say_something text steps lines h = go steps (rw h.alone at lines) where
   go : (steps : List Step) → AllZip IsLineOf (h.line ∷ []) steps → ⊥
   go [] none = none
-  go (step ∷ steps) is = let some = sym (step_in-some h.line step is.0) ∙ ap step_in h.line_words in cc
+  go (step ∷ steps) is = let some = sym (step_in-some h.line step is.0) ∙ ap step_in h.line_tokens in cc
 
 pub plan_in-ok : (text : List ℕ) (steps : List Step) → ParsesToPlan text steps → plan_in text ≡ Ok steps
 plan_in-ok text steps h = elim h [

@@ -12,7 +12,7 @@ use Rattle.std.proofs.lemmas.List.Sums.{AllPass-from_list_all}
 use Rattle.std.proofs.lemmas.List.Splits.{slice_split_none, slice_split_at}
 use Rattle.std.proofs.lemmas.Str.Parse.{digit_at}
 use Rattle.ascii_text.specs.WhiteSpace.{is_space}
-use Rattle.ascii_text.specs.Words.{words}
+use Rattle.ascii_text.specs.Tokens.{tokens_in}
 use Rattle.conf_change.specs.ChangeList.{letter_of, ParsesTo, Denotes}
 use Rattle.conf_change.specs.declared.change.Change.{Change}
 use Rattle.conf_change.specs.declared.change.Kind.{Kind}
@@ -20,8 +20,8 @@ use Rattle.conf_change.specs.declared.change.Kind.TheVariants.{Voter, Learner, R
 use Rattle.conf_change.specs.declared.step.Step.{Step}
 use Rattle.conf_change.specs.declared.step.Step.TheVariants.{Simple, EnterJoint, LeaveJoint}
 use Rattle.conf_change.specs.Step.{changes_of}
-use Rattle.conf_plan.specs.PlanSteps.{HasWordIds, IsPlan}
-use Rattle.conf_plan.specs.PlanText.{flag_word, command_words, change_text, line_text, line_and_newline, plan_text, is_newline, lines_of, IsLineOf, ParsesToPlan}
+use Rattle.conf_plan.specs.PlanSteps.{HasTokenIds, IsPlan}
+use Rattle.conf_plan.specs.PlanText.{flag_token, command_tokens, change_text, line_text, line_and_newline, plan_text, is_newline, lines_of, IsLineOf, ParsesToPlan}
 use Rattle.conf_plan.specs.PlanCode.{plan_in}
 use Rattle.conf_plan.proofs.PlanText.LineByLine.{lines_of-on, lines_of-alone}
 use Rattle.conf_plan.proofs.PlanText.PlanFromLines.{plan_in-ok}
@@ -32,19 +32,19 @@ abbrev IsBlack : ℕ → Type 0
 IsBlack byte = is_space byte ≡ false
 
 -- a word has a byte and no white space
-record IsWord (word : List ℕ) : Type 0 where
-  some : 0 < length word
-  black : All IsBlack word
+record IsToken (token : List ℕ) : Type 0 where
+  some : 0 < length token
+  black : All IsBlack token
 
 -- the words of words with one space between
-words-join : (word : List ℕ) (more : List (List ℕ)) → All IsWord (word ∷ more) → words (join_with_byte 32 (word ∷ more)) ≡ word ∷ more
-words-join word [] h =
-    let is = All-head IsWord word [] h in
-    rw (slice_split_none is_space word is.black, lt-ltb 0 (length word) is.some) refl
-words-join word (next ∷ more) h =
-    let is = All-head IsWord word (next ∷ more) h in
-    rw (slice_split_at is_space word 32 (join_with_byte 32 (next ∷ more)) is.black refl, lt-ltb 0 (length word) is.some)
-    (ap (λ others. word ∷ others) (words-join next more (All-tail IsWord word (next ∷ more) h)))
+tokens_in-join : (token : List ℕ) (more : List (List ℕ)) → All IsToken (token ∷ more) → tokens_in (join_with_byte 32 (token ∷ more)) ≡ token ∷ more
+tokens_in-join token [] h =
+    let is = All-head IsToken token [] h in
+    rw (slice_split_none is_space token is.black, lt-ltb 0 (length token) is.some) refl
+tokens_in-join token (next ∷ more) h =
+    let is = All-head IsToken token (next ∷ more) h in
+    rw (slice_split_at is_space token 32 (join_with_byte 32 (next ∷ more)) is.black refl, lt-ltb 0 (length token) is.some)
+    (ap (λ others. token ∷ others) (tokens_in-join next more (All-tail IsToken token (next ∷ more) h)))
 
 -- there is no newline among them
 abbrev IsNoNewline : ℕ → Type 0
@@ -53,12 +53,12 @@ IsNoNewline byte = is_newline byte ≡ false
 IsNoNewline-black : (byte : ℕ) → IsBlack byte → IsNoNewline byte
 IsNoNewline-black byte black = grind (arith, nat_tests)
 
-IsNoNewline-join : (all : List (List ℕ)) → All IsWord all → All IsNoNewline (join_with_byte 32 all)
+IsNoNewline-join : (all : List (List ℕ)) → All IsToken all → All IsNoNewline (join_with_byte 32 all)
 IsNoNewline-join [] h = All-nil IsNoNewline
-IsNoNewline-join (word ∷ []) h = All-weaker IsBlack IsNoNewline IsNoNewline-black word (All-head IsWord word [] h).black
-IsNoNewline-join (word ∷ next ∷ more) h =
-    All-append IsNoNewline word (32 ∷ join_with_byte 32 (next ∷ more)) (All-weaker IsBlack IsNoNewline IsNoNewline-black word (All-head IsWord word (next ∷ more) h).black)
-    (All-cons IsNoNewline 32 (join_with_byte 32 (next ∷ more)) refl (IsNoNewline-join (next ∷ more) (All-tail IsWord word (next ∷ more) h)))
+IsNoNewline-join (token ∷ []) h = All-weaker IsBlack IsNoNewline IsNoNewline-black token (All-head IsToken token [] h).black
+IsNoNewline-join (token ∷ next ∷ more) h =
+    All-append IsNoNewline token (32 ∷ join_with_byte 32 (next ∷ more)) (All-weaker IsBlack IsNoNewline IsNoNewline-black token (All-head IsToken token (next ∷ more) h).black)
+    (All-cons IsNoNewline 32 (join_with_byte 32 (next ∷ more)) refl (IsNoNewline-join (next ∷ more) (All-tail IsToken token (next ∷ more) h)))
 
 -- ---- the words of a step
 IsBlack-digit : (byte : ℕ) → 48 ≤ byte → byte ≤ 57 → IsBlack byte
@@ -70,8 +70,8 @@ IsBlack-letter Learner = refl
 IsBlack-letter Remove = refl
 IsBlack-letter Update = refl
 
-IsWord-change : (change : Change) → change.id < 2 ^ 64 → IsWord (change_text change)
-IsWord-change change small =
+IsToken-change : (change : Change) → change.id < 2 ^ 64 → IsToken (change_text change)
+IsToken-change change small =
     let digits = decimal change.id in
     let all : AllDigits 10 digits = (decimal_is_IsNumeral change.id small).0.1 in
     record {
@@ -85,32 +85,32 @@ black_from_not true e = sym e
 black_from_not false e = refl
 
 -- a word that is written out
-IsWord-written : (word : List ℕ) → 0 < length word → list_all (λ byte. not (is_space byte)) word ≡ true → IsWord word
-IsWord-written word some black = record {
+IsToken-written : (token : List ℕ) → 0 < length token → list_all (λ byte. not (is_space byte)) token ≡ true → IsToken token
+IsToken-written token some black = record {
   some = some;
-  black = All-weaker (λ byte. not (is_space byte) ≡ true) IsBlack (λ byte e. black_from_not (is_space byte) e) word (AllPass-from_list_all (λ byte. not (is_space byte)) word black);
+  black = All-weaker (λ byte. not (is_space byte) ≡ true) IsBlack (λ byte e. black_from_not (is_space byte) e) token (AllPass-from_list_all (λ byte. not (is_space byte)) token black);
 }
 
-commands_are_words : (step : Step) → All IsWord (command_words step)
-commands_are_words (Simple changes) = All-cons IsWord (codes "simple") [] (IsWord-written (codes "simple") (omega arith) refl) (All-nil IsWord)
-commands_are_words (EnterJoint true changes) =
-    All-cons IsWord (codes "enter-joint") (flag_word true ∷ []) (IsWord-written (codes "enter-joint") (omega arith) refl)
-    (All-cons IsWord (flag_word true) [] (IsWord-written (flag_word true) (omega arith) refl) (All-nil IsWord))
-commands_are_words (EnterJoint false changes) =
-    All-cons IsWord (codes "enter-joint") (flag_word false ∷ []) (IsWord-written (codes "enter-joint") (omega arith) refl)
-    (All-cons IsWord (flag_word false) [] (IsWord-written (flag_word false) (omega arith) refl) (All-nil IsWord))
-commands_are_words LeaveJoint = All-cons IsWord (codes "leave-joint") [] (IsWord-written (codes "leave-joint") (omega arith) refl) (All-nil IsWord)
+commands_are_tokens : (step : Step) → All IsToken (command_tokens step)
+commands_are_tokens (Simple changes) = All-cons IsToken (codes "simple") [] (IsToken-written (codes "simple") (omega arith) refl) (All-nil IsToken)
+commands_are_tokens (EnterJoint true changes) =
+    All-cons IsToken (codes "enter-joint") (flag_token true ∷ []) (IsToken-written (codes "enter-joint") (omega arith) refl)
+    (All-cons IsToken (flag_token true) [] (IsToken-written (flag_token true) (omega arith) refl) (All-nil IsToken))
+commands_are_tokens (EnterJoint false changes) =
+    All-cons IsToken (codes "enter-joint") (flag_token false ∷ []) (IsToken-written (codes "enter-joint") (omega arith) refl)
+    (All-cons IsToken (flag_token false) [] (IsToken-written (flag_token false) (omega arith) refl) (All-nil IsToken))
+commands_are_tokens LeaveJoint = All-cons IsToken (codes "leave-joint") [] (IsToken-written (codes "leave-joint") (omega arith) refl) (All-nil IsToken)
 
 ParsesTo-printed : (change : Change) → change.id < 2 ^ 64 → ParsesTo (change_text change) change
 ParsesTo-printed change small =
     let printed = decimal_is_IsNumeral change.id small in
     record { number = decimal change.id; letter_first = refl; id_after = record { numeral = printed.0; value = printed.1; in_range = small } }
 
-changes_are_words : (changes : List Change) → All (λ change. change.id < 2 ^ 64) changes → All IsWord (map change_text changes)
-changes_are_words [] h = All-nil IsWord
-changes_are_words (change ∷ changes) h =
-    All-cons IsWord (change_text change) (map change_text changes) (IsWord-change change (All-head (λ c. c.id < 2 ^ 64) change changes h))
-    (changes_are_words changes (All-tail (λ c. c.id < 2 ^ 64) change changes h))
+changes_are_tokens : (changes : List Change) → All (λ change. change.id < 2 ^ 64) changes → All IsToken (map change_text changes)
+changes_are_tokens [] h = All-nil IsToken
+changes_are_tokens (change ∷ changes) h =
+    All-cons IsToken (change_text change) (map change_text changes) (IsToken-change change (All-head (λ c. c.id < 2 ^ 64) change changes h))
+    (changes_are_tokens changes (All-tail (λ c. c.id < 2 ^ 64) change changes h))
 
 parsed-printed : (changes : List Change) → All (λ change. change.id < 2 ^ 64) changes → AllZip ParsesTo (map change_text changes) changes
 parsed-printed [] h = tt
@@ -121,22 +121,22 @@ parsed-printed (change ∷ changes) h =
 pub Denotes-printed : (changes : List Change) → All (λ change. change.id < 2 ^ 64) changes → Denotes (join_with_byte 32 (map change_text changes)) changes
 Denotes-printed [] h = tt
 Denotes-printed (change ∷ changes) h =
-    rw (words-join (change_text change) (map change_text changes) (changes_are_words (change ∷ changes) h)) (parsed-printed (change ∷ changes) h)
+    rw (tokens_in-join (change_text change) (map change_text changes) (changes_are_tokens (change ∷ changes) h)) (parsed-printed (change ∷ changes) h)
 
 -- the words of a line are its command and its changes
-abbrev all_words : Step → List (List ℕ)
-all_words step = command_words step ++ map change_text (changes_of step)
+abbrev all_tokens : Step → List (List ℕ)
+all_tokens step = command_tokens step ++ map change_text (changes_of step)
 
-all_are_words : (step : Step) → HasWordIds step → All IsWord (all_words step)
-all_are_words step h = All-append IsWord (command_words step) (map change_text (changes_of step)) (commands_are_words step) (changes_are_words (changes_of step) h)
+all_are_tokens : (step : Step) → HasTokenIds step → All IsToken (all_tokens step)
+all_are_tokens step h = All-append IsToken (command_tokens step) (map change_text (changes_of step)) (commands_are_tokens step) (changes_are_tokens (changes_of step) h)
 
-words-line_text : (step : Step) → HasWordIds step → words (line_text step) ≡ all_words step
-words-line_text (Simple changes) h = words-join (codes "simple") (map change_text changes) (all_are_words (Simple changes) h)
-words-line_text (EnterJoint auto_leave changes) h = words-join (codes "enter-joint") (flag_word auto_leave ∷ map change_text changes) (all_are_words (EnterJoint auto_leave changes) h)
-words-line_text LeaveJoint h = words-join (codes "leave-joint") [] (all_are_words LeaveJoint h)
+tokens_in-line_text : (step : Step) → HasTokenIds step → tokens_in (line_text step) ≡ all_tokens step
+tokens_in-line_text (Simple changes) h = tokens_in-join (codes "simple") (map change_text changes) (all_are_tokens (Simple changes) h)
+tokens_in-line_text (EnterJoint auto_leave changes) h = tokens_in-join (codes "enter-joint") (flag_token auto_leave ∷ map change_text changes) (all_are_tokens (EnterJoint auto_leave changes) h)
+tokens_in-line_text LeaveJoint h = tokens_in-join (codes "leave-joint") [] (all_are_tokens LeaveJoint h)
 
-IsLineOf-printed : (step : Step) → HasWordIds step → IsLineOf (line_text step) step
-IsLineOf-printed step h = record { tokens = map change_text (changes_of step); line_words = words-line_text step h; parsed = parsed-printed (changes_of step) h }
+IsLineOf-printed : (step : Step) → HasTokenIds step → IsLineOf (line_text step) step
+IsLineOf-printed step h = record { tokens = map change_text (changes_of step); line_tokens = tokens_in-line_text step h; parsed = parsed-printed (changes_of step) h }
 
 -- ---- the lines
 lines_of-end : (line : List ℕ) → All IsNoNewline line → lines_of (line ++ 10 ∷ []) ≡ line ∷ []
@@ -145,27 +145,27 @@ lines_of-end line in_line = lines_of-alone (line ++ 10 ∷ []) line (omega (arit
 lines_of-next : (line rest : List ℕ) → All IsNoNewline line → 0 < length rest → lines_of (line ++ 10 ∷ rest) ≡ line ∷ lines_of rest
 lines_of-next line rest in_line more = lines_of-on (line ++ 10 ∷ rest) line rest (omega (arith, length-append line (10 ∷ rest))) more (slice_split_at is_newline line 10 rest in_line refl)
 
-IsNoNewline-line_text : (step : Step) → HasWordIds step → All IsNoNewline (line_text step)
-IsNoNewline-line_text step h = IsNoNewline-join (all_words step) (all_are_words step h)
+IsNoNewline-line_text : (step : Step) → HasTokenIds step → All IsNoNewline (line_text step)
+IsNoNewline-line_text step h = IsNoNewline-join (all_tokens step) (all_are_tokens step h)
 
-lines_of-printed : (step : Step) (steps : List Step) → All HasWordIds (step ∷ steps) → lines_of (flat_map line_and_newline (step ∷ steps)) ≡ map line_text (step ∷ steps)
+lines_of-printed : (step : Step) (steps : List Step) → All HasTokenIds (step ∷ steps) → lines_of (flat_map line_and_newline (step ∷ steps)) ≡ map line_text (step ∷ steps)
 lines_of-printed step [] h =
-    ap lines_of (append-nil (line_and_newline step)) ∙ lines_of-end (line_text step) (IsNoNewline-line_text step (All-head HasWordIds step [] h))
+    ap lines_of (append-nil (line_and_newline step)) ∙ lines_of-end (line_text step) (IsNoNewline-line_text step (All-head HasTokenIds step [] h))
 lines_of-printed step (next ∷ steps) h =
     let rest = flat_map line_and_newline (next ∷ steps) in
     let more : 0 < length rest = omega (arith, length-append (line_and_newline next) (flat_map line_and_newline steps), length-append (line_text next) (codes "\n")) in
-    ap lines_of (append_assoc (line_text step) (codes "\n") rest) ∙ lines_of-next (line_text step) rest (IsNoNewline-line_text step (All-head HasWordIds step (next ∷ steps) h)) more
-    ∙ ap (λ lines. line_text step ∷ lines) (lines_of-printed next steps (All-tail HasWordIds step (next ∷ steps) h))
+    ap lines_of (append_assoc (line_text step) (codes "\n") rest) ∙ lines_of-next (line_text step) rest (IsNoNewline-line_text step (All-head HasTokenIds step (next ∷ steps) h)) more
+    ∙ ap (λ lines. line_text step ∷ lines) (lines_of-printed next steps (All-tail HasTokenIds step (next ∷ steps) h))
 
-lines-printed : (steps : List Step) → All HasWordIds steps → AllZip IsLineOf (map line_text steps) steps
+lines-printed : (steps : List Step) → All HasTokenIds steps → AllZip IsLineOf (map line_text steps) steps
 lines-printed [] h = tt
-lines-printed (step ∷ steps) h = (IsLineOf-printed step (All-head HasWordIds step steps h), lines-printed steps (All-tail HasWordIds step steps h))
+lines-printed (step ∷ steps) h = (IsLineOf-printed step (All-head HasTokenIds step steps h), lines-printed steps (All-tail HasTokenIds step steps h))
 
 pub ParsesToPlan-printed : (steps : List Step) → IsPlan steps → ParsesToPlan (plan_text steps) steps
-ParsesToPlan-printed [] h = inl (refl, record { line = codes "nothing to do"; alone = refl; line_words = refl })
+ParsesToPlan-printed [] h = inl (refl, record { line = codes "nothing to do"; alone = refl; line_tokens = refl })
 ParsesToPlan-printed (step ∷ steps) h = inr (record {
   at_most_four = h.at_most_four;
-  lines = rw (lines_of-printed step steps h.word_ids) (lines-printed (step ∷ steps) h.word_ids);
+  lines = rw (lines_of-printed step steps h.token_ids) (lines-printed (step ∷ steps) h.token_ids);
 })
 
 pub plan_in-printed : (steps : List Step) → IsPlan steps → plan_in (plan_text steps) ≡ Ok steps

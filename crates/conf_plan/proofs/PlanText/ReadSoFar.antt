@@ -3,15 +3,15 @@ use Rattle.std.proofs.Common.{◌≡◌, ◌≢◌, ℕ, ◌+◌, List, [], ◌�
 use Rattle.std.proofs.lemmas.Bool.{ne_eqb}
 use Rattle.std.proofs.lemmas.List.{append_assoc, length-append}
 use Rattle.std.proofs.lemmas.List.Elements.{All-nil, All-push}
-use Rattle.ascii_text.specs.Words.{words}
+use Rattle.ascii_text.specs.Tokens.{tokens_in}
 use Rattle.conf_change.specs.declared.step.Step.{Step}
-use Rattle.conf_plan.specs.PlanSteps.{HasWordIds, IsPlan}
+use Rattle.conf_plan.specs.PlanSteps.{HasTokenIds, IsPlan}
 use Rattle.conf_plan.specs.PlanText.{lines_of, IsNothingToDo}
 use Rattle.conf_plan.specs.PlanCode.{step_in, and_steps, steps_in, plan_in}
 use Rattle.conf_plan.specs.declared.text.PlanTextFault.{PlanTextFault}
 use Rattle.conf_plan.specs.declared.text.PlanTextFault.TheVariants.{TooManySteps}
 use Rattle.conf_plan.proofs.PlanText.LineByLine.{lines_of-some}
-use Rattle.conf_plan.proofs.PlanText.StepFromWords.{IsLineOf-from_some, HasWordIds-from_line}
+use Rattle.conf_plan.proofs.PlanText.StepFromTokens.{IsLineOf-from_some, HasTokenIds-from_line}
 use Rattle.conf_plan.proofs.PlanText.PlanFromLines.{plan_in-steps}
 
 -- steps that were read, before what the rest stands for
@@ -25,7 +25,7 @@ pub record IsReadSoFar (text rest : List ℕ) (steps : List Step) : Type 0 where
   pub plan : IsPlan steps
 
 IsPlan-empty : IsPlan []
-IsPlan-empty = record { at_most_four = omega arith; word_ids = All-nil HasWordIds }
+IsPlan-empty = record { at_most_four = omega arith; token_ids = All-nil HasTokenIds }
 
 onto-none : (answer : Result (List Step) PlanTextFault) → answer ≡ onto [] answer
 onto-none (Ok steps) = refl
@@ -38,23 +38,23 @@ onto-more : (done : List Step) (number : ℕ) (step : Step) (rest : Result (List
 onto-more done number step (Ok steps) = ap (λ all. Ok all) (sym (append_assoc done (step ∷ []) steps))
 onto-more done number step (Err fault) = refl
 
-next_step : (count : ℕ) (line : List ℕ) (lines : List (List ℕ)) (step : Step) → count ≢ 4 → step_in (words line) ≡ Some step → steps_in count (line ∷ lines) ≡ and_steps (count + 1) (Some step) (steps_in (count + 1) lines)
+next_step : (count : ℕ) (line : List ℕ) (lines : List (List ℕ)) (step : Step) → count ≢ 4 → step_in (tokens_in line) ≡ Some step → steps_in count (line ∷ lines) ≡ and_steps (count + 1) (Some step) (steps_in (count + 1) lines)
 next_step count line lines step not_four is = rw (ne_eqb count 4 not_four, is) refl
 
 -- with the step of the next line
-with_step : (text rest line : List ℕ) (lines : List (List ℕ)) (steps : List Step) (step : Step) → IsReadSoFar text rest steps → length steps ≢ 4 → lines_of rest ≡ line ∷ lines → step_in (words line) ≡ Some step
+with_step : (text rest line : List ℕ) (lines : List (List ℕ)) (steps : List Step) (step : Step) → IsReadSoFar text rest steps → length steps ≢ 4 → lines_of rest ≡ line ∷ lines → step_in (tokens_in line) ≡ Some step
     → plan_in text ≡ onto (steps ++ step ∷ []) (steps_in (length steps + 1) lines)
 with_step text rest line lines steps step h not_four are is =
     h.decides ∙ ap (λ ls. onto steps (steps_in (length steps) ls)) are ∙ ap (onto steps) (next_step (length steps) line lines step not_four is)
     ∙ onto-more steps (length steps + 1) step (steps_in (length steps + 1) lines)
 
-pub IsPlan-push : (steps : List Step) (step : Step) (line : List ℕ) → IsPlan steps → length steps ≢ 4 → step_in (words line) ≡ Some step → IsPlan (steps ++ step ∷ [])
+pub IsPlan-push : (steps : List Step) (step : Step) (line : List ℕ) → IsPlan steps → length steps ≢ 4 → step_in (tokens_in line) ≡ Some step → IsPlan (steps ++ step ∷ [])
 IsPlan-push steps step line h not_four is = record {
   at_most_four = omega (arith, h.at_most_four, not_four, length-append steps (step ∷ []));
-  word_ids = All-push HasWordIds steps step h.word_ids (HasWordIds-from_line line step (IsLineOf-from_some line step is));
+  token_ids = All-push HasTokenIds steps step h.token_ids (HasTokenIds-from_line line step (IsLineOf-from_some line step is));
 }
 
-pub IsReadSoFar-more : (text rest line behind : List ℕ) (steps : List Step) (step : Step) → IsReadSoFar text rest steps → length steps ≢ 4 → lines_of rest ≡ line ∷ lines_of behind → step_in (words line) ≡ Some step
+pub IsReadSoFar-more : (text rest line behind : List ℕ) (steps : List Step) (step : Step) → IsReadSoFar text rest steps → length steps ≢ 4 → lines_of rest ≡ line ∷ lines_of behind → step_in (tokens_in line) ≡ Some step
     → IsReadSoFar text behind (steps ++ step ∷ [])
 IsReadSoFar-more text rest line behind steps step h not_four are is = record {
   decides = with_step text rest line (lines_of behind) steps step h not_four are is ∙ ap (λ n. onto (steps ++ step ∷ []) (steps_in n (lines_of behind))) (sym (length-append steps (step ∷ [])));

@@ -21,11 +21,11 @@ use Rattle.conf_plan.specs.Best.{times_named, is_any_learner, HasSamePart}
 use Rattle.conf_plan.proofs.FindingMoves.OfEachId.{last_effective-cons}
 
 -- ---- a step decides by its last word alone, whether the id goes out or not
-record PartAfter (before after : Configuration) (word : Option Kind) (id : ℕ) : Type 0 where
-  voter : has after.incoming id ≡ is_incoming_after word (has before.incoming id)
-  learner : is_any_learner after id ≡ is_learner_after word false (is_any_learner before id)
+record PartAfter (before after : Configuration) (token : Option Kind) (id : ℕ) : Type 0 where
+  voter : has after.incoming id ≡ is_incoming_after token (has before.incoming id)
+  learner : is_any_learner after id ≡ is_learner_after token false (is_any_learner before id)
 
-learns_or_waits : (word : Option Kind) (out learns waits : Bool) → (is_learner_after word out learns || is_next_after word out waits) ≡ is_learner_after word false (learns || waits)
+learns_or_waits : (token : Option Kind) (out learns waits : Bool) → (is_learner_after token out learns || is_next_after token out waits) ≡ is_learner_after token false (learns || waits)
 learns_or_waits None out learns waits = refl
 learns_or_waits (Some Voter) out learns waits = refl
 learns_or_waits (Some Learner) true learns waits = refl
@@ -61,19 +61,19 @@ not_counted : (b : Bool) → ◌≡◌ {A = ℕ} (cond b 1 0) 0 → b ≡ false
 not_counted true e = absurd (omega arith)
 not_counted false e = refl
 
-no_word : (q : ℕ) (xs : List Change) → count_by (names q) xs ≡ 0 → last_effective xs q ≡ None
-no_word q [] none = refl
-no_word q (x ∷ xs) none =
+no_token : (q : ℕ) (xs : List Change) → count_by (names q) xs ≡ 0 → last_effective xs q ≡ None
+no_token q [] none = refl
+no_token q (x ∷ xs) none =
     let both : cond (names q x) 1 0 + count_by (names q) xs ≡ 0 = sym (sum_by-cons (λ y. cond (names q y) 1 0) x xs) ∙ none in
-    last_effective-cons x xs q ∙ (λ i. option_or (no_word q xs (omega arith) i) (cond (not_counted (names q x) (omega arith) i) (Some x.kind) None))
+    last_effective-cons x xs q ∙ (λ i. option_or (no_token q xs (omega arith) i) (cond (not_counted (names q x) (omega arith) i) (Some x.kind) None))
 
 outcome-same_part : (c after : Configuration) (step : Step) (q : ℕ) → outcome c step ≡ Ok after → count_by (names q) (changes_of step) ≡ 0 → HasSamePart c after q
 outcome-same_part c after step q e none =
     let part = outcome-part c after step q e in
-    let silent = no_word q (changes_of step) none in
+    let silent = no_token q (changes_of step) none in
     record {
-      voter = part.voter ∙ ap (λ word. is_incoming_after word (has c.incoming q)) silent;
-      learner = part.learner ∙ ap (λ word. is_learner_after word false (is_any_learner c q)) silent;
+      voter = part.voter ∙ ap (λ token. is_incoming_after token (has c.incoming q)) silent;
+      learner = part.learner ∙ ap (λ token. is_learner_after token false (is_any_learner c q)) silent;
     }
 
 pub run-same_part : (before after : Configuration) (steps : List Step) (q : ℕ) → IsRun before steps after → times_named q steps ≡ 0 → HasSamePart before after q

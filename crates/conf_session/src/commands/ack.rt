@@ -23,8 +23,8 @@ pub(super) fn run(
 {
     match changer.ack_answer(id, index) {
         Ok(progress) => {
-            let found = member_line(alloc, id, progress)?;
-            Ok(Reply::new(found, Effect::Acknowledged(id, index)))
+            let actual = member_line(alloc, id, progress)?;
+            Ok(Reply::new(actual, Effect::Acknowledged(id, index)))
         }
         Err(AckFault::NotMember) => Ok(Reply::of_text(line_of(alloc, b"not a member", b"")?)),
         Err(AckFault::IndexTooLarge) => {

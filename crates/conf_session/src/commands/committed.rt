@@ -17,7 +17,7 @@ pub(super) fn commit_index(
     alloc: Global,
     tracker: &Tracker<SessionIds>,
 ) -> Result<Vec<u8>, NoMemory>
-    ensures { IfOk result (λ found. found.items ≡ line (index_text (committed_by tracker.now))) }
+    ensures { IfOk result (λ actual. actual.items ≡ line (index_text (committed_by tracker.now))) }
 {
     let config = tracker.config();
     let index = joint_committed(alloc, &config.incoming, &config.outgoing, tracker)?;
@@ -26,7 +26,7 @@ pub(super) fn commit_index(
 
 /// The chart and the committed index of the quorum that the arguments name.
 pub(super) fn committed(alloc: Global, values: &Values) -> Result<Vec<u8>, NoMemory>
-    ensures { IfOk result (λ found. found.items ≡ line (committed_reply values.now)) }
+    ensures { IfOk result (λ actual. actual.items ≡ line (committed_reply values.now)) }
 {
     let incoming = values.incoming.as_slice();
     let outgoing = values.outgoing.as_slice();

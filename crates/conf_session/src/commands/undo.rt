@@ -52,8 +52,8 @@ fn take_steps(
     *next = session.changer().try_clone()?;
     match apply_plan(next, plan) {
         Ok(()) => {
-            let found = undone_text(alloc, plan, next.tracker())?;
-            Ok(Reply::new(found, Effect::Undone(count)))
+            let actual = undone_text(alloc, plan, next.tracker())?;
+            Ok(Reply::new(actual, Effect::Undone(count)))
         }
         // Each step of a plan is accepted, so nothing else can be refused.
         Err(_) => Err(NoMemory),

@@ -11,7 +11,7 @@ use std::alloc::Global;
 
 /// The result of the vote of the quorum that the arguments name.
 pub(super) fn vote(alloc: Global, values: &Values) -> Result<Vec<u8>, NoMemory>
-    ensures { IfOk result (λ found. found.items ≡ line (vote_reply values.now)) }
+    ensures { IfOk result (λ actual. actual.items ≡ line (vote_reply values.now)) }
 {
     let incoming = values.incoming.as_slice();
     let outgoing = values.outgoing.as_slice();

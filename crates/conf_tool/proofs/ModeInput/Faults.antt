@@ -2,8 +2,8 @@
 use Rattle.std.proofs.Common.{◌≡◌, ℕ, Bool, true, false, ◌||◌, List, refl, sym, ◌∙◌, ap, subst, inl, inr}
 use Rattle.std.specs.Prelude.{Option, Err}
 use Rattle.dd_file.specs.Device.{AppendsPart}
-use Rattle.dd_file.specs.Answer.{IsCutShort}
-use Rattle.dd_file.specs.Reading.{Script as ScriptOf}
+use Rattle.dd_file.specs.Answer.{IsInterrupted}
+use Rattle.dd_file.specs.Grammar.{Script as ScriptOf}
 use Rattle.dd_file.specs.Answer as reader
 use Rattle.dd_file.specs.declared.fault.FileFault.{FileFault}
 use Rattle.dd_file.specs.declared.fault.FileFault.TheVariants.{Read, NoMemory, InputTooLong, BadDirective, AfterDouble, UnclosedDouble}
@@ -15,50 +15,50 @@ use Rattle.conf_tool.specs.declared.tool_fault.ToolFault.{ToolFault}
 use Rattle.conf_tool.specs.declared.tool_fault.ToolFault.TheVariants.{Script, Configurations, Read as CannotRead, Write as CannotWrite, NoMemory as OutOfMemory}
 
 -- a fault of the reader as one of the run: of the input ..
-pub record IsOfInput (fault told : FileFault) : Type 0 where
-  pub same : fault ≡ told
+pub record IsOfInput (fault converted : FileFault) : Type 0 where
+  pub same : fault ≡ converted
   pub not_read : fault ≡ Read → ⊥
   pub not_memory : fault ≡ NoMemory → ⊥
 
-pub input-fault : (fault told : FileFault) → Script told ≡ as_tool_fault fault → IsOfInput fault told
-input-fault Read told is = let bad : ⊥ = cc in absurd bad
-input-fault NoMemory told is = let bad : ⊥ = cc in absurd bad
-input-fault (InputTooLong line) told is = record { same = cc; not_read = λ e. cc; not_memory = λ e. cc }
-input-fault (BadDirective line) told is = record { same = cc; not_read = λ e. cc; not_memory = λ e. cc }
-input-fault (AfterDouble line) told is = record { same = cc; not_read = λ e. cc; not_memory = λ e. cc }
-input-fault (UnclosedDouble line) told is = record { same = cc; not_read = λ e. cc; not_memory = λ e. cc }
+pub input-fault : (fault converted : FileFault) → Script converted ≡ as_tool_fault fault → IsOfInput fault converted
+input-fault Read converted is = let bad : ⊥ = cc in absurd bad
+input-fault NoMemory converted is = let bad : ⊥ = cc in absurd bad
+input-fault (InputTooLong line) converted is = record { same = cc; not_read = λ e. cc; not_memory = λ e. cc }
+input-fault (BadDirective line) converted is = record { same = cc; not_read = λ e. cc; not_memory = λ e. cc }
+input-fault (AfterDouble line) converted is = record { same = cc; not_read = λ e. cc; not_memory = λ e. cc }
+input-fault (UnclosedDouble line) converted is = record { same = cc; not_read = λ e. cc; not_memory = λ e. cc }
 
-pub input-uncut : {X : Type 0} (fault told : FileFault) → IsOfInput fault told → IsCutShort {X = X} (Err fault) → ⊥
-input-uncut fault told is (inl e) = is.not_read cc
-input-uncut fault told is (inr e) = is.not_memory cc
+pub input-uncut : {X : Type 0} (fault converted : FileFault) → IsOfInput fault converted → IsInterrupted {X = X} (Err fault) → ⊥
+input-uncut fault converted is (inl e) = is.not_read cc
+input-uncut fault converted is (inr e) = is.not_memory cc
 
 -- .. or one that cuts the run short
 pub data IsOfReader : FileFault → ToolFault → Type 0 where
   CutByRead : IsOfReader Read CannotRead
   CutByMemory : IsOfReader NoMemory OutOfMemory
 
-pub reader-fault : (fault : FileFault) (told : ToolFault) → told ≡ as_tool_fault fault → ((f : FileFault) → told ≡ Script f → ⊥) → IsOfReader fault told
-reader-fault Read told is other = subst (IsOfReader Read) (sym is) CutByRead
-reader-fault NoMemory told is other = subst (IsOfReader NoMemory) (sym is) CutByMemory
-reader-fault (InputTooLong line) told is other = absurd (other (InputTooLong line) is)
-reader-fault (BadDirective line) told is other = absurd (other (BadDirective line) is)
-reader-fault (AfterDouble line) told is other = absurd (other (AfterDouble line) is)
-reader-fault (UnclosedDouble line) told is other = absurd (other (UnclosedDouble line) is)
+pub reader-fault : (fault : FileFault) (converted : ToolFault) → converted ≡ as_tool_fault fault → ((f : FileFault) → converted ≡ Script f → ⊥) → IsOfReader fault converted
+reader-fault Read converted is other = subst (IsOfReader Read) (sym is) CutByRead
+reader-fault NoMemory converted is other = subst (IsOfReader NoMemory) (sym is) CutByMemory
+reader-fault (InputTooLong line) converted is other = absurd (other (InputTooLong line) is)
+reader-fault (BadDirective line) converted is other = absurd (other (BadDirective line) is)
+reader-fault (AfterDouble line) converted is other = absurd (other (AfterDouble line) is)
+reader-fault (UnclosedDouble line) converted is other = absurd (other (UnclosedDouble line) is)
 
-pub reader-means : (fault : FileFault) (told : ToolFault) → IsOfReader fault told → (output : Output) (before after : Option (List ℕ)) → AppendsPart before after output.text → Means output (Err told) before after
-reader-means fault told CutByRead output before after part = part
-reader-means fault told CutByMemory output before after part = part
+pub reader-means : (fault : FileFault) (converted : ToolFault) → IsOfReader fault converted → (output : Output) (before after : Option (List ℕ)) → AppendsPart before after output.text → Means output (Err converted) before after
+reader-means fault converted CutByRead output before after part = part
+reader-means fault converted CutByMemory output before after part = part
 
-pub reader-read : (fault : FileFault) (told : ToolFault) → IsOfReader fault told → is_read_failure {X = Status} (Err told) ≡ reader.is_read_fault {X = Status} (Err fault)
-reader-read fault told CutByRead = refl
-reader-read fault told CutByMemory = refl
+pub reader-read : (fault : FileFault) (converted : ToolFault) → IsOfReader fault converted → is_read_failure {X = Status} (Err converted) ≡ reader.is_read_fault {X = Status} (Err fault)
+reader-read fault converted CutByRead = refl
+reader-read fault converted CutByMemory = refl
 
-pub reader-unwritten : (fault : FileFault) (told : ToolFault) → IsOfReader fault told → is_write_failure {X = Status} (Err told) ≡ false
-reader-unwritten fault told CutByRead = refl
-reader-unwritten fault told CutByMemory = refl
+pub reader-unwritten : (fault : FileFault) (converted : ToolFault) → IsOfReader fault converted → is_write_failure {X = Status} (Err converted) ≡ false
+reader-unwritten fault converted CutByRead = refl
+reader-unwritten fault converted CutByMemory = refl
 
 -- a fault of what answers an input
-pub answer-means : (told : ToolFault) → IsAnswerFault told → (output : Output) (before after : Option (List ℕ)) → AppendsPart before after output.text → Means output (Err told) before after
+pub answer-means : (converted : ToolFault) → IsAnswerFault converted → (output : Output) (before after : Option (List ℕ)) → AppendsPart before after output.text → Means output (Err converted) before after
 answer-means (Script f) is output before after part = absurd is
 answer-means (Configurations f) is output before after part = absurd is
 answer-means CannotRead is output before after part = absurd is
@@ -80,5 +80,5 @@ or-false true = refl
 or-false false = refl
 
 -- a call that fails so, after none did
-pub or-fault : (start now later fault told : Bool) → later ≡ (now || fault) → told ≡ fault → now ≡ start → later ≡ (start || told)
-or-fault start now later fault told is same before = is ∙ ap (λ f. now || f) (sym same) ∙ ap (λ m. m || told) before
+pub or-fault : (start now later fault converted : Bool) → later ≡ (now || fault) → converted ≡ fault → now ≡ start → later ≡ (start || converted)
+or-fault start now later fault converted is same before = is ∙ ap (λ f. now || f) (sym same) ∙ ap (λ m. m || converted) before

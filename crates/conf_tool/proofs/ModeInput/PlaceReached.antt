@@ -5,9 +5,9 @@ use Rattle.std.specs.Io.KnownBytes.{IsAtEnd}
 use Rattle.std.proofs.lemmas.List.{append_assoc, append-nil, append_cancel_right}
 use Rattle.dd_file.specs.Device.{LosesPrefix}
 use Rattle.dd_file.specs.Position.{Position, start}
-use Rattle.dd_file.specs.Reading.{Next, Script, script_from, followed}
+use Rattle.dd_file.specs.Grammar.{Next, Script, script_from, followed}
 use Rattle.dd_file.specs.ReaderState.{ReaderState, fresh}
-use Rattle.dd_file.specs.Answer.{Agrees, ReadsOn, IsCutShort, next_in_answer}
+use Rattle.dd_file.specs.Answer.{Agrees, ReadsOn, IsInterrupted, next_in_answer}
 use Rattle.dd_file.specs.declared.fault.FileFault.{FileFault}
 use Rattle.dd_file.proofs.Offered.{consumes-append, agrees-in_turn}
 use Rattle.conf_tool.specs.Answered.{script, prepended}
@@ -52,19 +52,19 @@ reached-begin next begin state is_fresh = record {
 -- an input by what a call of the reader answers
 pub reached-answer : {A R X : Type 0} (next : Position → List ℕ → Next A) (remaining : R → Option (List ℕ)) (has_failed : R → Bool) (view : X → A) (IsFault : Position → FileFault → Type 0)
     (begin : Option (List ℕ)) (state after : ReaderState) (now later : R) (parts : List A) (result : Result (Option X) FileFault) →
-    InTurn next → Reached next begin (remaining now) state parts → ReadsOn remaining has_failed view next IsFault state after now later result → (IsCutShort result → ⊥) →
+    InTurn next → Reached next begin (remaining now) state parts → ReadsOn remaining has_failed view next IsFault state after now later result → (IsInterrupted result → ⊥) →
     (input more : List ℕ) → Agrees fresh begin (remaining later) input more → script_from next start input ≡ prepended parts (followed (script_from next) (next_in_answer view after more result))
 reached-answer next remaining has_failed view IsFault begin state after now later parts result in_turn reached reads uncut input more agrees =
     let turn = agrees-in_turn fresh state begin (remaining now) (remaining later) input more reached.taken reads.moves.taken (λ yes. inr (reached.ended yes)) agrees in
-    let told = whole (reads.answers reached.open_end (state.buffered ++ turn.suffix) more turn.second) in
+    let converted = whole (reads.answers reached.open_end (state.buffered ++ turn.suffix) more turn.second) in
     reached.read input turn.suffix turn.first
-    ∙ ap (prepended parts) (in_turn state.position (state.buffered ++ turn.suffix) ∙ ap (followed (script_from next)) told) where
-      whole : {P : Type 0} → IsCutShort result ⊎ P → P
+    ∙ ap (prepended parts) (in_turn state.position (state.buffered ++ turn.suffix) ∙ ap (followed (script_from next)) converted) where
+      whole : {P : Type 0} → IsInterrupted result ⊎ P → P
       whole (inl cut) = absurd (uncut cut)
       whole (inr is) = is
 
 -- an answer is not cut short
-pub ok-uncut : {X : Type 0} (found : X) → IsCutShort (Ok found) → ⊥
+pub ok-uncut : {X : Type 0} (found : X) → IsInterrupted (Ok found) → ⊥
 ok-uncut found (inl e) = cc
 ok-uncut found (inr e) = cc
 
@@ -80,7 +80,7 @@ reached-end next remaining has_failed view IsFault begin state after now later p
 -- .. and a fault of it
 pub reached-fault : {A R X : Type 0} (next : Position → List ℕ → Next A) (remaining : R → Option (List ℕ)) (has_failed : R → Bool) (view : X → A) (IsFault : Position → FileFault → Type 0)
     (begin : Option (List ℕ)) (state after : ReaderState) (now later : R) (parts : List A) (fault : FileFault) →
-    InTurn next → Reached next begin (remaining now) state parts → ReadsOn remaining has_failed view next IsFault state after now later (Err fault) → (IsCutShort {X = Option X} (Err fault) → ⊥) →
+    InTurn next → Reached next begin (remaining now) state parts → ReadsOn remaining has_failed view next IsFault state after now later (Err fault) → (IsInterrupted {X = Option X} (Err fault) → ⊥) →
     (input more : List ℕ) → Agrees fresh begin (remaining later) input more → script_from next start input ≡ script parts (Some fault)
 reached-fault next remaining has_failed view IsFault begin state after now later parts fault in_turn reached reads uncut input more agrees =
     reached-answer next remaining has_failed view IsFault begin state after now later parts (Err fault) in_turn reached reads uncut input more agrees
@@ -123,12 +123,12 @@ reached-next next remaining has_failed view IsFault begin state after now later 
 }
 
 -- some script that has these parts in front, which is what an input is that agrees with what was read
-pub record HasFront {A : Type 0} (parts : List A) (read : Script A) : Type 0 where
+pub record HasPrefix {A : Type 0} (parts : List A) (read : Script A) : Type 0 where
   pub rest : Script A
   pub is : read ≡ prepended parts rest
 
-pub reached-front : {A : Type 0} (next : Position → List ℕ → Next A) (begin now later : Option (List ℕ)) (state : ReaderState) (parts : List A) → Reached next begin now state parts → LosesPrefix now later →
-    (input more : List ℕ) → Agrees fresh begin later input more → HasFront parts (script_from next start input)
-reached-front next begin now later state parts reached lost input more agrees =
+pub reached-prefix : {A : Type 0} (next : Position → List ℕ → Next A) (begin now later : Option (List ℕ)) (state : ReaderState) (parts : List A) → Reached next begin now state parts → LosesPrefix now later →
+    (input more : List ℕ) → Agrees fresh begin later input more → HasPrefix parts (script_from next start input)
+reached-prefix next begin now later state parts reached lost input more agrees =
     let turn = agrees-in_turn fresh state begin now later input more reached.taken lost (λ yes. inr (reached.ended yes)) agrees in
     record { rest = script_from next state.position (state.buffered ++ turn.suffix); is = reached.read input turn.suffix turn.first }

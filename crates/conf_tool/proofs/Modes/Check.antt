@@ -6,15 +6,15 @@ use Rattle.std.specs.Io.KnownBytes.{Appends}
 use Rattle.std.proofs.lemmas.List.{append_assoc}
 use Rattle.std.proofs.lemmas.List.Sums.{sum_by-cons}
 use Rattle.dd_file.specs.Device.{AppendsPart}
-use Rattle.dd_file.specs.Reading.{Script}
+use Rattle.dd_file.specs.Grammar.{Script}
 use Rattle.dd_file.specs.Rewritten.{Entry, entry, is_directive}
 use Rattle.dd_file.specs.declared.item.Item.{Item}
 use Rattle.dd_file.specs.declared.fault.FileFault.{FileFault}
 use Rattle.conf_change.specs.declared.floor.Floor.{Floor}
 use Rattle.conf_session.specs.SessionState.{SessionState, new_session}
-use Rattle.conf_tool.specs.Reports.{found_for, session_after, answered_entries, differs, report, counts_line}
+use Rattle.conf_tool.specs.Reports.{actual_for, session_after, answered_entries, differs, report, counts_line}
 use Rattle.conf_tool.specs.Outputs.{Output, check_status, checked_entries, checked_script}
-use Rattle.conf_tool.specs.Answered.{script, prepended, with_front, rest_checked, check_left, HasChecked}
+use Rattle.conf_tool.specs.Answered.{script, prepended, with_prefix, rest_checked, check_left, HasChecked}
 use Rattle.conf_tool.specs.Run.{Wrote}
 use Rattle.conf_tool.proofs.ModeOutput.FirstParts.{appends-nothing, wrote-part, wrote-broken, wrote-end, wrote-end_part}
 use Rattle.conf_tool.proofs.ModeInput.Faults.{or-false}
@@ -30,7 +30,7 @@ positive mismatches false d = let same : mismatches + 0 ≡ mismatches = omega a
 -- an entry in front
 rest-first : (directives mismatches : ℕ) (e : Entry) (entries : List Entry) (fault : Option FileFault) →
     rest_checked directives mismatches (e ∷ entries) fault
-    ≡ with_front (report e) (rest_checked (directives + cond (is_directive e.item) 1 0) (mismatches + cond (differs e) 1 0) entries fault)
+    ≡ with_prefix (report e) (rest_checked (directives + cond (is_directive e.item) 1 0) (mismatches + cond (differs e) 1 0) entries fault)
 rest-first directives mismatches e entries (Some fault) = refl
 rest-first directives mismatches e entries None =
     let n : ℕ = cond (is_directive e.item) 1 0 in
@@ -53,7 +53,7 @@ same-left : (s t : SessionState) (d e m n : ℕ) (rest : Script Item) → s ≡ 
 same-left s t d e m n rest st de mn = ap (λ x. check_left x d m rest) st ∙ ap (λ x. check_left t x m rest) de ∙ ap (λ x. check_left t e x rest) mn
 
 -- the start: no item was answered yet
-checked-rest : (entries : List Entry) (fault : Option FileFault) → checked_entries entries fault ≡ with_front [] (rest_checked 0 0 entries fault)
+checked-rest : (entries : List Entry) (fault : Option FileFault) → checked_entries entries fault ≡ with_prefix [] (rest_checked 0 0 entries fault)
 checked-rest entries None =
     let n = count_by (λ (entry : Entry). is_directive entry.item) entries in
     let m = count_by differs entries in
@@ -62,43 +62,43 @@ checked-rest entries None =
     λ i. record { text = flat_map report entries ++ counts_line (n_same i) (m_same i); outcome = Ok (check_status (list_any differs entries)) }
 checked-rest entries (Some fault) = refl
 
-pub checked-nothing : (history : ℕ) (floor : Floor) (session : SessionState) (directives mismatches : ℕ) (held : Option (List ℕ)) → session ≡ new_session history floor → directives ≡ 0 → mismatches ≡ 0 →
-    HasChecked session directives mismatches (checked_script history floor) [] held held
-checked-nothing history floor session directives mismatches held is_new no_directive no_mismatch = record {
-  front = record {
+pub checked-nothing : (history : ℕ) (floor : Floor) (session : SessionState) (directives mismatches : ℕ) (buffered : Option (List ℕ)) → session ≡ new_session history floor → directives ≡ 0 → mismatches ≡ 0 →
+    HasChecked session directives mismatches (checked_script history floor) [] buffered buffered
+checked-nothing history floor session directives mismatches buffered is_new no_directive no_mismatch = record {
+  prefix = record {
     text = [];
-    wrote = appends-nothing held;
+    wrote = appends-nothing buffered;
     is = λ rest. checked-rest (answered_entries (new_session history floor) rest.items) rest.fault
-        ∙ ap (with_front []) (sym (same-left session (new_session history floor) directives 0 mismatches 0 rest is_new no_directive no_mismatch));
+        ∙ ap (with_prefix []) (sym (same-left session (new_session history floor) directives 0 mismatches 0 rest is_new no_directive no_mismatch));
   };
   few = omega (arith, no_directive);
 }
 
 -- what an item leaves
-check-item : (s t : SessionState) (d e m n : ℕ) (item : Item) → t ≡ session_after s item → e ≡ d + cond (is_directive item) 1 0 → n ≡ m + cond (differs (entry item (found_for s item))) 1 0 →
-    (rest : Script Item) → check_left s d m (prepended (item ∷ []) rest) ≡ with_front (report (entry item (found_for s item))) (check_left t e n rest)
+check-item : (s t : SessionState) (d e m n : ℕ) (item : Item) → t ≡ session_after s item → e ≡ d + cond (is_directive item) 1 0 → n ≡ m + cond (differs (entry item (actual_for s item))) 1 0 →
+    (rest : Script Item) → check_left s d m (prepended (item ∷ []) rest) ≡ with_prefix (report (entry item (actual_for s item))) (check_left t e n rest)
 check-item s t d e m n item session directives mismatches rest =
-    rest-first d m (entry item (found_for s item)) (answered_entries (session_after s item) rest.items) rest.fault
-    ∙ ap (with_front (report (entry item (found_for s item)))) (sym (same-left t _ e _ n _ rest session directives mismatches))
+    rest-first d m (entry item (actual_for s item)) (answered_entries (session_after s item) rest.items) rest.fault
+    ∙ ap (with_prefix (report (entry item (actual_for s item)))) (sym (same-left t _ e _ n _ rest session directives mismatches))
 
 few-more : (directives more count after : ℕ) (c : Bool) → directives ≤ count → after ≡ count + 1 → more ≡ directives + cond c 1 0 → more ≤ after
 few-more directives more count after true few forward is = omega (arith, few, forward, is)
 few-more directives more count after false few forward is = omega (arith, few, forward, is)
 
 pub checked-part : (s t : SessionState) (d e m n : ℕ) (item : Item) (total : Script Item → Output) (parts : List Item) (bytes : List ℕ) (before mid new : Option (List ℕ)) →
-    HasChecked s d m total parts before mid → t ≡ session_after s item → e ≡ d + cond (is_directive item) 1 0 → n ≡ m + cond (differs (entry item (found_for s item))) 1 0 →
-    bytes ≡ report (entry item (found_for s item)) → Appends mid new bytes → HasChecked t e n total (parts ++ item ∷ []) before new
+    HasChecked s d m total parts before mid → t ≡ session_after s item → e ≡ d + cond (is_directive item) 1 0 → n ≡ m + cond (differs (entry item (actual_for s item))) 1 0 →
+    bytes ≡ report (entry item (actual_for s item)) → Appends mid new bytes → HasChecked t e n total (parts ++ item ∷ []) before new
 checked-part s t d e m n item total parts bytes before mid new checked session directives mismatches same appends = record {
-  front = wrote-part total (check_left s d m) (check_left t e n) parts item (report (entry item (found_for s item))) bytes before mid new checked.front
+  prefix = wrote-part total (check_left s d m) (check_left t e n) parts item (report (entry item (actual_for s item))) bytes before mid new checked.prefix
       (check-item s t d e m n item session directives mismatches) same appends;
   few = few-more d e (length parts) (length (parts ++ item ∷ [])) (is_directive item) checked.few (length-append parts (item ∷ [])) directives;
 }
 
 pub checked-broken : (s : SessionState) (d m : ℕ) (item : Item) (total : Script Item → Output) (parts more : List Item) (fault : Option FileFault) (bytes : List ℕ) (before mid new : Option (List ℕ)) →
-    HasChecked s d m total parts before mid → bytes ≡ report (entry item (found_for s item)) → AppendsPart mid new bytes →
+    HasChecked s d m total parts before mid → bytes ≡ report (entry item (actual_for s item)) → AppendsPart mid new bytes →
     AppendsPart before new (total (script (parts ++ item ∷ more) fault)).text
 checked-broken s d m item total parts more fault bytes before mid new checked same cut =
-    wrote-broken total (check_left s d m) _ parts item (report (entry item (found_for s item))) bytes before mid new checked.front
+    wrote-broken total (check_left s d m) _ parts item (report (entry item (actual_for s item))) bytes before mid new checked.prefix
     (check-item s _ d _ m _ item refl refl refl) same cut more fault
 
 -- the end of the input
@@ -115,12 +115,12 @@ pub checked-end : (session : SessionState) (directives mismatches : ℕ) (total 
     HasChecked session directives mismatches total parts before mid → bytes ≡ counts_line directives mismatches → Appends mid new bytes →
     Wrote (total (script parts None)) (Ok (check_status (nat_lt 0 mismatches))) before new
 checked-end session directives mismatches total parts bytes before mid new checked same appends =
-    wrote-end total (check_left session directives mismatches) parts None (counts_line directives mismatches) bytes (Ok (check_status (nat_lt 0 mismatches))) before mid new checked.front
+    wrote-end total (check_left session directives mismatches) parts None (counts_line directives mismatches) bytes (Ok (check_status (nat_lt 0 mismatches))) before mid new checked.prefix
     (check-over session directives mismatches) same appends
 
 pub checked-end_part : (session : SessionState) (directives mismatches : ℕ) (total : Script Item → Output) (parts : List Item) (bytes : List ℕ) (before mid new : Option (List ℕ)) →
     HasChecked session directives mismatches total parts before mid → bytes ≡ counts_line directives mismatches → AppendsPart mid new bytes →
     AppendsPart before new (total (script parts None)).text
 checked-end_part session directives mismatches total parts bytes before mid new checked same cut =
-    wrote-end_part total (check_left session directives mismatches) parts None (counts_line directives mismatches) bytes (Ok (check_status (nat_lt 0 mismatches))) before mid new checked.front
+    wrote-end_part total (check_left session directives mismatches) parts None (counts_line directives mismatches) bytes (Ok (check_status (nat_lt 0 mismatches))) before mid new checked.prefix
     (check-over session directives mismatches) same cut

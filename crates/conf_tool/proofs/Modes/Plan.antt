@@ -3,10 +3,10 @@ use Rattle.std.proofs.Common.{◌≡◌, ℕ, ◌+◌, ◌<◌, ◌≤◌, true,
 use Rattle.std.specs.Prelude.{Option, Some, None, Result, Ok, Err, IfSome, OnOk, OnErr, is_some, nat_lt}
 use Rattle.std.specs.Io.KnownBytes.{Appends}
 use Rattle.dd_file.specs.Device.{AppendsPart}
-use Rattle.dd_file.specs.Reading.{Script}
+use Rattle.dd_file.specs.Grammar.{Script}
 use Rattle.dd_file.specs.declared.fault.FileFault.{FileFault}
 use Rattle.conf_change.specs.Configuration.{Configuration, is_valid}
-use Rattle.conf_tool.specs.Answered.{script, prepended, with_front, HasPlanned, pairs_within, pairs_left, with_status, plan_left}
+use Rattle.conf_tool.specs.Answered.{script, prepended, with_prefix, HasPlanned, pairs_within, pairs_left, with_status, plan_left}
 use Rattle.conf_tool.specs.Outputs.{Output, ends, pair_text, worse_of, pair_then, ends_within, planned_pairs, planned_script}
 use Rattle.conf_tool.specs.Pairs.{NumberedLine, numbered, is_passed_over, configuration_lines, configuration_at, both_of, IsFaultOf}
 use Rattle.conf_tool.specs.Run.{Wrote, IsStop}
@@ -67,14 +67,14 @@ configuration_lines-kept line lines kept = simp kept refl
 
 -- ---- what a line leaves
 pub plan_left-passed : (options : PlanOptions) (count number : ℕ) (now : Option Configuration) (status : Status) (line : List ℕ) → is_passed_over line ≡ true → (rest : Script (List ℕ)) →
-    plan_left options count number now status (prepended (line ∷ []) rest) ≡ with_front [] (plan_left options (count + 1) number now status rest)
+    plan_left options count number now status (prepended (line ∷ []) rest) ≡ with_prefix [] (plan_left options (count + 1) number now status rest)
 plan_left-passed options count number now status line passed rest =
     ap (λ lines. with_status status (pairs_left options number now lines rest.fault)) (configuration_lines-passed (record { number = count + 1; text = line }) (numbered (count + 1 + 1) rest.items) passed)
 
 pairs-first : (options : PlanOptions) (number : ℕ) (line : NumberedLine) (first : Result Configuration ConfigurationsFault) (lines : List NumberedLine) (fault : Option FileFault) → configuration_at line ≡ first →
     planned_pairs options number (line ∷ lines) fault ≡ pairs_within options number first lines fault
-pairs-first options number line first [] fault is = ap (λ found. ends_within found fault) is
-pairs-first options number line first (second ∷ lines) fault is = ap (λ found. pair_then options number (both_of found (configuration_at second)) (planned_pairs options (number + 1) lines fault)) is
+pairs-first options number line first [] fault is = ap (λ actual. ends_within actual fault) is
+pairs-first options number line first (second ∷ lines) fault is = ap (λ actual. pair_then options number (both_of actual (configuration_at second)) (planned_pairs options (number + 1) lines fault)) is
 
 pairs_within-bad : (options : PlanOptions) (number : ℕ) (bad : ConfigurationsFault) (lines : List NumberedLine) (fault : Option FileFault) → pairs_within options number (Err bad) lines fault ≡ ends (Err (Configurations bad))
 pairs_within-bad options number bad [] fault = refl
@@ -83,7 +83,7 @@ pairs_within-bad options number bad (second ∷ lines) fault = refl
 -- the first line of a pair
 pub plan_left-first : (options : PlanOptions) (count number : ℕ) (status : Status) (line : List ℕ) (first : Configuration) →
     is_passed_over line ≡ false → configuration_at (record { number = count + 1; text = line }) ≡ Ok first → (rest : Script (List ℕ)) →
-    plan_left options count number None status (prepended (line ∷ []) rest) ≡ with_front [] (plan_left options (count + 1) number (Some first) status rest)
+    plan_left options count number None status (prepended (line ∷ []) rest) ≡ with_prefix [] (plan_left options (count + 1) number (Some first) status rest)
 plan_left-first options count number status line first kept is rest =
     let at : NumberedLine = record { number = count + 1; text = line } in
     let lines = numbered (count + 1 + 1) rest.items in
@@ -93,13 +93,13 @@ plan_left-first options count number status line first kept is rest =
 -- .. and the second
 pub plan_left-second : (options : PlanOptions) (count number : ℕ) (now target : Configuration) (status after : Status) (line : List ℕ) →
     is_passed_over line ≡ false → configuration_at (record { number = count + 1; text = line }) ≡ Ok target → ◌≡◌ {A = Result Status ToolFault} (Ok after) (worse_of status (Ok (plan_status options now target))) → (rest : Script (List ℕ)) →
-    plan_left options count number (Some now) status (prepended (line ∷ []) rest) ≡ with_front (pair_text options number now target) (plan_left options (count + 1) (number + 1) None after rest)
+    plan_left options count number (Some now) status (prepended (line ∷ []) rest) ≡ with_prefix (pair_text options number now target) (plan_left options (count + 1) (number + 1) None after rest)
 plan_left-second options count number now target status after line kept is worse rest =
     let at : NumberedLine = record { number = count + 1; text = line } in
     let lines = numbered (count + 1 + 1) rest.items in
     let left = planned_pairs options (number + 1) (configuration_lines lines) rest.fault in
     ap (λ ls. with_status status (pairs_within options number (Ok now) ls rest.fault)) (configuration_lines-kept at lines kept)
-    ∙ ap (λ found. with_status status (pair_then options number (both_of (Ok now) found) left)) is
+    ∙ ap (λ actual. with_status status (pair_then options number (both_of (Ok now) actual) left)) is
     ∙ ap (λ outcome. record { text = pair_text options number now target ++ left.text; outcome = outcome }) (worse_of-twice status (plan_status options now target) after left.outcome worse)
 
 -- a line that names no configuration ends the output
@@ -116,7 +116,7 @@ plan_left-bad options count number (Some now) status line bad kept is rest =
     let lines = numbered (count + 1 + 1) rest.items in
     let left = planned_pairs options (number + 1) (configuration_lines lines) rest.fault in
     ap (λ ls. with_status status (pairs_within options number (Ok now) ls rest.fault)) (configuration_lines-kept at lines kept)
-    ∙ ap (λ found. with_status status (pair_then options number (both_of (Ok now) found) left)) is
+    ∙ ap (λ actual. with_status status (pair_then options number (both_of (Ok now) actual) left)) is
 
 -- the end of the input
 pub plan_left-fault : (options : PlanOptions) (count number : ℕ) (now : Option Configuration) (status : Status) (fault : FileFault) →
@@ -140,11 +140,11 @@ plan_left-ended options count number None status none some = let one : nat_lt 1 
 plan_left-ended options count number (Some now) status none some = cc
 
 -- ---- what was answered after a line
-pub planned-begin : (options : PlanOptions) (held : Option (List ℕ)) → HasPlanned options 0 1 None Clean (planned_script options) [] held held
-planned-begin options held = record {
-  front = record {
+pub planned-begin : (options : PlanOptions) (buffered : Option (List ℕ)) → HasPlanned options 0 1 None Clean (planned_script options) [] buffered buffered
+planned-begin options buffered = record {
+  prefix = record {
     text = [];
-    wrote = appends-nothing held;
+    wrote = appends-nothing buffered;
     is = λ rest. ap (λ o. record { text = (planned_script options rest).text; outcome = o }) (sym (worse_of-begin (planned_script options rest).outcome));
   };
   counted = refl;
@@ -155,11 +155,11 @@ planned-begin options held = record {
 planned-part : (options : PlanOptions) (count count_after number number_after : ℕ) (now now_after : Option Configuration) (status status_after : Status) (line text bytes : List ℕ)
     (total : Script (List ℕ) → Output) (parts : List (List ℕ)) (before mid new : Option (List ℕ)) →
     HasPlanned options count number now status total parts before mid →
-    ((rest : Script (List ℕ)) → plan_left options count number now status (prepended (line ∷ []) rest) ≡ with_front text (plan_left options count_after number_after now_after status_after rest)) →
+    ((rest : Script (List ℕ)) → plan_left options count number now status (prepended (line ∷ []) rest) ≡ with_prefix text (plan_left options count_after number_after now_after status_after rest)) →
     count_after ≡ count + 1 → number_after ≤ number + 1 → IfSome now_after (λ c. is_valid c ≡ true) → bytes ≡ text → Appends mid new bytes →
     HasPlanned options count_after number_after now_after status_after total (parts ++ line ∷ []) before new
 planned-part options count count_after number number_after now now_after status status_after line text bytes total parts before mid new planned gives next few valid same appends = record {
-  front = wrote-part total (plan_left options count number now status) (plan_left options count_after number_after now_after status_after) parts line text bytes before mid new planned.front gives same appends;
+  prefix = wrote-part total (plan_left options count number now status) (plan_left options count_after number_after now_after status_after) parts line text bytes before mid new planned.prefix gives same appends;
   counted = omega (arith, length-append parts (line ∷ []), planned.counted, next);
   few = omega (arith, length-append parts (line ∷ []), planned.few, few);
   valid = valid;
@@ -200,7 +200,7 @@ pub planned-broken : (options : PlanOptions) (count number : ℕ) (now : Option 
     HasPlanned options count number now status total parts before mid → AppendsPart before new (total (script (parts ++ line ∷ more) fault)).text
 planned-broken options count number now status line first second total parts more fault before mid new there kept is cut planned =
     wrote-broken total (plan_left options count number (Some first) status) (plan_left options (count + 1) (number + 1) None (worse status (plan_status options first second))) parts line
-    (pair_text options number first second) (pair_text options number first second) before mid new (subst (λ n. HasPlanned options count number n status total parts before mid) there planned).front
+    (pair_text options number first second) (pair_text options number first second) before mid new (subst (λ n. HasPlanned options count number n status total parts before mid) there planned).prefix
     (plan_left-second options count number first second status (worse status (plan_status options first second)) line kept is (worse-is status (plan_status options first second))) refl cut more fault
 
 -- a line that names no configuration stops the run
@@ -217,7 +217,7 @@ planned-stop options count number now status line stop mid kept (inr bad) =
     subst (λ s. IsStop OfPlan s (Whole s)) (sym bad.1) (
       tt,
       λ total parts more fault before planned.
-          wrote-all total (plan_left options count number now status) parts line (Err (Configurations bad.0)) before mid planned.front (plan_left-bad options count number now status line bad.0 kept bad.2) more fault,
+          wrote-all total (plan_left options count number now status) parts line (Err (Configurations bad.0)) before mid planned.prefix (plan_left-bad options count number now status line bad.0 kept bad.2) more fault,
     )
   where
     Whole : ToolFault → Type 0

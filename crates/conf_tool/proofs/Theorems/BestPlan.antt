@@ -2,7 +2,7 @@
 use Rattle.std.proofs.Common.{◌≡◌, ℕ, true, [], ◌++◌, refl, ◌∙◌, ap}
 use Rattle.std.specs.Prelude.{None, Ok}
 use Rattle.std.proofs.lemmas.List.{append-nil}
-use Rattle.dd_file.specs.Reading.{listing_of}
+use Rattle.dd_file.specs.Grammar.{listing_of}
 use Rattle.conf_change.specs.Configuration.{Configuration, has_voter}
 use Rattle.conf_plan.specs.Best.{IsBest}
 use Rattle.conf_plan.specs.PathBy.{has_path, path_by}

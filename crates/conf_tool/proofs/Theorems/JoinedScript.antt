@@ -6,10 +6,10 @@ use Rattle.std.proofs.lemmas.List.{length-append}
 use Rattle.ascii_text.specs.Lines.{newline, lines_of}
 use Rattle.dd_file.specs.DirectiveText.{DirectiveText}
 use Rattle.dd_file.specs.Position.{longest_input}
-use Rattle.dd_file.specs.Reading.{script_of}
+use Rattle.dd_file.specs.Grammar.{script_of}
 use Rattle.dd_file.specs.Rewritten.{Entry, rewritten_text}
 use Rattle.dd_file.specs.Script.{is_separator}
-use Rattle.dd_file.specs.Laws.{is_line, IsGiven, AreGiven, AreReadAgain, DirectiveIsGiven, WrittenScript, ends_in_long_blank, item_has_keys, IsComplete, moved, directives_of, moved_fault, JoinedItems}
+use Rattle.dd_file.specs.Laws.{is_line, IsWellFormed, AreWellFormed, AreReadAgain, DirectiveIsWellFormed, WrittenScript, ends_in_long_blank, item_has_keys, IsComplete, moved, directives_of, moved_fault, JoinedItems}
 use Rattle.dd_file.specs.declared.item.Item.{Item}
 use Rattle.dd_file.specs.declared.item.Item.TheVariants.{Comment, Blank, Directive}
 use Rattle.dd_file.specs.declared.fault.FileFault.{FileFault}
@@ -33,20 +33,20 @@ use Rattle.conf_tool.specs.declared.status.Status.{Status}
 use Rattle.conf_tool.specs.declared.tool_fault.ToolFault.{ToolFault}
 use Rattle.conf_tool.specs.declared.status.Status.TheVariants.{Clean}
 use Rattle.conf_session.specs.declared.undo_fault.UndoFault.{UndoFault}
-use Rattle.conf_session.proofs.Offered.{and-first, and-second, and-both, reply_line-bytes, undo_fault-in_lines, spaced-words, changes-words}
-use Rattle.conf_tool.proofs.Theorems.RewrittenScript.{FoundStands, found-outputs, items-of, clean-items}
+use Rattle.conf_session.proofs.Offered.{and-first, and-second, and-both, reply_line-bytes, undo_fault-in_lines, spaced-tokens_in, changes-tokens_in}
+use Rattle.conf_tool.proofs.Theorems.RewrittenScript.{ActualIsValid, actual-outputs, items-of, clean-items}
 
 -- ---- whether a script is clean is told by its directives
 -- one of the directives in turn differs
 abbrev any_differs : SessionState → List DirectiveText → Bool
 any_differs session [] = false
-any_differs session (directive ∷ directives) = not (bytes_eq (answer session directive).found directive.expected) || any_differs (answer session directive).session directives
+any_differs session (directive ∷ directives) = not (bytes_eq (answer session directive).actual directive.expected) || any_differs (answer session directive).session directives
 
 differs-by : (session : SessionState) (items : List Item) → list_any differs (answered_entries session items) ≡ any_differs session (directives_of items)
 differs-by session [] = refl
 differs-by session (Comment lines ∷ items) = differs-by session items
 differs-by session (Blank lines ∷ items) = differs-by session items
-differs-by session (Directive directive ∷ items) = ap (λ more. not (bytes_eq (answer session directive).found directive.expected) || more) (differs-by (answer session directive).session items)
+differs-by session (Directive directive ∷ items) = ap (λ more. not (bytes_eq (answer session directive).actual directive.expected) || more) (differs-by (answer session directive).session items)
 
 pub left-by : (session : SessionState) (items : List Item) → session_after_all session items ≡ after_answers session (directives_of items)
 left-by session [] = refl
@@ -58,7 +58,7 @@ left-by session (Directive directive ∷ items) = left-by (answer session direct
 differs-moved : (lines : ℕ) (session : SessionState) (directives : List DirectiveText) → any_differs session (map (moved lines) directives) ≡ any_differs session directives
 differs-moved lines session [] = refl
 differs-moved lines session (directive ∷ directives) =
-    ap (λ more. not (bytes_eq (answer session directive).found directive.expected) || more) (differs-moved lines (answer session directive).session directives)
+    ap (λ more. not (bytes_eq (answer session directive).actual directive.expected) || more) (differs-moved lines (answer session directive).session directives)
 
 or-assoc : (a b c : Bool) → (a || (b || c)) ≡ ((a || b) || c)
 or-assoc true b c = refl
@@ -67,7 +67,7 @@ or-assoc false b c = refl
 differs-append : (session : SessionState) (xs ys : List DirectiveText) → any_differs session (xs ++ ys) ≡ (any_differs session xs || any_differs (after_answers session xs) ys)
 differs-append session [] ys = refl
 differs-append session (x ∷ xs) ys =
-    let this = not (bytes_eq (answer session x).found x.expected) in
+    let this = not (bytes_eq (answer session x).actual x.expected) in
     let after = (answer session x).session in
     ap (λ more. this || more) (differs-append after xs ys) ∙ or-assoc this (any_differs after xs) (any_differs (after_answers after xs) ys)
 
@@ -92,7 +92,7 @@ bytes-line : (text : List ℕ) → list_all is_line_byte text ≡ true → is_li
 bytes-line [] h = refl
 bytes-line (b ∷ text) h = and-both _ _ (and-first _ _ (and-first _ _ h)) (bytes-line text (and-second _ _ h))
 
-comment-given : (text : List ℕ) → list_all is_line_byte text ≡ true → IsGiven (comment text)
+comment-given : (text : List ℕ) → list_all is_line_byte text ≡ true → IsWellFormed (comment text)
 comment-given text h = record {
   number = 1;
   lines = (codes "# " ++ text) ∷ [];
@@ -116,9 +116,9 @@ lines-apart (change ∷ next ∷ changes) = ap (λ b. b || false) (letter-apart 
 
 lines-whole : (changes : List Change) → list_all is_line (change_lines changes) ≡ true
 lines-whole [] = refl
-lines-whole (change ∷ changes) = and-both _ _ (bytes-line (join_with_byte 32 (map change_text (change ∷ changes))) (spaced-words (map change_text (change ∷ changes)) (changes-words (change ∷ changes)))) refl
+lines-whole (change ∷ changes) = and-both _ _ (bytes-line (join_with_byte 32 (map change_text (change ∷ changes))) (spaced-tokens_in (map change_text (change ∷ changes)) (changes-tokens_in (change ∷ changes)))) refl
 
-step-given : DirectiveIsGiven → (step : Step) → IsGiven (step_directive step)
+step-given : DirectiveIsWellFormed → (step : Step) → IsWellFormed (step_directive step)
 step-given given (Simple changes) = given 1 (codes "simple") (change_lines changes) (step_command (Simple changes)) refl refl refl refl (lines-apart changes) (lines-whole changes)
 step-given given (EnterJoint true changes) =
     given 1 (codes "enter-joint autoleave=true") (change_lines changes) (step_command (EnterJoint true changes)) refl refl refl refl (lines-apart changes) (lines-whole changes)
@@ -126,11 +126,11 @@ step-given given (EnterJoint false changes) =
     given 1 (codes "enter-joint autoleave=false") (change_lines changes) (step_command (EnterJoint false changes)) refl refl refl refl (lines-apart changes) (lines-whole changes)
 step-given given LeaveJoint = given 1 (codes "leave-joint") [] (step_command LeaveJoint) refl refl refl refl refl refl
 
-steps-given : DirectiveIsGiven → (steps : List Step) → AreGiven (map step_directive steps)
+steps-given : DirectiveIsWellFormed → (steps : List Step) → AreWellFormed (map step_directive steps)
 steps-given given [] = tt
 steps-given given (step ∷ steps) = (step-given given step, steps-given given steps)
 
-undo-given : DirectiveIsGiven → (plan : Result (List Step) UndoFault) → AreGiven (undo_items plan)
+undo-given : DirectiveIsWellFormed → (plan : Result (List Step) UndoFault) → AreWellFormed (undo_items plan)
 undo-given given (Ok []) = (comment-given (codes "nothing to do") refl, tt)
 undo-given given (Ok (step ∷ steps)) = steps-given given (step ∷ steps)
 undo-given given (Err fault) = (comment-given (undo_fault_text fault) (reply_line-bytes (undo_fault_text fault) (undo_fault-in_lines fault)), tt)
@@ -161,7 +161,7 @@ undo-short (Ok (step ∷ steps)) = steps-short (step ∷ steps)
 undo-short (Err fault) = refl
 
 -- ---- so what undoes changes is read again, and is clean
-pub undo-read : WrittenScript → DirectiveIsGiven → FoundStands → (session : SessionState) (plan : Result (List Step) UndoFault) →
+pub undo-read : WrittenScript → DirectiveIsWellFormed → ActualIsValid → (session : SessionState) (plan : Result (List Step) UndoFault) →
     let entries = answered_entries session (undo_items plan) in
     length (rewritten_text entries) ≤ longest_input →
     let again = script_of (rewritten_text entries) in (again.fault ≡ None) × AreReadAgain entries again.items
@@ -169,9 +169,9 @@ undo-read written given stands session plan fits =
     let items = undo_items plan in
     let entries = answered_entries session items in
     let same = items-of session items in
-    written entries (subst AreGiven (sym same) (undo-given given plan)) (found-outputs stands session items (undo-keys plan)) (ap ends_in_long_blank same ∙ undo-short plan) fits
+    written entries (subst AreWellFormed (sym same) (undo-given given plan)) (actual-outputs stands session items (undo-keys plan)) (ap ends_in_long_blank same ∙ undo-short plan) fits
 
-undo-clean : WrittenScript → DirectiveIsGiven → FoundStands → (session : SessionState) (plan : Result (List Step) UndoFault) →
+undo-clean : WrittenScript → DirectiveIsWellFormed → ActualIsValid → (session : SessionState) (plan : Result (List Step) UndoFault) →
     let again = script_of (rewritten_text (answered_entries session (undo_items plan))) in
     length (rewritten_text (answered_entries session (undo_items plan))) ≤ longest_input → IsCleanScript (answered_entries session again.items) again.fault
 undo-clean written given stands session plan fits =
@@ -180,7 +180,7 @@ undo-clean written given stands session plan fits =
     let read = undo-read written given stands session plan fits in
     record { same = clean-items session items entries (script_of (rewritten_text entries)).items refl read.1; whole = read.0 }
 
-joined-text : WrittenScript → DirectiveIsGiven → JoinedItems → FoundStands → (script : List ℕ) (history : ℕ) (floor : Floor) (count : ℕ) →
+joined-text : WrittenScript → DirectiveIsWellFormed → JoinedItems → ActualIsValid → (script : List ℕ) (history : ℕ) (floor : Floor) (count : ℕ) →
     let session = session_after_all (new_session history floor) (script_of script).items in
     let text = rewritten_text (answered_entries session (undo_items (undo_plan_of session count))) in
     IsComplete 1 (lines_of script) → IsCleanScript (answered_entries (new_session history floor) (script_of script).items) (script_of script).fault →
@@ -191,21 +191,21 @@ joined-text written given joined_items stands script history floor count complet
     let session = session_after_all begin items in
     let plan = undo_plan_of session count in
     let text = rewritten_text (answered_entries session (undo_items plan)) in
-    let front = script ++ newline ++ newline in
-    let before = length (lines_of front) in
+    let prefix = script ++ newline ++ newline in
+    let before = length (lines_of prefix) in
     let again = (script_of text).items in
-    let sum = length-append front text in
+    let sum = length-append prefix text in
     let read = undo-clean written given stands session plan (omega (arith, sum, fits)) in
     let joined = joined_items script text complete fits in
-    let none : list_any differs (answered_entries begin (script_of (front ++ text)).items) ≡ false =
-    differs-by begin (script_of (front ++ text)).items ∙ ap (any_differs begin) joined.0 ∙ differs-append begin (directives_of items) (map (moved before) (directives_of again))
+    let none : list_any differs (answered_entries begin (script_of (prefix ++ text)).items) ≡ false =
+    differs-by begin (script_of (prefix ++ text)).items ∙ ap (any_differs begin) joined.0 ∙ differs-append begin (directives_of items) (map (moved before) (directives_of again))
     ∙ ap (λ b. b || any_differs (after_answers begin (directives_of items)) (map (moved before) (directives_of again))) (sym (differs-by begin items) ∙ clean.same)
     ∙ differs-moved before (after_answers begin (directives_of items)) (directives_of again)
     ∙ ap (λ s. any_differs s (directives_of again)) (sym (left-by begin items)) ∙ sym (differs-by session again) ∙ read.same in
-    ap (λ fault. (checked_entries (answered_entries begin (script_of (front ++ text)).items) fault).outcome) (joined.1 ∙ ap (option_map (moved_fault before)) read.whole)
+    ap (λ fault. (checked_entries (answered_entries begin (script_of (prefix ++ text)).items) fault).outcome) (joined.1 ∙ ap (option_map (moved_fault before)) read.whole)
     ∙ ap (λ b. Ok (check_status b)) none
 
-pub joined-clean : WrittenScript → DirectiveIsGiven → JoinedItems → FoundStands → JoinedClean
+pub joined-clean : WrittenScript → DirectiveIsWellFormed → JoinedItems → ActualIsValid → JoinedClean
 joined-clean written given joined_items stands script history floor count complete clean fits =
     let session = session_after_all (new_session history floor) (script_of script).items in
     let is_clean = clean-script (answered_entries (new_session history floor) (script_of script).items) (script_of script).fault clean in

@@ -3,7 +3,7 @@ use Rattle.std.proofs.Common.{◌≡◌, ℕ, ◌+◌, ◌≤◌, Bool, true, fa
 use Rattle.std.specs.Prelude.{Option, Some, None, Result, Ok, Err, nat_lt, if◌then◌else◌}
 use Rattle.std.specs.List.{AllZip}
 use Rattle.std.proofs.lemmas.List.{append_assoc, append-nil}
-use Rattle.dd_file.specs.Reading.{listing_of}
+use Rattle.dd_file.specs.Grammar.{listing_of}
 use Rattle.dd_file.specs.declared.fault.FileFault.{FileFault}
 use Rattle.conf_change.specs.Configuration.{Configuration, is_valid}
 use Rattle.conf_change.specs.ConfState.{ConfStateLists}
@@ -24,11 +24,11 @@ abbrev pub Pair : Type 0
 Pair = Configuration × Configuration
 
 -- ---- what lines name is valid
-named-valid : (number : ℕ) (line : List ℕ) (found : Result Configuration ConfigurationFault) (c : Configuration) → configuration_in line ≡ found → ◌≡◌ {A = Found} (at_line number found) (Ok c) → is_valid c ≡ true
+named-valid : (number : ℕ) (line : List ℕ) (read : Result Configuration ConfigurationFault) (c : Configuration) → configuration_in line ≡ read → ◌≡◌ {A = Found} (at_line number read) (Ok c) → is_valid c ≡ true
 named-valid number line (Ok d) c is e = let same : d ≡ c = cc in is_valid-from_configuration_in line c (is ∙ ap Ok same)
 named-valid number line (Err fault) c is e = cc
 
-saved-valid : (number : ℕ) (saved : ConfStateLists) (found : Result Configuration ConfigurationFault) (c : Configuration) → valid_of saved ≡ found → ◌≡◌ {A = Found} (at_line number found) (Ok c) → is_valid c ≡ true
+saved-valid : (number : ℕ) (saved : ConfStateLists) (read : Result Configuration ConfigurationFault) (c : Configuration) → valid_of saved ≡ read → ◌≡◌ {A = Found} (at_line number read) (Ok c) → is_valid c ≡ true
 saved-valid number saved (Ok d) c is e = let same : d ≡ c = cc in is_valid-from_valid_of saved c (is ∙ ap Ok same)
 saved-valid number saved (Err fault) c is e = cc
 
@@ -62,9 +62,9 @@ each-named R options holds number [] = tt
 each-named R options holds number (line ∷ []) = tt
 each-named R options holds number (first ∷ second ∷ lines) = by_pair (both_of (configuration_at first) (configuration_at second)) refl (each-named R options holds (number + 1) lines)
   where
-    by_pair : (found : Result Pair ConfigurationsFault) → both_of (configuration_at first) (configuration_at second) ≡ found →
+    by_pair : (read : Result Pair ConfigurationsFault) → both_of (configuration_at first) (configuration_at second) ≡ read →
         AllZip R (named_pairs lines) (texts_from options (number + 1) (named_pairs lines)) →
-        AllZip R (pair_before found (named_pairs lines)) (texts_from options number (pair_before found (named_pairs lines)))
+        AllZip R (pair_before read (named_pairs lines)) (texts_from options number (pair_before read (named_pairs lines)))
     by_pair (Err bad) is rest = tt
     by_pair (Ok pair) is rest = (holds number pair (both-valid first second (configuration_at first) (configuration_at second) pair refl refl is), rest)
 
@@ -74,11 +74,11 @@ abbrev behind : List ℕ → ℕ → List (List ℕ) → List ℕ
 behind part number [] = []
 behind part number (text ∷ texts) = (if nat_lt 1 number then part else []) ++ parted_by part (text ∷ texts)
 
-then-behind : (part front text : List ℕ) (number : ℕ) (texts : List (List ℕ)) → 1 ≤ number → (front ++ text) ++ behind part (number + 1) texts ≡ front ++ parted_by part (text ∷ texts)
-then-behind part front text number [] some = append-nil (front ++ text)
-then-behind part front text number (next ∷ texts) some =
+then-behind : (part prefix text : List ℕ) (number : ℕ) (texts : List (List ℕ)) → 1 ≤ number → (prefix ++ text) ++ behind part (number + 1) texts ≡ prefix ++ parted_by part (text ∷ texts)
+then-behind part prefix text number [] some = append-nil (prefix ++ text)
+then-behind part prefix text number (next ∷ texts) some =
     let second : nat_lt 1 (number + 1) ≡ true = lt-ltb 1 (number + 1) (omega (arith, some)) in
-    ap (λ b. (front ++ text) ++ (cond b part [] ++ parted_by part (next ∷ texts))) second ∙ append_assoc front text (part ++ parted_by part (next ∷ texts))
+    ap (λ b. (prefix ++ text) ++ (cond b part [] ++ parted_by part (next ∷ texts))) second ∙ append_assoc prefix text (part ++ parted_by part (next ∷ texts))
 
 half-text : (first : Found) (fault : Option FileFault) → (ends_within first fault).text ≡ []
 half-text (Err bad) fault = refl
@@ -92,9 +92,9 @@ pairs-text options number [] (Some fault) some = refl
 pairs-text options number (line ∷ []) fault some = half-text (configuration_at line) fault
 pairs-text options number (first ∷ second ∷ lines) fault some = by_pair (both_of (configuration_at first) (configuration_at second)) (pairs-text options (number + 1) lines fault (omega (arith, some)))
   where
-    by_pair : (found : Result Pair ConfigurationsFault) →
+    by_pair : (read : Result Pair ConfigurationsFault) →
         (planned_pairs options (number + 1) lines fault).text ≡ behind (separator options.output) (number + 1) (texts_from options (number + 1) (named_pairs lines)) →
-        (pair_then options number found (planned_pairs options (number + 1) lines fault)).text ≡ behind (separator options.output) number (texts_from options number (pair_before found (named_pairs lines)))
+        (pair_then options number read (planned_pairs options (number + 1) lines fault)).text ≡ behind (separator options.output) number (texts_from options number (pair_before read (named_pairs lines)))
     by_pair (Err bad) rest = refl
     by_pair (Ok pair) rest =
         ap (λ t. pair_text options number pair.0 pair.1 ++ t) rest

@@ -1,7 +1,7 @@
 -- That each path which is printed keeps what its strategy promises.
 use Rattle.std.proofs.Common.{◌≡◌, ℕ, true, List, refl, ◌∙◌, ap}
 use Rattle.ascii_text.specs.Lines.{newline}
-use Rattle.dd_file.specs.Reading.{listing_of}
+use Rattle.dd_file.specs.Grammar.{listing_of}
 use Rattle.conf_change.specs.Configuration.{Configuration, has_voter}
 use Rattle.conf_plan.specs.PathBy.{has_path, path_by, Serves}
 use Rattle.conf_plan.specs.Run.{IsValidWithVoter}

@@ -7,12 +7,12 @@ use Rattle.std.proofs.lemmas.List.{append-nil}
 use Rattle.std.proofs.lemmas.List.Elements.{All-head, All-tail}
 use Rattle.ascii_text.specs.Lines.{newline, text_of}
 use Rattle.ascii_text.specs.WhiteSpace.{trimmed, without_trailing_space}
-use Rattle.ascii_text.specs.Words.{words}
-use Rattle.ascii_text.proofs.Offered.{words-at_space, words-ends}
+use Rattle.ascii_text.specs.Tokens.{tokens_in}
+use Rattle.ascii_text.proofs.Offered.{tokens_in-at_space, tokens_in-ends}
 use Rattle.dd_file.specs.DirectiveText.{DirectiveText}
-use Rattle.dd_file.specs.Laws.{AreReadAgain, AreOver, LastIsRemoved, ReadAgain, DirectiveIsGiven, IsSameItem, WrittenScript, directives_of}
+use Rattle.dd_file.specs.Laws.{AreReadAgain, AreOver, LastIsRemoved, ReadAgain, DirectiveIsWellFormed, IsSameItem, WrittenScript, directives_of}
 use Rattle.dd_file.specs.Position.{longest_input}
-use Rattle.dd_file.specs.Reading.{script_of}
+use Rattle.dd_file.specs.Grammar.{script_of}
 use Rattle.dd_file.specs.DirectiveLine.{ArgumentText}
 use Rattle.dd_file.specs.Rewritten.{Entry, entry, rewritten_text}
 use Rattle.dd_file.specs.declared.item.Item.{Item}
@@ -28,7 +28,7 @@ use Rattle.conf_change.specs.declared.floor.Floor.{Floor}
 use Rattle.conf_change.specs.declared.refused.Refused.{Refused}
 use Rattle.conf_change.specs.declared.step.Step.{Step}
 use Rattle.conf_change.specs.declared.step.Step.TheVariants.{Simple, EnterJoint, LeaveJoint}
-use Rattle.conf_plan.specs.PlanSteps.{HasWordIds, IsPlan}
+use Rattle.conf_plan.specs.PlanSteps.{HasTokenIds, IsPlan}
 use Rattle.conf_plan.specs.PlanText.{change_text}
 use Rattle.conf_plan.specs.Run.{IsRun}
 use Rattle.conf_session.specs.Commands.{Answer, Row, answer, answered, after_answers, after_step, if_read, reply_of, row_of}
@@ -41,15 +41,15 @@ use Rattle.conf_session.specs.declared.undo_fault.UndoFault.{UndoFault}
 use Rattle.conf_session.proofs.Offered.{same-answer}
 use Rattle.conf_tool.specs.Laws.{LeadsBackBy, UndoScriptLeadsBack}
 use Rattle.conf_tool.specs.Outputs.{session_after_all, undone_unless}
-use Rattle.conf_tool.specs.Reports.{answered_entries, found_for}
+use Rattle.conf_tool.specs.Reports.{answered_entries, actual_for}
 use Rattle.conf_tool.specs.UndoScript.{step_command, step_line, change_lines, comment, step_directive, undo_items, TakesSteps}
 use Rattle.conf_tool.proofs.Theorems.JoinedScript.{left-by, undo-read}
-use Rattle.conf_tool.proofs.Theorems.RewrittenScript.{FoundStands}
+use Rattle.conf_tool.proofs.Theorems.RewrittenScript.{ActualIsValid}
 
 -- ---- the input of a step's directive is read as the step's changes
 -- the printed changes of a step are read as they are
 abbrev ChangesAreRead : Type 0
-ChangesAreRead = (step : Step) → HasWordIds step → changes_in (join_with_byte 32 (map change_text (changes_of step))) ≡ Ok (changes_of step)
+ChangesAreRead = (step : Step) → HasTokenIds step → changes_in (join_with_byte 32 (map change_text (changes_of step))) ≡ Ok (changes_of step)
 
 abbrev input_of : List Change → List ℕ
 input_of changes = trimmed (text_of (change_lines changes))
@@ -71,23 +71,23 @@ begins-letter change [] = refl
 begins-letter change (next ∷ changes) = refl
 
 -- a line of input has the words of its text
-words-of_input : (change : Change) (changes : List Change) → words (input_of (change ∷ changes)) ≡ words (join_with_byte 32 (map change_text (change ∷ changes)))
-words-of_input change changes =
+tokens_in-of_input : (change : Change) (changes : List Change) → tokens_in (input_of (change ∷ changes)) ≡ tokens_in (join_with_byte 32 (map change_text (change ∷ changes)))
+tokens_in-of_input change changes =
     let line = join_with_byte 32 (map change_text (change ∷ changes)) in
     let letter = letter_of change.kind in
     let rest = behind_letter change changes in
     let begins = begins-letter change changes in
-    ap (λ text. words (trimmed text)) (append-nil (line ++ newline))
-    ∙ ap (λ text. words (trimmed (text ++ newline))) begins
-    ∙ ap words (trimmed-letter change.kind (rest ++ newline))
-    ∙ sym (words-ends (letter ∷ (rest ++ newline)))
-    ∙ words-at_space (letter ∷ rest) 10 [] refl
-    ∙ append-nil (words (letter ∷ rest))
-    ∙ ap words (sym begins)
+    ap (λ text. tokens_in (trimmed text)) (append-nil (line ++ newline))
+    ∙ ap (λ text. tokens_in (trimmed (text ++ newline))) begins
+    ∙ ap tokens_in (trimmed-letter change.kind (rest ++ newline))
+    ∙ sym (tokens_in-ends (letter ∷ (rest ++ newline)))
+    ∙ tokens_in-at_space (letter ∷ rest) 10 [] refl
+    ∙ append-nil (tokens_in (letter ∷ rest))
+    ∙ ap tokens_in (sym begins)
 
 changes-of_input : (changes : List Change) → changes_in (join_with_byte 32 (map change_text changes)) ≡ Ok changes → changes_in (input_of changes) ≡ Ok changes
 changes-of_input [] read = read
-changes-of_input (change ∷ changes) read = ap changes_in_tokens (words-of_input change changes) ∙ read
+changes-of_input (change ∷ changes) read = ap changes_in_tokens (tokens_in-of_input change changes) ∙ read
 
 -- ---- a session that is given a step's directive takes the step
 abbrev directive_for : Step → DirectiveText
@@ -128,16 +128,16 @@ record Comes (session : SessionState) (directives : List DirectiveText) (steps :
   taken : TakesSteps session directives steps
   there : current (after_answers session directives) ≡ target
 
-run-comes : ChangesAreRead → (session : SessionState) (steps : List Step) (target : Configuration) → All HasWordIds steps → IsRun (current session) steps target
+run-comes : ChangesAreRead → (session : SessionState) (steps : List Step) (target : Configuration) → All HasTokenIds steps → IsRun (current session) steps target
     → Comes session (map directive_for steps) steps target
 run-comes read session [] target small run = record { taken = tt; there = run }
 run-comes read session (step ∷ steps) target small run =
     let next = moved_to session.changer step run.0 in
     let made : changer_after session.changer step ≡ Ok next = ap (moved_by session.changer step) run.1 in
     let accepts : Accepts session.changer step next = record { configuration = run.1; whole = refl } in
-    let answers = step-answer session step next (changes-of_input (changes_of step) (read step (All-head HasWordIds step steps small))) made in
+    let answers = step-answer session step next (changes-of_input (changes_of step) (read step (All-head HasTokenIds step steps small))) made in
     let after = ap (λ (a : Answer). a.session) answers in
-    let rest = run-comes read (after_directive session (stepped next).effect) steps target (All-tail HasWordIds step steps small) run.2 in
+    let rest = run-comes read (after_directive session (stepped next).effect) steps target (All-tail HasTokenIds step steps small) run.2 in
     let Rest : SessionState → Type 0 = λ s. Comes s (map directive_for steps) steps target in
     let moved = subst Rest (sym after) rest in
     record { taken = ((next, accepts, answers), moved.taken); there = moved.there }
@@ -167,15 +167,15 @@ steps-again : (session : SessionState) (steps : List Step) (entries : List Entry
     → TakesSteps session (map directive_for steps) steps → Again session steps again
 steps-again session [] entries again e AreOver taken = record { taken = tt; after = refl }
 steps-again session (step ∷ steps) entries again e AreOver taken = cc
-steps-again session [] entries again e (LastIsRemoved found) taken = cc
-steps-again session (step ∷ steps) entries again e (LastIsRemoved found) taken = absurd (true≢false (ap begins_blank e))
-steps-again session [] entries again e (ReadAgain n item other found more others is read) taken = cc
-steps-again session (step ∷ steps) entries again e (ReadAgain n item other found more others is read) taken =
+steps-again session [] entries again e (LastIsRemoved actual) taken = cc
+steps-again session (step ∷ steps) entries again e (LastIsRemoved actual) taken = absurd (true≢false (ap begins_blank e))
+steps-again session [] entries again e (ReadAgain n item other actual more others is read) taken = cc
+steps-again session (step ∷ steps) entries again e (ReadAgain n item other actual more others is read) taken =
     let directive = directive_for step in
-    let begins : entry item found ≡ entry (Directive directive) (found_for session (Directive directive)) = cc in
+    let begins : entry item actual ≡ entry (Directive directive) (actual_for session (Directive directive)) = cc in
     let item_is = ap (λ (x : Entry). x.item) begins in
-    let same = subst (λ i. IsSameItem n found i other) item_is is in
-    let answers : answer session same.0 ≡ answer session directive = same-answer n found directive same.0 session same.2 in
+    let same = subst (λ i. IsSameItem n actual i other) item_is is in
+    let answers : answer session same.0 ≡ answer session directive = same-answer n actual directive same.0 session same.2 in
     let after = ap (λ (a : Answer). a.session) answers in
     let rest = steps-again (answer session directive).session steps more others (cc) read taken.1 in
     let Taken : SessionState → Type 0 = λ s. TakesSteps s (directives_of others) steps in
@@ -191,24 +191,24 @@ undo-again session [] again read taken = by _ again refl read
   where
     by : (entries : List Entry) (again : List Item) → entries ≡ answered_entries session (undo_items (Ok [])) → AreReadAgain entries again → Again session [] again
     by entries again e AreOver = cc
-    by entries again e (LastIsRemoved found) = absurd (true≢false (ap begins_blank e))
-    by entries again e (ReadAgain n item other found more others is read) =
-        let begins : entry item found ≡ entry nothing_to_do [] = cc in
+    by entries again e (LastIsRemoved actual) = absurd (true≢false (ap begins_blank e))
+    by entries again e (ReadAgain n item other actual more others is read) =
+        let begins : entry item actual ≡ entry nothing_to_do [] = cc in
         let ended : more ≡ [] = cc in
-        let same = subst (λ i. IsSameItem n found i other) (ap (λ (x : Entry). x.item) begins) is in
+        let same = subst (λ i. IsSameItem n actual i other) (ap (λ (x : Entry). x.item) begins) is in
         let none = nothing-again others (subst (λ es. AreReadAgain es others) ended read) in
         rw (same.1, none) (record { taken = tt; after = refl })
 undo-again session (step ∷ steps) again read taken = steps-again session (step ∷ steps) _ again refl read taken
 
-undo_of-session : WrittenScript → DirectiveIsGiven → FoundStands → ChangesAreRead → (session : SessionState) (count : ℕ) (steps : List Step) → LeadsBack session count steps → IsPlan steps →
+undo_of-session : WrittenScript → DirectiveIsWellFormed → ActualIsValid → ChangesAreRead → (session : SessionState) (count : ℕ) (steps : List Step) → LeadsBack session count steps → IsPlan steps →
     length (rewritten_text (answered_entries session (undo_items (Ok steps)))) ≤ longest_input → LeadsBackBy session count steps (script_of (rewritten_text (answered_entries session (undo_items (Ok steps)))))
 undo_of-session written given stands changes session count steps back plan fits =
     let read = undo-read written given stands session (Ok steps) fits in
-    let comes = run-comes changes session steps back.older plan.word_ids back.run in
+    let comes = run-comes changes session steps back.older plan.token_ids back.run in
     let again = undo-again session steps _ read.1 comes.taken in
     record { whole = read.0; taken = again.taken; back = back.is_kept ∙ ap Some (sym (ap current again.after ∙ comes.there)) }
 
-pub undo_script-leads_back : WrittenScript → DirectiveIsGiven → FoundStands
+pub undo_script-leads_back : WrittenScript → DirectiveIsWellFormed → ActualIsValid
     → ((history : ℕ) (floor : Floor) (directives : List DirectiveText) → IsSession (after_answers (new_session history floor) directives))
     → ((session : SessionState) (count : ℕ) (steps : List Step) → IsSession session → 1 ≤ count → undo_plan_of session count ≡ Ok steps → LeadsBack session count steps)
     → ChangesAreRead → UndoScriptLeadsBack

@@ -3,7 +3,7 @@
 ghost use Rattle.std.specs.Prelude.{◌≡◌, ◌<◌, ◌+◌, ◌^◌, ◌++◌, ℕ, List, [], Option, OnOk, IfOk, IsOkUnless, if◌then◌else◌};
 ghost use Rattle.dd_file.specs.Rewritten.{entry, is_directive};
 ghost use Rattle.conf_tool.specs.Outputs.{checked_script};
-ghost use Rattle.conf_tool.specs.Reports.{found_for, session_after, differs, report};
+ghost use Rattle.conf_tool.specs.Reports.{actual_for, session_after, differs, report};
 ghost use Rattle.conf_tool.specs.declared.tool_fault.ToolFault.TheVariants.{NoMemory as OutOfMemory};
 
 use super::part_by_part::PartByPart;
@@ -31,7 +31,7 @@ pub(super) struct Checking {
 impl Checking {
     /// A new session, with these options.
     pub(super) fn new(alloc: Global, options: Options) -> Result<Checking, ToolFault>
-        ensures unwritten { IfOk result (λ mode. (held : Option (List ℕ)) → ⟦<Checking as PartByPart<Item>>⟧.HasAnswered mode (checked_script options.history options.floor) [] held held) }
+        ensures unwritten { IfOk result (λ mode. (buffered : Option (List ℕ)) → ⟦<Checking as PartByPart<Item>>⟧.HasAnswered mode (checked_script options.history options.floor) [] buffered buffered) }
         ensures memory { IsOkUnless result OutOfMemory }
     {
         Ok(Checking {
@@ -46,16 +46,16 @@ impl Checking {
         requires { self.old.counts.directives < 2 ^ 30 }
         ensures session { OnOk result (self.new.session ≡ session_after self.old.session item.now) }
         ensures directives { OnOk result (self.new.counts.directives ≡ self.old.counts.directives + (if is_directive item.now then 1 else 0)) }
-        ensures mismatches { OnOk result (self.new.counts.mismatches ≡ self.old.counts.mismatches + (if differs (entry item.now (found_for self.old.session item.now)) then 1 else 0)) }
-        ensures text { OnOk result (self.new.text.items ≡ report (entry item.now (found_for self.old.session item.now))) }
+        ensures mismatches { OnOk result (self.new.counts.mismatches ≡ self.old.counts.mismatches + (if differs (entry item.now (actual_for self.old.session item.now)) then 1 else 0)) }
+        ensures text { OnOk result (self.new.text.items ≡ report (entry item.now (actual_for self.old.session item.now))) }
     {
         self.text.clear();
         match item {
             Item::Directive(directive) => {
-                let found = self.session.step(directive)?;
-                let differs = found.as_slice() != directive.expected();
+                let actual = self.session.step(directive)?;
+                let differs = actual.as_slice() != directive.expected();
                 if differs {
-                    append_difference(&mut self.text, directive, found.as_slice())?;
+                    append_difference(&mut self.text, directive, actual.as_slice())?;
                 }
                 self.counts.add(differs);
                 Ok(())
@@ -68,7 +68,7 @@ impl Checking {
 impl PartByPart<Item> for Checking {
     ghost use Rattle.conf_tool.specs.Answered.{HasChecked};
     ghost use Rattle.conf_tool.specs.declared.mode.Mode.TheVariants.{Check as OfCheck};
-    ghost use Rattle.conf_tool.specs.AnsweredLaws.{kept-checked, wrote-front};
+    ghost use Rattle.conf_tool.specs.AnsweredLaws.{kept-checked, wrote-prefix};
 
     ghost mode = { OfCheck };
 
@@ -96,5 +96,5 @@ impl PartByPart<Item> for Checking {
 
     ghost stays = { λ s. kept-checked s.session s.counts.directives s.counts.mismatches };
 
-    ghost prefix = { λ s total parts more fault before after checked. wrote-front total _ parts more fault before after checked.front };
+    ghost prefix = { λ s total parts more fault before after checked. wrote-prefix total _ parts more fault before after checked.prefix };
 }

@@ -28,7 +28,7 @@ pub(super) struct LineByLine {
 impl LineByLine {
     /// Begins with an empty configuration.
     pub(super) fn new(alloc: Global) -> LineByLine
-        ensures { (held : Option (List ℕ)) → ⟦<LineByLine as PartByPart<Line>>⟧.HasAnswered result (lined_from empty_configuration) [] held held }
+        ensures { (buffered : Option (List ℕ)) → ⟦<LineByLine as PartByPart<Line>>⟧.HasAnswered result (lined_from empty_configuration) [] buffered buffered }
     {
         LineByLine {
             changer: Changer::new(alloc, 0),
@@ -38,14 +38,14 @@ impl LineByLine {
 }
 
 impl PartByPart<Line> for LineByLine {
-    ghost use Rattle.conf_tool.specs.Answered.{WroteFront};
+    ghost use Rattle.conf_tool.specs.Answered.{WrotePrefix};
     ghost use Rattle.conf_tool.specs.Outputs.{lined_from};
     ghost use Rattle.conf_tool.specs.declared.mode.Mode.TheVariants.{Lines as OfLines};
-    ghost use Rattle.conf_tool.specs.AnsweredLaws.{kept-front, wrote-front};
+    ghost use Rattle.conf_tool.specs.AnsweredLaws.{kept-prefix, wrote-prefix};
 
     ghost mode = { OfLines };
 
-    ghost HasAnswered = { λ s total. WroteFront total (lined_from s.changer.tracker.config) };
+    ghost HasAnswered = { λ s total. WrotePrefix total (lined_from s.changer.tracker.config) };
 
     fn answer<W: Sink>(&mut self, line: &Line, writer: &mut W) -> Result<(), ToolFault> {
         self.text.clear();
@@ -63,7 +63,7 @@ impl PartByPart<Line> for LineByLine {
         clean_unless(fault)
     }
 
-    ghost stays = { λ s total. kept-front total (lined_from s.changer.tracker.config) };
+    ghost stays = { λ s total. kept-prefix total (lined_from s.changer.tracker.config) };
 
-    ghost prefix = { λ s total. wrote-front total (lined_from s.changer.tracker.config) };
+    ghost prefix = { λ s total. wrote-prefix total (lined_from s.changer.tracker.config) };
 }

@@ -3,7 +3,7 @@ ghost use Rattle.std.specs.Prelude.{◌≡◌, ◌<◌, ◌^◌, ◌||◌, ℕ, 
 ghost use Rattle.std.specs.Io.KnownBytes.{Keeps};
 ghost use Rattle.dd_file.specs.Device.{AppendsPart, LosesPrefix};
 ghost use Rattle.dd_file.specs.Position.{Position, start};
-ghost use Rattle.dd_file.specs.Reading.{Script as ScriptOf, script_from};
+ghost use Rattle.dd_file.specs.Grammar.{Script as ScriptOf, script_from};
 ghost use Rattle.dd_file.specs.ReaderState.{fresh};
 ghost use Rattle.dd_file.specs.Answer.{ReadsOn};
 ghost use Rattle.dd_file.specs.declared.fault.FileFault.{FileFault as ReadFault};
@@ -64,13 +64,13 @@ fn next_part<P, S: Parts<P>, R: Source, W: Sink>(
     reader: &mut R,
     writer: &mut W,
 ) -> Result<Result<Option<P>, FileFault>, WriteFault>
-    ensures reads { IfOk result (λ found. ReadsOn R.remaining R.has_failed (λ part. part) S.coming S.IsFault (S.reading parts.old) (S.reading parts.new) reader.old reader.new found) }
+    ensures reads { IfOk result (λ read. ReadsOn R.remaining R.has_failed (λ part. part) S.coming S.IsFault (S.reader_state parts.old) (S.reader_state parts.new) reader.old reader.new read) }
     ensures unread { OnErr result (reader.new ≡ reader.old) }
     ensures kept { Keeps (W.contents writer.old) (W.contents writer.new) }
     ensures write { W.has_failed writer.new ≡ (W.has_failed writer.old || is_err result) }
 {
-    if let Some(found) = parts.buffered(reader) {
-        return Ok(found);
+    if let Some(read) = parts.buffered(reader) {
+        return Ok(read);
     }
     if writer.write_on().is_err() {
         return Err(WriteFault);
@@ -85,10 +85,10 @@ pub(super) fn run_by_part<P: Drop, S: Parts<P> + Drop, M: PartByPart<P> + Drop, 
     reader: &mut R,
     writer: &mut W,
 ) -> Result<Status, ToolFault>
-    requires unread { S.reading parts ≡ fresh }
-    requires unwritten { (total : ScriptOf P → Output) × ((held : Option (List ℕ)) → M.HasAnswered mode total [] held held) }
-    requires faults { (place : Position) (fault : ReadFault) → S.IsFault place fault → CanAnswer M.mode (Err (as_tool_fault fault)) }
-    ensures output { (total : ScriptOf P → Output) → ((held : Option (List ℕ)) → M.HasAnswered mode total [] held held) →
+    requires unread { S.reader_state parts ≡ fresh }
+    requires unwritten { (total : ScriptOf P → Output) × ((buffered : Option (List ℕ)) → M.HasAnswered mode total [] buffered buffered) }
+    requires faults { (position : Position) (fault : ReadFault) → S.IsFault position fault → CanAnswer M.mode (Err (as_tool_fault fault)) }
+    ensures output { (total : ScriptOf P → Output) → ((buffered : Option (List ℕ)) → M.HasAnswered mode total [] buffered buffered) →
         Answers (λ input. total (script_from S.coming start input)) (R.remaining reader.old) (R.remaining reader.new) (W.contents writer.old) (W.contents writer.new) result }
     ensures taken { LosesPrefix (R.remaining reader.old) (R.remaining reader.new) }
     ensures read { R.has_failed reader.new ≡ (R.has_failed reader.old || is_read_failure result) }
@@ -96,8 +96,8 @@ pub(super) fn run_by_part<P: Drop, S: Parts<P> + Drop, M: PartByPart<P> + Drop, 
     ensures kinds { CanAnswer M.mode result }
 {
     'each: loop {
-        let found = next_part(&mut parts, reader, writer)?;
-        match found {
+        let read = next_part(&mut parts, reader, writer)?;
+        match read {
             Ok(Some(part)) => {
                 mode.answer(&part, writer)?;
                 parts.take_back(part);

@@ -1,7 +1,7 @@
 //! The parts of an input that a mode replies to one by one: lines, or the items of a script.
 ghost use Rattle.std.specs.Prelude.{◌≡◌, ℕ, List, Bool};
 ghost use Rattle.dd_file.specs.Position.{Position};
-ghost use Rattle.dd_file.specs.Reading.{Next, script_from, followed};
+ghost use Rattle.dd_file.specs.Grammar.{Next, script_from, followed};
 ghost use Rattle.dd_file.specs.ReaderState.{ReaderState};
 ghost use Rattle.dd_file.specs.Answer.{ReadsOn};
 ghost use Rattle.dd_file.specs.Buffered.{BufferedReadsOn};
@@ -26,11 +26,11 @@ pub(super) trait Parts<P> {
     ghost is_buffered: { Position → List ℕ → Bool };
 
     /// The reader's state.
-    ghost reading: { Self → ReaderState };
+    ghost reader_state: { Self → ReaderState };
 
     /// The next part, if all of it is buffered. The reader is not called.
     fn buffered<R: Source>(&mut self, reader: &R) -> Option<Result<Option<P>, FileFault>>
-        ensures { BufferedReadsOn R.remaining R.has_failed (λ part. part) coming IsFault is_buffered (reading self.old) (reading self.new) reader.now result };
+        ensures { BufferedReadsOn R.remaining R.has_failed (λ part. part) coming IsFault is_buffered (reader_state self.old) (reader_state self.new) reader.now result };
 
     /// The next part; none at the end. The output is flushed before this call, which may wait for the reader.
     fn read<R: Source, W: Sink>(
@@ -39,20 +39,20 @@ pub(super) trait Parts<P> {
         writer: &W,
     ) -> Result<Option<P>, FileFault>
         requires { W.reached writer.now ≡ W.contents writer.now }
-        ensures { ReadsOn R.remaining R.has_failed (λ part. part) coming IsFault (reading self.old) (reading self.new) reader.old reader.new result };
+        ensures { ReadsOn R.remaining R.has_failed (λ part. part) coming IsFault (reader_state self.old) (reader_state self.new) reader.old reader.new result };
 
     /// Takes a part back, to reuse its memory for a later one.
     fn take_back(&mut self, part: P)
-        ensures { reading self.new ≡ reading self.old };
+        ensures { reader_state self.new ≡ reader_state self.old };
 
     /// The input is its next part, and then the rest.
-    ghost in_turn: { (place : Position) (bytes : List ℕ) → script_from coming place bytes ≡ followed (script_from coming) (coming place bytes) };
+    ghost in_turn: { (position : Position) (bytes : List ℕ) → script_from coming position bytes ≡ followed (script_from coming) (coming position bytes) };
 }
 
 impl Parts<Line> for Lines {
     ghost use Rattle.dd_file.specs.Position.{longest_input};
     ghost use Rattle.dd_file.specs.Buffered.{is_line_buffered};
-    ghost use Rattle.dd_file.specs.Reading.{next_line};
+    ghost use Rattle.dd_file.specs.Grammar.{next_line};
     ghost use Rattle.dd_file.specs.Answer.{IsLineFault};
     ghost use Rattle.dd_file.proofs.Offered.{script_from-followed, next_line-takes};
 
@@ -62,7 +62,7 @@ impl Parts<Line> for Lines {
 
     ghost is_buffered = { is_line_buffered };
 
-    ghost reading = { λ lines. lines };
+    ghost reader_state = { λ lines. lines };
 
     fn buffered<R: Source>(&mut self, reader: &R) -> Option<Result<Option<Line>, FileFault>> {
         self.next_buffered(reader)
@@ -88,7 +88,7 @@ impl Parts<Line> for Lines {
 impl Parts<Item> for Reader {
     ghost use Rattle.dd_file.specs.Position.{longest_input};
     ghost use Rattle.dd_file.specs.Buffered.{is_item_buffered};
-    ghost use Rattle.dd_file.specs.Reading.{next_item};
+    ghost use Rattle.dd_file.specs.Grammar.{next_item};
     ghost use Rattle.dd_file.specs.Answer.{IsItemFault};
     ghost use Rattle.dd_file.proofs.Offered.{script_from-followed, next_item-takes};
 
@@ -98,7 +98,7 @@ impl Parts<Item> for Reader {
 
     ghost is_buffered = { is_item_buffered };
 
-    ghost reading = { λ items. items };
+    ghost reader_state = { λ items. items };
 
     fn buffered<R: Source>(&mut self, reader: &R) -> Option<Result<Option<Item>, FileFault>> {
         self.next_buffered(reader)

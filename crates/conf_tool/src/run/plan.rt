@@ -43,7 +43,7 @@ pub(super) struct Planning {
 impl Planning {
     /// Before the first line.
     pub(super) fn new(alloc: Global, options: PlanOptions) -> Planning
-        ensures { (held : Option (List ℕ)) → ⟦<Planning as PartByPart<Line>>⟧.HasAnswered result (planned_script options) [] held held }
+        ensures { (buffered : Option (List ℕ)) → ⟦<Planning as PartByPart<Line>>⟧.HasAnswered result (planned_script options) [] buffered buffered }
     {
         Planning {
             alloc,
@@ -130,7 +130,7 @@ fn separator(output: PlanOutput) -> &'static [u8]
 impl PartByPart<Line> for Planning {
     ghost use Rattle.conf_tool.specs.Answered.{HasPlanned, plan_left};
     ghost use Rattle.conf_tool.specs.declared.mode.Mode.TheVariants.{Plan as OfPlan};
-    ghost use Rattle.conf_tool.specs.AnsweredLaws.{kept-planned, wrote-front};
+    ghost use Rattle.conf_tool.specs.AnsweredLaws.{kept-planned, wrote-prefix};
 
     ghost mode = { OfPlan };
 
@@ -168,5 +168,5 @@ impl PartByPart<Line> for Planning {
 
     ghost stays = { λ s. kept-planned s.options s.lines s.pair s.now s.status };
 
-    ghost prefix = { λ s total parts more fault before after planned. wrote-front total (plan_left s.options s.lines s.pair s.now s.status) parts more fault before after planned.front };
+    ghost prefix = { λ s total parts more fault before after planned. wrote-prefix total (plan_left s.options s.lines s.pair s.now s.status) parts more fault before after planned.prefix };
 }

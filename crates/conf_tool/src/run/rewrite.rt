@@ -3,7 +3,7 @@ ghost use Rattle.std.specs.Prelude.{◌≡◌, ◌||◌, ℕ, List, [], Option, 
 ghost use Rattle.dd_file.specs.Rewritten.{entry_text, has_blank_line, is_output};
 ghost use Rattle.dd_file.specs.RewriterState.{Continues, BreaksOff};
 ghost use Rattle.conf_tool.specs.Outputs.{rewritten_script};
-ghost use Rattle.conf_tool.specs.Reports.{found_for, session_after};
+ghost use Rattle.conf_tool.specs.Reports.{actual_for, session_after};
 ghost use Rattle.conf_tool.specs.Run.{IsAnswerFault, is_write_failure};
 ghost use Rattle.conf_tool.specs.declared.tool_fault.ToolFault.TheVariants.{NoMemory as OutOfMemory};
 
@@ -28,9 +28,9 @@ pub(super) fn run_item(
     session: &mut Session,
     item: &Item,
 ) -> Result<Vec<u8>, NoMemory>
-    ensures found { IfOk result (λ found. found.items ≡ found_for session.old item.now) }
-    ensures output { IfOk result (λ found. is_output found.items ≡ true) }
-    ensures full { IfOk result (λ found. has_blank_line found.items ≡ false) }
+    ensures actual { IfOk result (λ actual. actual.items ≡ actual_for session.old item.now) }
+    ensures output { IfOk result (λ actual. is_output actual.items ≡ true) }
+    ensures full { IfOk result (λ actual. has_blank_line actual.items ≡ false) }
     ensures session { OnOk result (session.new ≡ session_after session.old item.now) }
     ensures unchanged { OnErr result (session.new ≡ session.old) }
 {
@@ -45,13 +45,13 @@ fn write_entry<W: Sink>(
     rewriter: &mut Rewriter,
     writer: &mut W,
     item: &Item,
-    found: &[u8],
+    actual: &[u8],
 ) -> Result<(), WriteFault>
     requires stage { rewriter.old.stage ≡ Stage.Ready }
-    requires output { is_output found.now ≡ true }
-    requires full { has_blank_line found.now ≡ false }
-    ensures written { OnOk result (Continues rewriter.old.newlines rewriter.new.newlines (W.contents writer.old) (W.contents writer.new) (entry_text item.now found.now)) }
-    ensures part { OnErr result (BreaksOff rewriter.old.newlines (W.contents writer.old) (W.contents writer.new) (entry_text item.now found.now)) }
+    requires output { is_output actual.now ≡ true }
+    requires full { has_blank_line actual.now ≡ false }
+    ensures written { OnOk result (Continues rewriter.old.newlines rewriter.new.newlines (W.contents writer.old) (W.contents writer.new) (entry_text item.now actual.now)) }
+    ensures part { OnErr result (BreaksOff rewriter.old.newlines (W.contents writer.old) (W.contents writer.new) (entry_text item.now actual.now)) }
     ensures stage { OnOk result (rewriter.new.stage ≡ Stage.Ready) }
     // On an error the writer has failed, and otherwise no write of this call has.
     ensures failed { OnErr result (W.has_failed writer.new ≡ true) }
@@ -59,7 +59,7 @@ fn write_entry<W: Sink>(
 {
     rewriter.keep(writer, item)?;
     match item {
-        Item::Directive(_) => rewriter.found_without_blanks(writer, found),
+        Item::Directive(_) => rewriter.found_without_blanks(writer, actual),
         _ => Ok(()),
     }
 }
@@ -74,14 +74,14 @@ pub(super) fn rewrite_item<W: Sink>(
 ) -> Result<(), ToolFault>
     requires { rewriter.old.stage ≡ Stage.Ready }
     ensures session { OnOk result (session.new ≡ session_after session.old item.now) }
-    ensures written { OnOk result (Continues rewriter.old.newlines rewriter.new.newlines (W.contents writer.old) (W.contents writer.new) (entry_text item.now (found_for session.old item.now))) }
-    ensures part { OnErr result (BreaksOff rewriter.old.newlines (W.contents writer.old) (W.contents writer.new) (entry_text item.now (found_for session.old item.now))) }
+    ensures written { OnOk result (Continues rewriter.old.newlines rewriter.new.newlines (W.contents writer.old) (W.contents writer.new) (entry_text item.now (actual_for session.old item.now))) }
+    ensures part { OnErr result (BreaksOff rewriter.old.newlines (W.contents writer.old) (W.contents writer.new) (entry_text item.now (actual_for session.old item.now))) }
     ensures stage { OnOk result (rewriter.new.stage ≡ Stage.Ready) }
     ensures write { W.has_failed writer.new ≡ (W.has_failed writer.old || is_write_failure result) }
     ensures kinds { IfErr result IsAnswerFault }
 {
-    let found = run_item(alloc, session, item)?;
-    write_entry(rewriter, writer, item, found.as_slice())?;
+    let actual = run_item(alloc, session, item)?;
+    write_entry(rewriter, writer, item, actual.as_slice())?;
     Ok(())
 }
 
@@ -96,7 +96,7 @@ pub(super) struct Rewriting {
 impl Rewriting {
     /// A new session, with these options.
     pub(super) fn new(alloc: Global, options: Options) -> Result<Rewriting, ToolFault>
-        ensures unwritten { IfOk result (λ mode. (held : Option (List ℕ)) → ⟦<Rewriting as PartByPart<Item>>⟧.HasAnswered mode (rewritten_script options.history options.floor) [] held held) }
+        ensures unwritten { IfOk result (λ mode. (buffered : Option (List ℕ)) → ⟦<Rewriting as PartByPart<Item>>⟧.HasAnswered mode (rewritten_script options.history options.floor) [] buffered buffered) }
         ensures memory { IsOkUnless result OutOfMemory }
     {
         Ok(Rewriting {
@@ -110,7 +110,7 @@ impl Rewriting {
 impl PartByPart<Item> for Rewriting {
     ghost use Rattle.conf_tool.specs.Answered.{HasRewritten};
     ghost use Rattle.conf_tool.specs.declared.mode.Mode.TheVariants.{Rewrite as OfRewrite};
-    ghost use Rattle.conf_tool.specs.AnsweredLaws.{kept-rewritten, rewritten-front};
+    ghost use Rattle.conf_tool.specs.AnsweredLaws.{kept-rewritten, rewritten-prefix};
 
     ghost mode = { OfRewrite };
 
@@ -137,5 +137,5 @@ impl PartByPart<Item> for Rewriting {
 
     ghost stays = { λ s. kept-rewritten s.session s.rewriter };
 
-    ghost prefix = { λ s. rewritten-front s.session s.rewriter };
+    ghost prefix = { λ s. rewritten-prefix s.session s.rewriter };
 }

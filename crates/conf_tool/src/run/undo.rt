@@ -2,10 +2,10 @@
 ghost use Rattle.std.specs.Prelude.{◌≡◌, ◌≤◌, ◌||◌, ℕ, List, [], ◌∷◌, Option, Ok, IfOk, IfErr, OnOk, OnErr, IsOkUnless};
 ghost use Rattle.dd_file.specs.RewriterState.{Continues, BreaksOff};
 ghost use Rattle.conf_tool.specs.Outputs.{undone_script, undo_status};
-ghost use Rattle.conf_tool.specs.Reports.{session_after, obeyed_text};
+ghost use Rattle.conf_tool.specs.Reports.{session_after, answered_text};
 ghost use Rattle.conf_tool.specs.Run.{IsAnswerFault, is_write_failure};
 ghost use Rattle.conf_session.specs.Undo.{undo_plan_of};
-ghost use Rattle.conf_tool.specs.UndoScript as says;
+ghost use Rattle.conf_tool.specs.UndoScript as spec;
 ghost use Rattle.conf_tool.specs.UndoScript.{undo_items};
 ghost use Rattle.conf_tool.specs.declared.tool_fault.ToolFault.TheVariants.{NoMemory as OutOfMemory};
 
@@ -38,7 +38,7 @@ impl Undoing {
     /// A new session, with these options, which undo at least one change.
     pub(super) fn new(alloc: Global, options: Options) -> Result<Undoing, ToolFault>
         requires { 1 ≤ options.steps }
-        ensures unwritten { IfOk result (λ mode. (held : Option (List ℕ)) → ⟦<Undoing as PartByPart<Item>>⟧.HasAnswered mode (undone_script options.history options.floor options.steps) [] held held) }
+        ensures unwritten { IfOk result (λ mode. (buffered : Option (List ℕ)) → ⟦<Undoing as PartByPart<Item>>⟧.HasAnswered mode (undone_script options.history options.floor options.steps) [] buffered buffered) }
         ensures memory { IsOkUnless result OutOfMemory }
     {
         Ok(Undoing {
@@ -54,9 +54,9 @@ impl Undoing {
         requires { self.old.rewriter.stage ≡ Stage.Ready }
         ensures status { IfOk result (λ status. status ≡ undo_status (undo_plan_of self.old.session self.old.steps)) }
         ensures written { OnOk result (Continues self.old.rewriter.newlines self.new.rewriter.newlines (W.contents writer.old) (W.contents writer.new)
-            (obeyed_text self.old.session (undo_items (undo_plan_of self.old.session self.old.steps)))) }
+            (answered_text self.old.session (undo_items (undo_plan_of self.old.session self.old.steps)))) }
         ensures part { OnErr result (BreaksOff self.old.rewriter.newlines (W.contents writer.old) (W.contents writer.new)
-            (obeyed_text self.old.session (undo_items (undo_plan_of self.old.session self.old.steps)))) }
+            (answered_text self.old.session (undo_items (undo_plan_of self.old.session self.old.steps)))) }
         ensures stage { OnOk result (self.new.rewriter.stage ≡ Stage.Ready) }
         ensures write { W.has_failed writer.new ≡ (W.has_failed writer.old || is_write_failure result) }
         ensures kinds { IfErr result IsAnswerFault }
@@ -77,13 +77,13 @@ impl Undoing {
         }
     }
 
-    /// Obeys and writes the steps of a plan, or says that there is nothing to do.
+    /// Takes and writes the steps of a plan, or writes the comment `nothing to do`.
     fn write_plan<W: Sink>(&mut self, plan: &Plan, writer: &mut W) -> Result<(), ToolFault>
         requires { self.old.rewriter.stage ≡ Stage.Ready }
         ensures written { OnOk result (Continues self.old.rewriter.newlines self.new.rewriter.newlines (W.contents writer.old) (W.contents writer.new)
-            (obeyed_text self.old.session (undo_items (Ok plan.now)))) }
+            (answered_text self.old.session (undo_items (Ok plan.now)))) }
         ensures part { OnErr result (BreaksOff self.old.rewriter.newlines (W.contents writer.old) (W.contents writer.new)
-            (obeyed_text self.old.session (undo_items (Ok plan.now)))) }
+            (answered_text self.old.session (undo_items (Ok plan.now)))) }
         ensures stage { OnOk result (self.new.rewriter.stage ≡ Stage.Ready) }
         ensures write { W.has_failed writer.new ≡ (W.has_failed writer.old || is_write_failure result) }
         ensures kinds { IfErr result IsAnswerFault }
@@ -100,13 +100,13 @@ impl Undoing {
         Ok(())
     }
 
-    /// Writes a comment that says a text.
+    /// Writes a comment with this text.
     fn write_comment<W: Sink>(&mut self, text: &[u8], writer: &mut W) -> Result<(), ToolFault>
         requires { self.old.rewriter.stage ≡ Stage.Ready }
         ensures written { OnOk result (Continues self.old.rewriter.newlines self.new.rewriter.newlines (W.contents writer.old) (W.contents writer.new)
-            (obeyed_text self.old.session (says.comment text.now ∷ []))) }
+            (answered_text self.old.session (spec.comment text.now ∷ []))) }
         ensures part { OnErr result (BreaksOff self.old.rewriter.newlines (W.contents writer.old) (W.contents writer.new)
-            (obeyed_text self.old.session (says.comment text.now ∷ []))) }
+            (answered_text self.old.session (spec.comment text.now ∷ []))) }
         ensures stage { OnOk result (self.new.rewriter.stage ≡ Stage.Ready) }
         ensures write { W.has_failed writer.new ≡ (W.has_failed writer.old || is_write_failure result) }
         ensures kinds { IfErr result IsAnswerFault }
@@ -115,14 +115,14 @@ impl Undoing {
         self.write_item(item, writer)
     }
 
-    /// Obeys an item, and writes it with what was found.
+    /// Runs an item, and writes it with its actual output.
     fn write_item<W: Sink>(&mut self, item: Item, writer: &mut W) -> Result<(), ToolFault>
         requires { self.old.rewriter.stage ≡ Stage.Ready }
         ensures session { OnOk result (self.new.session ≡ session_after self.old.session item) }
         ensures written { OnOk result (Continues self.old.rewriter.newlines self.new.rewriter.newlines (W.contents writer.old) (W.contents writer.new)
-            (obeyed_text self.old.session (item ∷ []))) }
+            (answered_text self.old.session (item ∷ []))) }
         ensures part { OnErr result (BreaksOff self.old.rewriter.newlines (W.contents writer.old) (W.contents writer.new)
-            (obeyed_text self.old.session (item ∷ []))) }
+            (answered_text self.old.session (item ∷ []))) }
         ensures stage { OnOk result (self.new.rewriter.stage ≡ Stage.Ready) }
         ensures write { W.has_failed writer.new ≡ (W.has_failed writer.old || is_write_failure result) }
         ensures kinds { IfErr result IsAnswerFault }
@@ -140,13 +140,13 @@ impl Undoing {
 }
 
 impl PartByPart<Item> for Undoing {
-    ghost use Rattle.conf_tool.specs.Answered.{HasObeyed};
+    ghost use Rattle.conf_tool.specs.Answered.{HasRun};
     ghost use Rattle.conf_tool.specs.declared.mode.Mode.TheVariants.{Undo as OfUndo};
-    ghost use Rattle.conf_tool.specs.AnsweredLaws.{kept-obeyed, obeyed-front};
+    ghost use Rattle.conf_tool.specs.AnsweredLaws.{kept-ran, ran-prefix};
 
     ghost mode = { OfUndo };
 
-    ghost HasAnswered = { λ s. HasObeyed s.session s.rewriter s.steps };
+    ghost HasAnswered = { λ s. HasRun s.session s.rewriter s.steps };
 
     // The expected output is ignored, and nothing is written yet.
     fn answer<W: Sink>(&mut self, item: &Item, writer: &mut W) -> Result<(), ToolFault> {
@@ -168,7 +168,7 @@ impl PartByPart<Item> for Undoing {
         Ok(status)
     }
 
-    ghost stays = { λ s. kept-obeyed s.session s.rewriter s.steps };
+    ghost stays = { λ s. kept-ran s.session s.rewriter s.steps };
 
-    ghost prefix = { λ s total parts more fault before after obeyed. obeyed-front s.session s.rewriter s.steps total parts before after _ obeyed };
+    ghost prefix = { λ s total parts more fault before after ran. ran-prefix s.session s.rewriter s.steps total parts before after _ ran };
 }

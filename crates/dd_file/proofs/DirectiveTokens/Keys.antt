@@ -5,7 +5,7 @@ use Rattle.std.specs.List.{list_all}
 use Rattle.dd_file.specs.Parts.{up_to, suffix}
 use Rattle.dd_file.specs.DirectiveLine.{ArgumentText, CommandText, with_key, is_key, is_equals, values_of, argument_of, before_others, arguments_of, has_keys, is_command_name, command_of_tokens, tokens_of}
 use Rattle.dd_file.specs.Script.{joined}
-use Rattle.dd_file.specs.Laws.{AreGiven, item_has_keys}
+use Rattle.dd_file.specs.Laws.{AreWellFormed, item_has_keys}
 use Rattle.dd_file.specs.declared.item.Item.{Item}
 use Rattle.dd_file.proofs.ScriptGrammar.LinesOfItem.{ReadItem, ReadComment, ReadBlank, ReadBlankHead, ReadDirective, given-read}
 
@@ -62,6 +62,6 @@ read-keys item (ReadBlank line are comment blank) = refl
 read-keys item (ReadBlankHead line rest is are blank) = refl
 read-keys item (ReadDirective n command line rest input expected is parses command_is none are) = command_of-keys (tokens_of (joined (line ∷ rest))) command command_is
 
-pub items-keys : (items : List Item) → AreGiven items → list_all item_has_keys items ≡ true
+pub items-keys : (items : List Item) → AreWellFormed items → list_all item_has_keys items ≡ true
 items-keys [] are = refl
 items-keys (item ∷ items) are = ap (λ b. b && list_all item_has_keys items) (read-keys item (given-read item are.0)) ∙ items-keys items are.1

@@ -7,7 +7,7 @@ use Rattle.std.specs.Io.KnownBytes.{Consumes}
 use Rattle.ascii_text.specs.Lines.{first_len, full_lines, line_of, is_whole}
 use Rattle.dd_file.specs.Position.{longest_input}
 use Rattle.dd_file.specs.Script.{FirstItem, first_of}
-use Rattle.dd_file.specs.Reading.{next_line, next_item}
+use Rattle.dd_file.specs.Grammar.{next_line, next_item}
 use Rattle.dd_file.specs.ReaderState.{ReaderState, IsWithin}
 use Rattle.dd_file.specs.Answer.{ReadsOn, IsLineFault, IsItemFault, fault_of}
 use Rattle.dd_file.specs.Buffered.{CanReadBuffered, passed, whole_lines, is_line_buffered, is_item_buffered, is_ended_item}
@@ -79,7 +79,7 @@ one-whole [] h = cc
 one-whole (b ∷ bytes) h = ap (filter is_whole) (full_lines-first (b ∷ bytes) (omega arith)) ∙ rw h refl
 
 -- The lines so far of what is held are the item's.
-pub record HeldSoFar {R : Type 0} (remaining : R → Option (List ℕ)) (old : ReaderState) (reader : R) (draft : DraftText) (count taken : ℕ) : Type 0 where
+pub record BufferedSoFar {R : Type 0} (remaining : R → Option (List ℕ)) (old : ReaderState) (reader : R) (draft : DraftText) (count taken : ℕ) : Type 0 where
   pub reading : ReadingItem remaining old (passed old count taken) reader reader draft
   pub within : taken ≤ length old.buffered
   pub counted : count ≤ taken
@@ -90,7 +90,7 @@ passed-none state = ap (λ n. record state { position = record { lines = n; byte
   lines-none : (n : ℕ) → n + 0 ≡ n
   lines-none n = omega arith
 
-pub buffered-none : {R : Type 0} (remaining : R → Option (List ℕ)) (old : ReaderState) (reader : R) (draft : DraftText) → draft ≡ blank_draft (old.position.lines + 1) → CanReadBuffered old → Within old → HeldSoFar remaining old reader draft 0 0
+pub buffered-none : {R : Type 0} (remaining : R → Option (List ℕ)) (old : ReaderState) (reader : R) (draft : DraftText) → draft ≡ blank_draft (old.position.lines + 1) → CanReadBuffered old → Within old → BufferedSoFar remaining old reader draft 0 0
 buffered-none remaining old reader draft is can within = record {
   reading = subst (λ (s : ReaderState). ReadingItem remaining old s reader reader draft) (sym (passed-none old)) (reading-none remaining old reader draft is can.faultless (let limit = can.limit in let counted = within.counted in omega (arith, limit, counted)));
   within = omega arith;
@@ -123,8 +123,8 @@ passed-within state m n can within le few =
     }
 
 pub buffered-more : {R : Type 0} (remaining : R → Option (List ℕ)) (has_failed : R → Bool) (old : ReaderState) (reader : R) (draft next : DraftText) (count taken : ℕ) (rest : List ℕ) → CanReadBuffered old → Within old →
-    HeldSoFar remaining old reader draft count taken → rest ≡ drop taken old.buffered → is_whole (take (first_len rest) rest) ≡ true → AddsIn draft.phase draft next (line_of (take (first_len rest) rest)) →
-    HeldSoFar remaining old reader next (count + 1) (taken + first_len rest)
+    BufferedSoFar remaining old reader draft count taken → rest ≡ drop taken old.buffered → is_whole (take (first_len rest) rest) ≡ true → AddsIn draft.state draft next (line_of (take (first_len rest) rest)) →
+    BufferedSoFar remaining old reader next (count + 1) (taken + first_len rest)
 buffered-more remaining has_failed old reader draft next count taken rest can within so_far is whole adds =
     let now = passed old count taken in
     let k = first_len rest in
@@ -147,12 +147,12 @@ buffered-more remaining has_failed old reader draft next count taken rest can wi
           (reading-more remaining has_failed (λ (l : List ℕ). l) old now (passed now 1 (first_len now.buffered)) reader reader reader draft next line so_far.reading read adds);
       within = omega (arith, le, len, left, bound);
       counted = omega (arith, few, some);
-      ahead = adds.first_item (whole_lines (drop (taken + k) old.buffered)) ∙ ap (first_item_in draft.phase draft) (sym lines) ∙ so_far.ahead;
+      ahead = adds.first_item (whole_lines (drop (taken + k) old.buffered)) ∙ ap (first_item_in draft.state draft) (sym lines) ∙ so_far.ahead;
     }
 
 -- the item is done
 pub buffered-done : {R : Type 0} (remaining : R → Option (List ℕ)) (has_failed : R → Bool) (old new : ReaderState) (reader : R) (draft : DraftText) (count taken : ℕ) (result : Result (Option Item) FileFault) → CanReadBuffered old → Within old →
-    HeldSoFar remaining old reader draft count taken → is_done draft.phase ≡ true → new ≡ passed old count taken → result ≡ result_of_first (first_item_of draft []) → IfErr result (IsDraftFault draft.line) →
+    BufferedSoFar remaining old reader draft count taken → is_done draft.state ≡ true → new ≡ passed old count taken → result ≡ result_of_first (first_item_of draft []) → IfErr result (IsDraftFault draft.line) →
     ReadsOn remaining has_failed (λ item. item) (next_item longest_input) IsItemFault old (record new { fault = fault_of result }) reader reader result
 buffered-done remaining has_failed old new reader draft count taken result can within so_far done is found kind =
     let now = passed old count taken in
@@ -164,12 +164,12 @@ open-prefix : (count : ℕ) (found : Option FirstItem) → Ends false count foun
 open-prefix count None ends = refl
 open-prefix count (Some prefix) ends = ends.ended
 
-pub buffered-open : {R : Type 0} (remaining : R → Option (List ℕ)) (old : ReaderState) (reader : R) (draft : DraftText) (count taken : ℕ) (rest : List ℕ) → HeldSoFar remaining old reader draft count taken → is_done draft.phase ≡ false →
+pub buffered-open : {R : Type 0} (remaining : R → Option (List ℕ)) (old : ReaderState) (reader : R) (draft : DraftText) (count taken : ℕ) (rest : List ℕ) → BufferedSoFar remaining old reader draft count taken → is_done draft.state ≡ false →
     rest ≡ drop taken old.buffered → is_whole (take (first_len rest) rest) ≡ false → is_item_buffered old.position old.buffered ≡ false
 buffered-open remaining old reader draft count taken rest so_far open_end is unfinished =
     let none : whole_lines (drop taken old.buffered) ≡ [] = ap whole_lines (sym is) ∙ ap (map line_of) (no-whole rest unfinished) in
     ap is_ended_item (sym so_far.ahead ∙ ap (first_item_of draft) none)
-    ∙ open-prefix draft.count (first_item_of draft []) (subst (λ c. Ends c draft.count (first_item_of draft [])) open_end (draft-ends draft.phase draft so_far.reading.fits))
+    ∙ open-prefix draft.count (first_item_of draft []) (subst (λ c. Ends c draft.count (first_item_of draft [])) open_end (draft-ends draft.state draft so_far.reading.fits))
 
 -- no line ends in it
 pub buffered-no_line : (old : ReaderState) → is_whole (take (first_len old.buffered) old.buffered) ≡ false → is_line_buffered old.position old.buffered ≡ false

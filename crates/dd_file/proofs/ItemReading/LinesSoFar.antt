@@ -5,11 +5,11 @@ use Rattle.std.specs.List.{concat}
 use Rattle.ascii_text.specs.Lines.{full_lines, line_of}
 use Rattle.dd_file.specs.Position.{Position}
 use Rattle.dd_file.specs.Script.{FirstItem, first_item, first_of}
-use Rattle.dd_file.specs.Reading.{Next, Over, Found, Faulty, next_item, next_line, from_first_item, with_count, is_too_long, full_lines_within}
+use Rattle.dd_file.specs.Grammar.{Next, Over, Found, Faulty, next_item, next_line, from_first_item, with_count, is_too_long, full_lines_within}
 use Rattle.dd_file.specs.Draft.{DraftText, Fits, FitsIn, first_item_of, first_item_in, is_done, result_of_first, item_result}
 use Rattle.dd_file.specs.declared.item.Item.{Item}
-use Rattle.dd_file.specs.declared.phase.Phase.{Phase}
-use Rattle.dd_file.specs.declared.phase.Phase.TheVariants.{Begin, CommentLine, BlankLines, DirectiveLines, NoCommand, Input, Separator, Single, Double, Pair, Complete, AfterPair}
+use Rattle.dd_file.specs.declared.draft_state.DraftState.{DraftState}
+use Rattle.dd_file.specs.declared.draft_state.DraftState.TheVariants.{Begin, CommentLine, BlankLines, DirectiveLines, NoCommand, Input, Separator, Single, Double, Pair, Complete, AfterPair}
 use Rattle.dd_file.specs.declared.fault.FileFault.{FileFault}
 use Rattle.dd_file.specs.declared.fault.FileFault.TheVariants.{InputTooLong}
 use Rattle.dd_file.proofs.LineReading.LineAfterLine.{LinesOn, line-over, line-long}
@@ -50,7 +50,7 @@ done-prefix limit position now bytes rest lines too_long count (Some prefix) on 
       open_end true false e = cc
       open_end false d e = refl
 
-pub done-some : (phase : Phase) (draft : DraftText) → FitsIn phase draft → is_done phase ≡ true → is_some (first_item_in phase draft []) ≡ true
+pub done-some : (state : DraftState) (draft : DraftText) → FitsIn state draft → is_done state ≡ true → is_some (first_item_in state draft []) ≡ true
 done-some Begin draft fits done = cc
 done-some CommentLine draft fits done = refl
 done-some BlankLines draft fits done = refl
@@ -65,7 +65,7 @@ done-some (Complete command) draft fits done = refl
 done-some AfterPair draft fits done = refl
 
 -- a front comes of each line
-pub first_item_in-begun : (phase : Phase) (draft : DraftText) → FitsIn phase draft → (draft.count ≡ 0) ⊎ (is_some (first_item_in phase draft []) ≡ true)
+pub first_item_in-begun : (state : DraftState) (draft : DraftText) → FitsIn state draft → (draft.count ≡ 0) ⊎ (is_some (first_item_in state draft []) ≡ true)
 first_item_in-begun Begin draft fits = inl fits.3
 first_item_in-begun CommentLine draft fits = inr refl
 first_item_in-begun BlankLines draft fits = inr refl
@@ -80,13 +80,13 @@ first_item_in-begun (Complete command) draft fits = inr refl
 first_item_in-begun AfterPair draft fits = inr refl
 
 pub item-done : (limit : ℕ) (position now : Position) (bytes rest : List ℕ) (lines : List (List ℕ)) (draft : DraftText) → LinesOn limit position bytes lines now rest →
-    ((more : List (List ℕ)) → first_item_of draft more ≡ first_of (position.lines + 1) (lines ++ more)) → Fits draft → is_done draft.phase ≡ true → draft.count ≡ length lines →
+    ((more : List (List ℕ)) → first_item_of draft more ≡ first_of (position.lines + 1) (lines ++ more)) → Fits draft → is_done draft.state ≡ true → draft.count ≡ length lines →
     next_item limit position bytes ≡ as_next (result_of_first (first_item_of draft [])) now rest
 item-done limit position now bytes rest lines draft on prefix fits done count =
     item-at limit position now bytes rest lines draft on prefix
-    ∙ ap (λ f. from_first_item (is_too_long limit now rest) f position bytes) (done-same draft.phase draft (map line_of (full_lines_within limit now rest)) done)
+    ∙ ap (λ f. from_first_item (is_too_long limit now rest) f position bytes) (done-same draft.state draft (map line_of (full_lines_within limit now rest)) done)
     ∙ done-prefix limit position now bytes rest lines (is_too_long limit now rest) draft.count (first_item_of draft []) on
-    (subst (λ c. Ends c draft.count (first_item_of draft [])) done (draft-ends draft.phase draft fits)) (done-some draft.phase draft fits done) count
+    (subst (λ c. Ends c draft.count (first_item_of draft [])) done (draft-ends draft.state draft fits)) (done-some draft.state draft fits done) count
 
 -- the end of the input
 end-prefix : (limit : ℕ) (position now : Position) (bytes rest : List ℕ) (lines : List (List ℕ)) (done : Bool) (count : ℕ) (found : Option FirstItem) → LinesOn limit position bytes lines now rest →
@@ -101,7 +101,7 @@ item-end limit position now bytes rest lines draft on prefix fits count over =
     let last = line-over limit now rest over in
     item-at limit position now bytes rest lines draft on prefix
     ∙ ap (λ ls. from_first_item (is_too_long limit now rest) (first_item_of draft ls) position bytes) last.0 ∙ ap (λ c. from_first_item c (first_item_of draft []) position bytes) last.1
-    ∙ end-prefix limit position now bytes rest lines (is_done draft.phase) draft.count (first_item_of draft []) on (draft-ends draft.phase draft fits) count
+    ∙ end-prefix limit position now bytes rest lines (is_done draft.state) draft.count (first_item_of draft []) on (draft-ends draft.state draft fits) count
 
 -- the limit was passed
 long-prefix : (position : Position) (bytes : List ℕ) (count : ℕ) (found : Option FirstItem) → Ends false count found → from_first_item true found position bytes ≡ Faulty (InputTooLong (position.lines + 1))
@@ -109,10 +109,10 @@ long-prefix position bytes count None ends = refl
 long-prefix position bytes count (Some prefix) ends = rw (ends.ended) refl
 
 pub item-long : (limit : ℕ) (position now : Position) (bytes rest : List ℕ) (lines : List (List ℕ)) (draft : DraftText) (fault : FileFault) → LinesOn limit position bytes lines now rest →
-    ((more : List (List ℕ)) → first_item_of draft more ≡ first_of (position.lines + 1) (lines ++ more)) → Fits draft → is_done draft.phase ≡ false → next_line limit now rest ≡ Faulty fault →
+    ((more : List (List ℕ)) → first_item_of draft more ≡ first_of (position.lines + 1) (lines ++ more)) → Fits draft → is_done draft.state ≡ false → next_line limit now rest ≡ Faulty fault →
     next_item limit position bytes ≡ Faulty (InputTooLong (position.lines + 1))
 item-long limit position now bytes rest lines draft fault on prefix fits open_end long =
     let last = line-long limit now rest fault long in
     item-at limit position now bytes rest lines draft on prefix
     ∙ ap (λ ls. from_first_item (is_too_long limit now rest) (first_item_of draft ls) position bytes) last.0 ∙ ap (λ c. from_first_item c (first_item_of draft []) position bytes) last.1
-    ∙ long-prefix position bytes draft.count (first_item_of draft []) (subst (λ c. Ends c draft.count (first_item_of draft [])) open_end (draft-ends draft.phase draft fits))
+    ∙ long-prefix position bytes draft.count (first_item_of draft []) (subst (λ c. Ends c draft.count (first_item_of draft [])) open_end (draft-ends draft.state draft fits))

@@ -12,8 +12,8 @@ use Rattle.dd_file.specs.Script.{FirstItem, first_item, first_of, directive_line
 use Rattle.dd_file.specs.Draft.{DraftText, Fits, FitsIn, first_item_of, first_item_in, drafted, begins_directive, is_done, result_of_first, item_result}
 use Rattle.dd_file.specs.declared.item.Item.{Item}
 use Rattle.dd_file.specs.declared.item.Item.TheVariants.{Comment, Blank, Directive}
-use Rattle.dd_file.specs.declared.phase.Phase.{Phase}
-use Rattle.dd_file.specs.declared.phase.Phase.TheVariants.{Begin, CommentLine, BlankLines, DirectiveLines, NoCommand, Input, Separator, Single, Double, Pair, Complete, AfterPair}
+use Rattle.dd_file.specs.declared.draft_state.DraftState.{DraftState}
+use Rattle.dd_file.specs.declared.draft_state.DraftState.TheVariants.{Begin, CommentLine, BlankLines, DirectiveLines, NoCommand, Input, Separator, Single, Double, Pair, Complete, AfterPair}
 use Rattle.dd_file.specs.declared.fault.FileFault.{FileFault}
 use Rattle.dd_file.specs.declared.fault.FileFault.TheVariants.{BadDirective, UnclosedDouble}
 use Rattle.dd_file.proofs.ItemReading.OneMoreLine.{first_of-begins, none-step}
@@ -71,19 +71,19 @@ made-directive line directive_line_count command raw expected text made is same 
     ap Directive is ∙ ap (λ t. D t raw) same ∙ ap (D (text_of expected)) (sym (take-append-drop directive_line_count raw))
 
 -- what a directive with its parts so far is
-pub data HasParts (command : CommandText) : Phase → Type 0 where
+pub data HasParts (command : CommandText) : DraftState → Type 0 where
   AtInput : HasParts command (Input command)
   AtSeparator : HasParts command (Separator command)
   AtSingle : HasParts command (Single command)
   AtPair : HasParts command (Pair command)
   AtComplete : HasParts command (Complete command)
 
-pub found-parts : (command : CommandText) (phase : Phase) (draft : DraftText) → HasParts command phase → FitsIn phase draft → Ok (Some (drafted draft command)) ≡ result_of_first (first_item_in phase draft [])
-found-parts c phase draft AtInput fits = sym (ap item_result (ap (λ (f : FirstItem). f.result) (body-end draft.line c draft.directive_lines draft.input fits.0) ∙ ap (λ e. Ok (directive draft.line c draft.directive_lines draft.input e)) (sym fits.1)))
-found-parts c phase draft AtSeparator fits = sym (ap item_result (ap (λ e. Ok (directive draft.line c draft.directive_lines draft.input e)) (sym fits.0)))
-found-parts c phase draft AtSingle fits = sym (ap (λ (f : FirstItem). item_result f.result) (single-end draft.line c draft.directive_lines draft.input draft.expected fits.0))
-found-parts c phase draft AtPair fits = refl
-found-parts c phase draft AtComplete fits = refl
+pub found-parts : (command : CommandText) (state : DraftState) (draft : DraftText) → HasParts command state → FitsIn state draft → Ok (Some (drafted draft command)) ≡ result_of_first (first_item_in state draft [])
+found-parts c state draft AtInput fits = sym (ap item_result (ap (λ (f : FirstItem). f.result) (body-end draft.line c draft.directive_lines draft.input fits.0) ∙ ap (λ e. Ok (directive draft.line c draft.directive_lines draft.input e)) (sym fits.1)))
+found-parts c state draft AtSeparator fits = sym (ap item_result (ap (λ e. Ok (directive draft.line c draft.directive_lines draft.input e)) (sym fits.0)))
+found-parts c state draft AtSingle fits = sym (ap (λ (f : FirstItem). item_result f.result) (single-end draft.line c draft.directive_lines draft.input draft.expected fits.0))
+found-parts c state draft AtPair fits = refl
+found-parts c state draft AtComplete fits = refl
 
 -- the item has all lines so far
 ends-at : (done : Bool) (count : ℕ) (f : FirstItem) (found : Result Item FileFault) (k : ℕ) → f ≡ first_item found k done → count ≡ k → EndsWith done count f
@@ -92,7 +92,7 @@ ends-at done count f found k is counted = rw is (record { ended = refl; all = λ
 ends-faulty : (count : ℕ) (f : FirstItem) (fault : FileFault) (k : ℕ) → f ≡ first_item (Err fault) k false → EndsWith false count f
 ends-faulty count f fault k is = rw is (record { ended = refl; all = λ item e. cc })
 
-pub draft-ends : (phase : Phase) (draft : DraftText) → FitsIn phase draft → Ends (is_done phase) draft.count (first_item_in phase draft [])
+pub draft-ends : (state : DraftState) (draft : DraftText) → FitsIn state draft → Ends (is_done state) draft.count (first_item_in state draft [])
 draft-ends Begin draft fits = tt
 draft-ends CommentLine draft fits = record { ended = refl; all = λ item e. refl }
 draft-ends BlankLines draft fits = record { ended = refl; all = λ item e. refl }
@@ -107,7 +107,7 @@ draft-ends (Complete c) draft fits = record { ended = refl; all = λ item e. ref
 draft-ends AfterPair draft fits = record { ended = refl; all = λ item e. cc }
 
 -- once it is done no line changes it
-pub done-same : (phase : Phase) (draft : DraftText) (more : List (List ℕ)) → is_done phase ≡ true → first_item_in phase draft more ≡ first_item_in phase draft []
+pub done-same : (state : DraftState) (draft : DraftText) (more : List (List ℕ)) → is_done state ≡ true → first_item_in state draft more ≡ first_item_in state draft []
 done-same Begin draft more done = cc
 done-same CommentLine draft more done = refl
 done-same BlankLines draft more done = refl
@@ -122,22 +122,22 @@ done-same (Complete command) draft more done = refl
 done-same AfterPair draft more done = refl
 
 -- the same where the phase is known
-pub found-bad_at : (draft : DraftText) (line : ℕ) → draft.phase ≡ DirectiveLines → Fits draft → line ≡ draft.line → Err (BadDirective line) ≡ result_of_first (first_item_of draft [])
+pub found-bad_at : (draft : DraftText) (line : ℕ) → draft.state ≡ DirectiveLines → Fits draft → line ≡ draft.line → Err (BadDirective line) ≡ result_of_first (first_item_of draft [])
 found-bad_at draft line is fits same =
     ap (λ n. Err (BadDirective n)) same ∙ found-bad draft (subst (λ p. FitsIn p draft) is fits) ∙ ap (λ p. result_of_first (first_item_in p draft [])) (sym is)
 
-pub found-unclosed_at : (command : CommandText) (draft : DraftText) (line : ℕ) → draft.phase ≡ Double command → Fits draft → line ≡ draft.line → Err (UnclosedDouble line) ≡ result_of_first (first_item_of draft [])
+pub found-unclosed_at : (command : CommandText) (draft : DraftText) (line : ℕ) → draft.state ≡ Double command → Fits draft → line ≡ draft.line → Err (UnclosedDouble line) ≡ result_of_first (first_item_of draft [])
 found-unclosed_at command draft line is fits same =
     ap (λ n. Err (UnclosedDouble n)) same ∙ found-unclosed command draft (subst (λ p. FitsIn p draft) is fits) ∙ ap (λ p. result_of_first (first_item_in p draft [])) (sym is)
 
 -- what a comment and blank lines are, of which all lines are of the head
-found-lines_at : (phase : Phase) (kind : List (List ℕ) → Item) (draft : DraftText) (lines : List (List ℕ)) → draft.phase ≡ phase → draft.input ≡ [] → lines ≡ draft.directive_lines ++ draft.input →
-    Ok (Some (kind draft.directive_lines)) ≡ result_of_first (first_item_in phase draft []) → Ok (Some (kind lines)) ≡ result_of_first (first_item_of draft [])
-found-lines_at phase kind draft lines is none all found =
+found-lines_at : (state : DraftState) (kind : List (List ℕ) → Item) (draft : DraftText) (lines : List (List ℕ)) → draft.state ≡ state → draft.input ≡ [] → lines ≡ draft.directive_lines ++ draft.input →
+    Ok (Some (kind draft.directive_lines)) ≡ result_of_first (first_item_in state draft []) → Ok (Some (kind lines)) ≡ result_of_first (first_item_of draft [])
+found-lines_at state kind draft lines is none all found =
     ap (λ ls. Ok (Some (kind ls))) (all ∙ ap (λ i. draft.directive_lines ++ i) none ∙ append-nil draft.directive_lines) ∙ found ∙ ap (λ p. result_of_first (first_item_in p draft [])) (sym is)
 
-pub found-comment_at : (draft : DraftText) (lines : List (List ℕ)) → draft.phase ≡ CommentLine → Fits draft → lines ≡ draft.directive_lines ++ draft.input → Ok (Some (Comment lines)) ≡ result_of_first (first_item_of draft [])
+pub found-comment_at : (draft : DraftText) (lines : List (List ℕ)) → draft.state ≡ CommentLine → Fits draft → lines ≡ draft.directive_lines ++ draft.input → Ok (Some (Comment lines)) ≡ result_of_first (first_item_of draft [])
 found-comment_at draft lines is fits all = found-lines_at CommentLine Comment draft lines is (subst (λ p. FitsIn p draft) is fits) all refl
 
-pub found-blank_at : (draft : DraftText) (lines : List (List ℕ)) → draft.phase ≡ BlankLines → Fits draft → lines ≡ draft.directive_lines ++ draft.input → Ok (Some (Blank lines)) ≡ result_of_first (first_item_of draft [])
+pub found-blank_at : (draft : DraftText) (lines : List (List ℕ)) → draft.state ≡ BlankLines → Fits draft → lines ≡ draft.directive_lines ++ draft.input → Ok (Some (Blank lines)) ≡ result_of_first (first_item_of draft [])
 found-blank_at draft lines is fits all = found-lines_at BlankLines Blank draft lines is (subst (λ p. FitsIn p draft) is fits) all refl

@@ -4,12 +4,12 @@ use Rattle.std.specs.Prelude.{◌||◌, Option, Some, None, is_some, Result, Ok,
 use Rattle.std.proofs.lemmas.List.{append_assoc, length-append}
 use Rattle.dd_file.specs.Position.{Position, longest_input, longest_lookahead}
 use Rattle.dd_file.specs.Script.{FirstItem, first_of}
-use Rattle.dd_file.specs.Reading.{Over, Found, Faulty, next_line, next_item}
+use Rattle.dd_file.specs.Grammar.{Over, Found, Faulty, next_line, next_item}
 use Rattle.dd_file.specs.ReaderState.{ReaderState, IsOver}
-use Rattle.dd_file.specs.Answer.{Agrees, IsNextOfInput, MovesOn, ReadsOn, IsLineFault, IsItemFault, IsCutShort, next_in_answer, is_read_fault, fault_of}
-use Rattle.dd_file.specs.InOrder.{GivenSoFar}
+use Rattle.dd_file.specs.Answer.{Agrees, IsNextOfInput, MovesOn, ReadsOn, IsLineFault, IsItemFault, IsInterrupted, next_in_answer, is_read_fault, fault_of}
+use Rattle.dd_file.specs.InOrder.{ReadSoFar}
 use Rattle.dd_file.specs.Draft.{DraftText, blank_draft, Fits, AddsIn, first_item_of, first_item_in, is_done, result_of_first, item_result, IsDraftFault, at_line}
-use Rattle.dd_file.specs.declared.phase.Phase.TheVariants.{Begin}
+use Rattle.dd_file.specs.declared.draft_state.DraftState.TheVariants.{Begin}
 use Rattle.dd_file.specs.declared.item.Item.{Item}
 use Rattle.dd_file.specs.declared.fault.FileFault.{FileFault}
 use Rattle.dd_file.specs.declared.fault.FileFault.TheVariants.{Read, NoMemory, BadDirective, AfterDouble, UnclosedDouble, InputTooLong}
@@ -21,7 +21,7 @@ use Rattle.dd_file.proofs.ItemReading.LinesSoFar.{as_next, item-done, item-end, 
 -- The lines of an item that were read so far, and the item that they are.
 pub record ReadingItem {R : Type 0} (remaining : R → Option (List ℕ)) (old now : ReaderState) (before after : R) (draft : DraftText) : Type 0 where
   pub lines : List (List ℕ)
-  pub given : GivenSoFar remaining (next_line longest_input) old now before after lines
+  pub given : ReadSoFar remaining (next_line longest_input) old now before after lines
   pub first_item : (more : List (List ℕ)) → first_item_of draft more ≡ first_of (old.position.lines + 1) (lines ++ more)
   pub first : draft.line ≡ old.position.lines + 1
   pub count : draft.count ≡ length lines
@@ -30,7 +30,7 @@ pub record ReadingItem {R : Type 0} (remaining : R → Option (List ℕ)) (old n
   pub fits : Fits draft
   pub faultless : now.fault ≡ None
   pub still : draft.count ≡ 0 → now ≡ old
-  pub start : draft.count ≡ 0 → draft.phase ≡ Begin
+  pub start : draft.count ≡ 0 → draft.state ≡ Begin
 
 pub reading-none : {R : Type 0} (remaining : R → Option (List ℕ)) (old : ReaderState) (before : R) (draft : DraftText) → draft ≡ blank_draft (old.position.lines + 1) → old.fault ≡ None → old.position.lines ≤ longest_input →
     ReadingItem remaining old old before before draft
@@ -49,7 +49,7 @@ reading-none remaining old before draft is faultless bound = rw is (record {
 })
 
 pub reading-more : {R L : Type 0} (remaining : R → Option (List ℕ)) (has_failed : R → Bool) (view : L → List ℕ) (old now new : ReaderState) (before between after : R) (draft next : DraftText) (line : L) →
-    ReadingItem remaining old now before between draft → ReadsOn remaining has_failed view (next_line longest_input) IsLineFault now new between after (Ok (Some line)) → AddsIn draft.phase draft next (view line) →
+    ReadingItem remaining old now before between draft → ReadsOn remaining has_failed view (next_line longest_input) IsLineFault now new between after (Ok (Some line)) → AddsIn draft.state draft next (view line) →
     ReadingItem remaining old new before after next
 reading-more remaining has_failed view old now new before between after draft next line reading read adds = record {
   lines = reading.lines ++ view line ∷ [];
@@ -165,12 +165,12 @@ positive zero h = absurd (h refl)
 positive (suc n) h = omega arith
 
 -- no line was read, so nothing was found
-begin-none : {P : Type 0} (draft : DraftText) (item : Item) → draft.phase ≡ Begin → Fits draft → Ok (Some item) ≡ result_of_first (first_item_of draft []) → P
+begin-none : {P : Type 0} (draft : DraftText) (item : Item) → draft.state ≡ Begin → Fits draft → Ok (Some item) ≡ result_of_first (first_item_of draft []) → P
 begin-none draft item begin fits e = let bad : Ok (Some item) ≡ result_of_first (first_item_in Begin draft []) = e ∙ ap (λ p. result_of_first (first_item_in p draft [])) begin in cc
 
 -- the item is done
 pub done-reads : {R : Type 0} (remaining : R → Option (List ℕ)) (has_failed : R → Bool) (old now : ReaderState) (before after : R) (draft : DraftText) (result : Result (Option Item) FileFault) →
-    old.fault ≡ None → old.is_ended ≡ false → ReadingItem remaining old now before after draft → is_done draft.phase ≡ true → length now.buffered ≤ longest_lookahead → has_failed after ≡ has_failed before →
+    old.fault ≡ None → old.is_ended ≡ false → ReadingItem remaining old now before after draft → is_done draft.state ≡ true → length now.buffered ≤ longest_lookahead → has_failed after ≡ has_failed before →
     result ≡ result_of_first (first_item_of draft []) → IfErr result (IsDraftFault draft.line) →
     ReadsOn remaining has_failed (λ item. item) (next_item longest_input) IsItemFault old (record now { fault = fault_of result }) before after result
 done-reads remaining has_failed old now before after draft result faultless unended reading done ahead sound is kind =
@@ -183,7 +183,7 @@ done-reads remaining has_failed old now before after draft result faultless unen
       forward = when-some result (let h = reading.room in let k = some in omega (arith, h, k));
       counted = when-ok result reading.bound;
       lookahead = when-ok result ahead;
-      finished = λ e. found-some (first_item_of draft []) (done-some draft.phase draft reading.fits done) (sym is ∙ e);
+      finished = λ e. found-some (first_item_of draft []) (done-some draft.state draft reading.fits done) (sym is ∙ e);
       kind = draft-kind old.position draft.line result reading.first kind;
       read = still-sound _ _ draft.line result sound kind;
     }) where
@@ -209,7 +209,7 @@ memory-reads remaining has_failed view old now new before between after draft li
 
 -- the lines have a fault
 fault-answers : {R L : Type 0} (remaining : R → Option (List ℕ)) (has_failed : R → Bool) (view : L → List ℕ) (old now new : ReaderState) (before between after : R) (draft : DraftText) (fault : FileFault) →
-    ReadingItem remaining old now before between draft → is_done draft.phase ≡ false → ReadsOn remaining has_failed view (next_line longest_input) IsLineFault now new between after (Err fault) → IsLineFault now.position fault →
+    ReadingItem remaining old now before between draft → is_done draft.state ≡ false → ReadsOn remaining has_failed view (next_line longest_input) IsLineFault now new between after (Err fault) → IsLineFault now.position fault →
     IsNextOfInput (λ item. item) (next_item longest_input) old (record new { fault = Some (at_line draft.line fault) }) (remaining before) (remaining after) (Err (at_line draft.line fault))
 fault-answers remaining has_failed view old now new before between after draft Read reading open_end read kind input more agrees = inl (inl refl)
 fault-answers remaining has_failed view old now new before between after draft NoMemory reading open_end read kind input more agrees = inl (inr refl)
@@ -224,7 +224,7 @@ fault-answers {L = L} remaining has_failed view old now new before between after
       | inl cut ↦ absurd (long-cut line cut)
       | inr is ↦ inr (item-long longest_input old.position now.position input bytes reading.lines draft (InputTooLong line) on reading.first_item reading.fits open_end is ∙ ap (λ n. Faulty (InputTooLong n)) (sym reading.first))
     ] where
-      long-cut : (n : ℕ) → IsCutShort {X = Option L} (Err (InputTooLong n)) → ⊥
+      long-cut : (n : ℕ) → IsInterrupted {X = Option L} (Err (InputTooLong n)) → ⊥
       long-cut n (inl e) = cc
       long-cut n (inr e) = cc
 
@@ -245,7 +245,7 @@ same-read X Y line (AfterDouble n) = refl
 same-read X Y line (UnclosedDouble n) = refl
 
 pub fault-item : {R L : Type 0} (remaining : R → Option (List ℕ)) (has_failed : R → Bool) (view : L → List ℕ) (old now new : ReaderState) (before between after : R) (draft : DraftText) (fault : FileFault) →
-    old.fault ≡ None → old.is_ended ≡ false → ReadingItem remaining old now before between draft → is_done draft.phase ≡ false →
+    old.fault ≡ None → old.is_ended ≡ false → ReadingItem remaining old now before between draft → is_done draft.state ≡ false →
     ReadsOn remaining has_failed view (next_line longest_input) IsLineFault now new between after (Err fault) → has_failed between ≡ has_failed before →
     ReadsOn remaining has_failed (λ item. item) (next_item longest_input) IsItemFault old (record new { fault = Some (at_line draft.line fault) }) before after (Err (at_line draft.line fault))
 fault-item {L = L} remaining has_failed view old now new before between after draft fault faultless unended reading open_end read sound =
@@ -285,7 +285,7 @@ end-reads remaining has_failed view old now new before between after draft resul
       over = read.finished refl
 
       none : result ≡ Ok None → draft.count ≡ 0
-      none e = elim (first_item_in-begun draft.phase draft reading.fits) [ inl none-read ↦ none-read | inr some ↦ found-some (first_item_of draft []) some (sym is ∙ e) ]
+      none e = elim (first_item_in-begun draft.state draft reading.fits) [ inl none-read ↦ none-read | inr some ↦ found-some (first_item_of draft []) some (sym is ∙ e) ]
 
       forward : (r : Result (Option Item) FileFault) → r ≡ result_of_first (first_item_of draft []) → IfOk r (λ found. IfSome found (λ _. old.position.lines < new.position.lines))
       forward (Ok None) h = tt

@@ -7,7 +7,7 @@ use Rattle.std.proofs.Math.Seq.{drop-append_seam, drop-length}
 use Rattle.std.proofs.lemmas.Bool.Decides.{nat_tests}
 use Rattle.ascii_text.specs.Lines.{first_len, full_lines, line_of, is_whole}
 use Rattle.dd_file.specs.Position.{Position}
-use Rattle.dd_file.specs.Reading.{Next, Over, Found, Faulty, next_line, from_full_lines, is_too_long, full_lines_within}
+use Rattle.dd_file.specs.Grammar.{Next, Over, Found, Faulty, next_line, from_full_lines, is_too_long, full_lines_within}
 use Rattle.dd_file.specs.declared.fault.FileFault.TheVariants.{InputTooLong}
 use Rattle.ascii_text.proofs.Offered.{full_lines-first, cond-longer, cond-shorter}
 use Rattle.dd_file.proofs.TextLines.TextAfter.{is_whole_text, full_lines-append, full_lines_within-whole}

@@ -5,7 +5,7 @@ use Rattle.std.proofs.lemmas.List.{append_assoc, append_cancel_right}
 use Rattle.std.specs.Io.KnownBytes.{IsAtEnd}
 use Rattle.ascii_text.specs.Lines.{line_of, is_whole}
 use Rattle.dd_file.specs.Position.{Position, longest_input}
-use Rattle.dd_file.specs.Reading.{Over, Found, Faulty, next_line}
+use Rattle.dd_file.specs.Grammar.{Over, Found, Faulty, next_line}
 use Rattle.dd_file.specs.ReaderState.{ReaderState, IsOver}
 use Rattle.dd_file.specs.FullLineRead.{PartRead, FullLineRead, LongRead, FullLineFault}
 use Rattle.dd_file.specs.Answer.{AgreesWith, Agrees, IsNextOfInput, MovesOn, ReadsOn, IsLineFault, is_read_fault}

@@ -5,7 +5,7 @@ use Rattle.std.specs.List.{concat}
 use Rattle.std.proofs.lemmas.List.{append-nil, drop-drop, drop-take, take-append-drop, take-append-le, length-append, length-drop, length-take}
 use Rattle.ascii_text.specs.Lines.{first_len, full_lines, line_of, is_whole}
 use Rattle.dd_file.specs.Position.{Position}
-use Rattle.dd_file.specs.Reading.{Next, Over, Found, Faulty, next_line, from_full_lines, next_of_lines, at_end, is_too_long, full_lines_within}
+use Rattle.dd_file.specs.Grammar.{Next, Over, Found, Faulty, next_line, from_full_lines, next_of_lines, at_end, is_too_long, full_lines_within}
 use Rattle.dd_file.specs.InOrder.{ReadsTo}
 use Rattle.dd_file.specs.declared.fault.FileFault.{FileFault}
 use Rattle.ascii_text.proofs.Offered.{full_lines-first, first_len-bound, length-first, unfinished-rest}

@@ -16,15 +16,15 @@ found_some : (double : Bool) (text : List ℕ) → (length ((opening double ++ t
 found_some true text = search rules
 found_some false text = search rules
 
-closing_held : (double : Bool) (xs : List ℕ) → xs ++ without_last 10 (closing double) ≡ without_last 10 (xs ++ closing double)
-closing_held true xs = sym (without_last-append 10 xs _ _)
-closing_held false xs = sym (without_last-append 10 xs _ _)
+closing_buffered : (double : Bool) (xs : List ℕ) → xs ++ without_last 10 (closing double) ≡ without_last 10 (xs ++ closing double)
+closing_buffered true xs = sym (without_last-append 10 xs _ _)
+closing_buffered false xs = sym (without_last-append 10 xs _ _)
 
 -- the parts that are written are its text without the newline at its end
 found_parts : (newlines : ℕ) (double : Bool) (text : List ℕ) →
     (buffered newlines ++ opening double) ++ (text ++ without_last 10 (closing double)) ≡ buffered newlines ++ without_last 10 ((opening double ++ text) ++ closing double)
 found_parts newlines double text =
-    append_assoc (buffered newlines) (opening double) _ ∙ ap (λ t. buffered newlines ++ t) (sym (append_assoc (opening double) text _) ∙ closing_held double (opening double ++ text))
+    append_assoc (buffered newlines) (opening double) _ ∙ ap (λ t. buffered newlines ++ t) (sym (append_assoc (opening double) text _) ∙ closing_buffered double (opening double ++ text))
 
 dashes_end : (xs prefix : List ℕ) → newlines_at_end (xs ++ (prefix ++ 45 ∷ 10 ∷ [])) ≡ 1
 dashes_end xs prefix =

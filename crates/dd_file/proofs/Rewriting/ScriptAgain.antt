@@ -10,9 +10,9 @@ use Rattle.ascii_text.specs.WhiteSpace.{is_blank}
 use Rattle.dd_file.specs.DirectiveLine.{CommandText, command_of}
 use Rattle.dd_file.specs.Script.{first_item, first_of, joined, is_comment, is_separator, directive}
 use Rattle.dd_file.specs.Position.{longest_input}
-use Rattle.dd_file.specs.Reading.{Script, script_of, with_first}
+use Rattle.dd_file.specs.Grammar.{Script, script_of, with_first}
 use Rattle.dd_file.specs.Rewritten.{Entry, entry, entry_text, has_blank_line, is_output, rewritten_text, without_double_end}
-use Rattle.dd_file.specs.Laws.{is_line, AreGiven, IsSameItem, AreReadAgain, AreOver, LastIsRemoved, ReadAgain, ends_in_long_blank}
+use Rattle.dd_file.specs.Laws.{is_line, AreWellFormed, IsSameItem, AreReadAgain, AreOver, LastIsRemoved, ReadAgain, ends_in_long_blank}
 use Rattle.dd_file.specs.declared.item.Item.{Item}
 use Rattle.dd_file.specs.declared.item.Item.TheVariants.{Comment, Blank, Directive}
 use Rattle.ascii_text.proofs.Offered.{list-by_last}
@@ -32,7 +32,7 @@ abbrev AreWritten : List Entry → Type 0
 AreWritten [] = Unit {0}
 AreWritten (e ∷ entries) = ReadItem e.item × (is_output e.output ≡ true) × AreWritten entries
 
-are-written : (entries : List Entry) → AreGiven (map (λ e. e.item) entries) → list_all (λ e. is_output e.output) entries ≡ true → AreWritten entries
+are-written : (entries : List Entry) → AreWellFormed (map (λ e. e.item) entries) → list_all (λ e. is_output e.output) entries ≡ true → AreWritten entries
 are-written [] given output = tt
 are-written (e ∷ entries) given output =
     let k = and-parts (is_output e.output) (list_all (λ e. is_output e.output) entries) output in (given-read e.item given.0, k.0, are-written entries given.1 k.1)
@@ -197,7 +197,7 @@ rest-left before lines is e (next ∷ entries) written short =
     )
 
 -- all of it
-pub written-again : (entries : List Entry) → AreGiven (map (λ e. e.item) entries) → list_all (λ e. is_output e.output) entries ≡ true → ends_in_long_blank (map (λ e. e.item) entries) ≡ false →
+pub written-again : (entries : List Entry) → AreWellFormed (map (λ e. e.item) entries) → list_all (λ e. is_output e.output) entries ≡ true → ends_in_long_blank (map (λ e. e.item) entries) ≡ false →
     length (rewritten_text entries) ≤ longest_input → IsAgain entries (script_of (rewritten_text entries))
 written-again [] given output short fits = subst (IsAgain []) (sym (script_of-lines [] fits)) (no-entries 1)
 written-again (e ∷ entries) given output short fits =

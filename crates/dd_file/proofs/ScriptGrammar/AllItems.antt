@@ -6,7 +6,7 @@ use Rattle.std.proofs.lemmas.List.{drop-drop, drop-map, length-map}
 use Rattle.ascii_text.specs.Lines.{newline, first_len, full_lines, before_first_line, line_of, lines_of}
 use Rattle.dd_file.specs.Script.{FirstItem, first_item, first_of}
 use Rattle.dd_file.specs.Position.{Position, start, longest_input}
-use Rattle.dd_file.specs.Reading.{Script, with_first, followed, first_items, next_item, script_of, is_too_long, from_first_item}
+use Rattle.dd_file.specs.Grammar.{Script, with_first, followed, first_items, next_item, script_of, is_too_long, from_first_item}
 use Rattle.dd_file.specs.Laws.{moved_fault}
 use Rattle.dd_file.specs.declared.item.Item.{Item}
 use Rattle.dd_file.specs.declared.fault.FileFault.{FileFault}

@@ -5,10 +5,10 @@ use Rattle.std.specs.Io.KnownBytes.{Consumes, IsAtEnd}
 use Rattle.std.proofs.lemmas.List.{append_assoc, append-nil, append_cancel_right}
 use Rattle.dd_file.specs.Position.{Position}
 use Rattle.dd_file.specs.Device.{LosesPrefix}
-use Rattle.dd_file.specs.Reading.{Next, Over, Found, Faulty, Script, followed, with_first, first_items, script_from}
+use Rattle.dd_file.specs.Grammar.{Next, Over, Found, Faulty, Script, followed, with_first, first_items, script_from}
 use Rattle.dd_file.specs.ReaderState.{ReaderState}
-use Rattle.dd_file.specs.Answer.{AgreesWith, Agrees, IsNextOfInput, IsCutShort, MovesOn}
-use Rattle.dd_file.specs.InOrder.{ReadsTo, TakesBytes, GivenSoFar}
+use Rattle.dd_file.specs.Answer.{AgreesWith, Agrees, IsNextOfInput, IsInterrupted, MovesOn}
+use Rattle.dd_file.specs.InOrder.{ReadsTo, TakesBytes, ReadSoFar}
 use Rattle.dd_file.specs.InTurn.{AgreesInTurn}
 use Rattle.dd_file.proofs.LineReading.PartsOfFullLine.{consumes-append}
 
@@ -110,7 +110,7 @@ agrees-in_turn old mid (Some before) None after input more first second met agre
 agrees-in_turn old mid None between after input more first second met agrees = absurd agrees
 
 -- before the first call
-pub given-none : {R A : Type 0} (remaining : R → Option (List ℕ)) (next : Position → List ℕ → Next A) (old : ReaderState) (before : R) → GivenSoFar remaining next old old before before []
+pub given-none : {R A : Type 0} (remaining : R → Option (List ℕ)) (next : Position → List ℕ → Next A) (old : ReaderState) (before : R) → ReadSoFar remaining next old old before before []
 given-none remaining next old before = record {
   moves = record { taken = ([], keeps (remaining before)); met = inl; stays = λ ended. (refl, ended) };
   read = λ input more agrees. at (remaining before) input more agrees;
@@ -126,15 +126,15 @@ given-none remaining next old before = record {
       (refl, sym (agrees.whole ∙ ap (λ t. (old.buffered ++ t) ++ more) nothing ∙ ap (λ t. t ++ more) (append-nil old.buffered)))
 
 -- what an answer other than a fault says
-pub answer-whole : {X : Type 0} {P : Type 0} (found : X) → IsCutShort (Ok found) ⊎ P → P
+pub answer-whole : {X : Type 0} {P : Type 0} (found : X) → IsInterrupted (Ok found) ⊎ P → P
 answer-whole found (inl (inl e)) = cc
 answer-whole found (inl (inr e)) = cc
 answer-whole found (inr is) = is
 
 -- after one more call that gave something
 pub given-more : {R X A : Type 0} (remaining : R → Option (List ℕ)) (view : X → A) (next : Position → List ℕ → Next A) (old mid new : ReaderState) (before between after : R) (items : List A) (item : X) →
-    GivenSoFar remaining next old mid before between items → MovesOn remaining mid new between after → IsNextOfInput view next mid new (remaining between) (remaining after) (Ok (Some item)) →
-    GivenSoFar remaining next old new before after (items ++ view item ∷ [])
+    ReadSoFar remaining next old mid before between items → MovesOn remaining mid new between after → IsNextOfInput view next mid new (remaining between) (remaining after) (Ok (Some item)) →
+    ReadSoFar remaining next old new before after (items ++ view item ∷ [])
 given-more remaining view next old mid new before between after items item so_far moves answers = record {
   moves = moves-append remaining old mid new before between after so_far.moves moves;
   read = λ input more agrees.

@@ -5,8 +5,8 @@ use Rattle.std.specs.List.{list_all}
 use Rattle.ascii_text.specs.Lines.{newline, full_lines, before_first_line, without_last, line_of, is_whole}
 use Rattle.dd_file.specs.Script.{FirstItem, first_item, first_of}
 use Rattle.dd_file.specs.Position.{Position, start, longest_input}
-use Rattle.dd_file.specs.Reading.{followed, first_items, at_end, with_count, from_first_item, next_item, script_of, is_too_long, full_lines_within}
-use Rattle.dd_file.specs.Laws.{is_line, AreGiven}
+use Rattle.dd_file.specs.Grammar.{followed, first_items, at_end, with_count, from_first_item, next_item, script_of, is_too_long, full_lines_within}
+use Rattle.dd_file.specs.Laws.{is_line, AreWellFormed}
 use Rattle.dd_file.specs.declared.item.Item.{Item}
 use Rattle.dd_file.specs.declared.fault.FileFault.{FileFault}
 use Rattle.dd_file.proofs.TextLines.CutAgain.{and-parts}
@@ -45,14 +45,14 @@ full_lines_within-are limit position bytes = at (is_too_long limit position byte
   at false = lines-are (full_lines bytes) (full_lines-are bytes)
 
 -- at most so many items
-first_items-given : (limit fuel : ℕ) (position : Position) (bytes : List ℕ) → AreGiven (first_items (next_item limit) fuel position bytes).items
+first_items-given : (limit fuel : ℕ) (position : Position) (bytes : List ℕ) → AreWellFormed (first_items (next_item limit) fuel position bytes).items
 first_items-given limit zero position bytes = tt
 first_items-given limit (suc fuel) position bytes = at (is_too_long limit position bytes) (first_of (position.lines + 1) lines) refl (first_items-given limit fuel) where
   lines : List (List ℕ)
   lines = map line_of (full_lines_within limit position bytes)
 
   found : (c : Bool) (count : ℕ) (is_ended : Bool) (r : Result Item FileFault) → first_of (position.lines + 1) lines ≡ Some (first_item r count is_ended) →
-      ((p : Position) (bs : List ℕ) → AreGiven (first_items (next_item limit) fuel p bs).items) → AreGiven (followed (first_items (next_item limit) fuel) (cond c (at_end true position) (with_count count r position bytes))).items
+      ((p : Position) (bs : List ℕ) → AreWellFormed (first_items (next_item limit) fuel p bs).items) → AreWellFormed (followed (first_items (next_item limit) fuel) (cond c (at_end true position) (with_count count r position bytes))).items
   found true count is_ended r e ih = tt
   found false count is_ended (Ok item) e ih = (
     record { number = position.lines + 1; lines = lines; are_lines = full_lines_within-are limit position bytes; count = count; is_ended = is_ended; first = e },
@@ -60,11 +60,11 @@ first_items-given limit (suc fuel) position bytes = at (is_too_long limit positi
   )
   found false count is_ended (Err fault) e ih = tt
 
-  at : (too_long : Bool) (f : Option FirstItem) → first_of (position.lines + 1) lines ≡ f → ((p : Position) (bs : List ℕ) → AreGiven (first_items (next_item limit) fuel p bs).items) →
-      AreGiven (followed (first_items (next_item limit) fuel) (from_first_item too_long f position bytes)).items
+  at : (too_long : Bool) (f : Option FirstItem) → first_of (position.lines + 1) lines ≡ f → ((p : Position) (bs : List ℕ) → AreWellFormed (first_items (next_item limit) fuel p bs).items) →
+      AreWellFormed (followed (first_items (next_item limit) fuel) (from_first_item too_long f position bytes)).items
   at true None e ih = tt
   at false None e ih = tt
   at too_long (Some f) e ih = found (too_long && not f.is_ended) f.count f.is_ended f.result e ih
 
-pub script_of-given : (input : List ℕ) → AreGiven (script_of input).items
+pub script_of-given : (input : List ℕ) → AreWellFormed (script_of input).items
 script_of-given input = first_items-given longest_input (length input + 1) start input

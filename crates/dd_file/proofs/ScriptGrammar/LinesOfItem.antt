@@ -7,7 +7,7 @@ use Rattle.ascii_text.specs.WhiteSpace.{is_blank}
 use Rattle.dd_file.specs.Parts.{up_to, suffix}
 use Rattle.dd_file.specs.DirectiveLine.{CommandText, command_of}
 use Rattle.dd_file.specs.Script.{FirstItem, first_item, first_of, directive_lines_of, joined, is_continued, is_comment, is_separator, begins_with_dashes, before_pair, has_pair, directive, after_pair, in_double, in_single, body, at_command, at_directive}
-use Rattle.dd_file.specs.Laws.{is_line, IsGiven}
+use Rattle.dd_file.specs.Laws.{is_line, IsWellFormed}
 use Rattle.dd_file.specs.declared.item.Item.{Item}
 use Rattle.dd_file.specs.declared.item.Item.TheVariants.{Comment, Blank}
 use Rattle.dd_file.specs.declared.fault.FileFault.{FileFault}
@@ -143,5 +143,5 @@ first_of-item n count is_ended (line ∷ lines) item are is = at (is_comment lin
   at false true ec ed h e = subst ReadItem (item-is _ item _ _ (count, is_ended, ap (front_or (first_item (Ok item) 0 true)) e)) (ReadBlank line h ec ed)
   at false false ec ed h e = headed-item n line lines item are ec ed (count, is_ended, ap (front_or (first_item (Ok item) 0 true)) e)
 
-pub given-read : (item : Item) → IsGiven item → ReadItem item
+pub given-read : (item : Item) → IsWellFormed item → ReadItem item
 given-read item given = first_of-item given.number given.count given.is_ended given.lines item given.are_lines given.first

@@ -6,7 +6,7 @@ use Rattle.std.proofs.lemmas.List.Elements.{filter-append}
 use Rattle.std.proofs.Math.Seq.{take-append-add}
 use Rattle.ascii_text.specs.Lines.{newline, full_lines, before_first_line, is_whole}
 use Rattle.dd_file.specs.Position.{Position}
-use Rattle.dd_file.specs.Reading.{is_too_long, full_lines_within}
+use Rattle.dd_file.specs.Grammar.{is_too_long, full_lines_within}
 
 -- nothing, or a text whose last byte is a newline
 abbrev pub is_whole_text : List ℕ → Bool

@@ -2,10 +2,10 @@
 use ascii_text::lines::{first_line_len, is_whole, line_of, next_full_line, without_end};
 use ascii_text::number::read_number;
 use ascii_text::position::{far_position_of, position_of};
+use ascii_text::tokens::next_token;
 use ascii_text::white_space::{
     is_blank, is_space, trimmed, without_leading_space, without_trailing_space,
 };
-use ascii_text::words::next_token;
 
 static BYTES: [(u8, bool); 11] = [
     (8, false),
@@ -49,7 +49,7 @@ fn takes_white_space_off_the_ends(rt: HostRuntime) {
     }
 }
 
-static WORDS: [(&[u8], Option<(&[u8], &[u8])>); 5] = [
+static TOKENS_OF_STEPS: [(&[u8], Option<(&[u8], &[u8])>); 5] = [
     (b"", None),
     (b" \t\n\x0b\x0c\r", None),
     (b"v1", Some((b"v1", b""))),
@@ -58,8 +58,8 @@ static WORDS: [(&[u8], Option<(&[u8], &[u8])>); 5] = [
 ];
 
 #[test]
-fn finds_the_first_word(rt: HostRuntime) {
-    for (index, (text, expected)) in WORDS.iter().enumerate() {
+fn finds_the_first_token(rt: HostRuntime) {
+    for (index, (text, expected)) in TOKENS_OF_STEPS.iter().enumerate() {
         assert!(rt; next_token(*text) == *expected, "row {index}");
     }
 }
@@ -81,7 +81,7 @@ fn cuts_texts_behind_newlines(rt: HostRuntime) {
 }
 
 #[test]
-fn finds_the_place_of_a_byte(rt: HostRuntime) {
+fn finds_the_position_of_a_byte(rt: HostRuntime) {
     assert!(rt; position_of(b"a] b]", b']') == 1);
     assert!(rt; position_of(b"a", b']') == 1);
     assert!(rt; position_of(b"", b']') == 0);

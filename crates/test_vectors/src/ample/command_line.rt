@@ -153,7 +153,7 @@ fn asks_for(
 }
 
 #[test]
-fn takes_words(rt: HostRuntime) {
+fn accepts_arguments(rt: HostRuntime) {
     for (words, mode, file, history) in &ACCEPTED {
         assert!(rt;
             asks_for(&rt, *words, *mode, *history, 1, *file),
@@ -163,7 +163,7 @@ fn takes_words(rt: HostRuntime) {
 }
 
 #[test]
-fn takes_words_to_undo(rt: HostRuntime) {
+fn accepts_arguments_of_undo(rt: HostRuntime) {
     for (words, file, history, steps) in &UNDOING {
         assert!(rt;
             asks_for(&rt, *words, Mode::Undo, *history, *steps, *file),
@@ -260,7 +260,7 @@ fn asks_for_plan(
 }
 
 #[test]
-fn takes_words_to_plan(rt: HostRuntime) {
+fn accepts_arguments_of_plan(rt: HostRuntime) {
     for (words, strategy, output, down) in &PLANNING {
         assert!(rt;
             asks_for_plan(&rt, *words, *strategy, *output, *down),
@@ -291,7 +291,7 @@ fn status_of(rt: &impl Runtime, words: &[&str]) -> Option<i32> {
 }
 
 #[test]
-fn refuses_words(rt: HostRuntime) {
+fn refuses_arguments(rt: HostRuntime) {
     for (words, status) in &REFUSED {
         assert!(rt; status_of(&rt, *words) == Some(*status), "of {words:?}");
     }

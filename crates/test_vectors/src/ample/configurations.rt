@@ -67,7 +67,7 @@ static CHECKED: [(Sets, bool, Result<(), Invariant>, Option<Violation>); 9] = [
 ];
 
 #[test]
-fn tells_what_is_broken(rt: HostRuntime) {
+fn reports_the_first_violation(rt: HostRuntime) {
     for (sets, auto_leave, want, violation) in &CHECKED {
         let config = config_of(&rt, *sets, *auto_leave);
         assert!(rt; check(&config) == *want, "{want:?}");
@@ -103,6 +103,6 @@ fn equals_only_itself(rt: &impl Runtime) -> bool {
 }
 
 #[test]
-fn tells_equal_configurations(rt: HostRuntime) {
+fn compares_configurations(rt: HostRuntime) {
     assert!(rt; equals_only_itself(&rt));
 }

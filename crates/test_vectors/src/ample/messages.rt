@@ -26,7 +26,7 @@ fn equals_only_itself<T: PartialEq>(rows: &[(T, &str)], index: usize, value: &T)
 }
 
 // Whether each value is printed as its message, and equals only itself.
-fn are_told<T: Display + PartialEq>(rt: &impl Runtime, rows: &[(T, &str)]) -> bool {
+fn have_texts<T: Display + PartialEq>(rt: &impl Runtime, rows: &[(T, &str)]) -> bool {
     let mut is_so = true;
     for (index, (value, message)) in rows.iter().enumerate() {
         is_so &= shows(rt, value, *message) & equals_only_itself(rows, index, value);
@@ -78,9 +78,9 @@ static INVARIANTS: [(Invariant, &str); 6] = [
 
 #[test]
 fn sets_and_changes(rt: HostRuntime) {
-    assert!(rt; are_told(&rt, &[(NoMemory, NO_MEMORY)]));
-    assert!(rt; are_told(&rt, &REFUSALS));
-    assert!(rt; are_told(&rt, &INVARIANTS));
+    assert!(rt; have_texts(&rt, &[(NoMemory, NO_MEMORY)]));
+    assert!(rt; have_texts(&rt, &REFUSALS));
+    assert!(rt; have_texts(&rt, &INVARIANTS));
 }
 
 static TOKENS: [(TokenFault<'_>, &str); 5] = [
@@ -133,11 +133,11 @@ static VIOLATIONS: [(Violation, &str); 7] = [
 
 #[test]
 fn texts_of_changes(rt: HostRuntime) {
-    assert!(rt; are_told(&rt, &TOKENS));
-    assert!(rt; are_told(&rt, &LINES));
-    assert!(rt; are_told(&rt, &RESTORED));
-    assert!(rt; are_told(&rt, &ACKNOWLEDGED));
-    assert!(rt; are_told(&rt, &VIOLATIONS));
+    assert!(rt; have_texts(&rt, &TOKENS));
+    assert!(rt; have_texts(&rt, &LINES));
+    assert!(rt; have_texts(&rt, &RESTORED));
+    assert!(rt; have_texts(&rt, &ACKNOWLEDGED));
+    assert!(rt; have_texts(&rt, &VIOLATIONS));
 }
 
 static NO_PLANS: [(PlanFault, &str); 3] = [
@@ -192,10 +192,10 @@ static PLAN_TEXTS: [(PlanTextFault, &str); 4] = [
 
 #[test]
 fn plans(rt: HostRuntime) {
-    assert!(rt; are_told(&rt, &NO_PLANS));
-    assert!(rt; are_told(&rt, &NO_PATHS));
-    assert!(rt; are_told(&rt, &STOPS));
-    assert!(rt; are_told(&rt, &PLAN_TEXTS));
+    assert!(rt; have_texts(&rt, &NO_PLANS));
+    assert!(rt; have_texts(&rt, &NO_PATHS));
+    assert!(rt; have_texts(&rt, &STOPS));
+    assert!(rt; have_texts(&rt, &PLAN_TEXTS));
 }
 
 static FILES: [(FileFault, &str); 7] = [
@@ -216,9 +216,9 @@ static FILES: [(FileFault, &str); 7] = [
 
 #[test]
 fn files(rt: HostRuntime) {
-    assert!(rt; are_told(&rt, &FILES));
-    assert!(rt; are_told(&rt, &[(DeviceFault, "device fault")]));
-    assert!(rt; are_told(&rt, &[(WriteFault, "cannot write")]));
+    assert!(rt; have_texts(&rt, &FILES));
+    assert!(rt; have_texts(&rt, &[(DeviceFault, "device fault")]));
+    assert!(rt; have_texts(&rt, &[(WriteFault, "cannot write")]));
 }
 
 const BAD_LINE: &str =
@@ -292,7 +292,7 @@ static UNDONE: [(UndoFault, &str); 4] = [
 
 #[test]
 fn sessions_and_runs(rt: HostRuntime) {
-    assert!(rt; are_told(&rt, &UNDONE));
-    assert!(rt; are_told(&rt, &CONFIGURATIONS));
-    assert!(rt; are_told(&rt, &RUNS));
+    assert!(rt; have_texts(&rt, &UNDONE));
+    assert!(rt; have_texts(&rt, &CONFIGURATIONS));
+    assert!(rt; have_texts(&rt, &RUNS));
 }

@@ -300,7 +300,7 @@ fn reads_items(rt: HostRuntime) {
 }
 
 // The next item, printed with an h before it if it was buffered; nothing at the end.
-fn show_held_item<R: Source>(
+fn show_buffered_item<R: Source>(
     rt: &impl Runtime,
     shown: &mut Vec<u8>,
     reader: &mut Reader,
@@ -320,28 +320,28 @@ fn show_held_item<R: Source>(
 }
 
 // A script, and its items as they are printed if the first read gives all of it.
-const HELD_SCRIPT: &[u8] = b"# a\nb\n\n----\n1\n\n\nc\n----\n2\n";
+const BUFFERED_SCRIPT: &[u8] = b"# a\nb\n\n----\n1\n\n\nc\n----\n2\n";
 
 const BUFFERED_ITEMS: &[u8] = b"lines:<# a>|h2:b//1\n|hlines:<>|8:c//2\n|";
 
 #[test]
-fn tells_items_in_hand(rt: HostRuntime) {
-    let mut source = FromRead::new(HELD_SCRIPT);
+fn reads_buffered_items(rt: HostRuntime) {
+    let mut source = FromRead::new(BUFFERED_SCRIPT);
     let mut reader = Reader::new(rt.alloc()).expect(&rt, "a reader");
     let mut shown = Vec::new(rt.alloc());
     for _ in 0..9 {
-        let _item = show_held_item(&rt, &mut shown, &mut reader, &mut source);
+        let _item = show_buffered_item(&rt, &mut shown, &mut reader, &mut source);
     }
     assert!(rt; shown.as_slice() == BUFFERED_ITEMS);
 }
 
 #[test]
 fn reads_into_items_that_are_given_back(rt: HostRuntime) {
-    let mut source = FromRead::new(HELD_SCRIPT);
+    let mut source = FromRead::new(BUFFERED_SCRIPT);
     let mut reader = Reader::new(rt.alloc()).expect(&rt, "a reader");
     let mut shown = Vec::new(rt.alloc());
     for _ in 0..9 {
-        if let Some(item) = show_held_item(&rt, &mut shown, &mut reader, &mut source) {
+        if let Some(item) = show_buffered_item(&rt, &mut shown, &mut reader, &mut source) {
             reader.reuse(item);
         }
     }

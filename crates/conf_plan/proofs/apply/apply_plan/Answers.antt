@@ -31,8 +31,8 @@ all_taken old now plan place n is past taken =
 pub returns-clause-sound : goal.returns-clause-sound
 returns-clause-sound g c = takes-is_sound _ _ _ c.tracker-tracker.ensures.sound c.loop-index.invariant
 
-pub returns-clause-spared : goal.returns-clause-spared
-returns-clause-spared g c = λ id spares.
+pub returns-clause-preserved : goal.returns-clause-preserved
+returns-clause-preserved g c = λ id spares.
     takes-keep _ _ c.args.plan.now _ id c.tracker-tracker.ensures.sound
     (all_taken _ _ c.args.plan.now c.loop-index.index _ c.len-index-end.ensures.len c.loop-index-test.false c.loop-index.invariant) spares
 

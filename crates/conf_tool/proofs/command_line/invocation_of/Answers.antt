@@ -14,9 +14,9 @@ abbrev mode-of-name : Option Text → Mode
 mode-of-name None = Lines
 mode-of-name (Some name) = mode_named name
 
-asked-mode-of-name : (found : Option (Text × List Row)) → mode-of-name (option_map (λ p. p.0) found) ≡ asked_mode found
+asked-mode-of-name : (matches : Option (Text × List Row)) → mode-of-name (option_map (λ p. p.0) matches) ≡ asked_mode matches
 asked-mode-of-name None = refl
-asked-mode-of-name (Some found) = refl
+asked-mode-of-name (Some matches) = refl
 
 name-in-rows : (m : ArgMatches) → subcommand_name_of m ≡ option_map (λ p. p.0) (subcommand_rows_of m)
 name-in-rows m = elim (out-ArgMatches m).subcommand as (λ s. option_map (λ b. (out-SubCommand (box_value b)).name.now) s ≡ option_map (λ p. p.0) (subcommand_rows s)) [ None ↦ refl | Some b ↦ refl ]

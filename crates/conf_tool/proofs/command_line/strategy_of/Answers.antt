@@ -7,12 +7,12 @@ use Rattle.conf_tool.proofs.command_line.strategy_of.Goals as goal
 
 pub returns-in-Some : goal.returns-in-Some
 returns-in-Some c =
-    let text_is : first_of (codes "strategy") (rows_of (found_of c.args.found.now)) ≡ Some c.in-Some.text.now =
-    sym (first_value-rows (found_of c.args.found.now) (codes "strategy")) ∙ sym c.get_str.ensures ∙ ap (option_map (λ s. s.now)) c.in-Some.is in
+    let text_is : first_of (codes "strategy") (rows_of (found_of c.args.matches.now)) ≡ Some c.in-Some.text.now =
+    sym (first_value-rows (found_of c.args.matches.now) (codes "strategy")) ∙ sym c.get_str.ensures ∙ ap (option_map (λ s. s.now)) c.in-Some.is in
     c.strategy_named.ensures ∙ sym (ap asked_strategy text_is)
 
 pub returns-in-None : goal.returns-in-None
 returns-in-None c =
-    let text_is : first_of (codes "strategy") (rows_of (found_of c.args.found.now)) ≡ None =
-    sym (first_value-rows (found_of c.args.found.now) (codes "strategy")) ∙ sym c.get_str.ensures ∙ ap (option_map (λ s. s.now)) c.in-None.is in
+    let text_is : first_of (codes "strategy") (rows_of (found_of c.args.matches.now)) ≡ None =
+    sym (first_value-rows (found_of c.args.matches.now) (codes "strategy")) ∙ sym c.get_str.ensures ∙ ap (option_map (λ s. s.now)) c.in-None.is in
     sym (ap asked_strategy text_is)

@@ -7,5 +7,5 @@ use Rattle.conf_tool.proofs.laws.undo_script_leads_back.Goals as goal
 
 pub returns : goal.returns
 returns c =
-    undo_script-leads_back c.written_script.ensures c.directive_is_given.ensures c.found_text_stands.ensures c.answers_keep_session.ensures.from_new c.undo_plan_leads_back.ensures
+    undo_script-leads_back c.written_script.ensures c.directive_is_well_formed.ensures c.actual_output_is_valid.ensures c.answers_keep_session.ensures.from_new c.undo_plan_leads_back.ensures
     (λ step small. (c.one_list_per_text.ensures.ok (join_with_byte 32 (map change_text (changes_of step))) (changes_of step)).0 (c.one_plan_per_text.ensures.changes step small))

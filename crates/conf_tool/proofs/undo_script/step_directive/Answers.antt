@@ -22,7 +22,7 @@ returns c =
     let line : c.in_ok-line.line.items ≡ step_line step = c.in_ok-line.ensures.items ∙ c.command_text.ensures in
     let input : map vec_items c.in_ok-input.input.items ≡ change_lines (changes_of step) = c.in_ok-input.ensures ∙ ap change_lines c.changes.ensures in
     let D : List ℕ → List (List ℕ) → Option CommandText → Option Item = λ l i k. option_map (λ command. directive 1 command (l ∷ []) i []) k in
-    let found : Some c.in-Some.item ≡ Some (step_directive step) =
+    let actual : Some c.in-Some.item ≡ Some (step_directive step) =
     sym c.in-Some.is ∙ c.in_ok-item.ensures ∙ ap (λ l. D l (map vec_items c.as_slice.result.now) (command_of l)) line
     ∙ ap (λ i. D (step_line step) i (command_of (step_line step))) (ap (map vec_items) c.as_slice.ensures.value ∙ input) ∙ ap (D (step_line step) (change_lines (changes_of step))) (says-command step) in
     cc

@@ -1,7 +1,7 @@
 use Rattle.std.proofs.Common.{◌≡◌, ◌-◌, ◌∙◌, length, sym, arith}
 use Rattle.std.specs.Prelude.{Some, slice_get}
 use Rattle.std.proofs.lemmas.Option.{slice_get_within}
-use Rattle.dd_file.proofs.ItemReading.PhaseByPhase.{ends-last, ends-none}
+use Rattle.dd_file.proofs.ItemReading.StateByState.{ends-last, ends-none}
 use Rattle.dd_file.proofs.draft.ends_in_dashes.Goals as goal
 
 pub returns-in-Some : goal.returns-in-Some

@@ -1,4 +1,4 @@
-use Rattle.dd_file.specs.Reading.{script_of}
+use Rattle.dd_file.specs.Grammar.{script_of}
 use Rattle.dd_file.proofs.ScriptGrammar.GivenItems.{script_of-given}
 use Rattle.dd_file.proofs.DirectiveTokens.Keys.{items-keys}
 use Rattle.dd_file.proofs.laws.items_have_keys.Goals as goal

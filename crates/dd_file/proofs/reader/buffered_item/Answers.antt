@@ -1,13 +1,13 @@
 use Rattle.std.proofs.Common.{◌≡◌, ℕ, ◌+◌, false, drop, refl, sym, ap, subst, ◌∙◌}
 use Rattle.ascii_text.specs.Lines.{line_of, is_whole}
 use Rattle.dd_file.specs.Position.{longest_input}
-use Rattle.dd_file.specs.Reading.{next_item}
+use Rattle.dd_file.specs.Grammar.{next_item}
 use Rattle.dd_file.specs.ReaderState.{ReaderState}
 use Rattle.dd_file.specs.Answer.{ReadsOn, IsItemFault, fault_of}
 use Rattle.dd_file.specs.Buffered.{CanReadBuffered, is_item_buffered, passed}
 use Rattle.dd_file.specs.Draft.{DraftText, AddsIn, blank_draft, is_done}
 use Rattle.dd_file.proofs.Rewriting.KnownBytes.{rest-whole}
-use Rattle.dd_file.proofs.ItemReading.BufferedBytes.{Within, HeldSoFar, same-full_line, buffered-none, buffered-more, buffered-done, buffered-open}
+use Rattle.dd_file.proofs.ItemReading.BufferedBytes.{Within, BufferedSoFar, same-full_line, buffered-none, buffered-more, buffered-done, buffered-open}
 use Rattle.dd_file.proofs.reader.buffered_item.Goals as goal
 
 pub buffered-init : goal.buffered-init
@@ -15,7 +15,7 @@ buffered-init g c =
     let is = c.new-draft.ensures ∙ ap (λ n. blank_draft (n + 1)) c.count.ensures.count in
     record {
       so_far = buffered-none g.R.Source.remaining c.args.lines.now c.args.reader.now c.new-draft.result is c.requires.can_read c.requires.within;
-      open_end = ap (λ (d : DraftText). is_done d.phase) is;
+      open_end = ap (λ (d : DraftText). is_done d.state) is;
       same = refl;
     }
 
@@ -40,7 +40,7 @@ returns-in-Ok-true-clause-read g c =
     let rest = rest-whole c.buffered.taken c.buffered-in-buffered.result.now ∙ ap (drop c.buffered.taken) c.buffered-in-buffered.ensures in
     let full_line = same-full_line _ _ c.first_line_len-len.result refl c.first_line_len-len.ensures.count in
     let whole = ap is_whole (sym full_line) ∙ sym c.is_whole.ensures ∙ c.if-not-is_whole.false in
-    let adds = subst (λ l. AddsIn c.buffered.draft.phase c.buffered.draft c.add.new.self l) (c.line_of.ensures ∙ ap line_of full_line) c.in-Ok-true.ensures.added in
+    let adds = subst (λ l. AddsIn c.buffered.draft.state c.buffered.draft c.add.new.self l) (c.line_of.ensures ∙ ap line_of full_line) c.in-Ok-true.ensures.added in
     let so_far = buffered-more remaining has_failed lines reader c.buffered.draft c.add.new.self c.buffered.count c.buffered.taken _ can_read within loop.so_far rest whole adds in
     let taken = ap (λ n. passed lines (c.buffered.count + 1) (c.buffered.taken + n)) c.first_line_len-len.ensures.count in
     subst (λ (s : ReaderState). ReadsOn remaining has_failed (λ item. item) (next_item longest_input) IsItemFault s (record c.pass.new.self { fault = fault_of c.finish.result }) reader reader c.finish.result) loop.same
@@ -56,10 +56,10 @@ buffered-preserved g c =
     let rest = rest-whole c.buffered.taken c.buffered-in-buffered.result.now ∙ ap (drop c.buffered.taken) c.buffered-in-buffered.ensures in
     let full_line = same-full_line _ _ c.first_line_len-len.result refl c.first_line_len-len.ensures.count in
     let whole = ap is_whole (sym full_line) ∙ sym c.is_whole.ensures ∙ c.if-not-is_whole.false in
-    let adds = subst (λ l. AddsIn c.buffered.draft.phase c.buffered.draft c.add.new.self l) (c.line_of.ensures ∙ ap line_of full_line) c.in-Ok-false.ensures.added in
+    let adds = subst (λ l. AddsIn c.buffered.draft.state c.buffered.draft c.add.new.self l) (c.line_of.ensures ∙ ap line_of full_line) c.in-Ok-false.ensures.added in
     let so_far = buffered-more remaining g.R.Source.has_failed lines c.args.reader.now c.buffered.draft c.add.new.self c.buffered.count c.buffered.taken _ can_read within loop.so_far rest whole adds in
     record {
-      so_far = subst (λ (n : ℕ). HeldSoFar remaining lines c.args.reader.now c.add.new.self (c.buffered.count + 1) (c.buffered.taken + n)) (sym c.first_line_len-len.ensures.count) so_far;
+      so_far = subst (λ (n : ℕ). BufferedSoFar remaining lines c.args.reader.now c.add.new.self (c.buffered.count + 1) (c.buffered.taken + n)) (sym c.first_line_len-len.ensures.count) so_far;
       open_end = sym c.in-Ok-false.ensures.done ∙ c.in-Ok-false.field-0-test;
       same = loop.same;
     }

@@ -1,13 +1,13 @@
 use Rattle.std.proofs.Common.{◌≡◌, ◌-◌, false, length}
 use Rattle.dd_file.specs.Draft.{is_done}
-use Rattle.dd_file.proofs.ItemReading.BufferedBytes.{HeldSoFar}
+use Rattle.dd_file.proofs.ItemReading.BufferedBytes.{BufferedSoFar}
 use Rattle.dd_file.proofs.reader.buffered_item.Given as goal
 
 -- the lines so far are the item's, and more of them come; nothing was given out yet
 abbrev pub invariant-buffered : goal.invariant-buffered
 invariant-buffered g l = record {
-  so_far : HeldSoFar g.R.Source.remaining l.lines l.reader l.draft l.count l.taken;
-  open_end : is_done l.draft.phase ≡ false;
+  so_far : BufferedSoFar g.R.Source.remaining l.lines l.reader l.draft l.count l.taken;
+  open_end : is_done l.draft.state ≡ false;
   same : l.lines ≡ l.fn.lines;
 }
 

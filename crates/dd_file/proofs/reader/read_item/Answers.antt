@@ -8,7 +8,7 @@ read-init g c =
     let is = c.new-draft.ensures ∙ ap (λ n. blank_draft (n + 1)) c.count.ensures.count in
     record {
       reading = reading-none g.R.Source.remaining c.args.lines.now c.args.reader.now c.new-draft.result is c.requires.faultless c.count.ensures.limit;
-      open_end = ap (λ (d : DraftText). is_done d.phase) is;
+      open_end = ap (λ (d : DraftText). is_done d.state) is;
       sound = refl;
     }
 
@@ -18,7 +18,7 @@ read-preserved g c =
     let loop = c.read.invariant in
     record {
       reading = reading-more g.R.Source.remaining g.R.Source.has_failed (λ (l : List ℕ). l) c.args.lines.now c.read.lines c.next.new.self c.args.reader.now c.read.reader c.next.new.reader c.read.draft c.add.new.self c.in-Ok-Some.line
-          loop.reading read (subst (λ l. AddsIn c.read.draft.phase c.read.draft c.add.new.self l) c.as_slice.ensures c.in-Ok-false.ensures.added);
+          loop.reading read (subst (λ l. AddsIn c.read.draft.state c.read.draft c.add.new.self l) c.as_slice.ensures c.in-Ok-false.ensures.added);
       open_end = sym c.in-Ok-false.ensures.done ∙ c.in-Ok-false.field-0-test;
       sound = read.read loop.reading.faultless ∙ sym (or-false (g.R.Source.has_failed c.read.reader)) ∙ loop.sound;
     }
@@ -33,7 +33,7 @@ returns-in-Ok-true-clause-reads g c =
     let read = rw c.in-Ok-Some.field-0-is at c.in-Ok-Some.ensures in
     let loop = c.read.invariant in
     let reading = reading-more g.R.Source.remaining g.R.Source.has_failed (λ (l : List ℕ). l) c.args.lines.now c.read.lines c.next.new.self c.args.reader.now c.read.reader c.next.new.reader c.read.draft c.add.new.self c.in-Ok-Some.line
-    loop.reading read (subst (λ l. AddsIn c.read.draft.phase c.read.draft c.add.new.self l) c.as_slice.ensures c.in-Ok-true.ensures.added) in
+    loop.reading read (subst (λ l. AddsIn c.read.draft.state c.read.draft c.add.new.self l) c.as_slice.ensures c.in-Ok-true.ensures.added) in
     done-reads g.R.Source.remaining g.R.Source.has_failed c.args.lines.now c.next.new.self c.args.reader.now c.next.new.reader c.add.new.self c.finish.result c.requires.faultless c.requires.unended reading
     (sym c.in-Ok-true.ensures.done ∙ c.in-Ok-true.field-0-test) read.lookahead (read.read loop.reading.faultless ∙ sym (or-false (g.R.Source.has_failed c.read.reader)) ∙ loop.sound) c.finish.ensures.found c.finish.ensures.kind
 

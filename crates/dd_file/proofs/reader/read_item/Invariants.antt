@@ -8,7 +8,7 @@ use Rattle.dd_file.proofs.reader.read_item.Given as goal
 abbrev pub invariant-read : goal.invariant-read
 invariant-read g l = record {
   reading : ReadingItem g.R.Source.remaining l.fn.lines l.lines l.fn.reader l.reader l.draft;
-  open_end : is_done l.draft.phase ≡ false;
+  open_end : is_done l.draft.state ≡ false;
   sound : g.R.Source.has_failed l.reader ≡ g.R.Source.has_failed l.fn.reader;
 }
 

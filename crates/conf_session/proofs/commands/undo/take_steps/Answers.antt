@@ -9,15 +9,15 @@ use Rattle.conf_session.specs.SessionState.{Undone}
 use Rattle.conf_session.specs.Undo.{undone_by}
 use Rattle.conf_session.proofs.commands.undo.take_steps.Goals as goal
 
-pub returns-in_ok-found-in-Ok : goal.returns-in_ok-found-in-Ok
-returns-in_ok-found-in-Ok c =
+pub returns-in_ok-actual-in-Ok : goal.returns-in_ok-actual-in-Ok
+returns-in_ok-actual-in-Ok c =
     let steps = c.args.plan.now in
     let changer = c.args.session.now.changer in
     let after = c.apply_plan.new.changer in
     let copied : c.in_ok-next.field-0 ≡ changer = c.in_ok-next.ensures.same ∙ c.changer.ensures.changer in
     let there : after_steps changer steps ≡ Some after =
     ap (λ (before : ChangerState). after_steps before steps) (sym copied) ∙ (c.one_changer_after_steps.ensures.taken c.in_ok-next.field-0 after steps).0 c.in-Ok.ensures.taken in
-    let reply : List ℕ → Reply = λ found. record { found = found; effect = Undone after c.args.count } in
+    let reply : List ℕ → Reply = λ actual. record { actual = actual; effect = Undone after c.args.count } in
     ap (reply_in changer after) c.new.ensures
-    ∙ ap reply (c.in_ok-found-in-Ok.ensures ∙ ap (λ tracker. plan_text steps ++ tracker_text tracker) c.tracker.ensures.tracker)
+    ∙ ap reply (c.in_ok-actual-in-Ok.ensures ∙ ap (λ tracker. plan_text steps ++ tracker_text tracker) c.tracker.ensures.tracker)
     ∙ sym (ap (λ o. undone_by (unwrap_or o changer) c.args.count steps) there)

@@ -28,4 +28,4 @@ returns c =
     let text = vote_text (joint_vote_result (voters_named v) (values_by_id (ids_named v) v.votes)) in
     let same : vote_text (joint_vote_result (pair q.incoming q.outgoing) (map_of q.values)) ≡ vote_reply v =
     (λ i. vote_text (joint_vote_result (pair (left i) (right i)) (map i))) ∙ sym (ap (λ b. cond b text (codes "wrong number of values")) one) in
-    IfOk-weaker c.vote_line.result _ _ (λ found is. is ∙ ap line same) c.vote_line.ensures
+    IfOk-weaker c.vote_line.result _ _ (λ actual is. is ∙ ap line same) c.vote_line.ensures

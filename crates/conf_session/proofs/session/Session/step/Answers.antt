@@ -9,5 +9,5 @@ apply-requires c =
     let state = c.self.inside.state in
     let After : Reply → Type 0 = λ reply. IsSession (after_directive state reply.effect) in
     let Parts : Effect → Type 0 = λ effect. IsSession (after_directive state (session_change state.changer c.run_directive.new.buffers.next effect)) in
-    subst Parts (sym c.into_parts-found.ensures.effect)
+    subst Parts (sym c.into_parts-actual.ensures.effect)
     (subst After (sym c.in_ok-reply.ensures.reply) (c.answer_keeps_session.ensures state c.args.directive.now c.is_session.ensures))

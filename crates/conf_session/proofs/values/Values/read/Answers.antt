@@ -14,9 +14,9 @@ returns-then-has_key-clause-bad c =
     let a = c.index-arguments-index.result in
     let parameters = c.args.parameters.now in
     let here : slice_get args i ≡ Some a = slice_get-get_or args i a c.loop-index-test.true ∙ ap Some (sym c.index-arguments-index.is) in
-    let found : c.has_key.result ≡ has_key (take i args) a.key = c.has_key.ensures ∙ ap (has_key (take i args)) c.key.ensures in
+    let actual : c.has_key.result ≡ has_key (take i args) a.key = c.has_key.ensures ∙ ap (has_key (take i args)) c.key.ensures in
     let bad : is_good parameters (take i args) a ≡ false = elim c.then-has_key.branch [
-      | then-has_key-via-then-has_key w ↦ ap (λ b. is_allowed parameters a && not b) (sym found ∙ w.if-has_key.true) ∙ and-false (is_allowed parameters a)
+      | then-has_key-via-then-has_key w ↦ ap (λ b. is_allowed parameters a && not b) (sym actual ∙ w.if-has_key.true) ∙ and-false (is_allowed parameters a)
       | then-has_key-via-else-has_key+in_ok-take+then-not-branch w ↦ ap (λ b. b && not (has_key (take i args) a.key)) (sym w.in_ok-take.ensures.allowed ∙ w.if-not-branch.true)
     ] in
     ap Some c.key-then-has_key.ensures ∙ bad-here parameters args i a here c.loop-index.invariant.0 bad

@@ -1,7 +1,7 @@
 use Rattle.std.proofs.Common.{◌≡◌, ◌≤◌, ◌-◌, ℕ, List, []}
 use Rattle.std.specs.Prelude.{Option}
 use Rattle.dd_file.specs.Position.{longest_input}
-use Rattle.dd_file.specs.Reading.{Script}
+use Rattle.dd_file.specs.Grammar.{Script}
 use Rattle.conf_tool.specs.Outputs.{Output}
 use Rattle.conf_tool.proofs.ModeInput.PlaceReached.{Reached}
 use Rattle.conf_tool.proofs.run.part_by_part.run_by_part.Given as goal
@@ -14,14 +14,14 @@ invariant-each g l =
     let mode = g.M.PartByPart in
     record {
       parts : List g.row.P.Denot;
-      reached : Reached g.S.Parts.coming (remaining l.fn.reader) (remaining l.reader) (g.S.Parts.reading l.parts) parts;
-      answered : (total : Script g.row.P.Denot → Output) → ((held : Option (List ℕ)) → mode.HasAnswered l.fn.mode total [] held held) →
+      reached : Reached g.S.Parts.coming (remaining l.fn.reader) (remaining l.reader) (g.S.Parts.reader_state l.parts) parts;
+      answered : (total : Script g.row.P.Denot → Output) → ((buffered : Option (List ℕ)) → mode.HasAnswered l.fn.mode total [] buffered buffered) →
           mode.HasAnswered l.mode total parts (contents l.fn.writer) (contents l.writer);
-      counted : (g.S.Parts.reading l.parts).position.lines ≤ longest_input;
+      counted : (g.S.Parts.reader_state l.parts).position.lines ≤ longest_input;
       unread : g.R.Source.has_failed l.reader ≡ g.R.Source.has_failed l.fn.reader;
       unwritten : g.W.Sink.has_failed l.writer ≡ g.W.Sink.has_failed l.fn.writer;
     }
 
 -- an input has only so many lines, and each part has one
 abbrev pub decreases-each : goal.decreases-each
-decreases-each g l = longest_input - (g.S.Parts.reading l.parts).position.lines
+decreases-each g l = longest_input - (g.S.Parts.reader_state l.parts).position.lines

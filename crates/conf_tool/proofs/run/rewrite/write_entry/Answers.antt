@@ -14,12 +14,12 @@ pub returns-in-Directive-clause-written : goal.returns-in-Directive-clause-writt
 returns-in-Directive-clause-written g c =
     ok-by c.found_without_blanks.result
     (λ h. subst (λ t. Continues c.args.rewriter.now.newlines c.found_without_blanks.new.self.newlines (g.W.Sink.contents c.args.writer.now) (g.W.Sink.contents c.found_without_blanks.new.writer) t)
-    (sym (entry_text-directive c.args.item.now _ c.args.found.now c.in-Directive.is)) (continues-append _ _ _ _ _ _ _ _ c.in_ok-keep.ensures.written h))
+    (sym (entry_text-directive c.args.item.now _ c.args.actual.now c.in-Directive.is)) (continues-append _ _ _ _ _ _ _ _ c.in_ok-keep.ensures.written h))
     c.found_without_blanks.ensures.written
 
 pub returns-in-Directive-clause-part : goal.returns-in-Directive-clause-part
 returns-in-Directive-clause-part g c =
     err-by c.found_without_blanks.result
     (λ h. subst (λ t. BreaksOff c.args.rewriter.now.newlines (g.W.Sink.contents c.args.writer.now) (g.W.Sink.contents c.found_without_blanks.new.writer) t)
-    (sym (entry_text-directive c.args.item.now _ c.args.found.now c.in-Directive.is)) (breaks-second _ _ _ _ _ _ _ c.in_ok-keep.ensures.written h))
+    (sym (entry_text-directive c.args.item.now _ c.args.actual.now c.in-Directive.is)) (breaks-second _ _ _ _ _ _ _ c.in_ok-keep.ensures.written h))
     c.found_without_blanks.ensures.part

@@ -2,8 +2,8 @@ use Rattle.std.proofs.Common.{arith, ◌≡◌, ◌&&◌, ◌-◌, ◌∷◌, []
 use Rattle.std.proofs.lemmas.Grind.{common_steps}
 use Rattle.dd_file.specs.Script.{is_dashes}
 use Rattle.dd_file.specs.Draft.{DraftText, counted, ends_in_dashes}
-use Rattle.dd_file.specs.declared.phase.Phase.TheVariants.{Pair, Double}
-use Rattle.dd_file.proofs.ItemReading.PhaseByPhase.{adds-pair, adds-expected, dashes-some, last-split}
+use Rattle.dd_file.specs.declared.draft_state.DraftState.TheVariants.{Pair, Double}
+use Rattle.dd_file.proofs.ItemReading.StateByState.{adds-pair, adds-expected, dashes-some, last-split}
 use Rattle.dd_file.proofs.draft.Draft.add_double.Goals as goal
 use Rattle.dd_file.proofs.draft.Draft.add_double.Goals.{else-is_dashes-via-then-is_dashes+else-ends_in_dashes, else-is_dashes-via-else-is_dashes}
 

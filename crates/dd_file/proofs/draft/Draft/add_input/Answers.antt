@@ -1,5 +1,5 @@
 use Rattle.std.proofs.Common.{refl, rules}
-use Rattle.dd_file.proofs.ItemReading.PhaseByPhase.{adds-separator}
+use Rattle.dd_file.proofs.ItemReading.StateByState.{adds-separator}
 use Rattle.dd_file.proofs.draft.Draft.add_input.Goals as goal
 
 pub returns-then-is_separator : goal.returns-then-is_separator

@@ -2,7 +2,7 @@ use Rattle.std.proofs.Common.{◌≡◌, true, take, List, ℕ, refl, sym, ap, s
 use Rattle.std.specs.Prelude.{Ok, Some}
 use Rattle.ascii_text.specs.Lines.{first_len, line_of, is_whole}
 use Rattle.dd_file.specs.Position.{longest_input}
-use Rattle.dd_file.specs.Reading.{next_line}
+use Rattle.dd_file.specs.Grammar.{next_line}
 use Rattle.dd_file.specs.ReaderState.{ReaderState}
 use Rattle.dd_file.specs.Buffered.{passed}
 use Rattle.dd_file.specs.Answer.{ReadsOn, IsLineFault}

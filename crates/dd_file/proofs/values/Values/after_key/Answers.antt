@@ -2,7 +2,7 @@ use Rattle.std.proofs.Common.{◌≡◌, ◌-◌, ℕ, List, true, [], ◌∷◌
 use Rattle.std.specs.Prelude.{is_some}
 use Rattle.ascii_text.specs.WhiteSpace.{trimmed}
 use Rattle.dd_file.specs.ArgumentValues.{has_values, values_after, values_left}
-use Rattle.dd_file.specs.DirectiveLine.{cut_at_commas, values_of}
+use Rattle.dd_file.specs.DirectiveLine.{split_at_commas, values_of}
 use Rattle.dd_file.proofs.DirectiveTokens.ListedValues.{values_of-list}
 use Rattle.dd_file.proofs.values.Values.after_key.Goals as goal
 use Rattle.dd_file.proofs.values.Values.after_key.Goals.{then-is_blank, else-is_blank}
@@ -17,7 +17,7 @@ returns c =
     let empty = c.is_blank.ensures in
     elim c.if-is_blank.branch [
       | then-is_blank w ↦
-          ap (λ left. values_left left rest) w.left-is ∙ sym (values ∙ ap (λ b. cond b [] (map trimmed (cut_at_commas rest))) (sym empty ∙ w.if-is_blank.true))
+          ap (λ left. values_left left rest) w.left-is ∙ sym (values ∙ ap (λ b. cond b [] (map trimmed (split_at_commas rest))) (sym empty ∙ w.if-is_blank.true))
       | else-is_blank w ↦
-          ap (λ left. values_left left rest) w.left-is ∙ sym (values ∙ ap (λ b. cond b [] (map trimmed (cut_at_commas rest))) (sym empty ∙ w.if-is_blank.false))
+          ap (λ left. values_left left rest) w.left-is ∙ sym (values ∙ ap (λ b. cond b [] (map trimmed (split_at_commas rest))) (sym empty ∙ w.if-is_blank.false))
     ]

@@ -1,13 +1,13 @@
 use Rattle.std.proofs.Common.{◌∙◌}
 use Rattle.std.proofs.lemmas.Result.{err_from_is_err_and}
-use Rattle.conf_tool.specs.AnsweredLaws.{wrote-front}
+use Rattle.conf_tool.specs.AnsweredLaws.{wrote-prefix}
 use Rattle.conf_tool.proofs.Modes.Check.{checked-part, checked-broken}
 use Rattle.conf_tool.proofs.run.check.CheckingPartByPartItem.answer.Goals as goal
 
 pub returns-in_err-check_item-clause-part : goal.returns-in_err-check_item-clause-part
 returns-in_err-check_item-clause-part g c =
     let p = err_from_is_err_and c.from_residual.result c.from_residual.ensures.1 in
-    rw p.1 (λ total parts more fault before checked. wrote-front total _ parts _ fault before _ checked.front)
+    rw p.1 (λ total parts more fault before checked. wrote-prefix total _ parts _ fault before _ checked.prefix)
 
 pub returns-in_err-write_all-clause-part : goal.returns-in_err-write_all-clause-part
 returns-in_err-write_all-clause-part g c =

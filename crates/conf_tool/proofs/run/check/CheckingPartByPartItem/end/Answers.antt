@@ -7,7 +7,7 @@ use Rattle.conf_tool.proofs.run.check.CheckingPartByPartItem.end.Goals as goal
 
 pub returns-in-Some-clause-output : goal.returns-in-Some-clause-output
 returns-in-Some-clause-output g c =
-    rw c.in-Some.is (λ total parts before checked. wrote-end total _ parts _ [] [] _ before _ _ checked.front refl refl (appends-nothing _))
+    rw c.in-Some.is (λ total parts before checked. wrote-end total _ parts _ [] [] _ before _ _ checked.prefix refl refl (appends-nothing _))
 
 pub returns-in_err-append_to-clause-output : goal.returns-in_err-append_to-clause-output
 returns-in_err-append_to-clause-output g c =

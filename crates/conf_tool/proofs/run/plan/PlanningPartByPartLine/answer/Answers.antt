@@ -1,6 +1,6 @@
 use Rattle.std.proofs.Common.{sym, ◌∙◌}
 use Rattle.std.proofs.lemmas.Result.{err_from_is_err_and}
-use Rattle.conf_tool.specs.AnsweredLaws.{wrote-front}
+use Rattle.conf_tool.specs.AnsweredLaws.{wrote-prefix}
 use Rattle.conf_tool.proofs.Modes.Plan.{on-ok, on-err, planned-passed, planned-first, planned-second, planned-broken, planned-stop}
 use Rattle.conf_tool.proofs.run.plan.PlanningPartByPartLine.answer.Goals as goal
 
@@ -11,7 +11,7 @@ returns-then-is_passed_over-clause-answered g c = λ total parts before planned.
 pub returns-in_err-config-clause-part : goal.returns-in_err-config-clause-part
 returns-in_err-config-clause-part g c =
     let p = err_from_is_err_and c.from_residual.result c.from_residual.ensures.1 in
-    rw p.1 (λ total parts more fault before planned. wrote-front total _ parts _ fault before _ planned.front)
+    rw p.1 (λ total parts more fault before planned. wrote-prefix total _ parts _ fault before _ planned.prefix)
 
 pub returns-in_err-config-clause-kinds : goal.returns-in_err-config-clause-kinds
 returns-in_err-config-clause-kinds g c =

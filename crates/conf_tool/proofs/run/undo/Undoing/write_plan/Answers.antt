@@ -2,7 +2,7 @@ use Rattle.std.proofs.Common.{◌∙◌, sym, subst}
 use Rattle.std.proofs.lemmas.Result.{err_from_is_err_and}
 use Rattle.quorum_sets.proofs.Offered.{slice_get-not_past}
 use Rattle.dd_file.specs.RewriterState.{Continues, BreaksOff}
-use Rattle.conf_tool.specs.Reports.{obeyed_text}
+use Rattle.conf_tool.specs.Reports.{answered_text}
 use Rattle.conf_tool.proofs.ModeInput.Faults.{or-false}
 use Rattle.conf_tool.proofs.Modes.Rewrite.{ok-by, err-by}
 use Rattle.conf_tool.proofs.Modes.Undo.{no-steps, steps-more, steps-stopped, steps-broken, steps-over}
@@ -13,14 +13,14 @@ pub returns-then-len-eq0-clause-written : goal.returns-then-len-eq0-clause-writt
 returns-then-len-eq0-clause-written g c =
     let none = sym c.len.ensures.len ∙ c.if-len-eq0.true in
     ok-by c.write_comment.result
-    (subst (λ items. Continues c.args.self.now.rewriter.newlines c.write_comment.new.self.rewriter.newlines (g.W.Sink.contents c.args.writer.now) (g.W.Sink.contents c.write_comment.new.writer) (obeyed_text c.args.self.now.session items))
+    (subst (λ items. Continues c.args.self.now.rewriter.newlines c.write_comment.new.self.rewriter.newlines (g.W.Sink.contents c.args.writer.now) (g.W.Sink.contents c.write_comment.new.writer) (answered_text c.args.self.now.session items))
     (sym (no-steps c.args.plan.now none))) c.write_comment.ensures.written
 
 pub returns-then-len-eq0-clause-part : goal.returns-then-len-eq0-clause-part
 returns-then-len-eq0-clause-part g c =
     let none = sym c.len.ensures.len ∙ c.if-len-eq0.true in
     err-by c.write_comment.result
-    (subst (λ items. BreaksOff c.args.self.now.rewriter.newlines (g.W.Sink.contents c.args.writer.now) (g.W.Sink.contents c.write_comment.new.writer) (obeyed_text c.args.self.now.session items))
+    (subst (λ items. BreaksOff c.args.self.now.rewriter.newlines (g.W.Sink.contents c.args.writer.now) (g.W.Sink.contents c.write_comment.new.writer) (answered_text c.args.self.now.session items))
     (sym (no-steps c.args.plan.now none))) c.write_comment.ensures.part
 
 pub loop-index-preserved : goal.loop-index-preserved

@@ -3,7 +3,7 @@ use Rattle.std.proofs.lemmas.Result.{err_from_is_err_and}
 use Rattle.dd_file.specs.RewriterState.{Continues, BreaksOff}
 use Rattle.dd_file.specs.declared.item.Item.{Item}
 use Rattle.conf_tool.specs.Outputs.{undo_status}
-use Rattle.conf_tool.specs.Reports.{obeyed_text}
+use Rattle.conf_tool.specs.Reports.{answered_text}
 use Rattle.conf_tool.specs.UndoScript.{comment, undo_items}
 use Rattle.conf_tool.proofs.run.undo.Undoing.write_undo.Goals as goal
 
@@ -20,7 +20,7 @@ returns-in_err-write_comment-in_default g c =
     rw (p.1, p.2, refused) (record {
       status = tt;
       written = tt;
-      part = subst (λ text. BreaksOff c.args.self.now.rewriter.newlines (g.W.Sink.contents c.args.writer.now) (g.W.Sink.contents c.write_comment.new.writer) (obeyed_text c.args.self.now.session (comment text ∷ [])))
+      part = subst (λ text. BreaksOff c.args.self.now.rewriter.newlines (g.W.Sink.contents c.args.writer.now) (g.W.Sink.contents c.write_comment.new.writer) (answered_text c.args.self.now.session (comment text ∷ [])))
           (c.as_slice.ensures.value ∙ c.in_ok-text-in_default.ensures) fault.part;
       stage = tt;
       write = fault.write;
@@ -33,7 +33,7 @@ returns-in_ok-write_comment-in_default g c =
     let wrote = c.in_ok-write_comment-in_default.ensures in
     record {
       status = sym (ap undo_status refused);
-      written = subst (λ (items : List Item). Continues c.args.self.now.rewriter.newlines c.write_comment.new.self.rewriter.newlines (g.W.Sink.contents c.args.writer.now) (g.W.Sink.contents c.write_comment.new.writer) (obeyed_text c.args.self.now.session items))
+      written = subst (λ (items : List Item). Continues c.args.self.now.rewriter.newlines c.write_comment.new.self.rewriter.newlines (g.W.Sink.contents c.args.writer.now) (g.W.Sink.contents c.write_comment.new.writer) (answered_text c.args.self.now.session items))
           (ap (λ text. comment text ∷ []) (c.as_slice.ensures.value ∙ c.in_ok-text-in_default.ensures) ∙ sym (ap undo_items refused)) wrote.written;
       part = tt;
       stage = wrote.stage;

@@ -1,0 +1,89 @@
+-- The words of a text, one by one.
+use Rattle.std.proofs.Common.{◌≡◌, ℕ, ◌+◌, ◌<◌, Bool, true, false, not, cond, ◌&&◌, List, [], ◌∷◌, ◌++◌, length, take, drop, get_or, filter, refl, sym, ap, ◌∙◌, arith, inl, inr}
+use Rattle.std.specs.List.{slice_split, onto_first, position_or_len, after_first}
+use Rattle.std.proofs.lemmas.Bool.{lt-ltb, cases_lt}
+use Rattle.std.proofs.lemmas.List.{append-nil, take_all, drop_all, drop_more, length-take}
+use Rattle.std.proofs.lemmas.List.Elements.{filter-append}
+use Rattle.std.proofs.lemmas.List.Sums.{prefix_len-le-length, fails_before_first, passes_at_first}
+use Rattle.std.proofs.lemmas.List.Splits.{slice_split_first, slice_split_none, length-slice_split}
+use Rattle.ascii_text.specs.WhiteSpace.{is_space, is_blank, without_leading_space, without_trailing_space}
+use Rattle.ascii_text.specs.Tokens.{has_bytes, tokens_in}
+use Rattle.ascii_text.proofs.WhiteSpace.{ends-tail}
+
+-- white space parts the words on its two sides
+onto_first-append : (b : ℕ) (ps qs : List (List ℕ)) → 0 < length ps → onto_first b (ps ++ qs) ≡ onto_first b ps ++ qs
+onto_first-append b [] qs h = absurd (omega (arith, h))
+onto_first-append b (p ∷ ps) qs h = refl
+
+split-at_space : (front : List ℕ) (b : ℕ) (back : List ℕ) → is_space b ≡ true → slice_split is_space (front ++ b ∷ back) ≡ slice_split is_space front ++ slice_split is_space back
+split-at_space [] b back h = ap (λ c. cond c ([] ∷ slice_split is_space back) (onto_first b (slice_split is_space back))) h
+split-at_space (x ∷ front) b back h =
+    ap (λ ps. cond (is_space x) ([] ∷ ps) (onto_first x ps)) (split-at_space front b back h) ∙ at (is_space x) where
+      at : (c : Bool) → cond c ([] ∷ (slice_split is_space front ++ slice_split is_space back)) (onto_first x (slice_split is_space front ++ slice_split is_space back))
+          ≡ cond c ([] ∷ slice_split is_space front) (onto_first x (slice_split is_space front)) ++ slice_split is_space back
+      at true = refl
+      at false = onto_first-append x (slice_split is_space front) (slice_split is_space back) (omega (arith, length-slice_split is_space front))
+
+pub tokens_in-at_space : (front : List ℕ) (b : ℕ) (back : List ℕ) → is_space b ≡ true → tokens_in (front ++ b ∷ back) ≡ tokens_in front ++ tokens_in back
+tokens_in-at_space front b back h = ap (filter has_bytes) (split-at_space front b back h) ∙ filter-append has_bytes (slice_split is_space front) (slice_split is_space back)
+
+tokens_in-blank : (bytes : List ℕ) → is_blank bytes ≡ true → tokens_in bytes ≡ []
+tokens_in-blank [] h = refl
+tokens_in-blank (b ∷ bs) h = at (is_space b) refl h (tokens_in-blank bs) where
+  at : (c : Bool) → is_space b ≡ c → (c && is_blank bs) ≡ true → (is_blank bs ≡ true → tokens_in bs ≡ []) → tokens_in (b ∷ bs) ≡ []
+  at true e k ih = tokens_in-at_space [] b bs e ∙ ih k
+  at false e k ih = cc
+
+tokens_in-before_blank : (front back : List ℕ) → is_blank back ≡ true → tokens_in (front ++ back) ≡ tokens_in front
+tokens_in-before_blank front [] h = ap tokens_in (append-nil front)
+tokens_in-before_blank front (b ∷ back) h = at (is_space b) refl h where
+  at : (c : Bool) → is_space b ≡ c → (c && is_blank back) ≡ true → tokens_in (front ++ b ∷ back) ≡ tokens_in front
+  at true e k = tokens_in-at_space front b back e ∙ ap (λ ws. tokens_in front ++ ws) (tokens_in-blank back k) ∙ append-nil (tokens_in front)
+  at false e k = cc
+
+-- so white space at the end changes no words
+pub tokens_in-ends : (bytes : List ℕ) → tokens_in bytes ≡ tokens_in (without_trailing_space bytes)
+tokens_in-ends bytes = let t = ends-tail bytes in ap tokens_in t.whole ∙ tokens_in-before_blank (without_trailing_space bytes) t.tail t.blank
+
+-- white space before the first word
+tokens_in-without_leading_space : (text : List ℕ) → tokens_in (without_leading_space text) ≡ tokens_in text
+tokens_in-without_leading_space [] = refl
+tokens_in-without_leading_space (b ∷ bs) = at (is_space b) refl (tokens_in-without_leading_space bs) where
+  at : (c : Bool) → is_space b ≡ c → tokens_in (without_leading_space bs) ≡ tokens_in bs → tokens_in (cond c (without_leading_space bs) (b ∷ bs)) ≡ tokens_in (b ∷ bs)
+  at true e ih = ih ∙ sym (tokens_in-at_space [] b bs e)
+  at false e ih = refl
+
+filter-cons_yes : (full_line : List ℕ) (full_lines : List (List ℕ)) → 0 < length full_line → filter has_bytes (full_line ∷ full_lines) ≡ full_line ∷ filter has_bytes full_lines
+filter-cons_yes full_line full_lines some = rw (lt-ltb 0 (length full_line) some) refl
+
+-- a first word stands before the first white space
+tokens_first : (text : List ℕ) → 0 < position_or_len is_space text → tokens_in text ≡ take (position_or_len is_space text) text ∷ tokens_in (drop (position_or_len is_space text) text)
+tokens_first text some =
+    let n = position_or_len is_space text in
+    elim (cases_lt n (length text)) [
+      | inl within ↦
+          let full_line : 0 < length (take n text) = omega (arith, length-take n text) in
+          let rest : tokens_in (drop n text) ≡ tokens_in (after_first is_space text) = ap tokens_in (drop_more text n 0 within) ∙ tokens_in-at_space [] (get_or text n 0) (drop (n + 1) text) (passes_at_first is_space text 0 within) in
+          ap (filter has_bytes) (slice_split_first is_space text 0 within) ∙ filter-cons_yes (take n text) (slice_split is_space (after_first is_space text)) full_line ∙ ap (λ others. take n text ∷ others) (sym rest)
+      | inr past ↦
+          let full_line : 0 < length text = omega (arith, prefix_len-le-length (λ b. not (is_space b)) text) in
+          rw (take_all n text past, drop_all n text past)
+          (ap (filter has_bytes) (slice_split_none is_space text (λ k d h. fails_before_first is_space text k d (omega arith))) ∙ filter-cons_yes text [] full_line)
+    ]
+
+-- a text without white space before it begins with another byte, or is empty
+empty_from_no_token : (text : List ℕ) → position_or_len is_space (without_leading_space text) ≡ 0 → without_leading_space text ≡ []
+empty_from_no_token [] none = refl
+empty_from_no_token (b ∷ bs) none = at (is_space b) refl (empty_from_no_token bs) none where
+  at : (c : Bool) → is_space b ≡ c → (position_or_len is_space (without_leading_space bs) ≡ 0 → without_leading_space bs ≡ []) →
+      position_or_len is_space (cond c (without_leading_space bs) (b ∷ bs)) ≡ 0 → cond c (without_leading_space bs) (b ∷ bs) ≡ []
+  at true e ih none = ih none
+  at false e ih none = let more : position_or_len is_space (b ∷ bs) ≡ 1 + position_or_len is_space bs = rw e refl in absurd (omega (arith, more, none))
+
+-- what stands up to the next white space, in a text without white space before it, is the first word; where that is empty, there is none
+pub tokens_in-none_at_front : (text : List ℕ) → position_or_len is_space (without_leading_space text) ≡ 0 → tokens_in text ≡ []
+tokens_in-none_at_front text none = sym (tokens_in-without_leading_space text) ∙ ap tokens_in (empty_from_no_token text none)
+
+pub tokens_in-at_front : (text token rest : List ℕ) (n : ℕ) → n ≡ position_or_len is_space (without_leading_space text) → token ≡ take n (without_leading_space text) → rest ≡ drop n (without_leading_space text) → 0 < n → tokens_in text ≡ token ∷ tokens_in rest
+tokens_in-at_front text token rest n n_is token_is rest_is some =
+    rw (token_is, rest_is, n_is) (sym (tokens_in-without_leading_space text) ∙ tokens_first (without_leading_space text) (omega arith))

@@ -1,5 +1,0 @@
-use Rattle.dd_file.proofs.ScriptGrammar.GivenItems.{script_of-given}
-use Rattle.dd_file.proofs.laws.items_are_given.Goals as goal
-
-pub returns : goal.returns
-returns c = script_of-given

@@ -1,0 +1,50 @@
+//! The states of an item while its lines are read.
+ghost use Rattle.std.specs.Prelude.{◌≡◌};
+ghost use Rattle.dd_file.specs.Draft.{is_done};
+
+use crate::command::Command;
+
+/// What an item is so far, which decides what its next line may be. After its directive lines, a directive has its command.
+#[derive(Drop)]
+pub(crate) enum DraftState {
+    /// It has no line yet.
+    Begin,
+    /// It is a comment.
+    CommentLine,
+    /// It is blank lines.
+    BlankLines,
+    /// It has directive lines so far, all of them continued.
+    DirectiveLines,
+    /// Its directive lines are not valid.
+    NoCommand,
+    /// Its directive lines are complete, and lines of its input come.
+    Input(Command),
+    /// The last line was the separator.
+    Separator(Command),
+    /// Lines of its expected output come, up to a blank one.
+    Single(Command),
+    /// Lines of its expected output come, up to a pair of dashes.
+    Double(Command),
+    /// The last two lines were the closing pair of dashes.
+    Pair(Command),
+    /// It is a directive with its expected output.
+    Complete(Command),
+    /// The line after the closing pair was not blank.
+    AfterPair,
+}
+
+impl DraftState {
+    /// Whether no further line belongs to the item.
+    pub(crate) fn is_done(&self) -> bool
+        ensures { result ≡ is_done self.now }
+    {
+        matches!(
+            self,
+            DraftState::CommentLine
+                | DraftState::BlankLines
+                | DraftState::NoCommand
+                | DraftState::Complete(_)
+                | DraftState::AfterPair
+        )
+    }
+}
