@@ -3,5 +3,5 @@
 pub mod Theorem
 pub mod FewestSteps
 pub mod FewestNames
-pub mod SparedMembers
+pub mod PreservedMembers
 pub mod PlainChanges

@@ -50,7 +50,7 @@ pub record IsPlain (change : Change) : Type 0 where
 pub record IsBest (now : Configuration) (steps : List Step) (target : Configuration) : Type 0 where
   pub run : IsRun now steps target
   pub shortest : (other : List Step) → IsRun now other target → length steps ≤ length other
-  pub sparing : (other : List Step) (id : ℕ) → Preserves now other target id → Preserves now steps target id
+  pub preserving : (other : List Step) (id : ℕ) → Preserves now other target id → Preserves now steps target id
   pub preserved : (id : ℕ) → (Preserves now steps target id) ↔ ((is_member now id && is_member target id && outlasts_leave now steps id) ≡ true)
   pub fewest : (other : List Step) (id : ℕ) → IsRun now other target → times_named id steps ≤ times_named id other
   pub plain : All (λ step. All IsPlain (changes_of step)) steps

@@ -30,7 +30,7 @@ pub fn apply_plan<S: MemberSet>(changer: &mut Changer<S>, plan: &Plan) -> Result
     ensures sound { IsSound changer.new.tracker }
     ensures reached { OnOk result ((target : Configuration) → IsRun changer.old.tracker.config plan.now target → changer.new.tracker.config ≡ target) }
     ensures preserved { OnOk result ((id : ℕ) → Preserves changer.old.tracker.config plan.now changer.new.tracker.config id → HasKeptProgress changer.old changer.new id) }
-    ensures sparing { OnOk result ((target : Configuration) (other : List Step) (id : ℕ) → plan.now ≡ planned changer.old.tracker.config target
+    ensures preserving { OnOk result ((target : Configuration) (other : List Step) (id : ℕ) → plan.now ≡ planned changer.old.tracker.config target
         → Preserves changer.old.tracker.config other target id → HasKeptProgress changer.old changer.new id) }
     ensures best { OnOk result ((target : Configuration) → plan.now ≡ planned changer.old.tracker.config target → IsValidWithVoter changer.old.tracker.config
         → IsValidWithVoter target → IsBest changer.old.tracker.config plan.now changer.new.tracker.config) }

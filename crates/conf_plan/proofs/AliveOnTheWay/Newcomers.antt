@@ -16,7 +16,7 @@ use Rattle.conf_change.proofs.Offered.{ValidByMember-from_is_valid, has-none_in_
 use Rattle.conf_plan.specs.LearnersFirst.{newcomers, learner_changes, with_learners}
 use Rattle.conf_plan.specs.Planned.{kind_by, kind_of_move, move_of, moves, single_with}
 use Rattle.conf_plan.specs.Run.{IsValidWithVoter, Gives}
-use Rattle.conf_plan.proofs.BestPlan.SparedMembers.{is_member-single_with}
+use Rattle.conf_plan.proofs.BestPlan.PreservedMembers.{is_member-single_with}
 use Rattle.conf_plan.proofs.FindingMoves.OfEachId.{change_of, has-union}
 use Rattle.conf_plan.proofs.FindingMoves.ResultingConfiguration.{IsSingle, AreWanted}
 use Rattle.conf_plan.proofs.PlannedSteps.BetweenSingle.{simple_moves-accepted}

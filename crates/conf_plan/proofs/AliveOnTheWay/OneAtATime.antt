@@ -23,7 +23,7 @@ use Rattle.conf_plan.specs.Run.{IsValidWithVoter, Gives, IsRunWith}
 use Rattle.conf_plan.specs.declared.strategy.Strategy.TheVariants.{OneAtATime}
 use Rattle.conf_plan.proofs.AliveOnTheWay.OneChange.{one_change-joins, one_change-retires, has_some}
 use Rattle.conf_plan.proofs.AliveOnTheWay.ReadyVoters.{MakesVotersOfReady-same}
-use Rattle.conf_plan.proofs.BestPlan.SparedMembers.{keeps, is_member-single_with}
+use Rattle.conf_plan.proofs.BestPlan.PreservedMembers.{keeps, is_member-single_with}
 use Rattle.conf_plan.proofs.FindingMoves.OfEachId.{has-union}
 use Rattle.conf_plan.proofs.FindingMoves.ResultingConfiguration.{IsSingle}
 use Rattle.conf_plan.proofs.FindingMoves.RisingIds.{holds, holds-above}

@@ -10,7 +10,7 @@ use Rattle.conf_change.proofs.Offered.{ValidByMember-from_is_valid}
 use Rattle.conf_plan.specs.Alive.{IsReadyLearner, MakesVotersOfReady, VotersLearnFirst}
 use Rattle.conf_plan.specs.Planned.{moves, single_with, single_steps, shared_members, entering_step, planned_from_single}
 use Rattle.conf_plan.specs.Run.{IsValidWithVoter, Gives}
-use Rattle.conf_plan.proofs.BestPlan.SparedMembers.{keeps, is_member-single_with, moves-remove_no_wanted, entering_step-keeps}
+use Rattle.conf_plan.proofs.BestPlan.PreservedMembers.{keeps, is_member-single_with, moves-remove_no_wanted, entering_step-keeps}
 use Rattle.conf_plan.proofs.FindingMoves.ResultingConfiguration.{IsSingle, AreWanted, moves-has_wanted}
 use Rattle.conf_plan.proofs.PlannedSteps.BetweenSingle.{entered_by, simple_moves-accepted, enter_moves-accepted, leave_moves-accepted, single_steps-is_chain}
 use Rattle.conf_plan.proofs.PlannedSteps.IntoJoint.{has-shared_members, outgoing-are_wanted, at_outgoing-is_single, entering-reaches}

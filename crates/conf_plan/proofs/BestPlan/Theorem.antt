@@ -12,7 +12,7 @@ use Rattle.conf_plan.proofs.BestPlan.FewestNames.{planned-fewest}
 use Rattle.conf_plan.proofs.BestPlan.PlainChanges.{planned-is_plain}
 use Rattle.conf_plan.proofs.PlannedSteps.RunToTarget.{planned-is_run}
 use Rattle.conf_plan.proofs.BestPlan.FewestSteps.{planned-shortest}
-use Rattle.conf_plan.proofs.BestPlan.SparedMembers.{planned-preserved, planned-sparing}
+use Rattle.conf_plan.proofs.BestPlan.PreservedMembers.{planned-preserved, planned-preserving}
 use Rattle.conf_plan.proofs.Runs.TakenInOrder.{Takes-to_target}
 
 -- along any run the voters overlap
@@ -26,7 +26,7 @@ pub planned-is_best : (now target : Configuration) → IsValidWithVoter now → 
 planned-is_best now target settled_now settled = record {
   run = planned-is_run now target settled_now settled;
   shortest = λ other run. planned-shortest now target other settled_now settled run;
-  sparing = λ other id spares. planned-sparing now target other id settled_now settled spares;
+  preserving = λ other id preserves_all. planned-preserving now target other id settled_now settled preserves_all;
   preserved = λ id. planned-preserved now target id settled_now settled;
   fewest = λ other id run. planned-fewest now target other id settled_now settled run;
   plain = planned-is_plain now target settled_now settled;

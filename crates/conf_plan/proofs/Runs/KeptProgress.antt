@@ -14,7 +14,7 @@ use Rattle.conf_plan.specs.Best.{Preserves}
 use Rattle.conf_plan.specs.Planned.{planned}
 use Rattle.conf_plan.specs.Run.{IsValidWithVoter, Takes, HasKeptProgress}
 use Rattle.conf_plan.proofs.Runs.Chains.{run-is_settled, IsRun-from_IsRunWith}
-use Rattle.conf_plan.proofs.BestPlan.SparedMembers.{keeps_progress-member, planned-sparing}
+use Rattle.conf_plan.proofs.BestPlan.PreservedMembers.{keeps_progress-member, planned-preserving}
 use Rattle.conf_plan.proofs.Runs.TakenInOrder.{Ok-same}
 
 -- ---- over one step
@@ -78,16 +78,16 @@ takes-is_sound a b (step ∷ steps) sound taken = takes-is_sound taken.0 b steps
 
 pub takes-keep : (a b : ChangerState) (steps : List Step) (target : Configuration) (q : ℕ) → IsSound a.tracker → Takes a steps b
     → Preserves a.tracker.config steps target q → HasKeptProgress a b q
-takes-keep a b [] target q sound taken spares =
+takes-keep a b [] target q sound taken preserves_all =
     let P : ChangerState → Type 0 = λ s. HasKeptProgress a s q in
-    subst P taken (kept_at_once a q sound spares.0)
-takes-keep a b (step ∷ steps) target q sound taken spares =
-    let same : spares.1.0 ≡ taken.0.tracker.config = Ok-same _ _ (sym spares.1.1.0 ∙ taken.1.configuration) in
+    subst P taken (kept_at_once a q sound preserves_all.0)
+takes-keep a b (step ∷ steps) target q sound taken preserves_all =
+    let same : preserves_all.1.0 ≡ taken.0.tracker.config = Ok-same _ _ (sym preserves_all.1.1.0 ∙ taken.1.configuration) in
     let K : Configuration → Type 0 = λ c. keeps_progress a.tracker.config step c q ≡ true in
     let P : Configuration → Type 0 = λ c. Preserves c steps target q in
-    kept_on a taken.0 b q (accepted-keeps a taken.0 step q sound taken.1 (subst K same spares.1.1.1))
+    kept_on a taken.0 b q (accepted-keeps a taken.0 step q sound taken.1 (subst K same preserves_all.1.1.1))
     (takes-keep taken.0 b steps target q (accepted-is_sound a taken.0 step sound taken.1) taken.2
-    (subst P same (keeps_progress-member q a.tracker.config step spares.1.0 spares.1.1.1, spares.1.2)))
+    (subst P same (keeps_progress-member q a.tracker.config step preserves_all.1.0 preserves_all.1.1.1, preserves_all.1.2)))
 
 -- ---- a plan that was made for the changer
 -- where there is a member there is a voter
@@ -109,9 +109,9 @@ member-is_settled c q ok member =
 
 pub takes-keep_planned : (a b : ChangerState) (steps other : List Step) (target : Configuration) (q : ℕ) → IsSound a.tracker → Takes a steps b
     → steps ≡ planned a.tracker.config target → Preserves a.tracker.config other target q → HasKeptProgress a b q
-takes-keep_planned a b steps other target q sound taken made spares =
+takes-keep_planned a b steps other target q sound taken made preserves_all =
     let now = a.tracker.config in
-    let settled_now = member-is_settled now q sound.restorable spares.0 in
-    let settled = run-is_settled now target other settled_now (IsRun-from_IsRunWith _ now target other spares.1) in
+    let settled_now = member-is_settled now q sound.restorable preserves_all.0 in
+    let settled = run-is_settled now target other settled_now (IsRun-from_IsRunWith _ now target other preserves_all.1) in
     let P : List Step → Type 0 = λ xs. Preserves now xs target q in
-    takes-keep a b steps target q sound taken (subst P (sym made) (planned-sparing now target other q settled_now settled spares))
+    takes-keep a b steps target q sound taken (subst P (sym made) (planned-preserving now target other q settled_now settled preserves_all))

@@ -99,7 +99,7 @@ const FIVE: Sets = [&[1, 2, 3, 4, 5], &[], &[], &[]];
 
 const TWO_OF_FIVE_REPLACED: Sets = [&[3, 4, 5, 6, 7], &[], &[], &[]];
 
-const NOBODY: Sets = [&[], &[], &[], &[]];
+const NO_MEMBERS: Sets = [&[], &[], &[], &[]];
 
 const JOINT: Sets = [&[1], &[2], &[], &[]];
 
@@ -107,16 +107,36 @@ const TWO_TO_COME: Sets = [&[2, 3], &[1], &[], &[]];
 
 // A strategy that has no path from one configuration to another, and why.
 static NO_PATHS: [(Strategy, Sets, Sets, NoPath); 12] = [
-    (Strategy::Shortest, NOBODY, ONE, NoPath::NoVoterNow),
-    (Strategy::Shortest, NOBODY, NOBODY, NoPath::NoVoterNow),
-    (Strategy::Shortest, ONE, NOBODY, NoPath::NoVoterTarget),
-    (Strategy::LearnersFirst, NOBODY, ONE, NoPath::NoVoterNow),
-    (Strategy::LearnersFirst, NOBODY, NOBODY, NoPath::NoVoterNow),
-    (Strategy::LearnersFirst, ONE, NOBODY, NoPath::NoVoterTarget),
-    (Strategy::OneAtATime, NOBODY, ONE, NoPath::NoVoterNow),
-    (Strategy::OneAtATime, NOBODY, JOINT, NoPath::NoVoterNow),
-    (Strategy::OneAtATime, ONE, NOBODY, NoPath::NoVoterTarget),
-    (Strategy::OneAtATime, JOINT, NOBODY, NoPath::NoVoterTarget),
+    (Strategy::Shortest, NO_MEMBERS, ONE, NoPath::NoVoterNow),
+    (
+        Strategy::Shortest,
+        NO_MEMBERS,
+        NO_MEMBERS,
+        NoPath::NoVoterNow,
+    ),
+    (Strategy::Shortest, ONE, NO_MEMBERS, NoPath::NoVoterTarget),
+    (Strategy::LearnersFirst, NO_MEMBERS, ONE, NoPath::NoVoterNow),
+    (
+        Strategy::LearnersFirst,
+        NO_MEMBERS,
+        NO_MEMBERS,
+        NoPath::NoVoterNow,
+    ),
+    (
+        Strategy::LearnersFirst,
+        ONE,
+        NO_MEMBERS,
+        NoPath::NoVoterTarget,
+    ),
+    (Strategy::OneAtATime, NO_MEMBERS, ONE, NoPath::NoVoterNow),
+    (Strategy::OneAtATime, NO_MEMBERS, JOINT, NoPath::NoVoterNow),
+    (Strategy::OneAtATime, ONE, NO_MEMBERS, NoPath::NoVoterTarget),
+    (
+        Strategy::OneAtATime,
+        JOINT,
+        NO_MEMBERS,
+        NoPath::NoVoterTarget,
+    ),
     (Strategy::OneAtATime, ONE, TWO_TO_COME, NoPath::JointTarget),
     (
         Strategy::OneAtATime,

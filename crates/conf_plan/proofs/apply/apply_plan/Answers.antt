@@ -32,14 +32,14 @@ pub returns-clause-sound : goal.returns-clause-sound
 returns-clause-sound g c = takes-is_sound _ _ _ c.tracker-tracker.ensures.sound c.loop-index.invariant
 
 pub returns-clause-preserved : goal.returns-clause-preserved
-returns-clause-preserved g c = λ id spares.
+returns-clause-preserved g c = λ id preserves_all.
     takes-keep _ _ c.args.plan.now _ id c.tracker-tracker.ensures.sound
-    (all_taken _ _ c.args.plan.now c.loop-index.index _ c.len-index-end.ensures.len c.loop-index-test.false c.loop-index.invariant) spares
+    (all_taken _ _ c.args.plan.now c.loop-index.index _ c.len-index-end.ensures.len c.loop-index-test.false c.loop-index.invariant) preserves_all
 
-pub returns-clause-sparing : goal.returns-clause-sparing
-returns-clause-sparing g c = λ target other id made spares.
+pub returns-clause-preserving : goal.returns-clause-preserving
+returns-clause-preserving g c = λ target other id made preserves_all.
     takes-keep_planned _ _ c.args.plan.now other target id c.tracker-tracker.ensures.sound
-    (all_taken _ _ c.args.plan.now c.loop-index.index _ c.len-index-end.ensures.len c.loop-index-test.false c.loop-index.invariant) made spares
+    (all_taken _ _ c.args.plan.now c.loop-index.index _ c.len-index-end.ensures.len c.loop-index-test.false c.loop-index.invariant) made preserves_all
 
 pub returns-clause-best : goal.returns-clause-best
 returns-clause-best g c = λ target made settled_now settled.

@@ -1,4 +1,4 @@
--- The plan spares what any run spares.
+-- The plan preserves_all what any run preserves_all.
 use Rattle.std.proofs.Common.{◌≡◌, ℕ, Bool, true, false, not, ◌&&◌, ◌||◌, ◌==◌, ◌↔◌, List, [], ◌∷◌, refl, sym, ap, subst, ◌∙◌, eqb-true}
 use Rattle.std.proofs.Math.Bool.{or-false}
 use Rattle.std.specs.Prelude.{Option, Some, None, IfSome, option_map, filter_map}
@@ -38,18 +38,18 @@ keeps q before step after member stays same = and_from _ _ (and_from _ _ member 
 pub keeps_progress-member : (q : ℕ) (before : Configuration) (step : Step) (after : Configuration) → keeps_progress before step after q ≡ true → is_member after q ≡ true
 keeps_progress-member q before step after kept = (and_parts (is_member before q) (is_member after q) (and_parts _ (not (is_replaced step after q)) kept).0).1
 
--- ---- what any run says of an id that it spares
+-- ---- what any run says of an id that it preserves_all
 preserves-target : (before after : Configuration) (steps : List Step) (q : ℕ) → Preserves before steps after q → is_member after q ≡ true
-preserves-target before after [] q spares = ap (λ c. is_member c q) (sym spares.1) ∙ spares.0
-preserves-target before after (step ∷ steps) q spares =
-    preserves-target spares.1.0 after steps q (keeps_progress-member q before step spares.1.0 spares.1.1.1, spares.1.2)
+preserves-target before after [] q preserves_all = ap (λ c. is_member c q) (sym preserves_all.1) ∙ preserves_all.0
+preserves-target before after (step ∷ steps) q preserves_all =
+    preserves-target preserves_all.1.0 after steps q (keeps_progress-member q before step preserves_all.1.0 preserves_all.1.1.1, preserves_all.1.2)
 
 preserves-outlasts : (before after : Configuration) (steps : List Step) (q : ℕ) → Preserves before steps after q → outlasts_leave before steps q ≡ true
-preserves-outlasts before after [] q spares = refl
-preserves-outlasts before after (Simple changes ∷ steps) q spares = refl
-preserves-outlasts before after (EnterJoint auto_leave changes ∷ steps) q spares = refl
-preserves-outlasts before after (LeaveJoint ∷ steps) q spares =
-    ap (λ c. is_member c q) (LeaveTaken-from_outcome before spares.1.0 spares.1.1.0).made ∙ keeps_progress-member q before LeaveJoint spares.1.0 spares.1.1.1
+preserves-outlasts before after [] q preserves_all = refl
+preserves-outlasts before after (Simple changes ∷ steps) q preserves_all = refl
+preserves-outlasts before after (EnterJoint auto_leave changes ∷ steps) q preserves_all = refl
+preserves-outlasts before after (LeaveJoint ∷ steps) q preserves_all =
+    ap (λ c. is_member c q) (LeaveTaken-from_outcome before preserves_all.1.0 preserves_all.1.1.0).made ∙ keeps_progress-member q before LeaveJoint preserves_all.1.0 preserves_all.1.1.1
 
 -- ---- the moves remove nobody who is wanted
 plain_or_no_removal : (kind_for : ℕ → Option Kind) (x q : ℕ) (rest : List Change) (o : Option Kind) → kind_for x ≡ o → IfSome (kind_for q) (λ kind. is_removal kind ≡ false)
@@ -83,9 +83,9 @@ moves-remove_no_wanted c voters learners q wanted =
 pub is_member-single_with : (voters learners : Ids) (q : ℕ) → is_member (single_with voters learners) q ≡ (has voters q || has learners q)
 is_member-single_with voters learners q = (λ i. has voters q || has-no_ids q i || has learners q) ∙ ap (λ b. b || has learners q) (or-false (has voters q))
 
-single_steps-spare : (c : Configuration) (voters learners : Ids) (q : ℕ) → IsSingle c → AreWanted voters learners → is_member c q ≡ true → (has voters q || has learners q) ≡ true
+single_steps-preserve : (c : Configuration) (voters learners : Ids) (q : ℕ) → IsSingle c → AreWanted voters learners → is_member c q ≡ true → (has voters q || has learners q) ≡ true
     → Preserves c (single_steps c voters learners) (single_with voters learners) q
-single_steps-spare c voters learners q single wanted member stays =
+single_steps-preserve c voters learners q single wanted member stays =
     let changes = moves c voters learners in
     let target = single_with voters learners in
     let between = entered_by c voters learners in
@@ -134,9 +134,9 @@ shared_or_out c target q member stays =
     either true is was stays member = refl
     either false is was stays member = rw (stays, member) refl
 
-planned_from_single-spares : (c target : Configuration) (q : ℕ) → IsSingle c → IsValidWithVoter target → is_member c q ≡ true → is_member target q ≡ true
+planned_from_single-preserves : (c target : Configuration) (q : ℕ) → IsSingle c → IsValidWithVoter target → is_member c q ≡ true → is_member target q ≡ true
     → Preserves c (planned_from_single c target) target q
-planned_from_single-spares c target q single settled member stays =
+planned_from_single-preserves c target q single settled member stays =
     let at_outgoing = single_with target.outgoing (shared_members c target) in
     let Leads : Configuration → Step → Configuration → Type 0 = λ before step after. Gives before step after × Keeps q before step after in
     planned_from_single-of_shapes c target (λ steps. Preserves c steps target q) single settled (record {
@@ -146,10 +146,10 @@ planned_from_single-spares c target q single settled member stays =
           let P : Configuration → Type 0 = λ d. Preserves c (single_steps c target.incoming target.learners) d q in
           let is : is_member target q ≡ (has target.incoming q || has target.learners q) =
           ap (λ d. is_member d q) (sym (single_with-own target own)) ∙ is_member-single_with target.incoming target.learners q in
-          subst P (single_with-own target own) (single_steps-spare c target.incoming target.learners q single (own-are_wanted target settled) member (sym is ∙ stays));
+          subst P (single_with-own target own) (single_steps-preserve c target.incoming target.learners q single (own-are_wanted target settled) member (sym is ∙ stays));
       at_once = λ joint same. (member, (target, (entering-reaches c target single settled same, entering_step-keeps c target q member stays), refl));
       inserted = λ joint differs.
-          let to_outgoing = single_steps-spare c target.outgoing (shared_members c target) q single (outgoing-are_wanted c target settled joint) member (shared_or_out c target q member stays) in
+          let to_outgoing = single_steps-preserve c target.outgoing (shared_members c target) q single (outgoing-are_wanted c target settled joint) member (shared_or_out c target q member stays) in
           let enters = entering-reaches at_outgoing target (at_outgoing-is_single c target single settled joint) settled refl in (
             member,
             IsChain-append Leads c at_outgoing target _ _ to_outgoing.1
@@ -158,9 +158,9 @@ planned_from_single-spares c target q single settled member stays =
     })
 
 -- ---- from any configuration
-pub planned-spares : (now target : Configuration) (q : ℕ) → IsValidWithVoter now → IsValidWithVoter target → is_member now q ≡ true → is_member target q ≡ true
+pub planned-preserves : (now target : Configuration) (q : ℕ) → IsValidWithVoter now → IsValidWithVoter target → is_member now q ≡ true → is_member target q ≡ true
     → outlasts_leave now (planned now target) q ≡ true → Preserves now (planned now target) target q
-planned-spares now target q settled_now settled member stays =
+planned-preserves now target q settled_now settled member stays =
     planned-of_shapes now target (λ steps. outlasts_leave now steps q ≡ true → Preserves now steps target q)
     (λ same outlasts. (member, same))
     (λ joint differs outlasts. (
@@ -168,30 +168,30 @@ planned-spares now target q settled_now settled member stays =
       (
         after_leave now,
         (outcome-leave_accepted now joint, keeps q now LeaveJoint (after_leave now) member outlasts refl),
-        (planned_from_single-spares (after_leave now) target q (after_leave-is_single now settled_now joint) settled outlasts stays).1,
+        (planned_from_single-preserves (after_leave now) target q (after_leave-is_single now settled_now joint) settled outlasts stays).1,
       ),
     ))
-    (λ apart outlasts. planned_from_single-spares now target q (record { settled = settled_now; single = apart }) settled member stays)
+    (λ apart outlasts. planned_from_single-preserves now target q (record { settled = settled_now; single = apart }) settled member stays)
 
 pub planned-preserved : (now target : Configuration) (q : ℕ) → IsValidWithVoter now → IsValidWithVoter target
     → (Preserves now (planned now target) target q) ↔ ((is_member now q && is_member target q && outlasts_leave now (planned now target) q) ≡ true)
 planned-preserved now target q settled_now settled = (
-  λ spares. and_from _ _ (and_from _ _ spares.0 (preserves-target now target _ q spares)) (preserves-outlasts now target _ q spares),
+  λ preserves_all. and_from _ _ (and_from _ _ preserves_all.0 (preserves-target now target _ q preserves_all)) (preserves-outlasts now target _ q preserves_all),
   λ each.
       let all = and_parts (is_member now q && is_member target q) _ each in
       let both = and_parts (is_member now q) (is_member target q) all.0 in
-      planned-spares now target q settled_now settled both.0 both.1 all.1,
+      planned-preserves now target q settled_now settled both.0 both.1 all.1,
 )
 
-pub planned-sparing : (now target : Configuration) (other : List Step) (q : ℕ) → IsValidWithVoter now → IsValidWithVoter target
+pub planned-preserving : (now target : Configuration) (other : List Step) (q : ℕ) → IsValidWithVoter now → IsValidWithVoter target
     → Preserves now other target q → Preserves now (planned now target) target q
-planned-sparing now target other q settled_now settled spares =
-    let member = spares.0 in
-    let stays = preserves-target now target other q spares in
-    planned-spares now target q settled_now settled member stays
+planned-preserving now target other q settled_now settled preserves_all =
+    let member = preserves_all.0 in
+    let stays = preserves-target now target other q preserves_all in
+    planned-preserves now target q settled_now settled member stays
     (planned-of_shapes now target (λ steps. outlasts_leave now steps q ≡ true) (λ same. refl)
     (λ joint differs.
     let P : List Step → Type 0 = λ steps. outlasts_leave now steps q ≡ true in
-    let left = LeavesFirst-from_IsRun now target other joint differs (IsRun-from_IsRunWith _ now target other spares.1) in
-    subst P left.whole (preserves-outlasts now target other q spares))
-    (λ apart. preserves-outlasts now target _ q (planned_from_single-spares now target q (record { settled = settled_now; single = apart }) settled member stays)))
+    let left = LeavesFirst-from_IsRun now target other joint differs (IsRun-from_IsRunWith _ now target other preserves_all.1) in
+    subst P left.whole (preserves-outlasts now target other q preserves_all))
+    (λ apart. preserves-outlasts now target _ q (planned_from_single-preserves now target q (record { settled = settled_now; single = apart }) settled member stays)))
