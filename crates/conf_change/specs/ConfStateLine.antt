@@ -12,15 +12,15 @@ abbrev pub truth_text : Bool → List ℕ
 truth_text truth = if truth then codes "true" else codes "false"
 
 -- the line with these texts in its brackets
-abbrev pub line_text : List ℕ → List ℕ → List ℕ → List ℕ → Bool → List ℕ
-line_text voters voters_outgoing learners learners_next auto_leave =
+abbrev pub bracketed_line : List ℕ → List ℕ → List ℕ → List ℕ → Bool → List ℕ
+bracketed_line voters voters_outgoing learners learners_next auto_leave =
     codes "Voters:[" ++ voters ++ codes "] VotersOutgoing:[" ++ voters_outgoing ++ codes "] Learners:[" ++ learners
     ++ codes "] LearnersNext:[" ++ learners_next ++ codes "] AutoLeave:" ++ truth_text auto_leave
 
 -- the line as it is printed
 abbrev pub conf_state_text : ConfStateLists → List ℕ
 conf_state_text saved =
-    line_text (spaced_numbers saved.voters) (spaced_numbers saved.voters_outgoing) (spaced_numbers saved.learners) (spaced_numbers saved.learners_next) saved.auto_leave
+    bracketed_line (spaced_numbers saved.voters) (spaced_numbers saved.voters_outgoing) (spaced_numbers saved.learners) (spaced_numbers saved.learners_next) saved.auto_leave
 
 -- the text parses to these numbers, which are separated by one space
 pub record ParsesToNumbers (text : List ℕ) (numbers : List ℕ) : Type 0 where
@@ -34,7 +34,7 @@ pub record DenotesConfState (text : List ℕ) (saved : ConfStateLists) : Type 0 
   pub voters_outgoing : List ℕ
   pub learners : List ℕ
   pub learners_next : List ℕ
-  pub line : trimmed text ≡ line_text voters voters_outgoing learners learners_next saved.auto_leave
+  pub line : trimmed text ≡ bracketed_line voters voters_outgoing learners learners_next saved.auto_leave
   pub parsed_voters : ParsesToNumbers voters saved.voters
   pub parsed_voters_outgoing : ParsesToNumbers voters_outgoing saved.voters_outgoing
   pub parsed_learners : ParsesToNumbers learners saved.learners

@@ -6,7 +6,7 @@ use Rattle.conf_change.specs.ChangeList.{changes_in_tokens}
 use Rattle.conf_change.specs.declared.change.Change.{Change}
 use Rattle.conf_change.specs.declared.step.Step.{Step}
 use Rattle.conf_change.specs.declared.step.Step.TheVariants.{Simple, EnterJoint, LeaveJoint}
-use Rattle.conf_plan.specs.PlanText.{flag_token, lines_of}
+use Rattle.conf_plan.specs.PlanText.{flag_token, plan_lines}
 use Rattle.conf_plan.specs.declared.text.PlanTextFault.{PlanTextFault}
 use Rattle.conf_plan.specs.declared.text.PlanTextFault.TheVariants.{BadLine, TooManySteps}
 
@@ -15,8 +15,8 @@ abbrev pub list_in : List (List ℕ) → Option (List Change)
 list_in tokens = result_ok (changes_in_tokens tokens)
 
 -- the flag that a token is parsed as
-abbrev pub flag_in : List ℕ → Option Bool
-flag_in token = if bytes_eq token (flag_token true) then Some true else (if bytes_eq token (flag_token false) then Some false else None)
+abbrev pub flag_of_token : List ℕ → Option Bool
+flag_of_token token = if bytes_eq token (flag_token true) then Some true else (if bytes_eq token (flag_token false) then Some false else None)
 
 abbrev pub enter_with : Option Bool → List (List ℕ) → Option Step
 enter_with None tokens = None
@@ -25,7 +25,7 @@ enter_with (Some auto_leave) tokens = option_map (EnterJoint auto_leave) (list_i
 -- entering a joint configuration: a flag, then changes
 abbrev pub enter_in : List (List ℕ) → Option Step
 enter_in [] = None
-enter_in (flag ∷ tokens) = enter_with (flag_in flag) tokens
+enter_in (flag ∷ tokens) = enter_with (flag_of_token flag) tokens
 
 -- leaving a joint configuration has no arguments
 abbrev pub leave_in : List (List ℕ) → Option Step
@@ -63,4 +63,4 @@ plan_in_lines lines = steps_in 0 lines
 
 -- the plan that a text is parsed as, or why it is none
 abbrev pub plan_in : List ℕ → Result (List Step) PlanTextFault
-plan_in text = plan_in_lines (lines_of text)
+plan_in text = plan_in_lines (plan_lines text)

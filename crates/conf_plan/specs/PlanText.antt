@@ -52,8 +52,8 @@ without_empty_end (piece ∷ []) = filter has_bytes (piece ∷ [])
 without_empty_end (piece ∷ next ∷ pieces) = piece ∷ without_empty_end (next ∷ pieces)
 
 -- The lines of a text: it is split at each newline, and what follows the last newline is a line if it is not empty. The empty text is one blank line.
-abbrev pub lines_of : List ℕ → List (List ℕ)
-lines_of text = if has_bytes text then without_empty_end (slice_split is_newline text) else [] ∷ []
+abbrev pub plan_lines : List ℕ → List (List ℕ)
+plan_lines text = if has_bytes text then without_empty_end (slice_split is_newline text) else [] ∷ []
 
 -- the tokens of the line are the step's command and then its changes, with any white space around them
 pub record IsLineOf (line : List ℕ) (step : Step) : Type 0 where
@@ -64,13 +64,13 @@ pub record IsLineOf (line : List ℕ) (step : Step) : Type 0 where
 -- the text is the one line `nothing to do`
 pub record IsNothingToDo (text : List ℕ) : Type 0 where
   pub line : List ℕ
-  pub alone : lines_of text ≡ line ∷ []
+  pub alone : plan_lines text ≡ line ∷ []
   pub line_tokens : tokens_in line ≡ codes "nothing" ∷ codes "to" ∷ codes "do" ∷ []
 
 -- the lines of the text, from one to four, are those of the steps in order
 pub record IsTextOf (text : List ℕ) (steps : List Step) : Type 0 where
   pub at_most_four : length steps ≤ 4
-  pub lines : AllZip IsLineOf (lines_of text) steps
+  pub lines : AllZip IsLineOf (plan_lines text) steps
 
 -- the text is parsed as the plan of these steps
 abbrev pub ParsesToPlan : List ℕ → List Step → Type 0
@@ -82,7 +82,7 @@ pub record IsFirstBadLine (text : List ℕ) (number : ℕ) : Type 0 where
   pub line : List ℕ
   pub after : List (List ℕ)
   pub steps : List Step
-  pub position : lines_of text ≡ before ++ line ∷ after
+  pub position : plan_lines text ≡ before ++ line ∷ after
   pub counted : number ≡ length before + 1
   pub in_first_four : number ≤ 4
   pub stand : AllZip IsLineOf before steps
@@ -95,7 +95,7 @@ pub record IsTooLong (text : List ℕ) : Type 0 where
   pub fifth : List ℕ
   pub after : List (List ℕ)
   pub steps : List Step
-  pub position : lines_of text ≡ before ++ fifth ∷ after
+  pub position : plan_lines text ≡ before ++ fifth ∷ after
   pub four : length before ≡ 4
   pub stand : AllZip IsLineOf before steps
 

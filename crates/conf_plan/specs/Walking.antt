@@ -12,7 +12,7 @@ IsNoLater None (Some id) = ⊥
 IsNoLater (Some first) (Some id) = first ≤ id
 
 -- the earlier of the two
-pub record IsEarlier (a b first : Option ℕ) : Type 0 where
+pub record IsEarliest (a b first : Option ℕ) : Type 0 where
   pub no_later_than_a : IsNoLater first a
   pub no_later_than_b : IsNoLater first b
   pub either : (first ≡ a) ⊎ (first ≡ b)

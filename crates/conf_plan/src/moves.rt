@@ -2,7 +2,7 @@
 ghost use Rattle.std.specs.Prelude.{◌≡◌, ◌<◌, ◌^◌, IfOk};
 ghost use Rattle.std.specs.List.{All};
 ghost use Rattle.conf_plan.specs.Planned.{kind_by, moves, single_with};
-ghost use Rattle.conf_plan.specs.Walking.{IsEarlier, IsPassed, IsStanding};
+ghost use Rattle.conf_plan.specs.Walking.{IsEarliest, IsPassed, IsStanding};
 
 use conf_change::{Change, Kind};
 use quorum_sets::{MemberSet, NoMemory};
@@ -81,7 +81,7 @@ impl Walk {
 
 // The first of two ids, if there is one.
 fn earlier(a: Option<u64>, b: Option<u64>) -> Option<u64>
-    ensures { IsEarlier a b result }
+    ensures { IsEarliest a b result }
 {
     match (a, b) {
         (Some(x), Some(y)) => { if x <= y { a } else { b } }

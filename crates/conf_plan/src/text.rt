@@ -5,7 +5,7 @@ ghost use Rattle.ascii_text.specs.Tokens.{tokens_in};
 ghost use Rattle.conf_change.specs.ChangeList.{letter_of};
 ghost use Rattle.conf_change.specs.Text.{Extends};
 ghost use Rattle.conf_change.specs.declared.step.Step.{Step};
-ghost use Rattle.conf_plan.specs.PlanText.{ParsesToPlan, HasFault, command_tokens, change_text, spaced_change, line_and_newline, plan_text, lines_of};
+ghost use Rattle.conf_plan.specs.PlanText.{ParsesToPlan, HasFault, command_tokens, change_text, spaced_change, line_and_newline, plan_text, plan_lines};
 ghost use Rattle.conf_plan.specs.PlanCode as code;
 ghost use Rattle.conf_plan.specs.PlanCode.{plan_in, step_in, enter_in, list_in};
 ghost use Rattle.conf_plan.specs.declared.text.PlanTextFault.{PlanTextFault};
@@ -226,8 +226,8 @@ fn read_lines(alloc: Global, text: &[u8]) -> Result<Plan, PlanTextFault>
 
 // The first line, without its newline, and the text that follows that newline.
 fn first_line(text: &[u8]) -> (&[u8], &[u8])
-    ensures last { length result.1.now ≡ 0 → lines_of text.now ≡ result.0.now ∷ [] }
-    ensures more { 0 < length result.1.now → lines_of text.now ≡ result.0.now ∷ lines_of result.1.now }
+    ensures last { length result.1.now ≡ 0 → plan_lines text.now ≡ result.0.now ∷ [] }
+    ensures more { 0 < length result.1.now → plan_lines text.now ≡ result.0.now ∷ plan_lines result.1.now }
     ensures within { length result.1.now ≤ length text.now }
     ensures shorter { 0 < length result.1.now → length result.1.now < length text.now }
 {
@@ -291,7 +291,7 @@ fn read_enter(alloc: Global, text: &[u8]) -> Result<Option<Step>, NoMemory>
 
 // The flag that a token is parsed as.
 fn read_flag(token: &[u8]) -> Option<bool>
-    ensures { result ≡ code.flag_in token.now }
+    ensures { result ≡ code.flag_of_token token.now }
 {
     if token == b"autoleave=true".as_slice() {
         Some(true)

@@ -18,7 +18,7 @@ use Rattle.conf_change.specs.ConfState.{ConfStateLists}
 use Rattle.ascii_text.specs.Number.{ParsesToNumber}
 use Rattle.conf_change.specs.TrackerState.{TrackerState}
 use Rattle.conf_change.specs.Text.{text_if, spaced_numbers, set_text, config_text, progress_text, refused_text}
-use Rattle.conf_change.specs.ConfStateLine.{truth_text, line_text, conf_state_text, ParsesToNumbers, DenotesConfState}
+use Rattle.conf_change.specs.ConfStateLine.{truth_text, bracketed_line, conf_state_text, ParsesToNumbers, DenotesConfState}
 use Rattle.conf_change.specs.declared.progress.Progress.{Progress}
 use Rattle.conf_change.specs.declared.refused.Refused.{Refused}
 use Rattle.conf_change.specs.declared.refused.Refused.TheVariants.{AlreadyJoint, ZeroVoterJoint, NotJoint, SimpleInJoint, RemovedAllVoters, MoreThanOneVoter, NoMemory}
@@ -222,7 +222,7 @@ truth-bytes : (truth : Bool) → IsBytes (truth_text truth)
 truth-bytes true = refl
 truth-bytes false = refl
 
-saved-line : (a b c d : List ℕ) (auto_leave : Bool) → IsTail a → IsTail b → IsTail c → IsTail d → IsLine (line_text a b c d auto_leave)
+saved-line : (a b c d : List ℕ) (auto_leave : Bool) → IsTail a → IsTail b → IsTail c → IsTail d → IsLine (bracketed_line a b c d auto_leave)
 saved-line a b c d auto_leave voters voters_outgoing learners learners_next =
     IsLine-from_mark (codes "Voters:[") refl refl ▸ voters ▸ IsTail-from_bytes (codes "] VotersOutgoing:[") refl ▸ voters_outgoing
     ▸ IsTail-from_bytes (codes "] Learners:[") refl ▸ learners ▸ IsTail-from_bytes (codes "] LearnersNext:[") refl ▸ learners_next
@@ -253,7 +253,7 @@ parsed-tail text ns h = IsTail-from_bytes text (ap (list_all is_line_byte) h.spa
 -- the text of a saved configuration is one line
 pub saved-bytes : (text : List ℕ) (saved : ConfStateLists) → DenotesConfState text saved → list_all is_line_byte (trimmed text) ≡ true
 saved-bytes text saved h =
-    let whole : IsLine (line_text h.voters h.voters_outgoing h.learners h.learners_next saved.auto_leave) = saved-line _ _ _ _ saved.auto_leave
+    let whole : IsLine (bracketed_line h.voters h.voters_outgoing h.learners h.learners_next saved.auto_leave) = saved-line _ _ _ _ saved.auto_leave
     (parsed-tail _ _ h.parsed_voters) (parsed-tail _ _ h.parsed_voters_outgoing) (parsed-tail _ _ h.parsed_learners) (parsed-tail _ _ h.parsed_learners_next) in
     ap (list_all is_line_byte) h.line ∙ whole.bytes
 

@@ -1,11 +1,9 @@
 -- A list of ids with commas between them, as the value of an option.
-use Rattle.std.specs.Prelude.{ℕ, Bool, ◌==◌, List, [], ◌∷◌, Option, Some}
+use Rattle.std.specs.Prelude.{ℕ, List, [], ◌∷◌, Option, Some}
 use Rattle.std.specs.List.{slice_split}
+use Rattle.dd_file.specs.DirectiveLine.{is_comma}
 use Rattle.conf_change.specs.ConfStateLine.{and_number}
 use Rattle.conf_session.specs.Parameter.{id_in}
-
-abbrev pub is_comma : ℕ → Bool
-is_comma byte = byte == 44
 
 -- the ids that the parts denote, if each is one
 abbrev pub ids_in_pieces : List (List ℕ) → Option (List ℕ)

@@ -6,7 +6,7 @@ use Rattle.conf_change.specs.declared.step.Step.{Step}
 use Rattle.conf_plan.specs.PathBy.{has_path, path_by}
 use Rattle.conf_plan.specs.PlanText.{plan_text}
 use Rattle.ascii_text.specs.Lines.{newline}
-use Rattle.plan_output.specs.Json.{json_text, line_text, no_plan_json}
+use Rattle.plan_output.specs.Json.{json_text, value_line, no_plan_json}
 use Rattle.plan_output.specs.Stages.{stalls}
 use Rattle.plan_output.specs.Table.{table_text}
 use Rattle.conf_tool.specs.declared.plan_options.PlanOptions.{PlanOptions}
@@ -33,7 +33,7 @@ no_plan_comment why = codes "# no plan: " ++ why ++ newline
 abbrev pub no_plan_text : PlanOutput → ℕ → List ℕ → List ℕ
 no_plan_text Steps number why = no_plan_comment why
 no_plan_text Table number why = no_plan_comment why
-no_plan_text Json number why = line_text (no_plan_json number why)
+no_plan_text Json number why = value_line (no_plan_json number why)
 
 -- different if ids are down and the path stalls
 abbrev pub path_status : Option Ids → Configuration → List Step → Status

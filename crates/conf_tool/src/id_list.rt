@@ -2,7 +2,8 @@
 ghost use Rattle.std.specs.Prelude.{◌≡◌, ◌<◌, ◌≤◌, [], ◌∷◌, length, drop, option_map, IfOk};
 ghost use Rattle.std.specs.List.{slice_split};
 ghost use Rattle.conf_session.specs.Parameter.{id_in};
-ghost use Rattle.conf_tool.specs.IdList.{is_comma, ids_listed};
+ghost use Rattle.dd_file.specs.DirectiveLine.{is_comma};
+ghost use Rattle.conf_tool.specs.IdList.{ids_listed};
 
 use ascii_text::number::read_number;
 use ascii_text::position::position_of;

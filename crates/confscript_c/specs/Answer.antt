@@ -5,13 +5,13 @@ use Rattle.confscript_c.specs.declared.answer.Answer.{Answer}
 use Rattle.confscript_c.specs.declared.status.Status.{Status}
 use Rattle.confscript_c.specs.declared.status.Status.TheVariants.{Done, NoMemory}
 
-abbrev pub answer : Status → ℕ → Answer
-answer status number = record { status = code_of status; number = number }
+abbrev pub status_answer : Status → ℕ → Answer
+status_answer status number = record { status = code_of status; number = number }
 
 -- the call did what it is for, with this number
 abbrev pub done : ℕ → Answer
-done number = answer Done number
+done number = status_answer Done number
 
 -- no memory is left
 abbrev pub no_memory : Answer
-no_memory = answer NoMemory 0
+no_memory = status_answer NoMemory 0

@@ -10,7 +10,7 @@ use Rattle.conf_change.specs.declared.step.Step.{Step}
 use Rattle.conf_plan.specs.PlanCode.{plan_in}
 use Rattle.conf_plan.specs.declared.text.PlanTextFault.{PlanTextFault}
 use Rattle.conf_plan.specs.declared.text.PlanTextFault.TheVariants as fault
-use Rattle.confscript_c.specs.Answer.{answer, no_memory}
+use Rattle.confscript_c.specs.Answer.{status_answer, no_memory}
 use Rattle.confscript_c.specs.InputLines.{read_as}
 use Rattle.confscript_c.specs.Written.{TextResult}
 use Rattle.confscript_c.specs.declared.answer.Answer.{Answer}
@@ -18,7 +18,7 @@ use Rattle.confscript_c.specs.declared.status.Status.TheVariants.{NotAConfigurat
 
 -- the configuration to which the saved form is restored
 abbrev pub restored_one : Option Configuration → Result Configuration Answer
-restored_one None = Err (answer NotAConfiguration 1)
+restored_one None = Err (status_answer NotAConfiguration 1)
 restored_one (Some c) = Ok c
 
 abbrev pub restored_of : Result ConfStateLists Answer → Result Configuration Answer
@@ -27,18 +27,18 @@ restored_of (Ok saved) = restored_one (restored saved)
 
 -- why a text is no plan
 abbrev pub text_fault_answer : PlanTextFault → Answer
-text_fault_answer (fault.BadLine number) = answer BadLine number
-text_fault_answer fault.TooManySteps = answer TooManySteps 0
+text_fault_answer (fault.BadLine number) = status_answer BadLine number
+text_fault_answer fault.TooManySteps = status_answer TooManySteps 0
 text_fault_answer fault.NoMemory = no_memory
 
 -- why the step with this number is refused
 abbrev pub refusal_answer : Refused → ℕ → Answer
-refusal_answer refused.AlreadyJoint number = answer AlreadyJoint number
-refusal_answer refused.ZeroVoterJoint number = answer ZeroVoterJoint number
-refusal_answer refused.NotJoint number = answer NotJoint number
-refusal_answer refused.SimpleInJoint number = answer SimpleInJoint number
-refusal_answer refused.RemovedAllVoters number = answer RemovedAllVoters number
-refusal_answer refused.MoreThanOneVoter number = answer MoreThanOneVoter number
+refusal_answer refused.AlreadyJoint number = status_answer AlreadyJoint number
+refusal_answer refused.ZeroVoterJoint number = status_answer ZeroVoterJoint number
+refusal_answer refused.NotJoint number = status_answer NotJoint number
+refusal_answer refused.SimpleInJoint number = status_answer SimpleInJoint number
+refusal_answer refused.RemovedAllVoters number = status_answer RemovedAllVoters number
+refusal_answer refused.MoreThanOneVoter number = status_answer MoreThanOneVoter number
 refusal_answer refused.NoMemory number = no_memory
 
 abbrev pub then_result : ℕ → Outcome → (Configuration → TextResult) → TextResult

@@ -6,7 +6,7 @@ use Rattle.conf_change.specs.ConfStateLine.{conf_state_in}
 use Rattle.conf_change.specs.Described.{described}
 use Rattle.conf_change.specs.declared.config.Invariant.{Invariant}
 use Rattle.conf_change.specs.declared.config.Invariant.TheVariants as broken
-use Rattle.confscript_c.specs.Answer.{answer, done}
+use Rattle.confscript_c.specs.Answer.{status_answer, done}
 use Rattle.confscript_c.specs.InputLines.{read_as}
 use Rattle.confscript_c.specs.declared.answer.Answer.{Answer}
 use Rattle.confscript_c.specs.declared.status.Status.{Status}
@@ -23,11 +23,11 @@ status_of broken.NotJointButAutoLeave = NotJointButAutoLeave
 
 abbrev pub broken_answer : Option Invariant → Answer
 broken_answer None = done 0
-broken_answer (Some invariant) = answer (status_of invariant) 0
+broken_answer (Some invariant) = status_answer (status_of invariant) 0
 
 -- the first invariant that is broken, where each list names each id once
 abbrev pub described_answer : Option Configuration → Answer
-described_answer None = answer RepeatedId 0
+described_answer None = status_answer RepeatedId 0
 described_answer (Some c) = broken_answer (first_broken c)
 
 abbrev pub saved_answer : Result ConfStateLists Answer → Answer

@@ -5,19 +5,19 @@ use Rattle.conf_change.specs.ConfState.{ConfStateLists}
 use Rattle.conf_change.specs.Violation.{configuration_in}
 use Rattle.conf_change.specs.declared.configuration_line.ConfigurationFault.{ConfigurationFault}
 use Rattle.conf_change.specs.declared.configuration_line.ConfigurationFault.TheVariants.{BadConfState as BadLine, NotAConfiguration as NotValid, NoMemory as OutOfMemory}
-use Rattle.confscript_c.specs.Answer.{answer, no_memory}
+use Rattle.confscript_c.specs.Answer.{status_answer, no_memory}
 use Rattle.confscript_c.specs.declared.answer.Answer.{Answer}
 use Rattle.confscript_c.specs.declared.status.Status.TheVariants.{BadConfState, NotAConfiguration}
 
 -- the line is read as a saved configuration, or it is none
 abbrev pub read_as : ℕ → Option ConfStateLists → Result ConfStateLists Answer
-read_as number None = Err (answer BadConfState number)
+read_as number None = Err (status_answer BadConfState number)
 read_as number (Some saved) = Ok saved
 
 -- what is wrong with the line of this number
 abbrev pub fault_answer : ℕ → ConfigurationFault → Answer
-fault_answer number BadLine = answer BadConfState number
-fault_answer number (NotValid violation) = answer NotAConfiguration number
+fault_answer number BadLine = status_answer BadConfState number
+fault_answer number (NotValid violation) = status_answer NotAConfiguration number
 fault_answer number OutOfMemory = no_memory
 
 abbrev pub answered_at : ℕ → Result Configuration ConfigurationFault → Result Configuration Answer
@@ -25,5 +25,5 @@ answered_at number (Ok c) = Ok c
 answered_at number (Err fault) = Err (fault_answer number fault)
 
 -- the valid configuration that the line of this number names
-abbrev pub configuration_at : ℕ → List ℕ → Result Configuration Answer
-configuration_at number line = answered_at number (configuration_in line)
+abbrev pub configuration_or_answer : ℕ → List ℕ → Result Configuration Answer
+configuration_or_answer number line = answered_at number (configuration_in line)

@@ -9,9 +9,9 @@ use Rattle.conf_plan.specs.PlanCode.{plan_in}
 use Rattle.conf_plan.specs.PlanText.{plan_text}
 use Rattle.conf_plan.specs.declared.strategy.Strategy.{Strategy}
 use Rattle.conf_plan.specs.declared.strategy.Strategy.TheVariants.{Shortest, LearnersFirst, OneAtATime}
-use Rattle.confscript_c.specs.Answer.{answer}
+use Rattle.confscript_c.specs.Answer.{status_answer}
 use Rattle.confscript_c.specs.Applied.{apply_result, restored_of, steps_result, applied}
-use Rattle.confscript_c.specs.InputLines.{read_as, configuration_at}
+use Rattle.confscript_c.specs.InputLines.{read_as, configuration_or_answer}
 use Rattle.confscript_c.specs.Written.{TextResult}
 use Rattle.confscript_c.specs.declared.answer.Answer.{Answer}
 use Rattle.confscript_c.specs.declared.status.Status.TheVariants.{NoVoter, BadStrategy, JointTarget}
@@ -21,16 +21,16 @@ abbrev pub strategy_at : ℕ → Result Strategy Answer
 strategy_at code =
     if code == 0 then Ok Shortest
     else (if code == 1 then Ok LearnersFirst
-    else (if code == 2 then Ok OneAtATime else Err (answer BadStrategy 0)))
+    else (if code == 2 then Ok OneAtATime else Err (status_answer BadStrategy 0)))
 
 -- the text of the path, if both configurations have a voter and the strategy has a path
 abbrev pub path_result : Strategy → Configuration → Configuration → TextResult
 path_result strategy now target =
     if has_voter now then
     (if has_voter target then
-    (if has_path strategy now target then Ok (plan_text (path_by strategy now target)) else Err (answer JointTarget 0))
-    else Err (answer NoVoter 2))
-    else Err (answer NoVoter 1)
+    (if has_path strategy now target then Ok (plan_text (path_by strategy now target)) else Err (status_answer JointTarget 0))
+    else Err (status_answer NoVoter 2))
+    else Err (status_answer NoVoter 1)
 
 -- the strategy, the first line and the second are looked at in this order
 abbrev pub result_for : Result Strategy Answer → Result Configuration Answer → Result Configuration Answer → TextResult
@@ -40,7 +40,7 @@ result_for (Ok strategy) (Ok now) (Err why) = Err why
 result_for (Ok strategy) (Ok now) (Ok target) = path_result strategy now target
 
 abbrev pub plan_result : ℕ → List ℕ → List ℕ → TextResult
-plan_result code now target = result_for (strategy_at code) (configuration_at 1 now) (configuration_at 2 target)
+plan_result code now target = result_for (strategy_at code) (configuration_or_answer 1 now) (configuration_or_answer 2 target)
 
 -- The text is that of steps that keep what the strategy promises. They lead from the one configuration to the other, and at most four are read back.
 pub record IsPathText (strategy : Strategy) (now target : Configuration) (text : List ℕ) : Type 0 where
@@ -52,14 +52,14 @@ pub record IsPathText (strategy : Strategy) (now target : Configuration) (text :
   pub voter : has_voter now ≡ true
 
 -- The text is that of steps that keep what the strategy of this code promises. Taken in order from the configuration of the one line, they give the other line; at most four give it in one call of `confscript_apply`.
-pub record Leads (code : ℕ) (now target text : List ℕ) : Type 0 where
+pub record LeadsToTarget (code : ℕ) (now target text : List ℕ) : Type 0 where
   pub strategy : Strategy
   pub before : Configuration
   pub after : Configuration
   pub steps : List Step
   pub by : strategy_at code ≡ Ok strategy
-  pub begins : configuration_at 1 now ≡ Ok before
-  pub ends : configuration_at 2 target ≡ Ok after
+  pub begins : configuration_or_answer 1 now ≡ Ok before
+  pub ends : configuration_or_answer 2 target ≡ Ok after
   pub printed : text ≡ plan_text steps
   pub serves : Serves strategy before steps after
   pub taken : applied (restored_of (read_as 1 (conf_state_in now))) (Ok steps) ≡ Ok (conf_state_text (lists_of after))

@@ -11,13 +11,13 @@ use Rattle.quorum_sets.specs.Votes.{joint_vote_result}
 use Rattle.quorum_sets.specs.declared.voting.VoteResult.{VoteResult}
 use Rattle.quorum_sets.specs.declared.voting.VoteResult.TheVariants.{VotePending, VoteLost, VoteWon}
 use Rattle.conf_change.specs.ConfState.{names_once}
-use Rattle.confscript_c.specs.Answer.{answer, done}
+use Rattle.confscript_c.specs.Answer.{status_answer, done}
 use Rattle.confscript_c.specs.declared.answer.Answer.{Answer}
 use Rattle.confscript_c.specs.declared.status.Status.TheVariants.{RepeatedId, DifferentLengths, BadVote, NoQuorum}
 
 -- the voters of two lists, each id counting once
-abbrev pub voters_named : List ℕ → List ℕ → Voters
-voters_named incoming outgoing = pair (ids_of incoming) (ids_of outgoing)
+abbrev pub voters_of_lists : List ℕ → List ℕ → Voters
+voters_of_lists incoming outgoing = pair (ids_of incoming) (ids_of outgoing)
 
 -- the value of each id: the one at its index
 abbrev pub known : {V : Type 0} → List ℕ → List V → finite.FinMap nat_cmp V
@@ -26,20 +26,20 @@ known ids values = finite.from_entries (zip ids values)
 -- there is a value for each id and no id is named twice, else the call is refused
 abbrev pub of_each : {V : Type 0} → List ℕ → List V → Answer → Answer
 of_each ids values otherwise =
-    if not (nat_eq (length ids) (length values)) then answer DifferentLengths 0
-    else (if not (names_once ids) then answer RepeatedId 0 else otherwise)
+    if not (nat_eq (length ids) (length values)) then status_answer DifferentLengths 0
+    else (if not (names_once ids) then status_answer RepeatedId 0 else otherwise)
 
 -- the committed index of a pair of sets
 abbrev pub committed_answer : List ℕ → List ℕ → List ℕ → List ℕ → Answer
 committed_answer incoming outgoing ids acknowledged =
-    of_each ids acknowledged (done (joint_committed_index (voters_named incoming outgoing) (known ids acknowledged)))
+    of_each ids acknowledged (done (joint_committed_index (voters_of_lists incoming outgoing) (known ids acknowledged)))
 
 -- 0 is no, 1 is yes, and nothing else is a vote
 abbrev pub is_vote : ℕ → Bool
 is_vote byte = (byte == 0) || (byte == 1)
 
-abbrev pub is_yes : ℕ → Bool
-is_yes byte = byte == 1
+abbrev pub is_yes_byte : ℕ → Bool
+is_yes_byte byte = byte == 1
 
 abbrev pub vote_number : VoteResult → ℕ
 vote_number VotePending = 0
@@ -50,14 +50,14 @@ vote_number VoteWon = 2
 abbrev pub vote_answer : List ℕ → List ℕ → List ℕ → List ℕ → Answer
 vote_answer incoming outgoing ids votes =
     of_each ids votes
-    (if not (list_all is_vote votes) then answer BadVote 0
-    else done (vote_number (joint_vote_result (voters_named incoming outgoing) (known ids (map is_yes votes)))))
+    (if not (list_all is_vote votes) then status_answer BadVote 0
+    else done (vote_number (joint_vote_result (voters_of_lists incoming outgoing) (known ids (map is_yes_byte votes)))))
 
 -- how many ids may be down, or that the voters are no quorum even with none down
 abbrev pub count_answer : Option ℕ → Answer
 count_answer (Some count) = done count
-count_answer None = answer NoQuorum 0
+count_answer None = status_answer NoQuorum 0
 
 -- how many ids may be down while the voters of a pair of sets, without the uncounted ones, are a quorum
 abbrev pub may_be_down_answer : List ℕ → List ℕ → List ℕ → Answer
-may_be_down_answer incoming outgoing uncounted = count_answer (may_be_down (voters_named incoming outgoing) (ids_of uncounted))
+may_be_down_answer incoming outgoing uncounted = count_answer (may_be_down (voters_of_lists incoming outgoing) (ids_of uncounted))

@@ -32,61 +32,61 @@ code_of BadStrategy = 24
 code_of JointTarget = 25
 
 -- what a status means, in words; a refused step as the program prints it
-abbrev pub text_of : Status → List ℕ
-text_of Done = codes "done"
-text_of TooSmall = codes "the buffer is too small"
-text_of NoMemory = codes "out of memory"
-text_of BadConfState = codes "not a ConfState line"
-text_of RepeatedId = codes "an id is named twice"
-text_of NotAConfiguration = codes "not a configuration"
-text_of NoVoter = codes "no incoming voter"
-text_of BadLine = codes "not a step"
-text_of TooManySteps = codes "more than four steps"
-text_of AlreadyJoint = codes "config is already joint"
-text_of ZeroVoterJoint = codes "can't make a zero-voter config joint"
-text_of NotJoint = codes "can't leave a non-joint config"
-text_of SimpleInJoint = codes "can't apply simple config change in joint config"
-text_of RemovedAllVoters = codes "removed all voters"
-text_of MoreThanOneVoter = codes "more than one voter changed without entering joint config"
-text_of ZeroId = codes "the id 0"
-text_of NextNotOutgoing = codes "a next learner is not an outgoing voter"
-text_of NextAndIncoming = codes "a next learner is an incoming voter"
-text_of LearnerAndVoter = codes "a learner is a voter"
-text_of NotJointButNext = codes "next learners without outgoing voters"
-text_of NotJointButAutoLeave = codes "auto-leave without outgoing voters"
-text_of DifferentLengths = codes "not as many values as ids"
-text_of BadVote = codes "a vote is neither 0 nor 1"
-text_of NoQuorum = codes "the voters are no quorum"
-text_of BadStrategy = codes "unknown strategy"
-text_of JointTarget = codes "the target is joint"
+abbrev pub status_text : Status → List ℕ
+status_text Done = codes "done"
+status_text TooSmall = codes "the buffer is too small"
+status_text NoMemory = codes "out of memory"
+status_text BadConfState = codes "not a ConfState line"
+status_text RepeatedId = codes "an id is named twice"
+status_text NotAConfiguration = codes "not a configuration"
+status_text NoVoter = codes "no incoming voter"
+status_text BadLine = codes "not a step"
+status_text TooManySteps = codes "more than four steps"
+status_text AlreadyJoint = codes "config is already joint"
+status_text ZeroVoterJoint = codes "can't make a zero-voter config joint"
+status_text NotJoint = codes "can't leave a non-joint config"
+status_text SimpleInJoint = codes "can't apply simple config change in joint config"
+status_text RemovedAllVoters = codes "removed all voters"
+status_text MoreThanOneVoter = codes "more than one voter changed without entering joint config"
+status_text ZeroId = codes "the id 0"
+status_text NextNotOutgoing = codes "a next learner is not an outgoing voter"
+status_text NextAndIncoming = codes "a next learner is an incoming voter"
+status_text LearnerAndVoter = codes "a learner is a voter"
+status_text NotJointButNext = codes "next learners without outgoing voters"
+status_text NotJointButAutoLeave = codes "auto-leave without outgoing voters"
+status_text DifferentLengths = codes "not as many values as ids"
+status_text BadVote = codes "a vote is neither 0 nor 1"
+status_text NoQuorum = codes "the voters are no quorum"
+status_text BadStrategy = codes "unknown strategy"
+status_text JointTarget = codes "the target is joint"
 
 -- the same by the code; any other number is no status
 abbrev pub text_of_code : ℕ → List ℕ
 text_of_code code =
-    if code == 0 then text_of Done
-    else (if code == 1 then text_of TooSmall
-    else (if code == 2 then text_of NoMemory
-    else (if code == 3 then text_of BadConfState
-    else (if code == 4 then text_of RepeatedId
-    else (if code == 5 then text_of NotAConfiguration
-    else (if code == 6 then text_of NoVoter
-    else (if code == 7 then text_of BadLine
-    else (if code == 8 then text_of TooManySteps
-    else (if code == 9 then text_of AlreadyJoint
-    else (if code == 10 then text_of ZeroVoterJoint
-    else (if code == 11 then text_of NotJoint
-    else (if code == 12 then text_of SimpleInJoint
-    else (if code == 13 then text_of RemovedAllVoters
-    else (if code == 14 then text_of MoreThanOneVoter
-    else (if code == 15 then text_of ZeroId
-    else (if code == 16 then text_of NextNotOutgoing
-    else (if code == 17 then text_of NextAndIncoming
-    else (if code == 18 then text_of LearnerAndVoter
-    else (if code == 19 then text_of NotJointButNext
-    else (if code == 20 then text_of NotJointButAutoLeave
-    else (if code == 21 then text_of DifferentLengths
-    else (if code == 22 then text_of BadVote
-    else (if code == 23 then text_of NoQuorum
-    else (if code == 24 then text_of BadStrategy
-    else (if code == 25 then text_of JointTarget
+    if code == 0 then status_text Done
+    else (if code == 1 then status_text TooSmall
+    else (if code == 2 then status_text NoMemory
+    else (if code == 3 then status_text BadConfState
+    else (if code == 4 then status_text RepeatedId
+    else (if code == 5 then status_text NotAConfiguration
+    else (if code == 6 then status_text NoVoter
+    else (if code == 7 then status_text BadLine
+    else (if code == 8 then status_text TooManySteps
+    else (if code == 9 then status_text AlreadyJoint
+    else (if code == 10 then status_text ZeroVoterJoint
+    else (if code == 11 then status_text NotJoint
+    else (if code == 12 then status_text SimpleInJoint
+    else (if code == 13 then status_text RemovedAllVoters
+    else (if code == 14 then status_text MoreThanOneVoter
+    else (if code == 15 then status_text ZeroId
+    else (if code == 16 then status_text NextNotOutgoing
+    else (if code == 17 then status_text NextAndIncoming
+    else (if code == 18 then status_text LearnerAndVoter
+    else (if code == 19 then status_text NotJointButNext
+    else (if code == 20 then status_text NotJointButAutoLeave
+    else (if code == 21 then status_text DifferentLengths
+    else (if code == 22 then status_text BadVote
+    else (if code == 23 then status_text NoQuorum
+    else (if code == 24 then status_text BadStrategy
+    else (if code == 25 then status_text JointTarget
     else codes "unknown status")))))))))))))))))))))))))

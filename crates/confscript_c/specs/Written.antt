@@ -1,6 +1,6 @@
 -- Texts that a call writes into a buffer.
 use Rattle.std.specs.Prelude.{◌≡◌, ◌⊎◌, ℕ, List, ◌++◌, length, drop, Result, Ok, Err, nat_le, if◌then◌else◌}
-use Rattle.confscript_c.specs.Answer.{answer, done, no_memory}
+use Rattle.confscript_c.specs.Answer.{status_answer, done, no_memory}
 use Rattle.confscript_c.specs.declared.answer.Answer.{Answer}
 use Rattle.confscript_c.specs.declared.status.Status.TheVariants.{TooSmall}
 
@@ -10,7 +10,7 @@ TextResult = Result (List ℕ) Answer
 
 -- the answer where there is room for so many bytes: how many the text has, and whether it fits
 abbrev pub answer_to : TextResult → ℕ → Answer
-answer_to (Ok text) room = if nat_le (length text) room then done (length text) else answer TooSmall (length text)
+answer_to (Ok text) room = if nat_le (length text) room then done (length text) else status_answer TooSmall (length text)
 answer_to (Err why) room = why
 
 -- what the buffer holds then: a text that fits, and after it what was there; else what was there
@@ -19,6 +19,6 @@ buffer_after (Ok text) buffer = if nat_le (length text) (length buffer) then tex
 buffer_after (Err why) buffer = buffer
 
 -- the call answers and writes as wanted; or memory ran out, and nothing is written
-abbrev pub Writes : TextResult → List ℕ → Answer → List ℕ → Type 0
-Writes wanted before result after =
+abbrev pub WritesText : TextResult → List ℕ → Answer → List ℕ → Type 0
+WritesText wanted before result after =
     ((result ≡ answer_to wanted (length before)) × (after ≡ buffer_after wanted before)) ⊎ ((result ≡ no_memory) × (after ≡ before))

@@ -1,6 +1,6 @@
 //! What a call answers.
 ghost use Rattle.std.specs.Prelude.{◌≡◌};
-ghost use Rattle.confscript_c.specs.Answer.{answer, done, no_memory};
+ghost use Rattle.confscript_c.specs.Answer.{status_answer, done, no_memory};
 
 use crate::status::Status;
 use quorum_sets::NoMemory;
@@ -16,7 +16,7 @@ pub struct Answer {
 impl Answer {
     // The answer of a status and its number.
     pub(crate) fn new(status: Status, number: u64) -> Answer
-        ensures { result ≡ answer status number }
+        ensures { result ≡ status_answer status number }
     {
         Answer {
             status: status.code(),
@@ -42,7 +42,7 @@ impl Answer {
 impl From<NoMemory> for Answer {
     ghost use Rattle.confscript_c.specs.Answer.{no_memory};
 
-    ghost from_gives = { λ _ answer. answer ≡ no_memory };
+    ghost from_gives = { λ _ status_answer. status_answer ≡ no_memory };
 
     fn from(_error: NoMemory) -> Answer {
         Answer::no_memory()

@@ -6,7 +6,7 @@ ghost use Rattle.conf_plan.specs.PlanCode.{plan_in};
 ghost use Rattle.confscript_c.specs.Answer.{no_memory};
 ghost use Rattle.confscript_c.specs.Applied.{apply_result, restored_of, steps_result, text_fault_answer, refusal_answer};
 ghost use Rattle.confscript_c.specs.InputLines.{read_as};
-ghost use Rattle.confscript_c.specs.Written.{Writes};
+ghost use Rattle.confscript_c.specs.Written.{WritesText};
 
 use crate::answer::Answer;
 use crate::buffer::write_text;
@@ -25,7 +25,7 @@ pub extern "C" fn confscript_apply(
     plan: &[u8],
     out: &mut [u8],
 ) -> Answer
-    ensures { Writes (apply_result state.now plan.now) out.old result out.new }
+    ensures { WritesText (apply_result state.now plan.now) out.old result out.new }
 {
     match line_after(alloc, state, plan) {
         Ok(line) => write_text(line.as_slice(), out),

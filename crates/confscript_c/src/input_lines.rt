@@ -4,7 +4,7 @@ ghost use Rattle.conf_change.specs.Configuration.{is_valid, has_voter};
 ghost use Rattle.conf_change.specs.ConfStateLine.{conf_state_in};
 ghost use Rattle.confscript_c.specs.Answer.{no_memory};
 ghost use Rattle.confscript_c.specs.Applied.{restored_of};
-ghost use Rattle.confscript_c.specs.InputLines.{read_as, fault_answer, configuration_at};
+ghost use Rattle.confscript_c.specs.InputLines.{read_as, fault_answer, configuration_or_answer};
 
 use crate::answer::Answer;
 use crate::status::Status;
@@ -32,10 +32,10 @@ pub(crate) fn configuration_at(
     number: u64,
     line: &[u8],
 ) -> Result<Config<InlineIds>, Answer>
-    ensures configuration { IfOk result (λ c. configuration_at number line.now ≡ Ok c) }
+    ensures configuration { IfOk result (λ c. configuration_or_answer number line.now ≡ Ok c) }
     ensures valid { IfOk result (λ c. is_valid c ≡ true) }
     ensures restored { IfOk result (λ c. has_voter c ≡ true → restored_of (read_as number (conf_state_in line.now)) ≡ Ok c) }
-    ensures refused { IfErr result (λ why. (why ≡ no_memory) ⊎ (configuration_at number line.now ≡ Err why)) }
+    ensures refused { IfErr result (λ why. (why ≡ no_memory) ⊎ (configuration_or_answer number line.now ≡ Err why)) }
 {
     match read_configuration(alloc, line) {
         Ok(config) => Ok(config),

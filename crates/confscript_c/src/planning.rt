@@ -2,8 +2,8 @@
 ghost use Rattle.std.specs.Prelude.{◌≡◌, ◌≢◌, ◌⊎◌, ℕ, List, true, Ok, Err, IfOk, IfErr};
 ghost use Rattle.conf_change.specs.Configuration.{is_valid};
 ghost use Rattle.confscript_c.specs.Answer.{no_memory};
-ghost use Rattle.confscript_c.specs.Planning.{strategy_at, path_result, plan_result, IsPathText, Leads};
-ghost use Rattle.confscript_c.specs.Written.{Writes};
+ghost use Rattle.confscript_c.specs.Planning.{strategy_at, path_result, plan_result, IsPathText, LeadsToTarget};
+ghost use Rattle.confscript_c.specs.Written.{WritesText};
 
 use crate::answer::Answer;
 use crate::buffer::write_text;
@@ -24,10 +24,10 @@ pub extern "C" fn confscript_plan(
     strategy: u32,
     out: &mut [u8],
 ) -> Answer
-    ensures writes { Writes (plan_result strategy now.now target.now) out.old result out.new }
+    ensures writes { WritesText (plan_result strategy now.now target.now) out.old result out.new }
 
     // The path leads there, and keeps what the strategy promises.
-    ensures leads { result ≢ no_memory → (text : List ℕ) → plan_result strategy now.now target.now ≡ Ok text → Leads strategy now.now target.now text }
+    ensures leads { result ≢ no_memory → (text : List ℕ) → plan_result strategy now.now target.now ≡ Ok text → LeadsToTarget strategy now.now target.now text }
 {
     match text_between_lines(alloc, now, target, strategy) {
         Ok(text) => write_text(text.as_slice(), out),
@@ -43,7 +43,7 @@ fn text_between_lines(
     code: u32,
 ) -> Result<Vec<u8>, Answer>
     ensures text { IfOk result (λ text. plan_result code now.now target.now ≡ Ok text.items) }
-    ensures leads { IfOk result (λ text. Leads code now.now target.now text.items) }
+    ensures leads { IfOk result (λ text. LeadsToTarget code now.now target.now text.items) }
     ensures refused { IfErr result (λ why. (why ≡ no_memory) ⊎ (plan_result code now.now target.now ≡ Err why)) }
 {
     let strategy = strategy_at(code)?;

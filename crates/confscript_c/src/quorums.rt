@@ -8,7 +8,7 @@ ghost use Rattle.quorum_sets.specs.Votes.{joint_vote_result};
 ghost use Rattle.conf_change.specs.ConfState.{names_once};
 ghost use Rattle.confscript_c.specs.Answer.{no_memory};
 ghost use Rattle.confscript_c.specs.Quorums as spec;
-ghost use Rattle.confscript_c.specs.Quorums.{committed_answer, vote_answer, may_be_down_answer, voters_named, is_vote, is_yes};
+ghost use Rattle.confscript_c.specs.Quorums.{committed_answer, vote_answer, may_be_down_answer, voters_of_lists, is_vote, is_yes_byte};
 
 use crate::answer::Answer;
 use crate::status::Status;
@@ -61,7 +61,7 @@ fn index_of(
     acknowledged: &[u64],
 ) -> Result<u64, NoMemory>
     requires { length ids.now ≡ length acknowledged.now }
-    ensures { IfOk result (λ index. index ≡ joint_committed_index (voters_named incoming.now outgoing.now) (spec.known ids.now acknowledged.now)) }
+    ensures { IfOk result (λ index. index ≡ joint_committed_index (voters_of_lists incoming.now outgoing.now) (spec.known ids.now acknowledged.now)) }
 {
     let incoming = InlineIds::of_list(alloc, incoming)?;
     let outgoing = InlineIds::of_list(alloc, outgoing)?;
@@ -116,7 +116,7 @@ fn result_of(
     yes: &[bool],
 ) -> Result<VoteResult, NoMemory>
     requires { length ids.now ≡ length yes.now }
-    ensures { IfOk result (λ vote. vote ≡ joint_vote_result (voters_named incoming.now outgoing.now) (spec.known ids.now yes.now)) }
+    ensures { IfOk result (λ vote. vote ≡ joint_vote_result (voters_of_lists incoming.now outgoing.now) (spec.known ids.now yes.now)) }
 {
     let incoming = InlineIds::of_list(alloc, incoming)?;
     let outgoing = InlineIds::of_list(alloc, outgoing)?;
@@ -170,7 +170,7 @@ fn are_votes(votes: &[u8]) -> bool
 
 // Whether each byte is a yes.
 fn truths(alloc: Global, votes: &[u8]) -> Result<Vec<bool>, NoMemory>
-    ensures { IfOk result (λ truths. truths.items ≡ map is_yes votes.now) }
+    ensures { IfOk result (λ truths. truths.items ≡ map is_yes_byte votes.now) }
 {
     Ok(votes.iter().map(|byte| *byte == 1).collect(alloc)?)
 }

@@ -1,7 +1,7 @@
 //! What a call answers: that it is done, or why it is refused.
 ghost use Rattle.std.specs.Prelude.{◌≡◌, Ok};
-ghost use Rattle.confscript_c.specs.Status.{code_of, text_of, text_of_code};
-ghost use Rattle.confscript_c.specs.Written.{Writes};
+ghost use Rattle.confscript_c.specs.Status.{code_of, status_text, text_of_code};
+ghost use Rattle.confscript_c.specs.Written.{WritesText};
 
 use crate::answer::Answer;
 use crate::buffer::write_text;
@@ -47,7 +47,7 @@ impl Status {
 
     /// What it means, in words.
     pub fn text(self) -> &'static str
-        ensures { result.now ≡ text_of self }
+        ensures { result.now ≡ status_text self }
     {
         match self {
             Status::Done => "done",
@@ -83,7 +83,7 @@ impl Status {
 /// Writes what the status with this code means; of any other number, that it is unknown.
 #[unsafe(no_mangle)]
 pub extern "C" fn confscript_status_text(code: u32, out: &mut [u8]) -> Answer
-    ensures { Writes (Ok (text_of_code code)) out.old result out.new }
+    ensures { WritesText (Ok (text_of_code code)) out.old result out.new }
 {
     write_text(text_of_code(code).as_bytes(), out)
 }

@@ -3,17 +3,17 @@ use Rattle.std.specs.Prelude.{ℕ, Bool, true, ◌&&◌, ◌==◌, List, [], ◌
 use Rattle.std.specs.List.{list_any}
 use Rattle.ascii_text.specs.WhiteSpace.{trimmed}
 use Rattle.dd_file.specs.Parts.{suffix}
-use Rattle.dd_file.specs.DirectiveLine.{ArgumentText, is_closing, split_at_commas, with_key, values_of, argument_of}
+use Rattle.dd_file.specs.DirectiveLine.{ArgumentText, is_closing, split_at_commas, with_key, values_of, parsed_argument}
 use Rattle.dd_file.specs.declared.values.Left.{Left}
 use Rattle.dd_file.specs.declared.values.Left.TheVariants.{Nothing, Plain, Listed}
 
 -- whether a token is an argument
 abbrev pub is_argument : List ℕ → Bool
-is_argument token = is_some (argument_of token)
+is_argument token = is_some (parsed_argument token)
 
 -- the argument of such a token
 abbrev pub argument_in : List ℕ → ArgumentText
-argument_in token = unwrap_or (argument_of token) (with_key [] [])
+argument_in token = unwrap_or (parsed_argument token) (with_key [] [])
 
 -- whether a text is empty, or a byte followed by values
 abbrev pub has_values : List ℕ → Bool

@@ -73,14 +73,14 @@ split_at_commas [] = [] ∷ []
 split_at_commas (b ∷ bs) = split_or_prepend (is_comma b) b (split_at_commas bs)
 
 -- the values between parentheses; white space alone has none
-abbrev pub listed : List ℕ → List (List ℕ)
-listed text = if is_blank text then [] else map trimmed (split_at_commas text)
+abbrev pub list_values : List ℕ → List (List ℕ)
+list_values text = if is_blank text then [] else map trimmed (split_at_commas text)
 
 -- the values after `=`: a list in parentheses, or one plain value
 abbrev pub values_of : List ℕ → Option (List (List ℕ))
 values_of [] = Some ([] ∷ [])
 values_of (b ∷ bs) =
-    if is_opening b then (if list_any is_closing bs && length (suffix is_closing bs) == 0 then Some (listed (up_to is_closing bs)) else None)
+    if is_opening b then (if list_any is_closing bs && length (suffix is_closing bs) == 0 then Some (list_values (up_to is_closing bs)) else None)
     else (if is_plain (b ∷ bs) then Some ((b ∷ bs) ∷ []) else None)
 
 -- a key with these values
@@ -88,8 +88,8 @@ abbrev pub with_key : List ℕ → List (List ℕ) → ArgumentText
 with_key key values = record { key = key; values = values }
 
 -- the argument that a token parses to: a key alone, or a key, `=` and values
-abbrev pub argument_of : List ℕ → Option ArgumentText
-argument_of token =
+abbrev pub parsed_argument : List ℕ → Option ArgumentText
+parsed_argument token =
     if is_key token then Some (with_key token [])
     else (if is_key (up_to is_equals token) then option_map (with_key (up_to is_equals token)) (values_of (suffix is_equals token)) else None)
 
@@ -102,7 +102,7 @@ before_others None others = None
 -- the arguments that the tokens parse to, if all are valid
 abbrev pub arguments_of : List (List ℕ) → Option (List ArgumentText)
 arguments_of [] = Some []
-arguments_of (token ∷ tokens) = before_others (argument_of token) (arguments_of tokens)
+arguments_of (token ∷ tokens) = before_others (parsed_argument token) (arguments_of tokens)
 
 -- the key of each argument is a key
 abbrev pub has_keys : List ArgumentText → Bool

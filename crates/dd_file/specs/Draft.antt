@@ -138,10 +138,10 @@ IsDraftFault n (AfterDouble line) = n < line
 IsDraftFault n (UnclosedDouble line) = line ≡ n
 
 -- an error of a line as that of the item that begins at line n
-abbrev pub at_line : ℕ → FileFault → FileFault
-at_line n Read = Read
-at_line n NoMemory = NoMemory
-at_line n (InputTooLong line) = InputTooLong n
-at_line n (BadDirective line) = BadDirective line
-at_line n (AfterDouble line) = AfterDouble line
-at_line n (UnclosedDouble line) = UnclosedDouble line
+abbrev pub fault_at_line : ℕ → FileFault → FileFault
+fault_at_line n Read = Read
+fault_at_line n NoMemory = NoMemory
+fault_at_line n (InputTooLong line) = InputTooLong n
+fault_at_line n (BadDirective line) = BadDirective line
+fault_at_line n (AfterDouble line) = AfterDouble line
+fault_at_line n (UnclosedDouble line) = UnclosedDouble line

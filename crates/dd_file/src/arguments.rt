@@ -3,7 +3,7 @@ ghost use Rattle.std.specs.Prelude.{◌≡◌, ◌+◌, ◌≤◌, ◌∷◌, tr
 ghost use Rattle.std.specs.List.{prefix_len};
 ghost use Rattle.dd_file.specs.ArgumentValues.{is_argument};
 ghost use Rattle.dd_file.specs.TokenParts.{is_plain_byte, ends_token, first_token};
-ghost use Rattle.dd_file.specs.DirectiveLine.{is_key_byte, token_len, values_of, argument_of};
+ghost use Rattle.dd_file.specs.DirectiveLine.{is_key_byte, token_len, values_of, parsed_argument};
 
 use ascii_text::position::far_position_of;
 use ascii_text::white_space::is_space;
@@ -86,7 +86,7 @@ fn values_len(text: &[u8]) -> Option<usize>
 /// The length of the leading argument, if it is valid: a key alone, or a key, `=` and values. `key_len` is that of its key.
 pub(crate) fn argument_len(text: &[u8], key_len: usize) -> Option<usize>
     requires { key_len ≡ prefix_len is_key_byte text.now }
-    ensures argument { MatchOption result (argument_of (first_token text.now) ≡ None)
+    ensures argument { MatchOption result (parsed_argument (first_token text.now) ≡ None)
         (λ len. (len ≡ token_len false text.now) × (is_argument (first_token text.now) ≡ true)) }
     ensures key { IfSome result (λ len. key_len ≡ prefix_len is_key_byte (first_token text.now)) }
 {

@@ -2,7 +2,7 @@
 ghost use Rattle.std.specs.Prelude.{◌≡◌, ◌<◌, ◌+◌, ◌^◌, [], ◌∷◌, ◌++◌, true, false, length, IfOk, IfErr, OnOk};
 ghost use Rattle.std.specs.List.{list_all};
 ghost use Rattle.dd_file.specs.Script.{is_continued};
-ghost use Rattle.dd_file.specs.Draft.{blank_draft, counted, Fits, FitsIn, AddsIn, state_after_directive_line, begins_directive, first_item_of, result_of_first, is_done, ends_in_dashes, IsDraftFault, at_line};
+ghost use Rattle.dd_file.specs.Draft.{blank_draft, counted, Fits, FitsIn, AddsIn, state_after_directive_line, begins_directive, first_item_of, result_of_first, is_done, ends_in_dashes, IsDraftFault, fault_at_line};
 
 use crate::command::{Command, parse_command};
 use crate::draft_state::DraftState;
@@ -210,7 +210,7 @@ impl Draft {
 
     /// An error of the lines as that of the item.
     pub(crate) fn fault_at(&self, fault: FileFault) -> FileFault
-        ensures { result ≡ at_line self.now.line fault }
+        ensures { result ≡ fault_at_line self.now.line fault }
     {
         match fault {
             FileFault::InputTooLong(_) => FileFault::InputTooLong(self.line),

@@ -10,8 +10,8 @@ use Rattle.conf_change.specs.declared.step.Step.{Step}
 use Rattle.serde_json.specs.Written.{has_float, members_have_float}
 use Rattle.raft_json.specs.Proposal.{proposed_changes, transition_of}
 use Rattle.raft_json.proofs.Offered.{has_float-conf_change_json, has_float-conf_state_json, has_float-ids_json}
-use Rattle.plan_output.specs.Stages.{StageState, stages, may_be_down, until_then}
-use Rattle.plan_output.specs.Json.{count_json, step_members, step_json, steps_json, line_text, json_text}
+use Rattle.plan_output.specs.Stages.{StageState, stages, stage_may_be_down, until_then}
+use Rattle.plan_output.specs.Json.{count_json, step_members, step_json, steps_json, value_line, json_text}
 
 -- ---- an object of a step has no float
 has_float-count_json : (count : Option ℕ) → has_float (count_json count) ≡ false
@@ -23,7 +23,7 @@ step_members-no_float plan count number before step after =
     rw (
       has_float-conf_change_json (transition_of step) (proposed_changes before.config step),
       has_float-conf_state_json (lists_of after.config),
-      has_float-count_json (may_be_down after),
+      has_float-count_json (stage_may_be_down after),
       has_float-count_json (until_then after),
     ) refl
 
@@ -36,20 +36,20 @@ has_float-step_json (Some down) plan count number before step after =
 
 -- ---- the lines of the steps from one on
 abbrev pub lines : Option Ids → ℕ → ℕ → ℕ → List StageState → List Step → List ℕ
-lines down plan count number all steps = flat_map line_text (steps_json down plan count number all steps)
+lines down plan count number all steps = flat_map value_line (steps_json down plan count number all steps)
 
 drop-item : {X : Type 0} (xs : List X) (i : ℕ) (x : X) → i < length xs → x ≡ get_or xs i x → drop i xs ≡ x ∷ drop (i + 1) xs
 drop-item xs i x within here = drop-cons xs i x within ∙ (λ j. sym here j ∷ drop (sym (add-one i) j) xs)
 
 pub lines-next : (down : Option Ids) (plan count i : ℕ) (all : List StageState) (steps : List Step) (before : StageState) (step : Step) (after : StageState)
     → i + 1 < length all → before ≡ get_or all i before → after ≡ get_or all (i + 1) after → slice_get steps i ≡ Some step
-    → lines down plan count (i + 1) (drop i all) (drop i steps) ≡ line_text (step_json down plan count (i + 1) before step after) ++ lines down plan count (i + 1 + 1) (drop (i + 1) all) (drop (i + 1) steps)
+    → lines down plan count (i + 1) (drop i all) (drop i steps) ≡ value_line (step_json down plan count (i + 1) before step after) ++ lines down plan count (i + 1 + 1) (drop (i + 1) all) (drop (i + 1) steps)
 lines-next down plan count i all steps before step after within before_is after_is step_is =
     let after_first = drop-item all (i + 1) after within after_is in
     let both = drop-item all i before (omega arith) before_is ∙ ap (λ more. before ∷ more) after_first in
     let step_first = drop-item steps i step (slice_get_within steps i step step_is) (sym (get_or_from_slice_get steps i step step step_is)) in
     (λ j. lines down plan count (i + 1) (both j) (step_first j))
-    ∙ ap (λ more. line_text (step_json down plan count (i + 1) before step after) ++ lines down plan count (i + 1 + 1) more (drop (i + 1) steps)) (sym after_first)
+    ∙ ap (λ more. value_line (step_json down plan count (i + 1) before step after) ++ lines down plan count (i + 1 + 1) more (drop (i + 1) steps)) (sym after_first)
 
 -- without a step there is none
 lines-none : (down : Option Ids) (plan count number : ℕ) (all : List StageState) → lines down plan count number all [] ≡ []

@@ -10,7 +10,7 @@ use Rattle.raft_json.specs.IdsJson.{ids_json}
 use Rattle.raft_json.specs.ConfStateJson.{conf_state_json}
 use Rattle.raft_json.specs.ConfChangeJson.{conf_change_json}
 use Rattle.raft_json.specs.Proposal.{proposed_changes, transition_of}
-use Rattle.plan_output.specs.Stages.{StageState, stages, may_be_down, until_then, commits}
+use Rattle.plan_output.specs.Stages.{StageState, stages, stage_may_be_down, until_then, commits}
 
 -- a number, or null where there is none
 abbrev pub count_json : Option ℕ → Data
@@ -27,7 +27,7 @@ abbrev pub step_members : ℕ → ℕ → ℕ → StageState → Step → StageS
 step_members plan count number_of before step after =
     member (codes "conf_change") (conf_change_json (transition_of step) (proposed_changes before.config step))
     (member (codes "conf_state") (conf_state_json (lists_of after.config))
-    (member (codes "may_be_down") (count_json (may_be_down after))
+    (member (codes "stage_may_be_down") (count_json (stage_may_be_down after))
     (member (codes "plan") (number (unsigned plan))
     (member (codes "step") (number (unsigned number_of))
     (member (codes "steps") (number (unsigned count))
@@ -61,9 +61,9 @@ abbrev pub no_plan_json : ℕ → List ℕ → Data
 no_plan_json plan why = object (member (codes "no_plan") (string why) (member (codes "plan") (number (unsigned plan)) no_members))
 
 -- a value on a line
-abbrev pub line_text : Data → List ℕ
-line_text d = compact_text d ++ 10 ∷ []
+abbrev pub value_line : Data → List ℕ
+value_line d = compact_text d ++ 10 ∷ []
 
 -- the lines of a path
 abbrev pub json_text : ℕ → Configuration → List Step → Option Ids → List ℕ
-json_text plan now steps down = flat_map line_text (path_json plan now steps down)
+json_text plan now steps down = flat_map value_line (path_json plan now steps down)

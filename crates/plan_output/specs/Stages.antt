@@ -29,17 +29,17 @@ abbrev pub first_stage : Configuration → StageState
 first_stage now = record { config = now; catching_up = no_ids }
 
 -- the configuration after a step; a step that is refused leaves it as it is
-abbrev pub after_step : Configuration → Step → Configuration
-after_step before step = result_unwrap_or (outcome before step) before
+abbrev pub configuration_after : Configuration → Step → Configuration
+configuration_after before step = result_unwrap_or (outcome before step) before
 
 -- the stage that a step leads to
 abbrev pub stage_after : Configuration → Step → StageState
-stage_after before step = record { config = after_step before step; catching_up = catching_up before step (after_step before step) }
+stage_after before step = record { config = configuration_after before step; catching_up = catching_up before step (configuration_after before step) }
 
 -- the stages that steps lead to, one after another
 abbrev pub stages_after : Configuration → List Step → List StageState
 stages_after before [] = []
-stages_after before (step ∷ steps) = stage_after before step ∷ stages_after (after_step before step) steps
+stages_after before (step ∷ steps) = stage_after before step ∷ stages_after (configuration_after before step) steps
 
 -- the stages of a path: one more than it has steps
 abbrev pub stages : Configuration → List Step → List StageState
@@ -47,8 +47,8 @@ stages now steps = first_stage now ∷ stages_after now steps
 
 -- ---- what the cluster endures there
 -- the most ids that may be down, whichever they are, while the others are still a quorum
-abbrev pub may_be_down : StageState → Option ℕ
-may_be_down stage = tolerance.may_be_down (voters_of stage.config) no_ids
+abbrev pub stage_may_be_down : StageState → Option ℕ
+stage_may_be_down stage = tolerance.may_be_down (voters_of stage.config) no_ids
 
 -- the same until the members have caught up: they do not count, be they down or not
 abbrev pub until_then : StageState → Option ℕ

@@ -8,7 +8,7 @@ use Rattle.conf_change.specs.Text.{spaced_numbers, text_if}
 use Rattle.conf_change.specs.declared.step.Step.{Step}
 use Rattle.conf_plan.specs.PlanText.{line_text}
 use Rattle.plan_output.specs.Grid.{grid_text}
-use Rattle.plan_output.specs.Stages.{StageState, stages, may_be_down, until_then, commits}
+use Rattle.plan_output.specs.Stages.{StageState, stages, stage_may_be_down, until_then, commits}
 
 -- ---- the cells of a row
 -- The marks of ids: a voter, of both sets if there are two; an incoming or an outgoing voter alone; an outgoing voter alone that is a next learner; a learner; an id that is no member.
@@ -60,7 +60,7 @@ commits_cells (Some down) stage = commits_text (commits stage down) ∷ []
 -- the row of this name
 abbrev pub row : List ℕ → Option Ids → List ℕ → StageState → List (List ℕ)
 row ids down name stage =
-    name ∷ marks_text ids stage.config ∷ majority_text stage.config ∷ down_text (may_be_down stage) ∷ spaced_numbers (ascending stage.catching_up)
+    name ∷ marks_text ids stage.config ∷ majority_text stage.config ∷ down_text (stage_may_be_down stage) ∷ spaced_numbers (ascending stage.catching_up)
     ∷ until_text stage ∷ commits_cells down stage
 
 -- ---- the rows

@@ -7,7 +7,7 @@ ghost use Rattle.serde_json.specs.View.{view, members_view};
 ghost use Rattle.serde_json.specs.Written.{has_float};
 ghost use Rattle.raft_json.specs.IdsJson.{ids_json};
 ghost use Rattle.plan_output.specs.Json as spec;
-ghost use Rattle.plan_output.specs.Json.{json_text, line_text, no_plan_json, no_steps_json, step_json};
+ghost use Rattle.plan_output.specs.Json.{json_text, value_line, no_plan_json, no_steps_json, step_json};
 
 use crate::stage::{Stage, stages};
 use ascii_text::append::append;
@@ -55,7 +55,7 @@ pub fn add_no_plan_line(
     plan: u64,
     why: &str,
 ) -> Result<(), NoMemory>
-    ensures ok { OnOk result (text.new.items ≡ text.old.items ++ line_text (no_plan_json plan why.now)) }
+    ensures ok { OnOk result (text.new.items ≡ text.old.items ++ value_line (no_plan_json plan why.now)) }
     ensures err { OnErr result (text.new.items ≡ text.old.items) }
 {
     let why = Value::try_from_str(alloc, why)?;
@@ -68,7 +68,7 @@ pub fn add_no_plan_line(
 // Appends a value on a line. On `NoMemory` the text is unchanged.
 fn add_line(alloc: Global, text: &mut Vec<u8>, value: &Value) -> Result<(), NoMemory>
     requires { has_float (view value.now) ≡ false }
-    ensures ok { OnOk result (text.new.items ≡ text.old.items ++ line_text (view value.now)) }
+    ensures ok { OnOk result (text.new.items ≡ text.old.items ++ value_line (view value.now)) }
     ensures err { OnErr result (text.new.items ≡ text.old.items) }
 {
     let mut line = value.to_vec(alloc)?;
@@ -117,7 +117,7 @@ fn add_step<S: MemberSet>(
     after: &Stage<S>,
     down: Option<&S>,
 ) -> Result<(), NoMemory>
-    ensures { OnOk result (lines.new.items ≡ lines.old.items ++ line_text
+    ensures { OnOk result (lines.new.items ≡ lines.old.items ++ value_line
         (step_json (option_map S.ids (option_copied down.entry)) number.plan number.steps number.step before.now step.now after.now)) }
 {
     let value = step_value(alloc, number, before, step, after, down)?;

@@ -4,7 +4,7 @@ ghost use Rattle.quorum_sets.specs.Ids.{no_ids};
 ghost use Rattle.quorum_sets.specs.Tolerance.{IsMostDown};
 ghost use Rattle.conf_change.specs.Configuration.{voters_of, is_restorable};
 ghost use Rattle.plan_output.specs.Stages as spec;
-ghost use Rattle.plan_output.specs.Stages.{StageState, first_stage, after_step, stage_after};
+ghost use Rattle.plan_output.specs.Stages.{StageState, first_stage, configuration_after, stage_after};
 
 use conf_change::{Changer, Config, Refused, Step, conf_state};
 use conf_plan::{Path, catching_up};
@@ -58,7 +58,7 @@ impl<S: MemberSet> Stage<S> {
     /// The greatest number of ids that may be down, whichever they are, so that the others are still a quorum.
     pub fn may_be_down(&self) -> Option<usize>
         ensures most { IsMostDown (voters_of self.now.config) no_ids result }
-        ensures counted { result ≡ spec.may_be_down self.now }
+        ensures counted { result ≡ spec.stage_may_be_down self.now }
     {
         let config = &self.config;
         let no_ids = S::empty(self.catching_up.allocator());
@@ -124,7 +124,7 @@ fn next_stage<S: MemberSet>(
     step: &Step,
 ) -> Result<Stage<S>, NoMemory>
     ensures stage { IfOk result (λ stage. stage ≡ stage_after changer.old.tracker.config step.now) }
-    ensures moved { OnOk result (changer.new.tracker.config ≡ after_step changer.old.tracker.config step.now) }
+    ensures moved { OnOk result (changer.new.tracker.config ≡ configuration_after changer.old.tracker.config step.now) }
 {
     let before = changer.tracker().config().try_clone()?;
     if changer.step(step) == Err(Refused::NoMemory) {

@@ -8,22 +8,22 @@ use Rattle.serde_json.specs.Read.{read}
 use Rattle.raft_json.specs.IdsJson.{ids_json, ids_in}
 
 -- the keys that raftpb.ConfState has
-unfoldable pub is_key : List ℕ → Bool
-is_key key =
+unfoldable pub is_conf_state_key : List ℕ → Bool
+is_conf_state_key key =
     bytes_eq key (codes "voters") || bytes_eq key (codes "voters_outgoing") || bytes_eq key (codes "learners")
     || bytes_eq key (codes "learners_next") || bytes_eq key (codes "auto_leave")
 
 -- there is no other key
 abbrev pub has_only_keys : Members → Bool
 has_only_keys no_members = true
-has_only_keys (member key d ms) = is_key key && has_only_keys ms
+has_only_keys (member key d ms) = is_conf_state_key key && has_only_keys ms
 
 -- the boolean at a key: false if the key is missing or null
-abbrev pub flag_in : Option Data → Option Bool
-flag_in None = Some false
-flag_in (Some null) = Some false
-flag_in (Some (boolean b)) = Some b
-flag_in (Some _) = None
+abbrev pub boolean_in : Option Data → Option Bool
+boolean_in None = Some false
+boolean_in (Some null) = Some false
+boolean_in (Some (boolean b)) = Some b
+boolean_in (Some _) = None
 
 -- the lists and the boolean, each at its key
 abbrev pub lists_in : Data → Option ConfStateLists
@@ -38,7 +38,7 @@ lists_in d =
       learners = learners;
       learners_next = learners_next;
       auto_leave = auto_leave;
-    }) (flag_in (get (codes "auto_leave") d)))
+    }) (boolean_in (get (codes "auto_leave") d)))
     (ids_in (get (codes "learners_next") d)))
     (ids_in (get (codes "learners") d)))
     (ids_in (get (codes "voters_outgoing") d)))

@@ -90,7 +90,7 @@ fn has_only_keys(members: &Map<String, Value>) -> bool
 
 #[tactic(auto, unfolding(crate::specs::ConfStateJson::is_key))]
 fn is_key(key: &str) -> bool
-    ensures { result ≡ spec.is_key key.now }
+    ensures { result ≡ spec.is_conf_state_key key.now }
 {
     key == "voters"
         || key == "voters_outgoing"
@@ -101,7 +101,7 @@ fn is_key(key: &str) -> bool
 
 // A boolean, false if it is missing or null.
 fn flag_in(found: Option<&Value>) -> Option<bool>
-    ensures { result ≡ spec.flag_in (option_map (λ v. view v.now) found.entry) }
+    ensures { result ≡ spec.boolean_in (option_map (λ v. view v.now) found.entry) }
 {
     match found {
         None | Some(Value::Null) => Some(false),

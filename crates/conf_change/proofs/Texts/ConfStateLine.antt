@@ -16,7 +16,7 @@ use Rattle.ascii_text.specs.WhiteSpace.{trimmed, without_leading_space}
 use Rattle.ascii_text.specs.Number.{ParsesToNumber, number_in}
 use Rattle.conf_change.specs.Text.{spaced_numbers}
 use Rattle.conf_change.specs.ConfState.{ConfStateLists}
-use Rattle.conf_change.specs.ConfStateLine.{truth_text, line_text, conf_state_text, ParsesToNumbers, DenotesConfState, after_prefix, numbers_in_tokens, is_space_byte, numbers_in, is_close, field_in, auto_leave_in, conf_state_in}
+use Rattle.conf_change.specs.ConfStateLine.{truth_text, bracketed_line, conf_state_text, ParsesToNumbers, DenotesConfState, after_prefix, numbers_in_tokens, is_space_byte, numbers_in, is_close, field_in, auto_leave_in, conf_state_in}
 use Rattle.ascii_text.proofs.Offered.{without_trailing_space-other, number_in-ok, ParsesToNumber-from_some}
 
 -- a byte that is no digit stands in no number
@@ -171,7 +171,7 @@ abbrev line_of : List ℕ → List ℕ → List ℕ → List ℕ → Bool → Li
 line_of a b c d flag =
     codes "Voters:[" ++ (a ++ (codes "] VotersOutgoing:[" ++ (b ++ (codes "] Learners:[" ++ (c ++ (codes "] LearnersNext:[" ++ (d ++ (codes "] AutoLeave:" ++ truth_text flag))))))))
 
-line_text-parts : (a b c d : List ℕ) (flag : Bool) → line_text a b c d flag ≡ line_of a b c d flag
+line_text-parts : (a b c d : List ℕ) (flag : Bool) → bracketed_line a b c d flag ≡ line_of a b c d flag
 line_text-parts a b c d flag = simp append_assoc
 
 pub conf_state_in-ok : (text : List ℕ) (saved : ConfStateLists) → DenotesConfState text saved → conf_state_in text ≡ Some saved
@@ -185,7 +185,7 @@ conf_state_in-ok text saved h =
 
 joined : (text a after_a b after_b c after_c d after_d : List ℕ) (flag : Bool)
     → text ≡ codes "Voters:[" ++ (a ++ after_a) → after_a ≡ codes "] VotersOutgoing:[" ++ (b ++ after_b) → after_b ≡ codes "] Learners:[" ++ (c ++ after_c)
-    → after_c ≡ codes "] LearnersNext:[" ++ (d ++ after_d) → after_d ≡ codes "] AutoLeave:" ++ truth_text flag → text ≡ line_text a b c d flag
+    → after_c ≡ codes "] LearnersNext:[" ++ (d ++ after_d) → after_d ≡ codes "] AutoLeave:" ++ truth_text flag → text ≡ bracketed_line a b c d flag
 joined text a after_a b after_b c after_c d after_d flag is_text is_a is_b is_c is_d = is_text ∙ rw (is_a, is_b, is_c, is_d) (sym (line_text-parts a b c d flag))
 
 pub DenotesConfState-from_some : (text : List ℕ) (saved : ConfStateLists) → conf_state_in text ≡ Some saved → DenotesConfState text saved
@@ -223,11 +223,11 @@ trimmed-from_first text more front first last =
 abbrev line_start : List ℕ → List ℕ → List ℕ → List ℕ → List ℕ
 line_start a b c d = codes "Voters:[" ++ a ++ codes "] VotersOutgoing:[" ++ b ++ codes "] Learners:[" ++ c ++ codes "] LearnersNext:[" ++ d ++ codes "] AutoLeave:"
 
-trimmed-line_text : (a b c d : List ℕ) (flag : Bool) → trimmed (line_text a b c d flag) ≡ line_text a b c d flag
+trimmed-line_text : (a b c d : List ℕ) (flag : Bool) → trimmed (bracketed_line a b c d flag) ≡ bracketed_line a b c d flag
 trimmed-line_text a b c d true =
-    trimmed-from_first (line_text a b c d true) _ (line_start a b c d ++ codes "tru") (line_text-parts a b c d true) (sym (append_assoc (line_start a b c d) (codes "tru") (101 ∷ [])))
+    trimmed-from_first (bracketed_line a b c d true) _ (line_start a b c d ++ codes "tru") (line_text-parts a b c d true) (sym (append_assoc (line_start a b c d) (codes "tru") (101 ∷ [])))
 trimmed-line_text a b c d false =
-    trimmed-from_first (line_text a b c d false) _ (line_start a b c d ++ codes "fals") (line_text-parts a b c d false) (sym (append_assoc (line_start a b c d) (codes "fals") (101 ∷ [])))
+    trimmed-from_first (bracketed_line a b c d false) _ (line_start a b c d ++ codes "fals") (line_text-parts a b c d false) (sym (append_assoc (line_start a b c d) (codes "fals") (101 ∷ [])))
 
 pub DenotesConfState-printed : (saved : ConfStateLists) → ParsesToNumbers (spaced_numbers saved.voters) saved.voters → ParsesToNumbers (spaced_numbers saved.voters_outgoing) saved.voters_outgoing → ParsesToNumbers (spaced_numbers saved.learners) saved.learners → ParsesToNumbers (spaced_numbers saved.learners_next) saved.learners_next
     → DenotesConfState (conf_state_text saved) saved

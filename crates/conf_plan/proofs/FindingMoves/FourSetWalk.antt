@@ -12,7 +12,7 @@ use Rattle.conf_change.specs.Configuration.{Configuration}
 use Rattle.conf_change.specs.declared.change.Change.{Change}
 use Rattle.conf_change.specs.declared.change.Kind.{Kind}
 use Rattle.conf_plan.specs.Planned.{kind_by, move_of, moves}
-use Rattle.conf_plan.specs.Walking.{IsNoLater, IsEarlier, IsPassed}
+use Rattle.conf_plan.specs.Walking.{IsNoLater, IsEarliest, IsPassed}
 use Rattle.conf_plan.proofs.FindingMoves.OfEachId.{has-union}
 use Rattle.conf_plan.proofs.FindingMoves.RisingIds.{ids_from, ids_from-start, ids_from-later, ids_from-here, holds-none_left, ids_from-nothing, IsFirstFrom-from_ids}
 
@@ -124,7 +124,7 @@ no_later-chain None (Some y) (Some z) ab bc = absurd ab
 no_later-chain (Some x) (Some y) (Some z) ab bc = omega (arith, ab, bc)
 
 pub four-first : (a b c d ab cd : Option ℕ) (id : ℕ) (xs ys zs ws : Ids) (p q r s : ℕ) → a ≡ id_at xs p → b ≡ id_at ys q → c ≡ id_at zs r → d ≡ id_at ws s
-    → IsEarlier a b ab → IsEarlier c d cd → IsEarlier ab cd (Some id) → IsFirstOfFour xs ys zs ws p q r s id
+    → IsEarliest a b ab → IsEarliest c d cd → IsEarliest ab cd (Some id) → IsFirstOfFour xs ys zs ws p q r s id
 four-first a b c d ab cd id xs ys zs ws p q r s ea eb ec ed left right both = record {
   no_later_a = subst (IsNoLater (Some id)) ea (no_later-chain (Some id) ab a both.no_later_than_a left.no_later_than_a);
   no_later_b = subst (IsNoLater (Some id)) eb (no_later-chain (Some id) ab b both.no_later_than_a left.no_later_than_b);
@@ -152,7 +152,7 @@ pub record IsNoneOfFour (a b c d : Ids) (p q r s : ℕ) : Type 0 where
   pub none_d : id_at d s ≡ None
 
 pub four-none : (a b c d ab cd : Option ℕ) (xs ys zs ws : Ids) (p q r s : ℕ) → a ≡ id_at xs p → b ≡ id_at ys q → c ≡ id_at zs r → d ≡ id_at ws s
-    → IsEarlier a b ab → IsEarlier c d cd → IsEarlier ab cd None → IsNoneOfFour xs ys zs ws p q r s
+    → IsEarliest a b ab → IsEarliest c d cd → IsEarliest ab cd None → IsNoneOfFour xs ys zs ws p q r s
 four-none a b c d ab cd xs ys zs ws p q r s ea eb ec ed left right both = record {
   none_a = sym ea ∙ no_later-none a (no_later-chain None ab a both.no_later_than_a left.no_later_than_a);
   none_b = sym eb ∙ no_later-none b (no_later-chain None ab b both.no_later_than_a left.no_later_than_b);

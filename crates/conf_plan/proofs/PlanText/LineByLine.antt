@@ -6,7 +6,7 @@ use Rattle.std.proofs.lemmas.List.{take_all, drop_all, drop-drop, length-drop}
 use Rattle.std.proofs.lemmas.List.Sums.{fails_before_first}
 use Rattle.std.proofs.lemmas.List.Splits.{length-slice_split, slice_split_none, slice_split_first}
 use Rattle.ascii_text.specs.Tokens.{has_bytes}
-use Rattle.conf_plan.specs.PlanText.{is_newline, without_empty_end, lines_of}
+use Rattle.conf_plan.specs.PlanText.{is_newline, without_empty_end, plan_lines}
 
 has_bytes-cons : (b : ℕ) (bs : List ℕ) → has_bytes (b ∷ bs) ≡ true
 has_bytes-cons b bs = lt-ltb 0 (length (b ∷ bs)) (omega arith)
@@ -16,21 +16,21 @@ kept_first piece [] some = absurd (omega arith)
 kept_first piece (next ∷ pieces) some = refl
 
 -- a first piece, behind which the text goes on
-pub lines_of-on : (text line rest : List ℕ) → 0 < length text → 0 < length rest → slice_split is_newline text ≡ line ∷ slice_split is_newline rest → lines_of text ≡ line ∷ lines_of rest
+pub lines_of-on : (text line rest : List ℕ) → 0 < length text → 0 < length rest → slice_split is_newline text ≡ line ∷ slice_split is_newline rest → plan_lines text ≡ line ∷ plan_lines rest
 lines_of-on text line rest some more split =
     rw (lt-ltb 0 (length text) some, lt-ltb 0 (length rest) more, split) (kept_first line (slice_split is_newline rest) (omega (arith, length-slice_split is_newline rest)))
 
 -- a first piece, behind which nothing follows
-pub lines_of-alone : (text line : List ℕ) → 0 < length text → slice_split is_newline text ≡ line ∷ slice_split is_newline [] → lines_of text ≡ line ∷ []
+pub lines_of-alone : (text line : List ℕ) → 0 < length text → slice_split is_newline text ≡ line ∷ slice_split is_newline [] → plan_lines text ≡ line ∷ []
 lines_of-alone text line some split = rw (lt-ltb 0 (length text) some, split) refl
 
 -- a text without a newline
-lines_of-one : (text : List ℕ) → slice_split is_newline text ≡ text ∷ [] → lines_of text ≡ text ∷ []
+lines_of-one : (text : List ℕ) → slice_split is_newline text ≡ text ∷ [] → plan_lines text ≡ text ∷ []
 lines_of-one [] split = refl
 lines_of-one (b ∷ bs) split = rw (split, has_bytes-cons b bs) refl
 
 -- what stands up to the first newline is the first line; it is the only one where nothing follows that newline
-pub lines_of-last : (text line behind : List ℕ) (n : ℕ) → n ≡ position_or_len is_newline text → line ≡ take n text → behind ≡ drop n text → length behind ≤ 1 → lines_of text ≡ line ∷ []
+pub lines_of-last : (text line behind : List ℕ) (n : ℕ) → n ≡ position_or_len is_newline text → line ≡ take n text → behind ≡ drop n text → length behind ≤ 1 → plan_lines text ≡ line ∷ []
 lines_of-last text line behind n n_is line_is behind_is short =
     elim (cases_lt n (length text)) [
       | inl within ↦
@@ -42,7 +42,7 @@ lines_of-last text line behind n n_is line_is behind_is short =
           rw whole (lines_of-one text (slice_split_none is_newline text (λ k d h. fails_before_first is_newline text k d (omega arith))))
     ]
 
-pub lines_of-more : (text line behind rest : List ℕ) (n : ℕ) → n ≡ position_or_len is_newline text → line ≡ take n text → behind ≡ drop n text → rest ≡ drop 1 behind → 0 < length rest → lines_of text ≡ line ∷ lines_of rest
+pub lines_of-more : (text line behind rest : List ℕ) (n : ℕ) → n ≡ position_or_len is_newline text → line ≡ take n text → behind ≡ drop n text → rest ≡ drop 1 behind → 0 < length rest → plan_lines text ≡ line ∷ plan_lines rest
 lines_of-more text line behind rest n n_is line_is behind_is rest_is more =
     let next : rest ≡ drop (n + 1) text = rest_is ∙ ap (drop 1) behind_is ∙ drop-drop 1 n text in
     let within : n < length text = omega (arith, ap length next, length-drop (n + 1) text) in
@@ -53,7 +53,7 @@ lines_of-more text line behind rest n n_is line_is behind_is rest_is more =
 pub record HasLine (text : List ℕ) : Type 0 where
   pub first : List ℕ
   pub others : List (List ℕ)
-  pub are : lines_of text ≡ first ∷ others
+  pub are : plan_lines text ≡ first ∷ others
 
 pub lines_of-some : (text : List ℕ) → HasLine text
 lines_of-some [] = record { first = []; others = []; are = refl }

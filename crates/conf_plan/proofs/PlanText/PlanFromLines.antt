@@ -8,7 +8,7 @@ use Rattle.std.proofs.lemmas.List.{length-append}
 use Rattle.std.proofs.lemmas.Slice.Eq.{bytes_eq-Decides}
 use Rattle.ascii_text.specs.Tokens.{tokens_in}
 use Rattle.conf_change.specs.declared.step.Step.{Step}
-use Rattle.conf_plan.specs.PlanText.{lines_of, IsLineOf, IsNothingToDo, ParsesToPlan, HasFault}
+use Rattle.conf_plan.specs.PlanText.{plan_lines, IsLineOf, IsNothingToDo, ParsesToPlan, HasFault}
 use Rattle.conf_plan.specs.PlanCode.{step_in, and_steps, steps_in, is_nothing, plan_in_lines, plan_in}
 use Rattle.conf_plan.specs.declared.text.PlanTextFault.{PlanTextFault}
 use Rattle.conf_plan.specs.declared.text.PlanTextFault.TheVariants.{BadLine, TooManySteps, NoMemory}
@@ -132,38 +132,38 @@ alone_same : (a b : List ℕ) → a ∷ [] ≡ b ∷ [] → a ≡ b
 alone_same a b e = cc
 
 -- a line that is all of such a text has its words
-is_nothing_alone : (text line : List ℕ) → lines_of text ≡ line ∷ [] → IsNothingToDo text → is_nothing (tokens_in line) ≡ true
+is_nothing_alone : (text line : List ℕ) → plan_lines text ≡ line ∷ [] → IsNothingToDo text → is_nothing (tokens_in line) ≡ true
 is_nothing_alone text line are h = ap is_nothing (ap tokens_in (alone_same line h.line (sym are ∙ h.alone)) ∙ h.line_tokens)
 
-pub something-other_tokens : (text line : List ℕ) → lines_of text ≡ line ∷ [] → is_nothing (tokens_in line) ≡ false → ¬ (IsNothingToDo text)
+pub something-other_tokens : (text line : List ℕ) → plan_lines text ≡ line ∷ [] → is_nothing (tokens_in line) ≡ false → ¬ (IsNothingToDo text)
 something-other_tokens text line are says h = true≢false (sym (is_nothing_alone text line are h) ∙ says)
 
-pub something-more_lines : (text line rest : List ℕ) → lines_of text ≡ line ∷ lines_of rest → ¬ (IsNothingToDo text)
+pub something-more_lines : (text line rest : List ℕ) → plan_lines text ≡ line ∷ plan_lines rest → ¬ (IsNothingToDo text)
 something-more_lines text line rest are h = let none = sym (are ∙ ap (λ lines. line ∷ lines) (lines_of-some rest).are) ∙ h.alone in absurd cc
 
 -- whether it is said, by the lines of the text
-decided : (text : List ℕ) → IsNothingToDo text ⊎ (¬ (IsNothingToDo text) × (plan_in text ≡ steps_in 0 (lines_of text)))
-decided text = go (lines_of text) refl where
-  single : (line : List ℕ) (says : Bool) → lines_of text ≡ line ∷ [] → is_nothing (tokens_in line) ≡ says → IsNothingToDo text ⊎ (¬ (IsNothingToDo text) × (plan_in text ≡ steps_in 0 (lines_of text)))
+decided : (text : List ℕ) → IsNothingToDo text ⊎ (¬ (IsNothingToDo text) × (plan_in text ≡ steps_in 0 (plan_lines text)))
+decided text = go (plan_lines text) refl where
+  single : (line : List ℕ) (says : Bool) → plan_lines text ≡ line ∷ [] → is_nothing (tokens_in line) ≡ says → IsNothingToDo text ⊎ (¬ (IsNothingToDo text) × (plan_in text ≡ steps_in 0 (plan_lines text)))
   single line true are says = inl (record { line = line; alone = are; line_tokens = nothing_tokens-from_true (tokens_in line) says })
   single line false are says = inr (
     something-other_tokens text line are says,
     ap plan_in_lines are ∙ rw says (sym (ap (steps_in 0) are)),
   )
 
-  go : (lines : List (List ℕ)) → lines_of text ≡ lines → IsNothingToDo text ⊎ (¬ (IsNothingToDo text) × (plan_in text ≡ steps_in 0 (lines_of text)))
+  go : (lines : List (List ℕ)) → plan_lines text ≡ lines → IsNothingToDo text ⊎ (¬ (IsNothingToDo text) × (plan_in text ≡ steps_in 0 (plan_lines text)))
   go [] are = inr ((λ h. let none = sym are ∙ h.alone in absurd cc), ap plan_in_lines are ∙ sym (ap (steps_in 0) are))
   go (line ∷ []) are = single line (is_nothing (tokens_in line)) are refl
   go (line ∷ next ∷ lines) are = inr ((λ h. let none = sym are ∙ h.alone in absurd cc), ap plan_in_lines are ∙ sym (ap (steps_in 0) are))
 
-pub plan_in-steps : (text : List ℕ) → ¬ (IsNothingToDo text) → plan_in text ≡ steps_in 0 (lines_of text)
+pub plan_in-steps : (text : List ℕ) → ¬ (IsNothingToDo text) → plan_in text ≡ steps_in 0 (plan_lines text)
 plan_in-steps text none = elim (decided text) [
   | inl says ↦ absurd (none says)
   | inr other ↦ other.1
 ]
 
 -- ---- the whole text
-steps_say_something : (text : List ℕ) (steps : List Step) → AllZip IsLineOf (lines_of text) steps → ¬ (IsNothingToDo text)
+steps_say_something : (text : List ℕ) (steps : List Step) → AllZip IsLineOf (plan_lines text) steps → ¬ (IsNothingToDo text)
 steps_say_something text steps lines h = go steps (rw h.alone at lines) where
   go : (steps : List Step) → AllZip IsLineOf (h.line ∷ []) steps → ⊥
   go [] none = none
@@ -172,7 +172,7 @@ steps_say_something text steps lines h = go steps (rw h.alone at lines) where
 pub plan_in-ok : (text : List ℕ) (steps : List Step) → ParsesToPlan text steps → plan_in text ≡ Ok steps
 plan_in-ok text steps h = elim h [
   | inl nothing ↦ plan_in-says_nothing text nothing.1 ∙ ap (λ all. Ok all) (sym nothing.0)
-  | inr is ↦ plan_in-steps text (steps_say_something text steps is.lines) ∙ steps_in-ok 0 (lines_of text) steps is.lines (omega (arith, is.at_most_four))
+  | inr is ↦ plan_in-steps text (steps_say_something text steps is.lines) ∙ steps_in-ok 0 (plan_lines text) steps is.lines (omega (arith, is.at_most_four))
 ]
 
 pub plan_in-fault : (text : List ℕ) (fault : PlanTextFault) → HasFault text fault → plan_in text ≡ Err fault
@@ -188,7 +188,7 @@ abbrev TellsOf : List ℕ → Result (List Step) PlanTextFault → Type 0
 TellsOf text (Ok steps) = ParsesToPlan text steps
 TellsOf text (Err fault) = HasFault text fault
 
-TellsOf-lines : (text : List ℕ) → ¬ (IsNothingToDo text) → (answer : Result (List Step) PlanTextFault) → Tells 0 (lines_of text) answer → TellsOf text answer
+TellsOf-lines : (text : List ℕ) → ¬ (IsNothingToDo text) → (answer : Result (List Step) PlanTextFault) → Tells 0 (plan_lines text) answer → TellsOf text answer
 TellsOf-lines text something (Ok steps) h = inr (record { at_most_four = omega (arith, h.0); lines = h.1 })
 TellsOf-lines text something (Err (BadLine number)) h = record {
   before = h.before;
@@ -208,7 +208,7 @@ TellsOf-lines text something (Err NoMemory) h = absurd h
 TellsOf-plan_in : (text : List ℕ) → TellsOf text (plan_in text)
 TellsOf-plan_in text = elim (decided text) [
   | inl says ↦ subst (TellsOf text) (sym (plan_in-says_nothing text says)) (inl (refl, says))
-  | inr other ↦ subst (TellsOf text) (sym other.1) (TellsOf-lines text other.0 (steps_in 0 (lines_of text)) (Tells-steps_in 0 (lines_of text) (omega arith)))
+  | inr other ↦ subst (TellsOf text) (sym other.1) (TellsOf-lines text other.0 (steps_in 0 (plan_lines text)) (Tells-steps_in 0 (plan_lines text) (omega arith)))
 ]
 
 pub ParsesToPlan-from_ok : (text : List ℕ) (steps : List Step) → plan_in text ≡ Ok steps → ParsesToPlan text steps

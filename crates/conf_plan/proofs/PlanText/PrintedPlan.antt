@@ -21,7 +21,7 @@ use Rattle.conf_change.specs.declared.step.Step.{Step}
 use Rattle.conf_change.specs.declared.step.Step.TheVariants.{Simple, EnterJoint, LeaveJoint}
 use Rattle.conf_change.specs.Step.{changes_of}
 use Rattle.conf_plan.specs.PlanSteps.{HasTokenIds, IsPlan}
-use Rattle.conf_plan.specs.PlanText.{flag_token, command_tokens, change_text, line_text, line_and_newline, plan_text, is_newline, lines_of, IsLineOf, ParsesToPlan}
+use Rattle.conf_plan.specs.PlanText.{flag_token, command_tokens, change_text, line_text, line_and_newline, plan_text, is_newline, plan_lines, IsLineOf, ParsesToPlan}
 use Rattle.conf_plan.specs.PlanCode.{plan_in}
 use Rattle.conf_plan.proofs.PlanText.LineByLine.{lines_of-on, lines_of-alone}
 use Rattle.conf_plan.proofs.PlanText.PlanFromLines.{plan_in-ok}
@@ -139,22 +139,22 @@ IsLineOf-printed : (step : Step) → HasTokenIds step → IsLineOf (line_text st
 IsLineOf-printed step h = record { tokens = map change_text (changes_of step); line_tokens = tokens_in-line_text step h; parsed = parsed-printed (changes_of step) h }
 
 -- ---- the lines
-lines_of-end : (line : List ℕ) → All IsNoNewline line → lines_of (line ++ 10 ∷ []) ≡ line ∷ []
+lines_of-end : (line : List ℕ) → All IsNoNewline line → plan_lines (line ++ 10 ∷ []) ≡ line ∷ []
 lines_of-end line in_line = lines_of-alone (line ++ 10 ∷ []) line (omega (arith, length-append line (10 ∷ []))) (slice_split_at is_newline line 10 [] in_line refl)
 
-lines_of-next : (line rest : List ℕ) → All IsNoNewline line → 0 < length rest → lines_of (line ++ 10 ∷ rest) ≡ line ∷ lines_of rest
+lines_of-next : (line rest : List ℕ) → All IsNoNewline line → 0 < length rest → plan_lines (line ++ 10 ∷ rest) ≡ line ∷ plan_lines rest
 lines_of-next line rest in_line more = lines_of-on (line ++ 10 ∷ rest) line rest (omega (arith, length-append line (10 ∷ rest))) more (slice_split_at is_newline line 10 rest in_line refl)
 
 IsNoNewline-line_text : (step : Step) → HasTokenIds step → All IsNoNewline (line_text step)
 IsNoNewline-line_text step h = IsNoNewline-join (all_tokens step) (all_are_tokens step h)
 
-lines_of-printed : (step : Step) (steps : List Step) → All HasTokenIds (step ∷ steps) → lines_of (flat_map line_and_newline (step ∷ steps)) ≡ map line_text (step ∷ steps)
+lines_of-printed : (step : Step) (steps : List Step) → All HasTokenIds (step ∷ steps) → plan_lines (flat_map line_and_newline (step ∷ steps)) ≡ map line_text (step ∷ steps)
 lines_of-printed step [] h =
-    ap lines_of (append-nil (line_and_newline step)) ∙ lines_of-end (line_text step) (IsNoNewline-line_text step (All-head HasTokenIds step [] h))
+    ap plan_lines (append-nil (line_and_newline step)) ∙ lines_of-end (line_text step) (IsNoNewline-line_text step (All-head HasTokenIds step [] h))
 lines_of-printed step (next ∷ steps) h =
     let rest = flat_map line_and_newline (next ∷ steps) in
     let more : 0 < length rest = omega (arith, length-append (line_and_newline next) (flat_map line_and_newline steps), length-append (line_text next) (codes "\n")) in
-    ap lines_of (append_assoc (line_text step) (codes "\n") rest) ∙ lines_of-next (line_text step) rest (IsNoNewline-line_text step (All-head HasTokenIds step (next ∷ steps) h)) more
+    ap plan_lines (append_assoc (line_text step) (codes "\n") rest) ∙ lines_of-next (line_text step) rest (IsNoNewline-line_text step (All-head HasTokenIds step (next ∷ steps) h)) more
     ∙ ap (λ lines. line_text step ∷ lines) (lines_of-printed next steps (All-tail HasTokenIds step (next ∷ steps) h))
 
 lines-printed : (steps : List Step) → All HasTokenIds steps → AllZip IsLineOf (map line_text steps) steps

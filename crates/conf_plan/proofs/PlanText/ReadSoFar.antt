@@ -6,7 +6,7 @@ use Rattle.std.proofs.lemmas.List.Elements.{All-nil, All-push}
 use Rattle.ascii_text.specs.Tokens.{tokens_in}
 use Rattle.conf_change.specs.declared.step.Step.{Step}
 use Rattle.conf_plan.specs.PlanSteps.{HasTokenIds, IsPlan}
-use Rattle.conf_plan.specs.PlanText.{lines_of, IsNothingToDo}
+use Rattle.conf_plan.specs.PlanText.{plan_lines, IsNothingToDo}
 use Rattle.conf_plan.specs.PlanCode.{step_in, and_steps, steps_in, plan_in}
 use Rattle.conf_plan.specs.declared.text.PlanTextFault.{PlanTextFault}
 use Rattle.conf_plan.specs.declared.text.PlanTextFault.TheVariants.{TooManySteps}
@@ -21,7 +21,7 @@ onto done (Err fault) = Err fault
 
 -- these steps were read, and the rest decides
 pub record IsReadSoFar (text rest : List ℕ) (steps : List Step) : Type 0 where
-  pub decides : plan_in text ≡ onto steps (steps_in (length steps) (lines_of rest))
+  pub decides : plan_in text ≡ onto steps (steps_in (length steps) (plan_lines rest))
   pub plan : IsPlan steps
 
 IsPlan-empty : IsPlan []
@@ -32,7 +32,7 @@ onto-none (Ok steps) = refl
 onto-none (Err fault) = refl
 
 pub IsReadSoFar-start : (text : List ℕ) → ¬ (IsNothingToDo text) → IsReadSoFar text text []
-IsReadSoFar-start text something = record { decides = plan_in-steps text something ∙ onto-none (steps_in 0 (lines_of text)); plan = IsPlan-empty }
+IsReadSoFar-start text something = record { decides = plan_in-steps text something ∙ onto-none (steps_in 0 (plan_lines text)); plan = IsPlan-empty }
 
 onto-more : (done : List Step) (number : ℕ) (step : Step) (rest : Result (List Step) PlanTextFault) → onto done (and_steps number (Some step) rest) ≡ onto (done ++ step ∷ []) rest
 onto-more done number step (Ok steps) = ap (λ all. Ok all) (sym (append_assoc done (step ∷ []) steps))
@@ -42,7 +42,7 @@ next_step : (count : ℕ) (line : List ℕ) (lines : List (List ℕ)) (step : St
 next_step count line lines step not_four is = rw (ne_eqb count 4 not_four, is) refl
 
 -- with the step of the next line
-with_step : (text rest line : List ℕ) (lines : List (List ℕ)) (steps : List Step) (step : Step) → IsReadSoFar text rest steps → length steps ≢ 4 → lines_of rest ≡ line ∷ lines → step_in (tokens_in line) ≡ Some step
+with_step : (text rest line : List ℕ) (lines : List (List ℕ)) (steps : List Step) (step : Step) → IsReadSoFar text rest steps → length steps ≢ 4 → plan_lines rest ≡ line ∷ lines → step_in (tokens_in line) ≡ Some step
     → plan_in text ≡ onto (steps ++ step ∷ []) (steps_in (length steps + 1) lines)
 with_step text rest line lines steps step h not_four are is =
     h.decides ∙ ap (λ ls. onto steps (steps_in (length steps) ls)) are ∙ ap (onto steps) (next_step (length steps) line lines step not_four is)
@@ -54,10 +54,10 @@ IsPlan-push steps step line h not_four is = record {
   token_ids = All-push HasTokenIds steps step h.token_ids (HasTokenIds-from_line line step (IsLineOf-from_some line step is));
 }
 
-pub IsReadSoFar-more : (text rest line behind : List ℕ) (steps : List Step) (step : Step) → IsReadSoFar text rest steps → length steps ≢ 4 → lines_of rest ≡ line ∷ lines_of behind → step_in (tokens_in line) ≡ Some step
+pub IsReadSoFar-more : (text rest line behind : List ℕ) (steps : List Step) (step : Step) → IsReadSoFar text rest steps → length steps ≢ 4 → plan_lines rest ≡ line ∷ plan_lines behind → step_in (tokens_in line) ≡ Some step
     → IsReadSoFar text behind (steps ++ step ∷ [])
 IsReadSoFar-more text rest line behind steps step h not_four are is = record {
-  decides = with_step text rest line (lines_of behind) steps step h not_four are is ∙ ap (λ n. onto (steps ++ step ∷ []) (steps_in n (lines_of behind))) (sym (length-append steps (step ∷ [])));
+  decides = with_step text rest line (plan_lines behind) steps step h not_four are is ∙ ap (λ n. onto (steps ++ step ∷ []) (steps_in n (plan_lines behind))) (sym (length-append steps (step ∷ [])));
   plan = IsPlan-push steps step line h.plan not_four is;
 }
 

@@ -13,7 +13,7 @@ use Rattle.conf_change.proofs.Offered.{changes_in_tokens-ok, AllZip-from_ok}
 use Rattle.conf_change.specs.Step.{changes_of}
 use Rattle.conf_plan.specs.PlanSteps.{HasTokenIds}
 use Rattle.conf_plan.specs.PlanText.{flag_token, command_tokens, IsLineOf}
-use Rattle.conf_plan.specs.PlanCode.{list_in, flag_in, enter_with, enter_in, leave_in, step_in}
+use Rattle.conf_plan.specs.PlanCode.{list_in, flag_of_token, enter_with, enter_in, leave_in, step_in}
 
 step_in-tokens_in : (step : Step) (tokens : List (List ℕ)) → AllZip ParsesTo tokens (changes_of step) → step_in (command_tokens step ++ tokens) ≡ Some step
 step_in-tokens_in (Simple changes) tokens h = rw (changes_in_tokens-ok tokens changes h) refl
@@ -38,7 +38,7 @@ IsMade-from_some make tokens step e = go (changes_in_tokens tokens) refl where
   go (Ok changes) is = let f = rw is at e in record { changes = changes; made = cc; parsed = AllZip-from_ok tokens changes is }
   go (Err bad) is = let f = rw is at e in absurd cc
 
-flag_token-from_some : (token : List ℕ) (flag : Bool) → flag_in token ≡ Some flag → token ≡ flag_token flag
+flag_token-from_some : (token : List ℕ) (flag : Bool) → flag_of_token token ≡ Some flag → token ≡ flag_token flag
 flag_token-from_some token flag e = go (bytes_eq token (flag_token true)) (bytes_eq token (flag_token false)) refl refl where
   go : (t u : Bool) → bytes_eq token (flag_token true) ≡ t → bytes_eq token (flag_token false) ≡ u → token ≡ flag_token flag
   go true u first second = let f = rw first at e in let same : flag ≡ true = cc in rw same ((bytes_eq-Decides token (flag_token true)).0 first)
@@ -51,9 +51,9 @@ record IsTokensOf (tokens : List (List ℕ)) (step : Step) : Type 0 where
   are : tokens ≡ command_tokens step ++ changes
   parsed : AllZip ParsesTo changes (changes_of step)
 
-with_flag : (flag : List ℕ) (tokens : List (List ℕ)) (step : Step) → enter_with (flag_in flag) tokens ≡ Some step → IsTokensOf (codes "enter-joint" ∷ flag ∷ tokens) step
-with_flag flag tokens step e = go (flag_in flag) refl where
-  go : (found : Option Bool) → flag_in flag ≡ found → IsTokensOf (codes "enter-joint" ∷ flag ∷ tokens) step
+with_flag : (flag : List ℕ) (tokens : List (List ℕ)) (step : Step) → enter_with (flag_of_token flag) tokens ≡ Some step → IsTokensOf (codes "enter-joint" ∷ flag ∷ tokens) step
+with_flag flag tokens step e = go (flag_of_token flag) refl where
+  go : (found : Option Bool) → flag_of_token flag ≡ found → IsTokensOf (codes "enter-joint" ∷ flag ∷ tokens) step
   go None is = let f = rw is at e in absurd cc
   go (Some auto_leave) is =
       let made = IsMade-from_some (EnterJoint auto_leave) tokens step (rw is at e) in

@@ -3,7 +3,7 @@ use Rattle.std.proofs.Common.{◌≡◌, ℕ, ◌+◌, ◌≤◌, ◌<◌, Bool,
 use Rattle.std.specs.Prelude.{◌==◌, Option, Some, None, is_some, option_map, unwrap_or}
 use Rattle.std.proofs.lemmas.List.{drop_more, take_all, length-drop}
 use Rattle.dd_file.specs.ArgumentValues.{is_argument, argument_in, has_values, values_after}
-use Rattle.dd_file.specs.DirectiveLine.{ArgumentText, is_equals, with_key, values_of, argument_of}
+use Rattle.dd_file.specs.DirectiveLine.{ArgumentText, is_equals, with_key, values_of, parsed_argument}
 use Rattle.dd_file.proofs.DirectiveTokens.LoneKey.{key_len, argument_of-no_key, argument_of-alone, argument_of-values, argument_of-other}
 
 -- ---- what stands behind the key
@@ -22,10 +22,10 @@ record Said (token : List ℕ) (argument : ArgumentText) : Type 0 where
 
 said-by : (token : List ℕ) → is_argument token ≡ true → Said token (argument_in token)
 said-by token parses = at (key_len token == 0) refl (drop (key_len token) token) refl where
-  refused : argument_of token ≡ None → ⊥
+  refused : parsed_argument token ≡ None → ⊥
   refused none = let e : is_some {T = ArgumentText} None ≡ true = sym (ap is_some none) ∙ parses in absurd (search rules)
 
-  from : (argument : ArgumentText) → Some argument ≡ argument_of token → argument ≡ argument_in token
+  from : (argument : ArgumentText) → Some argument ≡ parsed_argument token → argument ≡ argument_in token
   from argument is = ap (λ o. unwrap_or o (with_key [] [])) is
 
   valued : (b : ℕ) (text : List ℕ) → (key_len token == 0) ≡ false → drop (key_len token) token ≡ b ∷ text → (c : Bool) → is_equals b ≡ c → (values : Option (List (List ℕ))) → values_of text ≡ values → Said token (argument_in token)

@@ -3,7 +3,7 @@ use Rattle.std.proofs.Common.{◌≡◌, ℕ, Bool, true, false, cond, ◌&&◌,
 use Rattle.std.specs.Prelude.{Option, Some, None, option_map}
 use Rattle.std.specs.List.{list_all}
 use Rattle.dd_file.specs.Parts.{up_to, suffix}
-use Rattle.dd_file.specs.DirectiveLine.{ArgumentText, CommandText, with_key, is_key, is_equals, values_of, argument_of, before_others, arguments_of, has_keys, is_command_name, command_of_tokens, tokens_of}
+use Rattle.dd_file.specs.DirectiveLine.{ArgumentText, CommandText, with_key, is_key, is_equals, values_of, parsed_argument, before_others, arguments_of, has_keys, is_command_name, command_of_tokens, tokens_of}
 use Rattle.dd_file.specs.Script.{joined}
 use Rattle.dd_file.specs.Laws.{AreWellFormed, item_has_keys}
 use Rattle.dd_file.specs.declared.item.Item.{Item}
@@ -14,7 +14,7 @@ abbrev HasKey : Option ArgumentText → Type 0
 HasKey None = Unit {0}
 HasKey (Some argument) = is_key argument.key ≡ true
 
-argument_of-key : (token : List ℕ) → HasKey (argument_of token)
+argument_of-key : (token : List ℕ) → HasKey (parsed_argument token)
 argument_of-key token = at (is_key token) refl (is_key (up_to is_equals token)) refl (values_of (suffix is_equals token)) where
   at : (c : Bool) → is_key token ≡ c → (d : Bool) → is_key (up_to is_equals token) ≡ d → (values : Option (List (List ℕ))) →
       HasKey (cond c (Some (with_key token [])) (cond d (option_map (with_key (up_to is_equals token)) values) None))
@@ -34,7 +34,7 @@ before-others (Some argument) (Some others) one more = ap (λ b. b && has_keys o
 
 have-keys : (tokens : List (List ℕ)) → HaveKeys (arguments_of tokens)
 have-keys [] = refl
-have-keys (token ∷ tokens) = before-others (argument_of token) (arguments_of tokens) (argument_of-key token) (have-keys tokens)
+have-keys (token ∷ tokens) = before-others (parsed_argument token) (arguments_of tokens) (argument_of-key token) (have-keys tokens)
 
 -- the arguments that words say
 pub arguments_of-keys : (tokens : List (List ℕ)) (arguments : List ArgumentText) → arguments_of tokens ≡ Some arguments → has_keys arguments ≡ true

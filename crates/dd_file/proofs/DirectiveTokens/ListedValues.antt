@@ -5,7 +5,7 @@ use Rattle.std.specs.List.{list_any, position_or_len}
 use Rattle.std.proofs.lemmas.Bool.{true≢false}
 use Rattle.dd_file.specs.ArgumentValues.{ends_at_closing}
 use Rattle.dd_file.specs.Parts.{up_to, suffix}
-use Rattle.dd_file.specs.DirectiveLine.{is_comma, is_closing, split_or_prepend, split_at_commas, listed, values_of}
+use Rattle.dd_file.specs.DirectiveLine.{is_comma, is_closing, split_or_prepend, split_at_commas, list_values, values_of}
 
 -- ---- the closing parenthesis
 -- before a text that closes nothing
@@ -50,11 +50,11 @@ up_to-closing (x ∷ xs) ends = at (is_closing x) refl xs refl (up_to-closing xs
       up_to-other x xs c ∙ ap (λ t. x ∷ t) (ih (sym (ends-other x xs c) ∙ ends)) ∙ sym (ap (λ m. take m (x ∷ xs)) n)
 
 -- what a list says
-pub values_of-list : (inside : List ℕ) → is_some (values_of (40 ∷ inside)) ≡ true → unwrap_or (values_of (40 ∷ inside)) [] ≡ listed (take (length inside - 1) inside)
+pub values_of-list : (inside : List ℕ) → is_some (values_of (40 ∷ inside)) ≡ true → unwrap_or (values_of (40 ∷ inside)) [] ≡ list_values (take (length inside - 1) inside)
 values_of-list inside parses = at (ends_at_closing inside) refl parses where
-  at : (c : Bool) → ends_at_closing inside ≡ c → is_some (cond c (Some (listed (up_to is_closing inside))) None) ≡ true →
-      unwrap_or (cond c (Some (listed (up_to is_closing inside))) None) [] ≡ listed (take (length inside - 1) inside)
-  at true ends some = ap listed (up_to-closing inside ends)
+  at : (c : Bool) → ends_at_closing inside ≡ c → is_some (cond c (Some (list_values (up_to is_closing inside))) None) ≡ true →
+      unwrap_or (cond c (Some (list_values (up_to is_closing inside))) None) [] ≡ list_values (take (length inside - 1) inside)
+  at true ends some = ap list_values (up_to-closing inside ends)
   at false ends some = cc
 
 -- ---- the commas

@@ -5,7 +5,7 @@ use Rattle.std.proofs.Math.Bool.{and-false}
 use Rattle.std.proofs.lemmas.List.Folds.{length-prefix_len}
 use Rattle.std.specs.List.{list_all, prefix_len}
 use Rattle.dd_file.specs.Parts.{up_to, suffix}
-use Rattle.dd_file.specs.DirectiveLine.{ArgumentText, is_key_byte, is_key, is_equals, with_key, values_of, argument_of}
+use Rattle.dd_file.specs.DirectiveLine.{ArgumentText, is_key_byte, is_key, is_equals, with_key, values_of, parsed_argument}
 
 -- how many bytes of a key come first
 abbrev pub key_len : List ℕ → ℕ
@@ -25,13 +25,13 @@ is_key-none (b ∷ bs) none = at (is_key_byte b) refl none where
   at true e h = absurd (omega (arith, h))
   at false e h = ap (λ c. some (b ∷ bs) && (c && list_all is_key_byte bs)) e ∙ and-false (some (b ∷ bs))
 
-pub argument_of-no_key : (token : List ℕ) → key_len token ≡ 0 → None ≡ argument_of token
+pub argument_of-no_key : (token : List ℕ) → key_len token ≡ 0 → None ≡ parsed_argument token
 argument_of-no_key [] none = refl
 argument_of-no_key (b ∷ bs) none = at (is_key_byte b) refl none where
   found : Bool → Option ArgumentText
   found c = cond c (option_map (with_key (up_to is_equals (b ∷ bs))) (values_of (suffix is_equals (b ∷ bs)))) None
 
-  at : (c : Bool) → is_key_byte b ≡ c → cond c (1 + key_len bs) 0 ≡ 0 → None ≡ argument_of (b ∷ bs)
+  at : (c : Bool) → is_key_byte b ≡ c → cond c (1 + key_len bs) 0 ≡ 0 → None ≡ parsed_argument (b ∷ bs)
   at true e h = absurd (omega (arith, h))
   at false e h =
       sym (ap (λ c. cond c (Some (with_key (b ∷ bs) [])) (found (is_key (up_to is_equals (b ∷ bs))))) (is_key-none (b ∷ bs) none) ∙ ap found (prefix (is_equals b))) where
@@ -50,7 +50,7 @@ all-keys (b ∷ bs) h = at (is_key_byte b) refl h (all-keys bs) where
 pub is_key-alone : (token : List ℕ) → (length token == 0) ≡ false → drop (key_len token) token ≡ [] → is_key token ≡ true
 is_key-alone token some whole = ap (λ c. not c && list_all is_key_byte token) some ∙ all-keys token whole
 
-pub argument_of-alone : (token : List ℕ) → (length token == 0) ≡ false → drop (key_len token) token ≡ [] → Some (with_key token []) ≡ argument_of token
+pub argument_of-alone : (token : List ℕ) → (length token == 0) ≡ false → drop (key_len token) token ≡ [] → Some (with_key token []) ≡ parsed_argument token
 argument_of-alone token some whole =
     sym (ap (λ c. cond c (Some (with_key token [])) (cond (is_key (up_to is_equals token)) (option_map (with_key (up_to is_equals token)) (values_of (suffix is_equals token))) None)) (is_key-alone token some whole))
 
@@ -101,12 +101,12 @@ is_key-more token b text cut = ap (λ c. not (length token == 0) && c) (key-then
 
 -- what a word says that is no key
 parted : (token : List ℕ) → is_key token ≡ false →
-    argument_of token ≡ cond (is_key (up_to is_equals token)) (option_map (with_key (up_to is_equals token)) (values_of (suffix is_equals token))) None
+    parsed_argument token ≡ cond (is_key (up_to is_equals token)) (option_map (with_key (up_to is_equals token)) (values_of (suffix is_equals token))) None
 parted token more = ap (λ c. cond c (Some (with_key token [])) (cond (is_key (up_to is_equals token)) (option_map (with_key (up_to is_equals token)) (values_of (suffix is_equals token))) None)) more
 
 -- a key, and `=` behind it
 pub argument_of-values : (token : List ℕ) (b : ℕ) (text : List ℕ) → (key_len token == 0) ≡ false → drop (key_len token) token ≡ b ∷ text → is_equals b ≡ true →
-    option_map (with_key (take (key_len token) token)) (values_of text) ≡ argument_of token
+    option_map (with_key (take (key_len token) token)) (values_of text) ≡ parsed_argument token
 argument_of-values token b text some cut is =
     let r = key-then token b text cut in
     let len : (length (take (key_len token) token) == 0) ≡ false = rw (length-prefix token) some in
@@ -117,7 +117,7 @@ argument_of-values token b text some cut is =
     ∙ ap (λ t. option_map (with_key (take (key_len token) token)) (values_of t)) (r.equals is).1)
 
 -- a key, and another byte behind it
-pub argument_of-other : (token : List ℕ) (b : ℕ) (text : List ℕ) → drop (key_len token) token ≡ b ∷ text → is_equals b ≡ false → None ≡ argument_of token
+pub argument_of-other : (token : List ℕ) (b : ℕ) (text : List ℕ) → drop (key_len token) token ≡ b ∷ text → is_equals b ≡ false → None ≡ parsed_argument token
 argument_of-other token b text cut is =
     let r = key-then token b text cut in
     let no_key : is_key (up_to is_equals token) ≡ false = ap (λ c. not (length (up_to is_equals token) == 0) && c) (r.other is) ∙ and-false (not (length (up_to is_equals token) == 0)) in

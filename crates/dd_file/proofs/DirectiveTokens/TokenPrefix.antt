@@ -11,7 +11,7 @@ use Rattle.ascii_text.specs.WhiteSpace.{is_space}
 use Rattle.dd_file.specs.ArgumentValues.{is_argument, ends_at_closing}
 use Rattle.dd_file.specs.Parts.{up_to}
 use Rattle.dd_file.specs.TokenParts.{is_plain_byte, ends_token, first_token}
-use Rattle.dd_file.specs.DirectiveLine.{is_key_byte, is_key, is_opening, is_closing, is_equals, inside_after, token_len, is_plain, listed, with_key, values_of, argument_of}
+use Rattle.dd_file.specs.DirectiveLine.{is_key_byte, is_key, is_opening, is_closing, is_equals, inside_after, token_len, is_plain, list_values, with_key, values_of, parsed_argument}
 use Rattle.dd_file.proofs.DirectiveTokens.LoneKey.{key_len, is_key-none, is_key-alone, is_key-more, argument_of-alone, argument_of-values, argument_of-other}
 use Rattle.dd_file.proofs.DirectiveTokens.KeptArgument.{is_some-option_map}
 use Rattle.dd_file.proofs.DirectiveTokens.ListedValues.{ends_at_closing-position}
@@ -153,7 +153,7 @@ key-more text goes = at (drop (key_len text) text) refl goes where
 
 -- a key, and `=` behind it
 pub argument-said : (text rest : List ℕ) → (key_len text ≡ 0 → ⊥) → drop (key_len text) text ≡ 61 ∷ rest →
-    (token_len false text ≡ key_len text + 1 + token_len false rest) × (is_some (argument_of (first_token text)) ≡ is_some (values_of (first_token rest)))
+    (token_len false text ≡ key_len text + 1 + token_len false rest) × (is_some (parsed_argument (first_token text)) ≡ is_some (values_of (first_token rest)))
 argument-said text rest some cut =
     let token : List ℕ = first_token text in
     let more : token_len false (drop (key_len text) text) ≡ suc (token_len false rest) = ap (token_len false) cut in (
@@ -162,7 +162,7 @@ argument-said text rest some cut =
     )
 
 -- a key, and another byte behind it
-pub argument-other : (text : List ℕ) (b : ℕ) (rest : List ℕ) → drop (key_len text) text ≡ b ∷ rest → is_space b ≡ false → is_equals b ≡ false → argument_of (first_token text) ≡ None
+pub argument-other : (text : List ℕ) (b : ℕ) (rest : List ℕ) → drop (key_len text) text ≡ b ∷ rest → is_space b ≡ false → is_equals b ≡ false → parsed_argument (first_token text) ≡ None
 argument-other text b rest cut goes other =
     sym (argument_of-other (first_token text) b _ (cut-prefix text (b ∷ rest) cut ∙ first_token-goes_on b rest goes) other)
 
@@ -189,7 +189,7 @@ plain-values (b ∷ bs) plain = at (is_space b) (is_opening b) refl plain where
   at true true is all = absurd (true≢false (sym all))
   at false true is all = absurd (true≢false (sym all))
   at s false is all =
-      ap (λ o. is_some (cond o (cond (ends_at_closing bs) (Some (listed (up_to is_closing bs))) None) (cond (is_plain (b ∷ bs)) (Some ((b ∷ bs) ∷ [])) None))) is
+      ap (λ o. is_some (cond o (cond (ends_at_closing bs) (Some (list_values (up_to is_closing bs))) None) (cond (is_plain (b ∷ bs)) (Some ((b ∷ bs) ∷ [])) None))) is
       ∙ ap (λ q. is_some {T = List (List ℕ)} (cond q (Some ((b ∷ bs) ∷ [])) None)) plain
 
 -- a byte that is none of it
@@ -201,7 +201,7 @@ not-plain token n b rest cut is =
 
 plain-none : (b : ℕ) (bs : List ℕ) → is_opening b ≡ false → list_all is_plain_byte (b ∷ bs) ≡ false → is_some (values_of (b ∷ bs)) ≡ false
 plain-none b bs is plain =
-    ap (λ o. is_some (cond o (cond (ends_at_closing bs) (Some (listed (up_to is_closing bs))) None) (cond (is_plain (b ∷ bs)) (Some ((b ∷ bs) ∷ [])) None))) is
+    ap (λ o. is_some (cond o (cond (ends_at_closing bs) (Some (list_values (up_to is_closing bs))) None) (cond (is_plain (b ∷ bs)) (Some ((b ∷ bs) ∷ [])) None))) is
     ∙ ap (λ q. is_some {T = List (List ℕ)} (cond q (Some ((b ∷ bs) ∷ [])) None)) plain
 
 stops : (p : ℕ → Bool) (xs : List ℕ) (b : ℕ) (rest : List ℕ) → drop (prefix_len p xs) xs ≡ b ∷ rest → p b ≡ false
@@ -270,7 +270,7 @@ token_len-inside (x ∷ xs) = at (is_closing x) refl (token_len-inside xs) where
 
 listed-parses : (inside : List ℕ) → is_some (values_of (40 ∷ inside)) ≡ ends_at_closing inside
 listed-parses inside = at (ends_at_closing inside) where
-  at : (c : Bool) → is_some (cond c (Some (listed (up_to is_closing inside))) None) ≡ c
+  at : (c : Bool) → is_some (cond c (Some (list_values (up_to is_closing inside))) None) ≡ c
   at true = refl
   at false = refl
 

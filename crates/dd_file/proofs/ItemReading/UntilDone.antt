@@ -8,7 +8,7 @@ use Rattle.dd_file.specs.Grammar.{Over, Found, Faulty, next_line, next_item}
 use Rattle.dd_file.specs.ReaderState.{ReaderState, IsOver}
 use Rattle.dd_file.specs.Answer.{Agrees, IsNextOfInput, MovesOn, ReadsOn, IsLineFault, IsItemFault, IsInterrupted, next_in_answer, is_read_fault, fault_of}
 use Rattle.dd_file.specs.InOrder.{ReadSoFar}
-use Rattle.dd_file.specs.Draft.{DraftText, blank_draft, Fits, AddsIn, first_item_of, first_item_in, is_done, result_of_first, item_result, IsDraftFault, at_line}
+use Rattle.dd_file.specs.Draft.{DraftText, blank_draft, Fits, AddsIn, first_item_of, first_item_in, is_done, result_of_first, item_result, IsDraftFault, fault_at_line}
 use Rattle.dd_file.specs.declared.draft_state.DraftState.TheVariants.{Begin}
 use Rattle.dd_file.specs.declared.item.Item.{Item}
 use Rattle.dd_file.specs.declared.fault.FileFault.{FileFault}
@@ -210,7 +210,7 @@ memory-reads remaining has_failed view old now new before between after draft li
 -- the lines have a fault
 fault-answers : {R L : Type 0} (remaining : R → Option (List ℕ)) (has_failed : R → Bool) (view : L → List ℕ) (old now new : ReaderState) (before between after : R) (draft : DraftText) (fault : FileFault) →
     ReadingItem remaining old now before between draft → is_done draft.state ≡ false → ReadsOn remaining has_failed view (next_line longest_input) IsLineFault now new between after (Err fault) → IsLineFault now.position fault →
-    IsNextOfInput (λ item. item) (next_item longest_input) old (record new { fault = Some (at_line draft.line fault) }) (remaining before) (remaining after) (Err (at_line draft.line fault))
+    IsNextOfInput (λ item. item) (next_item longest_input) old (record new { fault = Some (fault_at_line draft.line fault) }) (remaining before) (remaining after) (Err (fault_at_line draft.line fault))
 fault-answers remaining has_failed view old now new before between after draft Read reading open_end read kind input more agrees = inl (inl refl)
 fault-answers remaining has_failed view old now new before between after draft NoMemory reading open_end read kind input more agrees = inl (inr refl)
 fault-answers remaining has_failed view old now new before between after draft (BadDirective line) reading open_end read kind input more agrees = absurd kind
@@ -228,7 +228,7 @@ fault-answers {L = L} remaining has_failed view old now new before between after
       long-cut n (inl e) = cc
       long-cut n (inr e) = cc
 
-line-kind : (old now : Position) (line : ℕ) (fault : FileFault) → line ≡ old.lines + 1 → IsLineFault now fault → IsItemFault old (at_line line fault)
+line-kind : (old now : Position) (line : ℕ) (fault : FileFault) → line ≡ old.lines + 1 → IsLineFault now fault → IsItemFault old (fault_at_line line fault)
 line-kind old now line Read first kind = tt
 line-kind old now line NoMemory first kind = tt
 line-kind old now line (InputTooLong n) first kind = first
@@ -236,7 +236,7 @@ line-kind old now line (BadDirective n) first kind = absurd kind
 line-kind old now line (AfterDouble n) first kind = absurd kind
 line-kind old now line (UnclosedDouble n) first kind = absurd kind
 
-same-read : (X Y : Type 0) (line : ℕ) (fault : FileFault) → is_read_fault {X = X} (Err fault) ≡ is_read_fault {X = Y} (Err (at_line line fault))
+same-read : (X Y : Type 0) (line : ℕ) (fault : FileFault) → is_read_fault {X = X} (Err fault) ≡ is_read_fault {X = Y} (Err (fault_at_line line fault))
 same-read X Y line Read = refl
 same-read X Y line NoMemory = refl
 same-read X Y line (InputTooLong n) = refl
@@ -247,9 +247,9 @@ same-read X Y line (UnclosedDouble n) = refl
 pub fault-item : {R L : Type 0} (remaining : R → Option (List ℕ)) (has_failed : R → Bool) (view : L → List ℕ) (old now new : ReaderState) (before between after : R) (draft : DraftText) (fault : FileFault) →
     old.fault ≡ None → old.is_ended ≡ false → ReadingItem remaining old now before between draft → is_done draft.state ≡ false →
     ReadsOn remaining has_failed view (next_line longest_input) IsLineFault now new between after (Err fault) → has_failed between ≡ has_failed before →
-    ReadsOn remaining has_failed (λ item. item) (next_item longest_input) IsItemFault old (record new { fault = Some (at_line draft.line fault) }) before after (Err (at_line draft.line fault))
+    ReadsOn remaining has_failed (λ item. item) (next_item longest_input) IsItemFault old (record new { fault = Some (fault_at_line draft.line fault) }) before after (Err (fault_at_line draft.line fault))
 fault-item {L = L} remaining has_failed view old now new before between after draft fault faultless unended reading open_end read sound =
-    item-reads remaining has_failed old new before after (Err (at_line draft.line fault)) faultless unended (record {
+    item-reads remaining has_failed old new before after (Err (fault_at_line draft.line fault)) faultless unended (record {
       answers = fault-answers remaining has_failed view old now new before between after draft fault reading open_end read (read.kind reading.faultless);
       moves = moves-append remaining old now new before between after reading.given.moves read.moves;
       forward = tt;

@@ -1,6 +1,6 @@
 use Rattle.std.proofs.Common.{◌≡◌, ℕ, List, sym, subst, ◌∙◌}
 use Rattle.std.specs.Prelude.{Ok}
-use Rattle.confscript_c.specs.Planning.{Leads}
+use Rattle.confscript_c.specs.Planning.{LeadsToTarget}
 use Rattle.confscript_c.specs.Written.{TextResult}
 use Rattle.confscript_c.proofs.planning.confscript_plan.Goals as goal
 
@@ -9,5 +9,5 @@ same_text a b e = cc
 
 pub returns-in-Ok-clause-leads : goal.returns-in-Ok-clause-leads
 returns-in-Ok-clause-leads c = λ _ text is.
-    let P : List ℕ → Type 0 = λ t. Leads c.args.strategy c.args.now.now c.args.target.now t in
+    let P : List ℕ → Type 0 = λ t. LeadsToTarget c.args.strategy c.args.now.now c.args.target.now t in
     subst P (same_text _ _ (sym c.in-Ok.ensures.text ∙ is)) c.in-Ok.ensures.leads

@@ -3,12 +3,12 @@ use Rattle.std.specs.Prelude.{Ok}
 use Rattle.std.proofs.lemmas.Result.{IfOk-weaker}
 use Rattle.conf_plan.specs.PlanCode.{plan_in}
 use Rattle.confscript_c.specs.Applied.{applied}
-use Rattle.confscript_c.specs.Planning.{Leads}
+use Rattle.confscript_c.specs.Planning.{LeadsToTarget}
 use Rattle.confscript_c.proofs.planning.text_between_lines.Goals as goal
 
 pub returns-clause-leads : goal.returns-clause-leads
 returns-clause-leads c =
-    IfOk-weaker c.text_between.result _ (λ text. Leads c.args.code c.args.now.now c.args.target.now text.items)
+    IfOk-weaker c.text_between.result _ (λ text. LeadsToTarget c.args.code c.args.now.now c.args.target.now text.items)
     (λ text path.
     let restored = c.in_ok-now.ensures.restored path.voter in record {
       strategy = c.in_ok-strategy.strategy;

@@ -3,7 +3,7 @@ use Rattle.std.specs.Prelude.{Option, Some, None, is_some, option_map, unwrap_or
 use Rattle.std.proofs.lemmas.List.{append_assoc}
 use Rattle.dd_file.specs.ArgumentValues.{argument_in}
 use Rattle.dd_file.specs.TokenParts.{first_token}
-use Rattle.dd_file.specs.DirectiveLine.{ArgumentText, with_key, tokens_of, argument_of, before_others, arguments_of}
+use Rattle.dd_file.specs.DirectiveLine.{ArgumentText, with_key, tokens_of, parsed_argument, before_others, arguments_of}
 use Rattle.dd_file.proofs.DirectiveTokens.FirstToken.{token_len-bound}
 use Rattle.dd_file.proofs.command.parse_arguments.Goals as goal
 
@@ -29,6 +29,6 @@ loop-begun-preserved c =
     let more = c.in_ok-push.ensures.items ∙ ap (λ argument. before ++ argument ∷ []) made in
     let tokens = c.in-Some.ensures.tokens ∙ ap (λ t. token ∷ tokens_of t) (sym rest) in
     (λ i. option_map (λ others. more i ++ others) (arguments_of (tokens_of c.split_at.result.1.now)))
-    ∙ one-more before (argument_of token) (arguments_of (tokens_of c.split_at.result.1.now)) c.in-Some-argument_len.ensures.argument.1
+    ∙ one-more before (parsed_argument token) (arguments_of (tokens_of c.split_at.result.1.now)) c.in-Some-argument_len.ensures.argument.1
     ∙ ap (λ ws. option_map (λ others. before ++ others) (arguments_of ws)) (sym tokens)
     ∙ c.loop-begun.invariant

@@ -1,7 +1,7 @@
 use Rattle.std.proofs.Common.{◌≡◌, ◌+◌, ◌<◌, ◌++◌, drop, length, sym, ap, ◌∙◌, arith, append_assoc}
 use Rattle.std.specs.Prelude.{option_copied, option_map}
 use Rattle.quorum_sets.proofs.Offered.{slice_get-not_past}
-use Rattle.plan_output.specs.Json.{line_text, step_json}
+use Rattle.plan_output.specs.Json.{value_line, step_json}
 use Rattle.plan_output.proofs.TableRows.{length-stages}
 use Rattle.plan_output.proofs.JsonLines.{lines, lines-next, lines-whole}
 use Rattle.plan_output.proofs.json.lines_of.Goals as goal
@@ -32,10 +32,10 @@ loop-index-preserved g c =
           let step = w.in-Some.step.now in
           let within : i + 1 < length all = omega (arith, stages, c.len-index-end.ensures) in
           let rest = lines down plan (length path) (i + 1 + 1) (drop (i + 1) all) (drop (i + 1) path) in
-          let longer : c.match-step.lines.items ≡ c.loop-index.lines.items ++ line_text (step_json down plan w.len-in-Some.result (i + 1) before step after) =
+          let longer : c.match-step.lines.items ≡ c.loop-index.lines.items ++ value_line (step_json down plan w.len-in-Some.result (i + 1) before step after) =
           ap (λ v. v.items) w.lines-is ∙ w.in_ok-add_step.ensures in
-          ap (λ text. text ++ rest) (longer ∙ ap (λ n. c.loop-index.lines.items ++ line_text (step_json down plan n (i + 1) before step after)) w.len-in-Some.ensures)
-          ∙ append_assoc c.loop-index.lines.items (line_text (step_json down plan (length path) (i + 1) before step after)) rest
+          ap (λ text. text ++ rest) (longer ∙ ap (λ n. c.loop-index.lines.items ++ value_line (step_json down plan n (i + 1) before step after)) w.len-in-Some.ensures)
+          ∙ append_assoc c.loop-index.lines.items (value_line (step_json down plan (length path) (i + 1) before step after)) rest
           ∙ ap (λ text. c.loop-index.lines.items ++ text) (sym (lines-next down plan (length path) i all path before step after within w.index.ensures w.index-in-Some.ensures (sym w.in-Some.ensures)))
           ∙ c.loop-index.invariant
       | in_default w ↦ slice_get-not_past path i c.len-index-end.result w.in_default.ensures c.len-index-end.ensures c.loop-index-test.true
