@@ -42,7 +42,7 @@ impl Answer {
 impl From<NoMemory> for Answer {
     ghost use Rattle.confscript_c.specs.Answer.{no_memory};
 
-    ghost from_gives = { λ _ status_answer. status_answer ≡ no_memory };
+    ghost from_gives = { λ _ converted. converted ≡ no_memory };
 
     fn from(_error: NoMemory) -> Answer {
         Answer::no_memory()
