@@ -9,6 +9,7 @@ use Rattle.conf_change.specs.ChangeList.{letter_of}
 abbrev pub is_same_change : Change → Change → Bool
 is_same_change a b = nat_eq (letter_of a.kind) (letter_of b.kind) && nat_eq a.id b.id
 
+-- equality of changes is symmetric and transitive
 is_same_change-laws : IsPartialEquivalence is_same_change
 is_same_change-laws =
     let numbers = partial_equiv_from_equiv nat_eq_equiv in

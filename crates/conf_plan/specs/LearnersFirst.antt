@@ -8,11 +8,12 @@ use Rattle.conf_change.specs.declared.step.Step.{Step}
 use Rattle.conf_change.specs.declared.step.Step.TheVariants.{Simple}
 use Rattle.conf_plan.specs.Planned.{planned}
 
--- the voters of the target, incoming or outgoing, that are not members of the configuration
+-- the voters of the target, incoming or outgoing, that are not members of the configuration: 4 and 5 from (1 2 3) to (3
+-- 4 5)
 abbrev pub newcomers : Configuration → Configuration → Ids
 newcomers c target = ids_where (λ id. not (is_member c id)) (ascending target.incoming ++ ascending target.outgoing)
 
--- the changes that make these ids learners, ascending
+-- the changes that make these ids learners, ascending: l4 l5
 abbrev pub learner_changes : Ids → List Change
 learner_changes ids = map (λ id. record { kind = Learner; id = id }) (ascending ids)
 

@@ -1,4 +1,11 @@
-//! The path on which one member changes at a time.
+//! The path on which one member changes at a time, as etcd's server changes its members. From (1 2 3) to (3 4 5):
+//!
+//! ```text
+//! simple l4, simple v4, simple r1     4 joins, and 1 retires
+//! simple l5, simple v5, simple r2     5 joins, and 2 retires
+//! ```
+//!
+//! A voter joins before another retires, so at no point are fewer failures tolerated than at the weaker end.
 ghost use Rattle.std.specs.Prelude.{◌≡◌, [], ◌∷◌, ◌<◌, ◌^◌, OnOk};
 ghost use Rattle.std.specs.List.{cons_option};
 ghost use Rattle.quorum_sets.specs.Ids.{ascending};
@@ -14,7 +21,7 @@ use conf_change::{Change, Changes, Config, Kind, Step, union};
 use quorum_sets::{MemberSet, NoMemory};
 use std::alloc::Global;
 
-// From a configuration that is not joint to another.
+// From a configuration that is not joint to another. The voters change first, and then the ids that are learners only.
 pub(crate) fn add_one_at_a_time<S: MemberSet>(
     alloc: Global,
     steps: &mut Vec<Step>,
@@ -73,7 +80,7 @@ fn add_turn<S: MemberSet>(
     Ok(())
 }
 
-// The id becomes a voter, and a learner before that if it is not one.
+// The id becomes a voter, and a learner before that if it is not one, so that it can catch up.
 fn add_join_steps<S: MemberSet>(
     alloc: Global,
     steps: &mut Vec<Step>,
@@ -104,7 +111,7 @@ fn add_retire_step<S: MemberSet>(
     }
 }
 
-// Adds and removes the other learners, in ascending order.
+// Adds and removes the other learners, in ascending order: those that are voters neither before nor after.
 fn add_learner_steps<S: MemberSet>(
     alloc: Global,
     steps: &mut Vec<Step>,
