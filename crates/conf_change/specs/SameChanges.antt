@@ -15,7 +15,7 @@ is_same_change-laws =
     let numbers = partial_equiv_from_equiv nat_eq_equiv in
     and_per (on_per (λ c. letter_of c.kind) numbers) (on_per (λ c. c.id) numbers)
 
--- the same changes in the same order
+-- the lists have equal changes, in the same order
 abbrev pub is_same_list : List Change → List Change → Bool
 is_same_list = pointwise is_same_change
 

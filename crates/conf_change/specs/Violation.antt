@@ -48,7 +48,7 @@ unless_violated c (Some violation) = Err (NotAConfiguration violation)
 abbrev pub valid_of : ConfStateLists → Result Configuration ConfigurationFault
 valid_of saved = unless_violated (named_by saved) (violation_in saved)
 
--- the valid configuration that the ConfState of a line describes, or that it is no ConfState line
+-- the valid configuration that the ConfState of a line describes, or that the line has none
 abbrev pub unless_bad : Option ConfStateLists → Result Configuration ConfigurationFault
 unless_bad None = Err BadConfState
 unless_bad (Some saved) = valid_of saved

@@ -57,8 +57,8 @@ impl ChangeSummary {
     }
 }
 
-/// The summaries of each member and of each id that the changes name, in ascending order of the ids. They meet the sets
-/// of the configuration in that order, so that a long list is made in one walk.
+/// The summaries of each member and of each id that the changes name, in ascending order of the ids. The sets of a
+/// configuration are in that order too, so a long list is made in one walk over them.
 pub(crate) fn summarize(
     alloc: Global,
     members: &[(u64, Progress)],

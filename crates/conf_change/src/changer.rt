@@ -194,8 +194,8 @@ impl<S: MemberSet> Changer<S> {
     }
 
     /// Makes changes that alter at most one voter, and any number of learners (etcd's `Simple`; Ongaro's dissertation,
-    /// section 4.1). The voters that differ before and after are counted, not the changes: `v4 r4` alters none, and `v4
-    /// r1` two.
+    /// section 4.1). The voters that differ before and after are counted, not the changes: `v4 r4` alters none, and
+    /// `v4 r1` two.
     ///
     /// Refused with SimpleInJoint in a joint configuration, else with RemovedAllVoters if no voter is left, else with
     /// MoreThanOneVoter.
@@ -256,7 +256,7 @@ impl<S: MemberSet> Changer<S> {
 
     /// Records that a member acknowledged an index, and returns its progress: an index above match becomes match, and
     /// next is then at least one more; any other index changes nothing (etcd's `MaybeUpdate` of `tracker.Progress`).
-    /// From match 3 and next 4, an acknowledgement of 7 leads to match 7 and next 8, and one of 2, which is late, to
+    /// From match 3 and next 4, an acknowledgement of 7 leads to match 7 and next 8; one of 2 is late and changes
     /// nothing.
     ///
     /// Refused with NotMember if the id is not a member, else with IndexTooLarge if the index is 2^64-1.

@@ -25,7 +25,7 @@ pub struct Config<S: MemberSet> {
     pub outgoing: S,
     /// The learners: members that get the log and do not vote.
     pub learners: S,
-    /// The outgoing voters that become learners when the joint configuration is left. Till then they are no learners,
+    /// The outgoing voters that become learners when the joint configuration is left. Till then they are not learners,
     /// since no member is a voter and a learner at once.
     pub learners_next: S,
     /// Whether the joint configuration is left automatically.

@@ -48,7 +48,7 @@ fn make_voter<S: MemberSet>(config: &mut Config<S>, id: u64) -> Result<Membershi
     })
 }
 
-// Makes the id a learner, or a next learner while it is an outgoing voter, and no incoming voter.
+// Makes the id a learner, or a next learner while it is an outgoing voter. It is no longer an incoming voter.
 fn make_learner<S: MemberSet>(config: &mut Config<S>, id: u64) -> Result<Membership, NoMemory>
     requires { id ≢ 0 }
     ensures ok { OnOk result (let change : Change = record { kind = Kind.Learner; id = id } in config.new ≡ result_of config.old (change ∷ [])) }

@@ -192,7 +192,7 @@ impl<S: MemberSet> Tracker<S> {
         }
     }
 
-    // Makes one change, with this initial next index for a new member. On `NoMemory` the tracker is unchanged.
+    // Makes one change, with this initial next index for a new member.
     pub(crate) fn make_change(&mut self, change: Change, next_index: u64) -> Result<(), NoMemory>
         requires { IsSound self.old }
         ensures ok { OnOk result (Applies next_index (change ∷ []) self.old self.new) }
@@ -344,7 +344,8 @@ impl<S: MemberSet> Tracker<S> {
         Some(Progress { learner, ..known })
     }
 
-    // The progress of the id, or `None` if it is not a member. It is looked up first at the position.
+    // The progress of the id, or `None` if it is not a member. It is looked up first at the position, where it is when
+    // the ids come in ascending order.
     fn next_progress(&self, position: &mut usize, id: u64) -> Option<Progress>
         ensures { result ≡ finite.get self.now.progress id }
     {

@@ -28,7 +28,7 @@ pub enum Violation {
     /// As in `Voters:[1 2] VotersOutgoing:[] Learners:[2]`.
     #[error("{0} is a voter and a learner")]
     LearnerAndVoter(u64),
-    /// Never the first violation, since the id is then no outgoing voter either.
+    /// Never the first violation, since the id is then not an outgoing voter either.
     #[error("{0} is a next learner without outgoing voters")]
     NotJointButNext(u64),
     /// As in `Voters:[1 2] VotersOutgoing:[] Learners:[] LearnersNext:[] AutoLeave:true`.

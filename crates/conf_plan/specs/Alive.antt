@@ -1,5 +1,5 @@
--- What a path promises to a cluster that goes on serving while it takes the steps (own; sections 4.2.1 and 4.3 of
--- Ongaro's dissertation say why a cluster stalls).
+-- What a path promises to a cluster that goes on serving while it takes the steps (own; section 4.2.1 of Ongaro's
+-- dissertation describes how a cluster stalls).
 use Rattle.std.specs.Prelude.{◌≡◌, ℕ, ◌+◌, ◌≤◌, true, false, not, ◌||◌, IsTrue, List, length, ⊤}
 use Rattle.quorum_sets.specs.Ids.{Ids, no_ids, has, ids_where}
 use Rattle.quorum_sets.specs.Voters.{is_quorum}
@@ -32,8 +32,7 @@ abbrev pub IsAsTolerant : Configuration → Configuration → Configuration → 
 IsAsTolerant now target c =
     (k : ℕ) → Endures (voters_of now) no_ids k → Endures (voters_of target) no_ids k → Endures (voters_of c) no_ids k
 
--- no configuration on the way tolerates fewer failures than the weaker end: from (1 2 3) to (3 4 5), one may be down in
--- each
+-- no configuration on the way tolerates fewer failures than the weaker end: from (1 2 3) to (3 4 5) each tolerates one
 abbrev pub KeepsTolerance : Configuration → List Step → Configuration → Type 0
 KeepsTolerance now steps target = EachOnTheWay (IsAsTolerant now target) now steps target
 

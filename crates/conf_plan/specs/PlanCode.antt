@@ -18,7 +18,7 @@ list_in tokens = result_ok (changes_in_tokens tokens)
 abbrev pub flag_in : List ℕ → Option Bool
 flag_in token = if bytes_eq token (flag_token true) then Some true else (if bytes_eq token (flag_token false) then Some false else None)
 
--- entering a joint configuration with this flag, if there is one, by the changes of the tokens
+-- the step into a joint configuration with this flag, if there is one, by the changes of the tokens
 abbrev pub enter_with : Option Bool → List (List ℕ) → Option Step
 enter_with None tokens = None
 enter_with (Some auto_leave) tokens = option_map (EnterJoint auto_leave) (list_in tokens)
@@ -47,7 +47,7 @@ and_steps number None others = Err (BadLine number)
 and_steps number (Some step) (Err fault) = Err fault
 and_steps number (Some step) (Ok steps) = Ok (step ∷ steps)
 
--- the steps of lines, after as many other lines as the number says; a fifth line is one too many
+-- the steps of lines that follow this number of other lines; a fifth line is one too many
 abbrev pub steps_in : ℕ → List (List ℕ) → Result (List Step) PlanTextFault
 steps_in before [] = Ok []
 steps_in before (line ∷ lines) =

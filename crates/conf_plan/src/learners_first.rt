@@ -23,8 +23,8 @@ use conf_change::{Config, Step, union};
 use quorum_sets::{MemberSet, NoMemory};
 use std::alloc::Global;
 
-// From a configuration that is not joint to any. Without newcomers the path is the plan; with them it begins with one
-// more step.
+// Appends the steps from a configuration that is not joint to the target. Without newcomers they are the plan; with
+// them there is one more step before it.
 pub(crate) fn add_learners_first<S: MemberSet>(
     alloc: Global,
     steps: &mut Vec<Step>,

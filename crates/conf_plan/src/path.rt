@@ -7,7 +7,7 @@ use conf_change::Step;
 use std::marker::Model;
 
 /// Steps that follow one another, as [`plan_by`](crate::plan_by) makes them. Unlike a [`Plan`](crate::Plan), a path may
-/// have more than four: one at a time, each new voter takes two.
+/// have more than four: if one member changes at a time, each new voter takes two.
 #[derive(Debug, Drop)]
 pub struct Path {
     steps: Vec<Step>,

@@ -1,12 +1,12 @@
 //! Making a plan. Which steps it has depends on what is joint and on how many voters differ:
 //!
 //! ```text
-//! the two are equal                              nothing to do
-//! the current one is joint                       leave-joint, then as below
-//! the target is not joint, one voter differs     simple
-//! the target is not joint, more voters differ    enter-joint, leave-joint
-//! the target is joint, with our voters outgoing  enter-joint
-//! the target is joint, with others outgoing      the steps that make those the voters, then enter-joint
+//! the two are equal                                 nothing to do
+//! the current one is joint                          leave-joint, then as below
+//! the target is not joint, one voter differs        simple
+//! the target is not joint, more voters differ       enter-joint, leave-joint
+//! the target is joint, the current voters outgoing  enter-joint
+//! the target is joint, other voters outgoing        the steps that make those the voters, then enter-joint
 //! ```
 //!
 //! So the longest plan has four steps: leave-joint, enter-joint, leave-joint, enter-joint.
@@ -82,8 +82,8 @@ pub fn plan<S: MemberSet>(
     Ok(Plan::of_steps(steps))
 }
 
-// The path from one configuration to another by a strategy. Every path out of a joint configuration begins with leaving
-// it.
+// Appends the path from one configuration to another by a strategy. Every path out of a joint configuration begins with
+// leaving it.
 pub(crate) fn add_path<S: MemberSet>(
     alloc: Global,
     strategy: Strategy,
@@ -114,7 +114,7 @@ pub(crate) fn add_path<S: MemberSet>(
     add_from_single_by(alloc, strategy, steps, &start, target)
 }
 
-// From a configuration that is not joint to any, by a strategy.
+// Appends the path from a configuration that is not joint to the target by a strategy.
 fn add_from_single_by<S: MemberSet>(
     alloc: Global,
     strategy: Strategy,
@@ -133,7 +133,7 @@ fn add_from_single_by<S: MemberSet>(
     }
 }
 
-// The plan from a configuration that is not joint to any.
+// Appends the plan from a configuration that is not joint to the target.
 pub(crate) fn add_from_single<S: MemberSet>(
     alloc: Global,
     steps: &mut Vec<Step>,
@@ -155,8 +155,8 @@ pub(crate) fn add_from_single<S: MemberSet>(
     }
 }
 
-// From a configuration that is not joint into a joint one. Its outgoing voters are those from before it is entered, so
-// they have to be the incoming voters first.
+// Appends the plan from a configuration that is not joint into a joint one. The target's outgoing voters are those from
+// before it is entered, so they have to be the incoming voters first.
 fn add_joint_steps<S: MemberSet>(
     alloc: Global,
     steps: &mut Vec<Step>,
@@ -181,7 +181,7 @@ fn add_joint_steps<S: MemberSet>(
     add_entering_step(alloc, steps, &between, target)
 }
 
-// Into a joint target, from a configuration whose incoming voters are the target's outgoing ones.
+// Appends the step into a joint target from a configuration whose incoming voters are the target's outgoing ones.
 fn add_entering_step<S: MemberSet>(
     alloc: Global,
     steps: &mut Vec<Step>,
@@ -202,8 +202,8 @@ fn add_entering_step<S: MemberSet>(
     Ok(())
 }
 
-// From a configuration that is not joint to the one with these voters and learners: one simple step if at most one
-// voter differs, and through a joint configuration otherwise.
+// Appends the steps from a configuration that is not joint to the one with these voters and learners: one simple step
+// if at most one voter differs, and through a joint configuration otherwise.
 pub(crate) fn add_single_steps<S: MemberSet>(
     alloc: Global,
     steps: &mut Vec<Step>,

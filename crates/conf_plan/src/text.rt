@@ -270,7 +270,7 @@ fn is_nothing(line: &[u8]) -> bool
         && next_token(rest).is_none()
 }
 
-// The step that a line is parsed as, if it is one.
+// Reads a step from its line, if it is one.
 fn read_step(alloc: Global, line: &[u8]) -> Result<Option<Step>, NoMemory>
     ensures { IfOk result (λ read. read ≡ step_in (tokens_in line.now)) }
 {
@@ -288,7 +288,7 @@ fn read_step(alloc: Global, line: &[u8]) -> Result<Option<Step>, NoMemory>
     }
 }
 
-// Entering a joint configuration: a flag, then changes.
+// Reads the rest of the line that enters a joint configuration: a flag, then changes.
 fn read_enter(alloc: Global, text: &[u8]) -> Result<Option<Step>, NoMemory>
     ensures { IfOk result (λ read. read ≡ enter_in (tokens_in text.now)) }
 {
@@ -302,7 +302,7 @@ fn read_enter(alloc: Global, text: &[u8]) -> Result<Option<Step>, NoMemory>
     Ok(list.map(|changes| Step::EnterJoint(auto_leave, changes)))
 }
 
-// The flag that a token is parsed as.
+// Reads the flag from its token, if it is one.
 fn read_flag(token: &[u8]) -> Option<bool>
     ensures { result ≡ code.flag_in token.now }
 {
@@ -315,7 +315,7 @@ fn read_flag(token: &[u8]) -> Option<bool>
     }
 }
 
-// The changes of a list, if each token is parsed as one.
+// Reads the changes of a list, if each token is parsed as one.
 fn read_list(alloc: Global, text: &[u8]) -> Result<Option<Changes>, NoMemory>
     ensures { IfOk result (λ read. read ≡ list_in (tokens_in text.now)) }
 {

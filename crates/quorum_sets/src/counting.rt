@@ -22,7 +22,7 @@ pub fn count_where<S: MemberSet, F: Fn(u64) -> bool>(set: &S, test: F) -> usize
     count
 }
 
-/// Whether a majority of the ids passes the test. No majority of the empty set does.
+/// Whether a majority of the ids passes the test. The empty set has no majority.
 pub fn most_pass<S: MemberSet, F: Fn(u64) -> bool>(set: &S, test: F) -> bool
     requires { F.IsAlwaysCallable test }
     ensures { (passes : ℕ → Bool) → Decides (F.post test) passes → result ≡ on_most passes (S.ids set.now) }

@@ -9,10 +9,10 @@
 //! (2 3 4)&&(1 2 3)   2 3 is a quorum, and so is 1 2 4; 1 4 is not, since it is a majority of neither set
 //! ```
 //!
-//! Both decisions of Raft count to a quorum. The committed index is the greatest one that a quorum has acknowledged,
-//! and a vote is won once a quorum has granted it. Any two quorums of one configuration share an id, and so do quorums
-//! of neighbouring configurations ([`common_member`] finds it), so what one quorum has committed is known to a member
-//! of the other.
+//! Both decisions of Raft need a quorum. The committed index is the greatest one that a quorum has acknowledged, and a
+//! vote is won once a quorum has granted it. Any two quorums of one configuration share an id, and so do quorums of
+//! neighbouring configurations ([`common_member`] finds it), so what one quorum has committed is known to a member of
+//! the other.
 //!
 //! ```text
 //! let voters = TreeIds::of_list(alloc, &[1, 2, 3])?;

@@ -1,4 +1,4 @@
-//! The interface of a set of ids. The rules are written over it, so they hold of each way to store a set.
+//! The interface of a set of ids. The rules are stated for it, so they hold however a set is stored.
 ghost use Rattle.std.specs.Prelude.{◌≡◌, not, IfOk, OnOk, OnErr, slice_get};
 ghost use Rattle.quorum_sets.specs.Ids.{Ids, no_ids, has, with_id, without_id, ascending, size, ids_of};
 

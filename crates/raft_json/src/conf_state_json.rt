@@ -1,4 +1,4 @@
-//! The JSON of a saved configuration, as Go's encoding/json writes a `raftpb.ConfState`.
+//! The JSON of a saved configuration, with the keys that Go's encoding/json has for a `raftpb.ConfState`.
 ghost use Rattle.std.specs.Prelude.{◌≡◌, Some, None, Err, IfOk, IsUtf8, option_map, option_and_then};
 ghost use Rattle.conf_change.specs.ConfState.{ConfStateLists};
 ghost use Rattle.serde_json.specs.Read.{read};
