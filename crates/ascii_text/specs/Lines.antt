@@ -5,7 +5,7 @@ use Rattle.std.specs.Prelude.{ℕ, suc, Bool, false, List, [], ◌∷◌, ◌++�
 abbrev pub newline : List ℕ
 newline = 10 ∷ []
 
--- a byte before the first full line
+-- full lines with one more byte at the start of the first one
 abbrev pub before_first_line : ℕ → List (List ℕ) → List (List ℕ)
 before_first_line b [] = (b ∷ []) ∷ []
 before_first_line b (full_line ∷ full_lines) = (b ∷ full_line) ∷ full_lines
@@ -20,7 +20,7 @@ abbrev pub first_len : List ℕ → ℕ
 first_len [] = 0
 first_len (b ∷ bytes) = if b == 10 then 1 else suc (first_len bytes)
 
--- bytes without a last byte that is this one
+-- bytes without a last byte that is the first argument; only one is dropped
 abbrev pub without_last : ℕ → List ℕ → List ℕ
 without_last b [] = []
 without_last b (x ∷ []) = if x == b then [] else x ∷ []

@@ -4,13 +4,13 @@ use Rattle.std.specs.Str.{all_ascii_digits}
 use Rattle.std.specs.Str.Parse.{IsNumeral, digits_value}
 use Rattle.ascii_text.specs.Tokens.{has_bytes}
 
--- the bytes are decimal digits of this value
+-- the bytes are decimal digits whose value is this number
 pub record ParsesToNumber (digits : List ℕ) (number : ℕ) : Type 0 where
   pub numeral : IsNumeral 10 digits
   pub value : digits_value 10 digits ≡ number
   pub in_range : number < 2 ^ 64
 
--- the number that the bytes parse to
+-- the number that the bytes parse to, if they are one
 abbrev pub number_in : List ℕ → Option ℕ
 number_in digits =
     if has_bytes digits && all_ascii_digits digits && nat_lt (digits_value 10 digits) (2 ^ 64)

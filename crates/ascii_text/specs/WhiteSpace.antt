@@ -2,7 +2,7 @@
 use Rattle.std.specs.Prelude.{ℕ, Bool, ◌&&◌, ◌||◌, List, [], ◌∷◌, ◌==◌, nat_le, if◌then◌else◌}
 use Rattle.std.specs.List.{list_all}
 
--- tab, newline, vertical tab, form feed, carriage return and space
+-- the byte is tab, newline, vertical tab, form feed, carriage return or space
 abbrev pub is_space : ℕ → Bool
 is_space b = (nat_le 9 b && nat_le b 13) || b == 32
 

@@ -1,4 +1,7 @@
-//! Appending to a text. If memory runs out between two parts, what was appended is dropped again.
+//! Appending to a text.
+//!
+//! A printed text has many parts, and memory may run out between two of them. A public call that appends several parts
+//! notes the length first and ends with [`keep_whole`], so that it appends all of them or none.
 ghost use Rattle.std.specs.Prelude.{◌≡◌, ◌<◌, ◌^◌, ◌++◌, length, take, replicate, decimal, OnOk, OnErr};
 ghost use Rattle.ascii_text.specs.Append.{Extends};
 
@@ -6,7 +9,7 @@ use crate::no_memory::NoMemory;
 use itoa::write_digits;
 use std::alloc::AllocError;
 
-/// Appends a part. On `NoMemory` the text is unchanged.
+/// Appends a part.
 pub fn append(text: &mut Vec<u8>, part: &[u8]) -> Result<(), NoMemory>
     ensures ok { OnOk result (text.new.items ≡ text.old.items ++ part.now) }
     ensures err { OnErr result (text.new.items ≡ text.old.items) }
@@ -16,7 +19,7 @@ pub fn append(text: &mut Vec<u8>, part: &[u8]) -> Result<(), NoMemory>
     Ok(())
 }
 
-/// Appends a byte `count` times. On `NoMemory` the text is unchanged.
+/// Appends a byte `count` times, such as the spaces that fill up a column.
 pub fn append_times(text: &mut Vec<u8>, byte: u8, count: usize) -> Result<(), NoMemory>
     requires { count < 2 ^ 63 }
     ensures ok { OnOk result (text.new.items ≡ text.old.items ++ replicate count byte) }
@@ -27,7 +30,7 @@ pub fn append_times(text: &mut Vec<u8>, byte: u8, count: usize) -> Result<(), No
     Ok(())
 }
 
-/// Appends a number in decimal. On `AllocError` the text is unchanged.
+/// Appends a number in decimal, without leading zeros.
 pub fn append_number(text: &mut Vec<u8>, number: u64) -> Result<(), AllocError>
     ensures ok { OnOk result (text.new.items ≡ text.old.items ++ decimal number) }
     ensures err { OnErr result (text.new.items ≡ text.old.items) }
@@ -56,7 +59,8 @@ fn append_digits(text: &mut Vec<u8>, number: u64) -> Result<(), AllocError>
     Ok(())
 }
 
-/// Truncates a text to `len` bytes if appending to it has failed, and returns the result of the appending.
+/// Ends the appending of several parts. If it failed, the text is cut back to `len` bytes, the length that it had
+/// before the first part.
 pub fn keep_whole(
     text: &mut Vec<u8>,
     len: usize,

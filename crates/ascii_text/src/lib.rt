@@ -1,7 +1,7 @@
 //! White space, tokens, lines and numbers in a text of bytes, and the calls that append to one.
 //!
-//! Configurations, plans and script files are all read from the same bytes, so what a token or a line is stands here once.
-//! White space is the six bytes 9 to 13 and 32. A token is a run of bytes that are not white space. A line ends before its
+//! Configurations, plans and script files are all read from bytes, so tokens and lines are defined here once. White
+//! space is the six bytes 9 to 13 and 32. A token is a run of bytes that are not white space. A line ends before its
 //! newline, and one carriage return before the newline is dropped. A number is decimal digits, of at most 2^64-1. Bytes
 //! above 127 have no meaning of their own: they are part of a token or a line like any other byte.
 //!
@@ -10,6 +10,13 @@
 //!    token    simple
 //!    line     simple v1
 //!    the rest v2\n
+//! ```
+//!
+//! A parser takes one token after another off the text that is left:
+//!
+//! ```text
+//! let (token, rest) = next_token(b"simple v1")?;   // "simple" and " v1"
+//! let (token, rest) = next_token(rest)?;           // "v1" and "", after which there is none
 //! ```
 #![tactic(auto)]
 

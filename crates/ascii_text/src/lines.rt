@@ -1,10 +1,11 @@
-//! The lines of a text. A full line is a line with its newline; the last line of a text may have none.
+//! The lines of a text. A full line is a line with its newline; the last line of a text may have none. `"a\r\nb"` has
+//! the full lines `"a\r\n"` and `"b"`, and the lines `"a"` and `"b"`.
 ghost use Rattle.std.specs.Prelude.{◌≡◌, ◌≤◌, ◌<◌, [], ◌∷◌, length, IfSome, MatchOption};
 ghost use Rattle.ascii_text.specs.Lines.{first_len, full_lines, without_last, line_of, is_whole};
 
 use memchr::memchr;
 
-/// The length of the first full line.
+/// The length of the first full line in bytes, 0 if the text is empty.
 pub fn first_line_len(bytes: &[u8]) -> usize
     ensures count { result ≡ first_len bytes.now }
     ensures bound { result ≤ length bytes.now }
@@ -27,7 +28,7 @@ pub fn next_full_line(text: &[u8]) -> Option<(&[u8], &[u8])>
     Some(text.split_at(first_line_len(text)))
 }
 
-/// The bytes without a last byte that is `end` (own).
+/// Drops the last byte if it is `end` (own).
 pub fn without_end(bytes: &[u8], end: u8) -> &[u8]
     ensures { result.now ≡ without_last end bytes.now }
 {
@@ -37,14 +38,15 @@ pub fn without_end(bytes: &[u8], end: u8) -> &[u8]
     }
 }
 
-/// The line of a full line: without its newline, and then without one carriage return.
+/// The line of a full line: without its newline, and then without one carriage return, so that a file with Windows line
+/// ends reads like any other (own).
 pub fn line_of(full_line: &[u8]) -> &[u8]
     ensures { result.now ≡ line_of full_line.now }
 {
     without_end(without_end(full_line, b'\n'), b'\r')
 }
 
-/// Whether the bytes end in a newline.
+/// Whether the bytes end in a newline. A line that is read in parts goes on until they do.
 pub fn is_whole(bytes: &[u8]) -> bool
     ensures { result ≡ is_whole bytes.now }
 {

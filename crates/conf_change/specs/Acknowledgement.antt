@@ -7,12 +7,14 @@ use Rattle.conf_change.specs.declared.acknowledgement.AckFault.{AckFault}
 use Rattle.conf_change.specs.declared.acknowledgement.AckFault.TheVariants.{NotMember, IndexTooLarge}
 use Rattle.conf_change.specs.declared.progress.Progress.{Progress}
 
--- the progress after an acknowledgement: an index above match becomes match, and next is then at least one more; any other index changes nothing
+-- the progress after an acknowledgement: an index above match becomes match, and next is then at least one more; any
+-- other index changes nothing (etcd's `MaybeUpdate` of `tracker.Progress`)
 abbrev pub acknowledged : ℕ → Progress → Progress
 acknowledged index p =
     if nat_lt p.matched index then record { matched = index; next = max p.next (index + 1); learner = p.learner } else p
 
--- the progress of a member after an acknowledgement, or why it is refused: not a member, or the greatest index, after which there is none
+-- the progress of a member after an acknowledgement, or why it is refused: not a member, or the greatest index, after
+-- which there is none
 abbrev pub acknowledged_progress : Option Progress → ℕ → Result Progress AckFault
 acknowledged_progress None index = Err NotMember
 acknowledged_progress (Some was) index = if index == greatest_index then Err IndexTooLarge else Ok (acknowledged index was)
@@ -29,6 +31,6 @@ with_progress tracker id p = tracker_of tracker.floor tracker.config (finite.ins
 abbrev pub changer_with_progress : ChangerState → ℕ → Progress → ChangerState
 changer_with_progress changer id p = changer_of (with_progress changer.tracker id p) changer.last_index
 
--- the match index of each member
+-- the match index of each member, as the indexes that it has acknowledged
 abbrev pub matches : TrackerState → Acks
 matches tracker = finite.from_entries (map (λ entry. (entry.0, entry.1.matched)) (finite.entries tracker.progress))

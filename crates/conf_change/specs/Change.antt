@@ -1,4 +1,4 @@
--- The result of a list of changes: the last effective change of an id decides its roles.
+-- The result of a list of changes: the last effective change of an id decides its roles (etcd's package `confchange`).
 use Rattle.std.specs.Prelude.{ℕ, Bool, true, false, not, ◌&&◌, ◌==◌, List, ◌++◌, map, reverse, find, Option, Some, None, option_map}
 use Rattle.std.specs.List.{list_any}
 use Rattle.quorum_sets.specs.Ids.{Ids, has, ascending, ids_where}
@@ -25,7 +25,7 @@ is_removal Update = false
 abbrev pub names : ℕ → Change → Bool
 names id change = (change.id == id) && not (id == 0) && not (is_update change.kind)
 
--- the kind of the last effective change of the id
+-- the kind of the last effective change of the id: Learner for 4 in v4 l4 u4
 abbrev pub last_effective : List Change → ℕ → Option Kind
 last_effective changes id = option_map (λ change. change.kind) (find (names id) (reverse changes))
 
@@ -53,11 +53,12 @@ is_next_after (Some Learner) outgoing was = outgoing
 is_next_after (Some Remove) outgoing was = false
 is_next_after (Some Update) outgoing was = was
 
--- the ids that the changes name, and those of a set, the candidates for the set after the changes
+-- the ids that the changes name, and those of a set: the candidates for the set after the changes
 abbrev pub named_or_in : List Change → Ids → List ℕ
 named_or_in changes ids = map (λ change. change.id) changes ++ ascending ids
 
--- the configuration after the changes: the outgoing voters and the flag stay, and the last effective change of an id decides its other roles
+-- the configuration after the changes: the outgoing voters and the flag stay, and the last effective change of an id
+-- decides its other roles
 abbrev pub result_of : Configuration → List Change → Configuration
 result_of c changes = record {
   incoming = ids_where (λ id. is_incoming_after (last_effective changes id) (has c.incoming id)) (named_or_in changes c.incoming);
@@ -67,6 +68,6 @@ result_of c changes = record {
   auto_leave = c.auto_leave;
 }
 
--- the list removes the id
+-- the list removes the id, whatever the other changes of the id are
 abbrev pub removes : List Change → ℕ → Bool
 removes changes id = list_any (λ change. (change.id == id) && is_removal change.kind) changes

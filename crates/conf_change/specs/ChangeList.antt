@@ -1,4 +1,5 @@
--- Change lists: which changes a text denotes, and what is wrong with a text that denotes none.
+-- Change lists: which changes a text denotes, and what is wrong with a text that denotes none. `v1 l2` makes 1 a voter
+-- and 2 a learner.
 use Rattle.std.specs.Prelude.{◌≡◌, ◌≢◌, ℕ, ◌<◌, ◌==◌, List, [], ◌∷◌, ◌++◌, length, slice_index, Option, Some, None, Result, Ok, Err, if◌then◌else◌}
 use Rattle.std.specs.List.{AllZip}
 use Rattle.ascii_text.specs.Tokens.{tokens_in}
@@ -9,7 +10,7 @@ use Rattle.conf_change.specs.declared.change.Kind.TheVariants.{Voter, Learner, R
 use Rattle.conf_change.specs.declared.change_list.TokenFault.{TokenFault}
 use Rattle.conf_change.specs.declared.change_list.TokenFault.TheVariants.{UnknownToken, UnknownInput, BadNumber, NoMemory}
 
--- v, l, r and u
+-- the letter of a kind: v, l, r or u
 abbrev pub letter_of : Kind → ℕ
 letter_of Voter = 118
 letter_of Learner = 108
@@ -38,7 +39,8 @@ token_of (unknown_token token) = token
 token_of (unknown_input token) = token
 token_of (bad_number token) = token
 
--- the reason is true of the token: it has fewer than two bytes; or it does not begin with a letter of a kind; or it does, and the rest is not a number
+-- the reason is true of the token: it has fewer than two bytes; or it does not begin with a letter of a kind; or it
+-- does, and the rest is not a number
 abbrev pub HasReason : BadToken → Type 0
 HasReason (unknown_token token) = length token < 2
 HasReason (unknown_input token) = (1 < length token) × ((kind : Kind) → slice_index token 0 ≢ letter_of kind)
@@ -53,7 +55,7 @@ pub record IsFirstBad (tokens : List (List ℕ)) (bad : BadToken) : Type 0 where
   pub parsed : AllZip ParsesTo before changes
   pub reason : HasReason bad
 
--- the bad token of an error
+-- the bad token of an error, unless memory ran out
 abbrev pub bad_token : TokenFault → Option BadToken
 bad_token (UnknownToken token) = Some (unknown_token token.now)
 bad_token (UnknownInput token) = Some (unknown_input token.now)
@@ -67,12 +69,12 @@ kind_in byte =
     if byte == 118 then Some Voter else (if byte == 108 then Some Learner
     else (if byte == 114 then Some Remove else (if byte == 117 then Some Update else None)))
 
--- the change of a kind and a number, or that the number is bad
+-- the change of a kind and a number, or that the number of the token is bad
 abbrev pub with_number : List ℕ → Kind → Option ℕ → Result Change BadToken
 with_number token kind None = Err (bad_number token)
 with_number token kind (Some id) = Ok (record { kind = kind; id = id })
 
--- the change of a kind and the digits after its letter, or that the letter is unknown
+-- the change of a kind and the digits after its letter, or that the letter of the token is unknown
 abbrev pub with_kind : List ℕ → Option Kind → List ℕ → Result Change BadToken
 with_kind token None rest = Err (unknown_input token)
 with_kind token (Some kind) rest = with_number token kind (number_in rest)

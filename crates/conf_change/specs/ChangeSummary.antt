@@ -1,4 +1,5 @@
--- Summaries of the changes of each id in a list: the kind of the last effective one, and whether any of them removes the id.
+-- Summaries of the changes of each id in a list: the kind of the last effective one, and whether any of them removes
+-- the id. Of v4 r4 l4 the summary is Learner with a removal.
 use Rattle.std.specs.Prelude.{◌≡◌, ◌≢◌, ℕ, Bool, false, not, ◌&&◌, ◌||◌, ◌==◌, List, [], ◌∷◌, ◌++◌, map, Option, Some, None, ◌⊎◌, if◌then◌else◌}
 use Rattle.std.specs.List.{list_any, All}
 use Rattle.quorum_sets.specs.AscendingLists.{IsAscending}
@@ -19,7 +20,7 @@ summary_of change = record {
   removes = is_removal change.kind;
 }
 
--- the last of two kinds, if they are there
+-- the later one of two kinds, or the only one
 abbrev pub later_of : Option Kind → Option Kind → Option Kind
 later_of earlier None = earlier
 later_of earlier (Some kind) = Some kind
@@ -47,7 +48,7 @@ pub record IsEntryAdded (before : List ChangeSummary) (summary : ChangeSummary) 
       ⊎ (((prefix : List ChangeSummary) × (last : ChangeSummary) × (before ≡ prefix ++ last ∷ []) × (last.id ≢ summary.id) × (after ≡ before ++ summary ∷ []))
       ⊎ ((before ≡ []) × (after ≡ summary ∷ [])))
 
--- one summary per id, in ascending order, is equivalent to the summaries in order
+-- one summary per id, in ascending order, that agrees with the summaries in order on each id
 pub record Joins (each summaries : List ChangeSummary) : Type 0 where
   pub ascends : IsAscending (map (λ w. w.id) summaries)
   pub last : (q : ℕ) → last_in summaries q ≡ last_in each q

@@ -27,7 +27,7 @@ tracker_of floor c progress = record { config = c; progress = progress; floor = 
 abbrev pub changer_of : TrackerState → ℕ → ChangerState
 changer_of tracker last_index = record { tracker = tracker; last_index = last_index }
 
--- a changer with an empty configuration
+-- a changer with an empty configuration and this floor
 abbrev pub new_changer : Floor → ℕ → ChangerState
 new_changer floor last_index = record { tracker = empty_tracker floor; last_index = last_index }
 
@@ -55,7 +55,8 @@ moved_by changer step (Err why) = Err why
 abbrev pub changer_after : ChangerState → Step → Result ChangerState Refused
 changer_after changer step = moved_by changer step (outcome changer.tracker.config step)
 
--- what is true of every tracker: its configuration is valid, and has an incoming voter or is empty; exactly its members have progress; the learners are marked; and next is ahead of match
+-- what is true of every tracker: its configuration is valid, and has an incoming voter or is empty; exactly its members
+-- have progress; the learners are marked; and next is ahead of match
 pub record IsSound (tracker : TrackerState) : Type 0 where
   pub restorable : is_restorable tracker.config ≡ true
   pub of_members : (id : ℕ) → is_some (finite.get tracker.progress id) ≡ is_member tracker.config id
@@ -79,7 +80,9 @@ NeighboursAcross before after = AreNeighbours (voters_of before.tracker.config) 
 abbrev pub OverlapAcross : ChangerState → ChangerState → Type 0
 OverlapAcross before after = Overlap (voters_of before.tracker.config) (voters_of after.tracker.config)
 
--- The result of a call that computes the changer after a step: the defined configuration and progress, or the defined refusal (or NoMemory). The tracker is sound before and after, the voters before and after are neighbours and overlap, and if there was a voter there still is one.
+-- The result of a call that computes the changer after a step: the defined configuration and progress, or the defined
+-- refusal (or NoMemory). The tracker is sound before and after, the voters before and after are neighbours and overlap,
+-- and if there was a voter there still is one.
 pub record GivesNext (before : ChangerState) (step : Step) (result : Result ChangerState Refused) : Type 0 where
   pub accepted : IfOk result (Accepts before step)
   pub refused : IfErr result (Refuses before step)
@@ -89,7 +92,7 @@ pub record GivesNext (before : ChangerState) (step : Step) (result : Result Chan
   pub overlap : IfOk result (OverlapAcross before)
   pub voter : has_voter before.tracker.config ≡ true → IfOk result (λ after. has_voter after.tracker.config ≡ true)
 
--- the result of a call that leaves the changer after a step in its place
+-- the result of a call that leaves the changer after a step in its argument
 abbrev pub left_in : Result (Unit {0}) Refused → ChangerState → Result ChangerState Refused
 left_in (Ok _) after = Ok after
 left_in (Err why) after = Err why

@@ -1,4 +1,4 @@
--- Saved configurations (etcd's ConfState): four lists and a flag.
+-- Saved configurations (etcd's `raftpb.ConfState`): four lists and a flag.
 use Rattle.std.specs.Prelude.{◌≡◌, ℕ, Bool, ◌&&◌, List, length, Option, Some, None, nat_eq, if◌then◌else◌}
 use Rattle.std.specs.Bool.{beq}
 use Rattle.std.specs.Cmp.{IsPartialEquivalence, partial_equiv_from_equiv, and_per, on_per, nat_eq_equiv, bool_eq_equiv}
@@ -51,11 +51,11 @@ lists_of c = record {
   auto_leave = c.auto_leave;
 }
 
--- the list names no id twice
+-- the list names no id twice: it has as many items as its set
 abbrev pub names_once : List ℕ → Bool
 names_once list = nat_eq (length list) (size (ids_of list))
 
--- the configuration that the lists name
+-- the configuration whose sets the lists name, repeats or not
 abbrev pub named_by : ConfStateLists → Configuration
 named_by saved = record {
   incoming = ids_of saved.voters;
@@ -65,7 +65,8 @@ named_by saved = record {
   auto_leave = saved.auto_leave;
 }
 
--- the configuration to which a ConfState is restored, if it can be
+-- the configuration to which a ConfState is restored, if each list names each id once and the configuration can be
+-- restored
 abbrev pub restored : ConfStateLists → Option Configuration
 restored saved =
     if names_once saved.voters && names_once saved.voters_outgoing && names_once saved.learners && names_once saved.learners_next && is_restorable (named_by saved)

@@ -1,4 +1,4 @@
--- ConfState lines: how one is printed, and which ConfState a text denotes.
+-- ConfState lines: how one is printed (etcd's `raft.DescribeConfState`), and which ConfState a text denotes (own).
 use Rattle.std.specs.Prelude.{◌≡◌, ℕ, Bool, true, false, ◌==◌, List, [], ◌∷◌, ◌++◌, length, take, drop, codes, Option, Some, None, option_map, option_and_then, bytes_eq, if◌then◌else◌}
 use Rattle.std.specs.List.{AllZip, join_with_byte, slice_split, position_or_len, before_first}
 use Rattle.ascii_text.specs.Tokens.{has_bytes}
@@ -7,7 +7,7 @@ use Rattle.ascii_text.specs.Number.{ParsesToNumber, number_in}
 use Rattle.conf_change.specs.Text.{spaced_numbers}
 use Rattle.conf_change.specs.ConfState.{ConfStateLists}
 
--- a truth value as it is printed
+-- true or false, as it is printed
 abbrev pub truth_text : Bool → List ℕ
 truth_text truth = if truth then codes "true" else codes "false"
 
@@ -17,7 +17,7 @@ bracketed_line voters voters_outgoing learners learners_next auto_leave =
     codes "Voters:[" ++ voters ++ codes "] VotersOutgoing:[" ++ voters_outgoing ++ codes "] Learners:[" ++ learners
     ++ codes "] LearnersNext:[" ++ learners_next ++ codes "] AutoLeave:" ++ truth_text auto_leave
 
--- the line as it is printed
+-- the line as it is printed: Voters:[1 2] VotersOutgoing:[] Learners:[3] LearnersNext:[] AutoLeave:false
 abbrev pub conf_state_text : ConfStateLists → List ℕ
 conf_state_text saved =
     bracketed_line (spaced_numbers saved.voters) (spaced_numbers saved.voters_outgoing) (spaced_numbers saved.learners) (spaced_numbers saved.learners_next) saved.auto_leave
@@ -64,7 +64,7 @@ is_space_byte byte = byte == 32
 abbrev pub numbers_in : List ℕ → Option (List ℕ)
 numbers_in text = if has_bytes text then numbers_in_tokens (slice_split is_space_byte text) else Some []
 
--- the byte is the bracket that ends a list
+-- the byte is the bracket ] that ends a list
 abbrev pub is_close : ℕ → Bool
 is_close byte = byte == 93
 
@@ -79,7 +79,7 @@ auto_leave_in text =
     if bytes_eq text (codes "] AutoLeave:true") then Some true
     else (if bytes_eq text (codes "] AutoLeave:false") then Some false else None)
 
--- the value is passed on, if there is one
+-- a function applied to a value, if there is one, as `do` does it
 infixl 10 ◌>>=◌
 abbrev pub ◌>>=◌ : {A B : Type 0} → Option A → (A → Option B) → Option B
 found >>= more = option_and_then more found

@@ -1,4 +1,4 @@
--- Configurations, and the invariants of a valid one.
+-- Configurations (etcd's `tracker.Config`), and the invariants of a valid one.
 use Rattle.std.specs.Prelude.{◌≡◌, ℕ, Bool, true, false, not, ◌&&◌, ◌||◌, List, [], ◌∷◌, ◌++◌, Option, find, nat_eq}
 use Rattle.std.specs.Bool.{beq}
 use Rattle.std.specs.List.{list_all}
@@ -7,7 +7,8 @@ use Rattle.quorum_sets.specs.Voters.{Voters}
 use Rattle.conf_change.specs.declared.config.Invariant.{Invariant}
 use Rattle.conf_change.specs.declared.config.Invariant.TheVariants.{ZeroId, NextNotOutgoing, NextAndIncoming, LearnerAndVoter, NotJointButNext, NotJointButAutoLeave}
 
--- a configuration: the incoming and the outgoing voters, the learners, those that become learners when the joint configuration is left, and whether it is left automatically
+-- a configuration: the incoming and the outgoing voters, the learners, those that become learners when the joint
+-- configuration is left, and whether it is left automatically
 pub record Configuration : Type 0 where
   pub incoming : Ids
   pub outgoing : Ids
@@ -23,7 +24,7 @@ empty_configuration = record { incoming = no_ids; outgoing = no_ids; learners = 
 abbrev pub voters_of : Configuration → Voters
 voters_of c = record { incoming = c.incoming; outgoing = c.outgoing }
 
--- it has outgoing voters
+-- it has outgoing voters, so that a decision needs a majority of both sets
 abbrev pub is_joint : Configuration → Bool
 is_joint c = not (is_empty c.outgoing)
 
@@ -31,7 +32,7 @@ is_joint c = not (is_empty c.outgoing)
 abbrev pub has_voter : Configuration → Bool
 has_voter c = not (is_empty c.incoming)
 
--- the members: voters of either kind, and learners
+-- the members: voters of either kind, and learners; an id may come twice
 abbrev pub members : Configuration → List ℕ
 members c = ascending c.incoming ++ ascending c.outgoing ++ ascending c.learners
 
@@ -47,7 +48,7 @@ is_within a b = list_all (has b) (ascending a)
 abbrev pub is_apart : Ids → Ids → Bool
 is_apart a b = list_all (λ id. not (has b id)) (ascending a)
 
--- whether the configuration keeps the invariant
+-- whether the configuration keeps the invariant (etcd's `checkInvariants`; ZeroId and NextAndIncoming are own)
 abbrev pub keeps : Configuration → Invariant → Bool
 keeps c ZeroId = not (has c.incoming 0 || has c.outgoing 0 || has c.learners 0 || has c.learners_next 0)
 keeps c NextNotOutgoing = is_within c.learners_next c.outgoing
@@ -68,7 +69,7 @@ first_broken c = find (λ invariant. not (keeps c invariant)) invariants
 abbrev pub is_valid : Configuration → Bool
 is_valid c = list_all (keeps c) invariants
 
--- what is true of each id of a valid configuration
+-- the invariants, id by id
 pub record ValidByMember (c : Configuration) : Type 0 where
   pub zero_incoming : has c.incoming 0 ≡ false
   pub zero_outgoing : has c.outgoing 0 ≡ false

@@ -1,11 +1,11 @@
--- The floor: the smallest initial next index.
+-- The floor: the smallest initial next index (own). etcd's raft has 1, and its test scripts have 0.
 use Rattle.std.specs.Prelude.{◌≡◌, ℕ, max, ◌<◌, ◌≤◌, Bool, true, false, refl}
 use Rattle.std.specs.Coded.{Coded, coded_bool, code_by}
 use Rattle.conf_change.specs.declared.floor.Floor.{Floor}
 use Rattle.conf_change.specs.declared.floor.Floor.TheVariants.{Zero, One}
 use Rattle.conf_change.specs.declared.progress.Progress.{Progress}
 
--- the smallest initial next index
+-- the floor as a number
 abbrev pub number_of : Floor → ℕ
 number_of Zero = 0
 number_of One = 1
@@ -20,6 +20,7 @@ IsAhead Zero p = p.matched ≤ p.next
 IsAhead One p = p.matched < p.next
 
 -- ---- how a floor is stored
+-- whether the floor is one
 abbrev pub is_one : Floor → Bool
 is_one Zero = false
 is_one One = true
@@ -29,7 +30,7 @@ abbrev pub floor_of : Bool → Floor
 floor_of false = Zero
 floor_of true = One
 
--- a floor is known by whether it is one
+-- a floor is determined by whether it is one
 pub floor-again : (floor : Floor) → floor_of (is_one floor) ≡ floor
 floor-again Zero = refl
 floor-again One = refl

@@ -1,8 +1,8 @@
--- Walks over the ids of sets, in ascending order.
+-- Walks over the ids of sets, in ascending order, by a position in each set.
 use Rattle.std.specs.Prelude.{◌≡◌, ℕ, ◌<◌, ◌≤◌, ◌⊎◌, Option, Some, slice_index}
 use Rattle.quorum_sets.specs.Ids.{Ids, ascending, size}
 
--- the smaller of two ids, or the only one
+-- the result is the smaller of two ids, or the only one
 pub record IsLeast (a b least : Option ℕ) : Type 0 where
   pub one : (least ≡ a) ⊎ (least ≡ b)
   pub below_a : (x : ℕ) → a ≡ Some x → (y : ℕ) × (least ≡ Some y) × (y ≤ x)

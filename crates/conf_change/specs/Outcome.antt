@@ -1,4 +1,5 @@
--- The three steps of a configuration: the result of each, or why it is refused.
+-- The three steps of a configuration (etcd's `Simple`, `EnterJoint` and `LeaveJoint` of its package `confchange`): the
+-- result of each, or why it is refused.
 use Rattle.std.specs.Prelude.{Bool, false, not, List, Result, Ok, Err, nat_lt, if◌then◌else◌}
 use Rattle.quorum_sets.specs.Ids.{no_ids, union, difference_count}
 use Rattle.conf_change.specs.Configuration.{Configuration, is_joint, has_voter}
@@ -13,7 +14,7 @@ use Rattle.conf_change.specs.declared.step.Step.TheVariants.{Simple, EnterJoint,
 abbrev pub Outcome : Type 0
 Outcome = Result Configuration Refused
 
--- a simple step, after which at most one voter differs
+-- a simple step, after which at most one voter differs (Ongaro's dissertation, 4.1)
 abbrev pub simple_outcome : Configuration → List Change → Outcome
 simple_outcome c changes =
     let after = result_of c changes in
@@ -26,7 +27,8 @@ simple_outcome c changes =
 abbrev pub with_outgoing : Configuration → Bool → Configuration
 with_outgoing c auto_leave = record c { outgoing = c.incoming; auto_leave = auto_leave }
 
--- entering a joint configuration, in which the changes are made
+-- entering a joint configuration, in which the changes are made (Ongaro's dissertation, 4.3): (1 2 3) by v4 r1 becomes
+-- (2 3 4)&&(1 2 3)
 abbrev pub enter_outcome : Configuration → Bool → List Change → Outcome
 enter_outcome c auto_leave changes =
     let after = result_of (with_outgoing c auto_leave) changes in
@@ -45,7 +47,7 @@ after_leave c = record {
   auto_leave = false;
 }
 
--- leaving a joint configuration
+-- leaving a joint configuration: (2 3 4)&&(1 2 3) becomes (2 3 4)
 abbrev pub leave_outcome : Configuration → Outcome
 leave_outcome c = if is_joint c then Ok (after_leave c) else Err NotJoint
 

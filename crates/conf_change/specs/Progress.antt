@@ -1,4 +1,4 @@
--- The progress of the members, before and after a step.
+-- The progress of the members, before and after a step (etcd's `tracker.Progress`).
 use Rattle.std.specs.Prelude.{◌≡◌, ℕ, ◌==◌, Bool, not, ◌&&◌, ◌||◌, List, map, unwrap_or, if◌then◌else◌}
 use Rattle.std.specs.List.{list_any}
 use Rattle.std.specs.FinMap as finite
@@ -39,7 +39,8 @@ pub record IsFreshOf (next_index : ℕ) (incoming outgoing learners : Ids) (entr
   pub members : (q : ℕ) → list_any (λ x. q == x) (map (λ m. m.0) entries) ≡ (has incoming q || has outgoing q || has learners q)
   pub fresh : entries ≡ map (λ id. (id, fresh_progress next_index (has learners id))) (map (λ m. m.0) entries)
 
--- if the id is a member after the step, it is a new one: a change removes it, and it is not an outgoing voter
+-- if the id is a member after the step, it is a new one: a change removes it, and it is not an outgoing voter; r1 v1 in
+-- a simple step replaces 1
 abbrev pub is_replaced : Step → Configuration → ℕ → Bool
 is_replaced step after id = removes (changes_of step) id && not (has after.outgoing id)
 

@@ -9,12 +9,13 @@ use Rattle.conf_change.specs.ChangeList.{letter_of}
 abbrev pub is_same_change : Change → Change → Bool
 is_same_change a b = nat_eq (letter_of a.kind) (letter_of b.kind) && nat_eq a.id b.id
 
+-- equality of changes is symmetric and transitive
 is_same_change-laws : IsPartialEquivalence is_same_change
 is_same_change-laws =
     let numbers = partial_equiv_from_equiv nat_eq_equiv in
     and_per (on_per (λ c. letter_of c.kind) numbers) (on_per (λ c. c.id) numbers)
 
--- the same changes in the same order
+-- the lists have equal changes, in the same order
 abbrev pub is_same_list : List Change → List Change → Bool
 is_same_list = pointwise is_same_change
 

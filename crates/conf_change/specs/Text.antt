@@ -1,4 +1,4 @@
--- The printed texts of configurations, progress and refusals.
+-- The printed texts of configurations, progress and refusals, as etcd's packages `tracker` and `confchange` print them.
 use Rattle.std.specs.Prelude.{◌≡◌, ℕ, Bool, not, List, [], ◌++◌, map, length, take, codes, decimal, nat_lt, if◌then◌else◌}
 use Rattle.std.specs.List.{join_with_byte}
 pub use Rattle.ascii_text.specs.Append.{Extends}
@@ -9,7 +9,7 @@ use Rattle.conf_change.specs.declared.progress.Progress.{Progress}
 use Rattle.conf_change.specs.declared.refused.Refused.{Refused}
 use Rattle.conf_change.specs.declared.refused.Refused.TheVariants.{AlreadyJoint, ZeroVoterJoint, NotJoint, SimpleInJoint, RemovedAllVoters, MoreThanOneVoter, NoMemory}
 
--- an optional part of a text
+-- a part of a text that may be left out
 abbrev pub text_if : Bool → List ℕ → List ℕ
 text_if there text = if there then text else []
 
@@ -25,7 +25,7 @@ spaced_number position number = text_if (nat_lt 0 position) (codes " ") ++ decim
 abbrev pub set_text : Ids → List ℕ
 set_text ids = codes "(" ++ spaced_numbers (ascending ids) ++ codes ")"
 
--- a configuration, in one line
+-- a configuration, in one line, as voters=(2 3)&&(1 2) learners=(4)
 abbrev pub config_text : Configuration → List ℕ
 config_text c =
     codes "voters=" ++ set_text c.incoming
@@ -34,13 +34,13 @@ config_text c =
     ++ text_if (not (is_empty c.learners_next)) (codes " learners_next=" ++ set_text c.learners_next)
     ++ text_if c.auto_leave (codes " autoleave")
 
--- a member and its progress, in one line
+-- a member and its progress, in one line, as 4: StateProbe match=0 next=1 learner
 abbrev pub progress_text : ℕ → Progress → List ℕ
 progress_text id p =
     decimal id ++ codes ": StateProbe match=" ++ decimal p.matched ++ codes " next=" ++ decimal p.next
     ++ text_if p.learner (codes " learner")
 
--- why a change was refused
+-- why a change was refused (own for NoMemory)
 abbrev pub refused_text : Refused → List ℕ
 refused_text AlreadyJoint = codes "config is already joint"
 refused_text ZeroVoterJoint = codes "can't make a zero-voter config joint"
@@ -50,7 +50,7 @@ refused_text RemovedAllVoters = codes "removed all voters"
 refused_text MoreThanOneVoter = codes "more than one voter changed without entering joint config"
 refused_text NoMemory = codes "out of memory"
 
--- the message of a bad token
+-- the message of a bad token (own for a bad number)
 abbrev pub bad_token_text : BadToken → List ℕ
 bad_token_text (unknown_token token) = codes "unknown token " ++ token
 bad_token_text (unknown_input token) = codes "unknown input: " ++ token

@@ -13,7 +13,8 @@ use Rattle.conf_change.specs.declared.progress.Progress.{Progress}
 abbrev pub beginning : TrackerState → Ids → Bool → TrackerState
 beginning t outgoing auto_leave = record { config = record t.config { outgoing = outgoing; auto_leave = auto_leave }; progress = t.progress; floor = t.floor }
 
--- the entry of an id after a step: a member keeps its progress or gets a fresh one, and is marked as a learner or not; any other id has none
+-- the entry of an id after a step: a member keeps its progress or gets a fresh one, and is marked as a learner or not;
+-- any other id has none
 abbrev pub entry_of : ℕ → Bool → Bool → Option Progress → Option Progress
 entry_of next_index member learner had = if member then Some (with_mark learner (unwrap_or had (fresh_progress next_index learner))) else None
 
@@ -39,7 +40,8 @@ abbrev pub entries_of : ℕ → Option Progress → List (ℕ × Progress)
 entries_of id None = []
 entries_of id (Some p) = (id, p) ∷ []
 
--- the tracker after a list of changes, with this initial next index for new members: the last effective change of an id decides its roles, and a removal its progress
+-- the tracker after a list of changes, with this initial next index for new members: the last effective change of an id
+-- decides its roles, and a removal its progress
 pub record Applies (next_index : ℕ) (changes : List Change) (before after : TrackerState) : Type 0 where
   pub configuration : after.config ≡ result_of before.config changes
   pub floor : after.floor ≡ before.floor

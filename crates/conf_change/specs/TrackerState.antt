@@ -9,7 +9,7 @@ use Rattle.conf_change.specs.Floor.{floor_code}
 use Rattle.conf_change.specs.declared.floor.Floor.{Floor}
 use Rattle.conf_change.specs.declared.progress.Progress.{Progress}
 
--- the progress of each member
+-- the progress of each member, by id
 abbrev pub ProgressMap : Type 0
 ProgressMap = finite.FinMap nat_cmp Progress
 

@@ -1,4 +1,4 @@
--- Which step etcd takes for a list of changes.
+-- Which step etcd takes for a list of changes (`EnterJoint` and `LeaveJoint` of etcd's `raftpb.ConfChangeV2`).
 use Rattle.std.specs.Prelude.{true, false, List, [], ◌∷◌, map}
 use Rattle.conf_change.specs.declared.change.Change.{Change}
 use Rattle.conf_change.specs.declared.step.Step.{Step}
@@ -8,7 +8,8 @@ use Rattle.conf_change.specs.declared.step.StepKind.TheVariants as kind
 use Rattle.conf_change.specs.declared.transition.Transition.{Transition}
 use Rattle.conf_change.specs.declared.transition.Transition.TheVariants.{Auto, Implicit, Explicit}
 
--- Auto leaves without a change, is simple with one, and enters with more; Implicit and Explicit always enter. Each change counts, effective or not.
+-- Auto leaves without a change, is simple with one, and enters with more; Implicit and Explicit always enter. Each
+-- change counts, effective or not.
 abbrev pub step_kind_of : Transition → List Change → StepKind
 step_kind_of Auto [] = kind.Leave
 step_kind_of Auto (_ ∷ []) = kind.Simple

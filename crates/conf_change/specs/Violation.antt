@@ -1,4 +1,4 @@
--- What is wrong with a configuration that is not valid, and with a saved form or a line that names no valid one.
+-- What is wrong with an invalid configuration, or with a ConfState or a line that describes no valid one (own).
 use Rattle.std.specs.Prelude.{ℕ, not, ◌||◌, List, [], ◌∷◌, Option, Some, None, Result, Ok, Err, find, option_map, option_and_then, slice_get, if◌then◌else◌}
 use Rattle.std.specs.Option.{option_or}
 use Rattle.quorum_sets.specs.Ids.{has, ascending, ids_of}
@@ -25,7 +25,7 @@ violation_by c NotJointButAutoLeave = Some violated.NotJointButAutoLeave
 abbrev pub violation_of : Configuration → Option Violation
 violation_of c = option_and_then (violation_by c) (first_broken c)
 
--- the first id of a list that it names again
+-- the first id of a list that it names again: 1 of 1 2 3 2 1
 abbrev pub first_repeat : List ℕ → Option ℕ
 first_repeat [] = None
 first_repeat (id ∷ rest) = if has (ids_of rest) id then Some id else first_repeat rest
@@ -34,24 +34,25 @@ first_repeat (id ∷ rest) = if has (ids_of rest) id then Some id else first_rep
 abbrev pub repeat_in : ConfStateLists → Option ℕ
 repeat_in saved = option_or (option_or (option_or (first_repeat saved.voters) (first_repeat saved.voters_outgoing)) (first_repeat saved.learners)) (first_repeat saved.learners_next)
 
--- what is wrong with a saved form: an id that is listed twice, or else what is wrong with the configuration that it names
+-- what is wrong with a ConfState: an id that is listed twice, or else what is wrong with the configuration that it
+-- names
 abbrev pub violation_in : ConfStateLists → Option Violation
 violation_in saved = option_or (option_map violated.ListedTwice (repeat_in saved)) (violation_of (named_by saved))
 
--- a configuration with which nothing is wrong
+-- the configuration, unless something is wrong with it
 abbrev pub unless_violated : Configuration → Option Violation → Result Configuration ConfigurationFault
 unless_violated c None = Ok c
 unless_violated c (Some violation) = Err (NotAConfiguration violation)
 
--- the valid configuration that a saved form describes
+-- the valid configuration that a ConfState describes, or what is wrong
 abbrev pub valid_of : ConfStateLists → Result Configuration ConfigurationFault
 valid_of saved = unless_violated (named_by saved) (violation_in saved)
 
--- a line that is a ConfState line
+-- the valid configuration that the ConfState of a line describes, or that the line has none
 abbrev pub unless_bad : Option ConfStateLists → Result Configuration ConfigurationFault
 unless_bad None = Err BadConfState
 unless_bad (Some saved) = valid_of saved
 
--- the valid configuration that a line names
+-- the valid configuration that a line describes, or what is wrong
 abbrev pub configuration_in : List ℕ → Result Configuration ConfigurationFault
 configuration_in line = unless_bad (conf_state_in line)

@@ -1,4 +1,4 @@
-//! Acknowledgements of the members.
+//! Acknowledgements of the members. A member acknowledges an index once its log has every entry up to it.
 use crate::tracker::Tracker;
 use quorum_sets::{AckSource, MemberSet};
 use thiserror::Error;
@@ -14,7 +14,8 @@ pub enum AckFault {
     IndexTooLarge,
 }
 
-/// Each member has acknowledged its match index; any other id has acknowledged nothing.
+/// Each member has acknowledged its match index; any other id has acknowledged nothing. So the committed index of a
+/// configuration is counted over its own members' progress, as etcd's `ProgressTracker.Committed` does.
 impl<S: MemberSet> AckSource for Tracker<S> {
     ghost use Rattle.conf_change.specs.Acknowledgement.{matches};
 

@@ -7,7 +7,7 @@ ghost use Rattle.conf_change.specs.Text.{text_if, spaced_number, spaced_numbers}
 use ascii_text::NoMemory;
 use ascii_text::append::{append, append_number};
 
-// Appends a part if it is there.
+// Appends a part if it is there, such as ` learner` after the progress of a learner.
 pub(crate) fn append_if(text: &mut Vec<u8>, there: bool, part: &[u8]) -> Result<(), NoMemory>
     ensures ok { OnOk result (text.new.items ≡ text.old.items ++ text_if there part.now) }
     ensures extends { Extends text.old.items text.new.items }
@@ -31,7 +31,7 @@ pub(crate) fn append_number_at(
     Ok(())
 }
 
-// Appends numbers, separated by one space.
+// Appends numbers, separated by one space, as `1 2 3`.
 pub(crate) fn append_numbers(text: &mut Vec<u8>, numbers: &[u64]) -> Result<(), NoMemory>
     ensures ok { OnOk result (text.new.items ≡ text.old.items ++ spaced_numbers numbers.now) }
     ensures parsed { OnOk result (ParsesToNumbers (spaced_numbers numbers.now) numbers.now) }

@@ -1,4 +1,4 @@
-//! Changes of a configuration, and lists of them.
+//! Changes of a configuration, and lists of them. `v4` makes 4 a voter, `l4` a learner, and `r4` removes it.
 ghost use Rattle.std.specs.Prelude.{◌≡◌, IfOk};
 
 use quorum_sets::NoMemory;
@@ -20,11 +20,13 @@ pub enum Kind {
 /// One change of one id. A change of the id 0 has no effect.
 #[derive(Clone, Copy, Debug, PartialEq, Eq)]
 pub struct Change {
+    /// What becomes of the id.
     pub kind: Kind,
+    /// The member that changes. etcd replaces an id by 0 when it decides not to make a change that was proposed.
     pub id: u64,
 }
 
-/// A list of changes that are made together, in order.
+/// A list of changes that are made together, in order: `v4 r1` replaces 1 by 4.
 #[derive(Debug, Drop)]
 pub struct Changes {
     list: Vec<Change>,
@@ -69,7 +71,7 @@ impl From<Changes> for Vec<Change> {
 }
 
 impl Changes {
-    /// The changes in order.
+    /// The changes in the order in which they are made.
     pub fn as_slice(&self) -> &[Change]
         ensures { result.now ≡ self.now }
     {

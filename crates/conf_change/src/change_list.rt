@@ -1,4 +1,5 @@
-//! Reading lists of changes, as the test scripts of etcd's raft packages write them: `v1 l2 r3`.
+//! Reading lists of changes, as the test scripts of etcd's raft packages write them: `v1 l2 r3` makes 1 a voter and 2 a
+//! learner, and removes 3.
 ghost use Rattle.std.specs.Prelude.{◌≡◌, Ok, Err, [], length, IfOk, OnOk, OnErr, IfErr, IfSome, IsSomeAnd, MatchResult};
 ghost use Rattle.ascii_text.specs.Tokens.{tokens_in};
 ghost use Rattle.conf_change.specs.ChangeList.{Denotes, IsFirstBad, bad_token, change_in, changes_in, kind_in};
@@ -12,15 +13,16 @@ use thiserror::Error;
 /// Why a text is not a list of changes, with the first bad token.
 #[derive(Clone, Copy, Debug, PartialEq, Eq, Error)]
 pub enum TokenFault<'a> {
-    /// It has fewer than two bytes.
+    /// It has fewer than two bytes, as `v`.
     #[error("unknown token")]
     UnknownToken(&'a [u8]),
-    /// It does not begin with one of the letters `v`, `l`, `r` and `u`.
+    /// It does not begin with one of the letters `v`, `l`, `r` and `u`, as `x1`.
     #[error("unknown input")]
     UnknownInput(&'a [u8]),
-    /// What follows the letter is not a number below 2^64.
+    /// What follows the letter is not a number below 2^64, as in `v-1` (own; etcd's scripts have Go's text for it).
     #[error("bad number")]
     BadNumber(&'a [u8]),
+    /// An allocation failed.
     #[error("out of memory")]
     NoMemory,
 }
@@ -45,8 +47,9 @@ impl From<AllocError> for TokenFault<'_> {
     }
 }
 
-/// Reads a list of changes: tokens separated by white space, each a letter and a decimal number. Numbers are below
-/// 2^64 and may have leading zeros; the first bad token is the error. A text without tokens is the empty list.
+/// Reads a list of changes: tokens separated by white space, each a letter and a decimal number. Numbers are below 2^64
+/// and may have leading zeros; the first bad token is the error. A text without tokens is the empty list (etcd's
+/// `raftpb.ConfChangesFromString`, which takes a single space as the separator).
 pub fn read_changes(alloc: Global, text: &[u8]) -> Result<Vec<Change>, TokenFault<'_>>
     ensures denotes { IfOk result (λ changes. Denotes text.now changes.items) }
     ensures one_per_token { IfOk result (λ changes. length changes.items ≡ length (tokens_in text.now)) }
@@ -61,7 +64,7 @@ pub fn read_changes(alloc: Global, text: &[u8]) -> Result<Vec<Change>, TokenFaul
     Ok(changes)
 }
 
-/// As [`read_changes`], into a list that is overwritten and whose memory is reused (own). After an error the list is empty.
+/// As [`read_changes`], into a list that is overwritten (own). A loop over many lines uses one list for all of them.
 pub fn read_changes_into<'a>(
     changes: &mut Vec<Change>,
     text: &'a [u8],
@@ -98,7 +101,7 @@ fn read_over<'a>(list: &mut Vec<Change>, text: &'a [u8]) -> Result<(), TokenFaul
     Ok(())
 }
 
-/// Parses a change: a letter and a decimal number below 2^64, which may have leading zeros.
+/// Parses a change: a letter and a decimal number below 2^64, which may have leading zeros. `v007` is the change `v7`.
 pub fn read_change(token: &[u8]) -> Result<Change, TokenFault<'_>>
     ensures { MatchResult result (λ change. change_in token.now ≡ Ok change) (λ fault. IsSomeAnd (bad_token fault) (λ bad. change_in token.now ≡ Err bad)) }
 {

@@ -1,5 +1,6 @@
-//! The changes of each id in a list, summarized in one entry per id. Of several changes of one id the last effective one
-//! decides.
+//! The changes of each id in a list, summarized in one entry per id. Of several changes of one id the last effective
+//! one decides its roles, and a removal anywhere among them ends its progress. `v4 r4 l4` has one entry: 4 becomes a
+//! learner, with fresh progress.
 ghost use Rattle.std.specs.Prelude.{◌≡◌, [], ◌∷◌, ◌++◌, map, option_to_list, IfOk, OnOk, IsNone};
 ghost use Rattle.std.specs.List.Sorted.{IsNonDecreasingBy};
 ghost use Rattle.conf_change.specs.ChangeSummary.{empty_summary, summary_of, and_later, IsEntryAdded, Joins, ListsSummaries};
@@ -18,7 +19,7 @@ pub(crate) struct ChangeSummary {
 }
 
 impl ChangeSummary {
-    // No change of the id.
+    // The summary of no change of the id.
     fn empty_summary(id: u64) -> ChangeSummary
         ensures { result ≡ empty_summary id }
     {
@@ -56,7 +57,8 @@ impl ChangeSummary {
     }
 }
 
-/// The summaries of each member and of each id that the changes name, in ascending order of the ids.
+/// The summaries of each member and of each id that the changes name, in ascending order of the ids. The sets of a
+/// configuration are in that order too, so a long list is made in one walk over them.
 pub(crate) fn summarize(
     alloc: Global,
     members: &[(u64, Progress)],
@@ -111,8 +113,8 @@ fn joined(alloc: Global, each: &[ChangeSummary]) -> Result<Vec<ChangeSummary>, N
     Ok(summaries)
 }
 
-// Adds a summary to those so far: it is joined to the last one if that is of the same id. Returns the new last one, which is
-// kept apart from the others.
+// Adds a summary to those so far: it is joined to the last one if that is of the same id. Returns the new last one,
+// which is kept apart from the others until it is complete.
 fn add(
     summaries: &mut Vec<ChangeSummary>,
     last: Option<ChangeSummary>,

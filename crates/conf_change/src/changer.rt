@@ -1,8 +1,9 @@
 //! The changer, which changes a configuration by steps (etcd's `confchange.Changer`).
 //!
 //! A simple step changes at most one voter, so each majority before it shares a member with each majority after it. Any
-//! other change of the voters goes through a joint configuration: the old voters become the outgoing voters, the changes
-//! are made to the incoming ones, and until the joint configuration is left a decision needs a majority of both.
+//! other change of the voters goes through a joint configuration: the old voters become the outgoing voters, the
+//! changes are made to the incoming ones, and until the joint configuration is left a decision needs a majority of
+//! both.
 //!
 //! ```text
 //! (1 2 3)        --enter-joint v4 r1-->  (2 3 4)&&(1 2 3)  --leave-joint-->  (2 3 4)
@@ -107,14 +108,15 @@ impl<S: MemberSet> Changer<S> {
         self.tracker.floor()
     }
 
-    // The initial next index of a new member.
+    // The next index of a member that joins now.
     fn fresh_next(&self) -> u64
         ensures { result ≡ fresh_next_of self.now }
     {
         self.floor().fresh_next(self.last_index)
     }
 
-    /// Sets the last index of the log. The progress of the members does not change.
+    /// Sets the last index of the log, such as after entries were appended. Members that join from then on begin there;
+    /// the progress of the others does not change.
     pub fn set_last_index(&mut self, last_index: u64)
         ensures set { self.new ≡ with_last_index self.old last_index }
         ensures sound { IsSound self.new.tracker }
@@ -152,8 +154,8 @@ impl<S: MemberSet> Changer<S> {
         Changer::begin(self.tracker.emptied(), self.last_index)
     }
 
-    /// Overwrites `self` with the result of a step of `before`, reusing its memory, or with an empty changer if the step is
-    /// refused. Leaving a joint configuration ignores `changes`.
+    /// Overwrites `self` with what another changer is after a step. The other one does not change, so a caller can go
+    /// back to it (own). Leaving a joint configuration ignores `changes`.
     pub fn become_next(
         &mut self,
         before: &Changer<S>,
@@ -176,7 +178,7 @@ impl<S: MemberSet> Changer<S> {
         }
     }
 
-    /// As [`Changer::simple`] for a list of one change, without a copy.
+    /// As [`Changer::simple`], for one change.
     pub fn simple_one(&mut self, change: Change) -> Result<(), Refused>
         ensures { Makes self.old (Simple (change ∷ [])) result self.new }
     {
@@ -192,7 +194,8 @@ impl<S: MemberSet> Changer<S> {
     }
 
     /// Makes changes that alter at most one voter, and any number of learners (etcd's `Simple`; Ongaro's dissertation,
-    /// section 4.1). The voters that differ before and after are counted, not the changes.
+    /// section 4.1). The voters that differ before and after are counted, not the changes: `v4 r4` alters none, and
+    /// `v4 r1` two.
     ///
     /// Refused with SimpleInJoint in a joint configuration, else with RemovedAllVoters if no voter is left, else with
     /// MoreThanOneVoter.
@@ -202,8 +205,9 @@ impl<S: MemberSet> Changer<S> {
         self.make(StepKind::Simple, changes)
     }
 
-    /// Enters a joint configuration: the voters so far become the outgoing ones, and the changes are made to the incoming
-    /// ones and to the learners (etcd's `EnterJoint`; Ongaro's dissertation, section 4.3).
+    /// Enters a joint configuration: the voters so far become the outgoing ones, and the changes are made to the
+    /// incoming ones and to the learners (etcd's `EnterJoint`; Ongaro's dissertation, section 4.3). With auto-leave,
+    /// etcd's leader proposes to leave it once the change is applied; without it, the application has to.
     ///
     /// Refused with AlreadyJoint in a joint configuration, else with ZeroVoterJoint if there is no voter, else with
     /// RemovedAllVoters if no incoming voter is left.
@@ -213,9 +217,9 @@ impl<S: MemberSet> Changer<S> {
         self.make(StepKind::Enter(auto_leave), changes)
     }
 
-    /// Leaves a joint configuration: the outgoing voters are removed, the next learners become learners, and auto-leave is
-    /// off (etcd's `LeaveJoint`; Ongaro's dissertation, section 4.3). A member that is not an incoming voter and not a
-    /// learner is removed with its progress.
+    /// Leaves a joint configuration: the outgoing voters are removed, the next learners become learners, and auto-leave
+    /// is off (etcd's `LeaveJoint`; Ongaro's dissertation, section 4.3). A member that is not an incoming voter and not
+    /// a learner is removed with its progress.
     ///
     /// Refused with NotJoint in a configuration that is not joint.
     pub fn leave_joint(&mut self) -> Result<(), Refused>
@@ -224,14 +228,16 @@ impl<S: MemberSet> Changer<S> {
         self.make(StepKind::Leave, &[])
     }
 
-    /// Takes a step.
+    /// Takes a step: a simple one, entering a joint configuration, or leaving it. Refused as [`Changer::simple`],
+    /// [`Changer::enter_joint`] and [`Changer::leave_joint`] are.
     pub fn step(&mut self, step: &Step) -> Result<(), Refused>
         ensures { Makes self.old step.now result self.new }
     {
         self.make(step.kind(), step.changes())
     }
 
-    /// Takes the step that etcd takes for a list of changes (see [`taken`]).
+    /// Takes the step that etcd takes for a list of changes (see [`taken`]), as its raft does when the entry of a
+    /// `raftpb.ConfChangeV2` is applied.
     pub fn change(&mut self, transition: Transition, changes: &[Change]) -> Result<(), Refused>
         ensures { Makes self.old (step_for transition changes.now) result self.new }
     {
@@ -248,8 +254,10 @@ impl<S: MemberSet> Changer<S> {
         Ok(())
     }
 
-    /// Records that a member acknowledged an index, and returns its progress: an index above match becomes match, and next
-    /// is then at least one more; any other index changes nothing (etcd's `MaybeUpdate` of `tracker.Progress`).
+    /// Records that a member acknowledged an index, and returns its progress: an index above match becomes match, and
+    /// next is then at least one more; any other index changes nothing (etcd's `MaybeUpdate` of `tracker.Progress`).
+    /// From match 3 and next 4, an acknowledgement of 7 leads to match 7 and next 8; one of 2 is late and changes
+    /// nothing.
     ///
     /// Refused with NotMember if the id is not a member, else with IndexTooLarge if the index is 2^64-1.
     pub fn ack(&mut self, id: u64, index: u64) -> Result<Progress, AckFault>
@@ -266,7 +274,7 @@ impl<S: MemberSet> Changer<S> {
         Ok(progress)
     }
 
-    /// The result of [`Changer::ack`], without a change.
+    /// The result of [`Changer::ack`], which is not recorded.
     pub fn ack_answer(&self, id: u64, index: u64) -> Result<Progress, AckFault>
         ensures answer { result ≡ ack_answer self.now.tracker id index }
         ensures acknowledged { IfOk result (λ p. (was : Progress) × (finite.get self.now.tracker.progress id ≡ Some was) × (p ≡ acknowledged index was)) }
@@ -360,7 +368,8 @@ fn make_left<S: MemberSet>(tracker: &mut Tracker<S>, before: &Changer<S>) -> Res
     Ok(())
 }
 
-// Why a simple change from one tracker, which is not joint, to the other is refused, if it is.
+// Why a simple change from one tracker, which is not joint, to the other is refused, if it is. The order of the two
+// tests is etcd's.
 fn simple_refusal<S: MemberSet>(before: &Tracker<S>, after: &Tracker<S>) -> Option<Refused>
     ensures { result ≡ (if not (has_voter after.now.config) then Some Refused.RemovedAllVoters
         else (if nat_lt 1 (difference_count before.now.config.incoming after.now.config.incoming) then Some Refused.MoreThanOneVoter else None)) }

@@ -1,4 +1,10 @@
-//! ConfState lines, written and read. Their form is own.
+//! ConfState lines, written and read: a saved configuration in one line, as `raft.DescribeConfState` of etcd prints it.
+//!
+//! ```text
+//! Voters:[1 2] VotersOutgoing:[] Learners:[3] LearnersNext:[] AutoLeave:false
+//! ```
+//!
+//! Reading such a line is own; etcd only prints them.
 ghost use Rattle.std.specs.Prelude.{◌≡◌, ◌<◌, ◌≤◌, [], ◌∷◌, ◌++◌, Some, None, Err, length, drop, IfOk, OnOk, OnErr};
 ghost use Rattle.std.specs.List.{slice_split};
 ghost use Rattle.ascii_text.specs.Append.{Extends};
@@ -36,8 +42,7 @@ impl From<AllocError> for ConfStateFault {
     }
 }
 
-/// Appends the line of a ConfState, without a newline, its lists in their order:
-/// `Voters:[1 2] VotersOutgoing:[] Learners:[3] LearnersNext:[] AutoLeave:false`. The line is read back as the same value.
+/// Appends the line of a ConfState, without a newline, its lists in their order (etcd's `raft.DescribeConfState`).
 #[tactic(auto, using(crate::proofs::Texts::ConfStateLine::line_laws))]
 pub fn write_conf_state(text: &mut Vec<u8>, state: &ConfState) -> Result<(), NoMemory>
     ensures ok { OnOk result (text.new.items ≡ text.old.items ++ conf_state_text state.now) }
@@ -69,7 +74,7 @@ fn truth_text(truth: bool) -> &'static [u8]
     if truth { b"true" } else { b"false" }
 }
 
-// Appends the prefix of a field, and its numbers.
+// Appends the prefix of a field, as `Voters:[`, and its numbers.
 fn append_field(text: &mut Vec<u8>, name: &[u8], numbers: &[u64]) -> Result<(), NoMemory>
     ensures ok { OnOk result (text.new.items ≡ text.old.items ++ (name.now ++ spaced_numbers numbers.now)) }
     ensures parsed { OnOk result (ParsesToNumbers (spaced_numbers numbers.now) numbers.now) }
@@ -79,8 +84,9 @@ fn append_field(text: &mut Vec<u8>, name: &[u8], numbers: &[u64]) -> Result<(), 
     append_numbers(text, numbers)
 }
 
-/// Reads a ConfState line: the form that `write_conf_state` appends, with any white space around it and any leading zeros in
-/// its numbers, and nothing else. A list may have any order, which is kept.
+/// Reads a ConfState line: the form that `write_conf_state` appends, with any white space around it and any leading
+/// zeros in its numbers, and nothing else (own). A list may have any order, which is kept. A line in another form is
+/// refused with BadConfState.
 #[tactic(auto, using(crate::proofs::Texts::ConfStateLine::line_laws))]
 pub fn read_conf_state(alloc: Global, text: &[u8]) -> Result<ConfState, ConfStateFault>
     ensures denotes { IfOk result (DenotesConfState text.now) }
@@ -158,7 +164,7 @@ fn first_token(text: &[u8]) -> (&[u8], &[u8])
     text.split_at(position_of(text, b' '))
 }
 
-// Reads the last field.
+// Reads the last field, `] AutoLeave:` with its value.
 fn read_flag(text: &[u8]) -> Option<bool>
     ensures { result ≡ auto_leave_in text.now }
 {

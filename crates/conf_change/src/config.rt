@@ -1,4 +1,9 @@
 //! Configurations, and the invariants of a valid one.
+//!
+//! ```text
+//! (1 2) learners=(3)                  1 and 2 vote, and 3 learns
+//! (1 2)&&(1 3) learners_next=(3)      joint: 3 still votes, and is to become a learner
+//! ```
 ghost use Rattle.std.specs.Prelude.{◌≡◌, ◌↔◌, Some, true, false, not, ◌&&◌, IfOk, IfErr, OnOk, OnErr, IsOk, IsTrue, if◌then◌else◌};
 ghost use Rattle.quorum_sets.specs.Ids.{has};
 ghost use Rattle.conf_change.specs.Configuration.{empty_configuration, first_broken, is_valid, keeps, is_within, is_apart, is_same, is_same_set};
@@ -15,11 +20,13 @@ use thiserror::Error;
 pub struct Config<S: MemberSet> {
     /// The voters, or in a joint configuration the incoming ones.
     pub incoming: S,
-    /// The outgoing voters. A configuration is joint if it has some.
+    /// The outgoing voters: those from before a joint configuration was entered. A configuration is joint if it has
+    /// some.
     pub outgoing: S,
     /// The learners: members that get the log and do not vote.
     pub learners: S,
-    /// The outgoing voters that become learners when the joint configuration is left.
+    /// The outgoing voters that become learners when the joint configuration is left. Till then they are not learners,
+    /// since no member is a voter and a learner at once.
     pub learners_next: S,
     /// Whether the joint configuration is left automatically.
     pub auto_leave: bool,
@@ -42,20 +49,26 @@ impl<S: MemberSet> Model for Config<S> {
     } };
 }
 
-/// An invariant of valid configurations, in the order in which they are checked (etcd's `confchange` package; `ZeroId` and
-/// `NextAndIncoming` are own). As an error it is the one that is broken.
+/// An invariant of valid configurations, in the order in which they are checked (etcd's `confchange` package; `ZeroId`
+/// and `NextAndIncoming` are own). As an error it is the one that is broken.
 #[derive(Clone, Copy, Debug, PartialEq, Eq, Error)]
 pub enum Invariant {
+    /// No set has the id 0, which etcd uses for no id.
     #[error("a set holds the id 0")]
     ZeroId,
+    /// A next learner is an outgoing voter. Broken by `(1)&&(1 2) learners_next=(3)`.
     #[error("a next learner is not an outgoing voter")]
     NextNotOutgoing,
+    /// A next learner is not an incoming voter. Broken by `(1 2)&&(1 2) learners_next=(2)`.
     #[error("a next learner is an incoming voter")]
     NextAndIncoming,
+    /// A learner is not a voter. Broken by `(1 2) learners=(2)`.
     #[error("a learner is a voter")]
     LearnerAndVoter,
+    /// Only a joint configuration has next learners. `NextNotOutgoing` is then broken too, and is checked first.
     #[error("next learners without outgoing voters")]
     NotJointButNext,
+    /// Only a joint configuration has auto-leave.
     #[error("auto-leave without outgoing voters")]
     NotJointButAutoLeave,
 }
@@ -88,7 +101,8 @@ impl<S: MemberSet> Config<S> {
         })
     }
 
-    // The configuration after leaving a joint one: the outgoing voters are removed, and the next learners are learners.
+    // The configuration after leaving a joint one: the outgoing voters are removed, and the next learners become
+    // learners.
     pub(crate) fn after_leave(&self) -> Result<Config<S>, NoMemory>
         ensures { IfOk result (λ config. config ≡ after_leave self.now) }
     {
@@ -102,7 +116,7 @@ impl<S: MemberSet> Config<S> {
         })
     }
 
-    /// Whether two configurations have the same four sets and the same flag.
+    /// Whether two configurations are the same one: their four sets and their flags agree.
     pub fn same(&self, other: &Config<S>) -> bool
         ensures same { result ≡ is_same self.now other.now }
         ensures equal { (result ≡ true) ↔ (self.now ≡ other.now) }
@@ -111,7 +125,7 @@ impl<S: MemberSet> Config<S> {
     }
 }
 
-// Whether the four sets and the flag are the same.
+// Whether the four sets and the flag agree.
 fn has_same_parts<S: MemberSet>(a: &Config<S>, b: &Config<S>) -> bool
     ensures { result ≡ is_same a.now b.now }
 {
@@ -129,7 +143,7 @@ fn has_same_ids<S: MemberSet>(a: &S, b: &S) -> bool
     symdiff(a, b) == 0
 }
 
-/// Checks a configuration; the error is the first invariant that it breaks.
+/// Checks a configuration; the error is the first invariant that it breaks (etcd's `checkInvariants`).
 pub fn check<S: MemberSet>(config: &Config<S>) -> Result<(), Invariant>
     ensures valid { IsOk result ↔ IsTrue (is_valid config.now) }
     ensures first { (broken : Invariant) → ((result ≡ Err broken) ↔ (first_broken config.now ≡ Some broken)) }

@@ -1,4 +1,4 @@
-//! The valid configuration that a saved form describes, or that its line names.
+//! The valid configuration that a ConfState or its line describes, for input that a user wrote by hand.
 ghost use Rattle.std.specs.Prelude.{◌≡◌, ◌⊎◌, true, Some, None, Ok, Err, option_and_then, IfOk, IfErr};
 ghost use Rattle.conf_change.specs.Configuration.{is_valid};
 ghost use Rattle.conf_change.specs.ConfStateLine.{conf_state_in};
@@ -14,15 +14,16 @@ use quorum_sets::{MemberSet, NoMemory, TreeIds};
 use std::alloc::Global;
 use thiserror::Error;
 
-/// Why a line names no valid configuration.
+/// Why a line describes no valid configuration.
 #[derive(Clone, Copy, Debug, PartialEq, Eq, Error)]
 pub enum ConfigurationFault {
-    /// It is no ConfState line.
+    /// It is not a ConfState line.
     #[error("bad conf state: expected Voters:[1 2] VotersOutgoing:[] Learners:[3] LearnersNext:[] AutoLeave:false")]
     BadConfState,
-    /// It names no valid configuration.
+    /// It describes no valid configuration, for this reason.
     #[error("not a configuration: {0}")]
     NotAConfiguration(Violation),
+    /// An allocation failed.
     #[error("out of memory")]
     NoMemory,
 }
@@ -37,7 +38,8 @@ impl From<NoMemory> for ConfigurationFault {
     }
 }
 
-/// The valid configuration that a line names, in the form that `write_conf_state` appends.
+/// Reads the valid configuration that a line describes, in the form that `write_conf_state` appends (own). Any other
+/// line is refused with the first reason, such as `3 is listed twice`.
 pub fn read_configuration<S: MemberSet>(
     alloc: Global,
     line: &[u8],
@@ -54,7 +56,7 @@ pub fn read_configuration<S: MemberSet>(
     }
 }
 
-/// The valid configuration that a saved form describes.
+/// The valid configuration that a ConfState describes. It may have no voter, unlike one that is restored (own).
 pub fn valid_configuration<S: MemberSet>(
     alloc: Global,
     state: &ConfState,
@@ -75,7 +77,7 @@ pub fn valid_configuration<S: MemberSet>(
     }
 }
 
-// The fault of a saved form that names an id twice in a list.
+// The fault of a ConfState that names an id twice in a list.
 fn listed_twice(alloc: Global, state: &ConfState) -> ConfigurationFault
     requires { described state.now ≡ None }
     ensures { (result ≡ ConfigurationFault.NoMemory) ⊎ (valid_of state.now ≡ Err result) }
@@ -98,7 +100,7 @@ fn repeat_in(alloc: Global, state: &ConfState) -> Result<Option<u64>, NoMemory>
     Ok(voters.or(voters_outgoing).or(learners).or(learners_next))
 }
 
-// The first id of a list that it names again.
+// The first id of a list that it names again: of `[1 2 3 2 1]` it is 1.
 fn first_repeat(alloc: Global, list: &[u64]) -> Result<Option<u64>, NoMemory>
     ensures { IfOk result (λ id. id ≡ first_repeat list.now) }
 {

@@ -1,4 +1,9 @@
-//! Single changes of a configuration. Progress is not touched.
+//! Single changes of a configuration. Progress is not touched. While 3 is an outgoing voter, a change moves it like
+//! this:
+//!
+//! ```text
+//! (1 2 3)&&(1 2 3)   --l3-->   (1 2)&&(1 2 3) learners_next=(3)   --v3-->   (1 2 3)&&(1 2 3)
+//! ```
 ghost use Rattle.std.specs.Prelude.{◌≡◌, ◌≢◌, [], ◌∷◌, IfOk, OnOk, OnErr};
 ghost use Rattle.conf_change.specs.Change.{result_of};
 ghost use Rattle.conf_change.specs.Roles.{membership_in};
@@ -9,7 +14,7 @@ use crate::config::Config;
 use crate::roles::Membership;
 use quorum_sets::{MemberSet, NoMemory};
 
-// Makes one change, and returns the membership of its id. On `NoMemory` the configuration is unchanged.
+// Makes one change, and returns the membership of its id. The id 0 and an update change nothing.
 pub(crate) fn apply<S: MemberSet>(
     config: &mut Config<S>,
     change: Change,
@@ -27,7 +32,7 @@ pub(crate) fn apply<S: MemberSet>(
     }
 }
 
-// Makes the id an incoming voter.
+// Makes the id an incoming voter, which is no longer a learner of either kind.
 fn make_voter<S: MemberSet>(config: &mut Config<S>, id: u64) -> Result<Membership, NoMemory>
     requires { id ≢ 0 }
     ensures ok { OnOk result (let change : Change = record { kind = Kind.Voter; id = id } in config.new ≡ result_of config.old (change ∷ [])) }
@@ -43,7 +48,7 @@ fn make_voter<S: MemberSet>(config: &mut Config<S>, id: u64) -> Result<Membershi
     })
 }
 
-// Makes the id a learner, or a next learner while it is an outgoing voter.
+// Makes the id a learner, or a next learner while it is an outgoing voter. It is no longer an incoming voter.
 fn make_learner<S: MemberSet>(config: &mut Config<S>, id: u64) -> Result<Membership, NoMemory>
     requires { id ≢ 0 }
     ensures ok { OnOk result (let change : Change = record { kind = Kind.Learner; id = id } in config.new ≡ result_of config.old (change ∷ [])) }

@@ -1,14 +1,15 @@
-//! The smallest initial next index.
+//! The smallest initial next index. The leader begins to send a new member the log at the last index, or at the floor
+//! if the log is shorter.
 ghost use Rattle.std.specs.Prelude.{◌≡◌};
 ghost use Rattle.conf_change.specs.Floor.{number_of, fresh_next};
 
-/// The smallest initial next index: that of a new member while the log is empty (own). etcd's raft uses 1, its test scripts
-/// use 0.
+/// The smallest initial next index: that of a new member while the log is empty (own). etcd's raft uses 1, its test
+/// scripts use 0.
 #[derive(Clone, Copy, Debug, PartialEq, Eq)]
 pub enum Floor {
     /// The initial next index is the last index, also if that is 0.
     Zero,
-    /// The initial next index is at least 1.
+    /// The initial next index is at least 1, the index of the first entry of a log.
     One,
 }
 

@@ -1,4 +1,5 @@
-//! Laws of this crate's definitions, each the contract of a function that does nothing.
+//! Laws of this crate's definitions: what is true of all configurations, lists of changes and texts. Each is the
+//! contract of a function that does nothing.
 ghost use Rattle.std.specs.Prelude.{◌≡◌, ◌↔◌, ℕ, List, Ok, Err, Some, true};
 ghost use Rattle.quorum_sets.specs.Ids.{has};
 ghost use Rattle.quorum_sets.specs.Voters.{AreNeighbours};
@@ -18,8 +19,8 @@ ghost use Rattle.conf_change.specs.Configuration.{Configuration, has_voter, is_r
 ghost use Rattle.conf_change.specs.ConfState.{ConfStateLists, Describes, is_same_conf_state, lists_of, restored};
 ghost use Rattle.conf_change.specs.ConfStateLine.{DenotesConfState, conf_state_in};
 
-/// A text denotes at most one list of changes, which is the value of the function; if it denotes none, the function gives its
-/// first bad token.
+/// A text denotes at most one list of changes, which is the value of the function; if it denotes none, the function
+/// gives its first bad token.
 pub fn one_list_per_text()
     ensures ok { (text : List ℕ) (changes : List Change) → (Denotes text changes) ↔ (changes_in text ≡ Ok changes) }
     ensures err { (text : List ℕ) (bad : BadToken) → (IsFirstBad (tokens_in text) bad) ↔ (changes_in text ≡ Err bad) }
@@ -38,7 +39,7 @@ pub fn restored_is_described()
 {}
 
 /// The ConfState of a configuration, its lists in ascending order, describes it, and a ConfState describes at most one
-/// configuration.
+/// configuration. So a configuration that is saved and restored is the one from before.
 pub fn saved_form_describes()
     ensures own { (c : Configuration) → Describes (lists_of c) c }
     ensures one { (saved : ConfStateLists) (c d : Configuration) → Describes saved c → Describes saved d → c ≡ d }
@@ -56,9 +57,10 @@ pub fn one_changer_after_a_step()
     ensures err { (before : ChangerState) (step : Step) (why : Refused) → (outcome before.tracker.config step ≡ Err why) ↔ (changer_after before step ≡ Err why) }
 {}
 
-/// An accepted step leads from a sound tracker to a sound one, and from a configuration that can be restored to one with
-/// an incoming voter that can be restored. What begins with such a configuration is sound, and so is a new changer, whose
-/// configuration is empty. So is a sound tracker after an acknowledgement.
+/// An accepted step leads from a sound tracker to a sound one, and from a configuration that can be restored to one
+/// with an incoming voter that can be restored. What begins with such a configuration is sound, and so is a new
+/// changer, whose configuration is empty. So is a sound tracker after an acknowledgement. So every tracker that is ever
+/// reached is sound.
 pub fn trackers_stay_sound()
     ensures step { (before : ChangerState) (step : Step) (after : Configuration) → IsSound before.tracker → outcome before.tracker.config step ≡ Ok after
         → IsSound (moved_to before step after).tracker }
@@ -75,12 +77,14 @@ pub fn same_is_equality()
     ensures { (a b : Configuration) → (is_same a b ≡ true) ↔ (a ≡ b) }
 {}
 
-/// A configuration is valid exactly if all this is true of each id.
+/// A configuration is valid exactly if all this is true of each id: the invariants, which are about sets, read id by
+/// id.
 pub fn valid_by_member()
     ensures { (c : Configuration) → (is_valid c ≡ true) ↔ ValidByMember c }
 {}
 
-/// In the result of a list of changes, the last effective change of an id decides its roles.
+/// In the result of a list of changes, the last effective change of an id decides its roles. After `v4 l4 v4 u4` it is
+/// a voter, since an update has no effect.
 pub fn result_by_member()
     ensures incoming { (c : Configuration) (changes : List Change) (id : ℕ)
         → has (result_of c changes).incoming id ≡ is_incoming_after (last_effective changes id) (has c.incoming id) }
@@ -90,7 +94,8 @@ pub fn result_by_member()
         → has (result_of c changes).learners_next id ≡ is_next_after (last_effective changes id) (has c.outgoing id) (has c.learners_next id) }
 {}
 
-/// The voters before and after an accepted step are neighbours.
+/// The voters before and after an accepted step are neighbours, so each quorum before it shares a member with each
+/// quorum after it (Ongaro's dissertation, 4.1 and 4.3).
 pub fn steps_lead_to_neighbours()
     ensures { (before after : Configuration) (step : Step) → outcome before step ≡ Ok after → AreNeighbours (voters_of before) (voters_of after) }
 {}

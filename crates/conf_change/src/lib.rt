@@ -9,8 +9,8 @@
 //! (1 2 3)        --enter-joint v4 r1-->  (2 3 4)&&(1 2 3)  --leave-joint-->  (2 3 4)
 //! ```
 //!
-//! A voter that is to become a learner goes on voting among the outgoing voters until the joint configuration is left. Till
-//! then it is a next learner:
+//! A voter that is to become a learner goes on voting among the outgoing voters until the joint configuration is left.
+//! Till then it is a next learner:
 //!
 //! ```text
 //! (1 2 3)                                --enter-joint l3-->
@@ -19,10 +19,20 @@
 //! ```
 //!
 //! A list of changes is read as etcd reads it: `v1` makes 1 a voter, `l1` a learner, `r1` removes it and `u1` changes
-//! nothing; of several changes of one id the last one decides. A [`Changer`] has a configuration with the progress of its
-//! members, and makes a list of changes or refuses it with a reason. A refused change alters nothing.
+//! nothing; of several changes of one id the last one decides. A [`Changer`] has a configuration with the progress of
+//! its members, and makes a list of changes or refuses it with a reason. A refused change alters nothing:
 //!
-//! A saved configuration, etcd's ConfState, is restored by [`Changer::restore`], without the steps that led to it.
+//! ```text
+//! let mut changer: Changer<InlineIds> = Changer::new(alloc, 10);
+//! changer.simple(&read_changes(alloc, b"v1 l4")?)?;   // voters=(1) learners=(4)
+//! changer.simple(&read_changes(alloc, b"v2 v3")?)?;   // refused: MoreThanOneVoter
+//! ```
+//!
+//! A saved configuration, etcd's ConfState, is restored by [`Changer::restore`], without the steps that led to it:
+//!
+//! ```text
+//! Voters:[2 3 4] VotersOutgoing:[1 2 3] Learners:[] LearnersNext:[] AutoLeave:false   is   (2 3 4)&&(1 2 3)
+//! ```
 #![tactic(auto)]
 
 pub mod acknowledgement;

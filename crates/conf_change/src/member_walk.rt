@@ -1,4 +1,5 @@
-//! A walk over the members of a configuration, in ascending order.
+//! A walk over the members of a configuration, in ascending order. It has a position in each set; the least id at the
+//! positions is the next member, and is stepped over in each set that has it.
 ghost use Rattle.std.specs.Prelude.{◌≡◌, true, false, Some, slice_get};
 ghost use Rattle.quorum_sets.specs.Ids.{ascending};
 ghost use Rattle.conf_change.specs.MemberWalk.{IsLeast, IsLeastFrom, Passes};

@@ -35,7 +35,7 @@ pub(crate) fn set_progress_of(members: &mut [(u64, Progress)], id: u64, progress
 }
 
 // Updates the entry of an id to its new membership: a member keeps its progress or gets a fresh one, and is marked as a
-// learner or not; any other id has no entry.
+// learner or not; any other id has no entry. So a voter that becomes a learner keeps its match and next.
 pub(crate) fn update_member(
     members: &mut SmallVec<(u64, Progress), 1>,
     id: u64,

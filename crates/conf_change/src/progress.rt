@@ -1,13 +1,13 @@
-//! The progress of a member.
+//! The progress of a member: how much of the log it has, as far as the leader knows.
 ghost use Rattle.std.specs.Prelude.{◌≡◌, ◌<◌, ◌-◌, ◌^◌, false};
 ghost use Rattle.conf_change.specs.Progress.{fresh_progress};
 ghost use Rattle.conf_change.specs.Acknowledgement.{acknowledged};
 
-/// The progress of a member in replicating the log (etcd's `tracker.Progress`). Match is below next, or with floor zero at
-/// most next.
+/// The progress of a member in replicating the log (etcd's `tracker.Progress`). Match is below next, or with floor zero
+/// at most next: the entries from match + 1 to next - 1 may be on their way to the member.
 #[derive(Clone, Copy, Debug, PartialEq, Eq)]
 pub struct Progress {
-    /// Match: the greatest index that the member is known to have, 0 if none is known.
+    /// Match: the greatest index up to which the member is known to have the log, 0 if none is known.
     pub matched: u64,
     /// The next index to send to the member, at least the floor.
     pub next: u64,
@@ -16,7 +16,7 @@ pub struct Progress {
 }
 
 impl Progress {
-    // The progress of a new voter with this initial next index.
+    // The progress of a new voter with this initial next index: nothing is known of its log.
     pub(crate) fn fresh(next_index: u64) -> Progress
         ensures { result ≡ fresh_progress next_index false }
     {
@@ -27,7 +27,7 @@ impl Progress {
         }
     }
 
-    // The progress after an index is acknowledged.
+    // The progress after an index is acknowledged. An index that is not above match comes late and changes nothing.
     pub(crate) fn acknowledged(self, index: u64) -> Progress
         requires { index < 2 ^ 64 - 1 }
         ensures { result ≡ acknowledged index self }

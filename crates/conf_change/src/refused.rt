@@ -8,20 +8,20 @@ use thiserror::Error;
 #[derive(Clone, Copy, Debug, PartialEq, Eq, Error)]
 #[error("{}", self.text())]
 pub enum Refused {
-    /// A joint configuration is entered from a joint one.
+    /// A joint configuration is entered from a joint one, which has to be left first.
     AlreadyJoint,
-    /// A joint configuration is entered from one without a voter.
+    /// A joint configuration is entered from one without a voter, so its outgoing voters would be none.
     ZeroVoterJoint,
     /// A configuration is left that is not joint.
     NotJoint,
-    /// A simple change is made in a joint configuration.
+    /// A simple change is made in a joint configuration, which has to be left first.
     SimpleInJoint,
-    /// No voter, or in a joint configuration no incoming one, would be left.
+    /// No voter, or in a joint configuration no incoming one, would be left, so nothing could be committed any more.
     RemovedAllVoters,
-    /// A simple change would alter more than one voter. Voters that are added and voters that are removed count together:
-    /// `r1 v5` alters two.
+    /// A simple change would alter more than one voter. Voters that are added and voters that are removed count
+    /// together: `r1 v5` alters two.
     MoreThanOneVoter,
-    /// Memory ran out.
+    /// An allocation failed.
     NoMemory,
 }
 

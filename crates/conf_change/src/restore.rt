@@ -1,4 +1,14 @@
-//! Restoring a saved configuration.
+//! Restoring a saved configuration, as a server does that starts again or receives a snapshot.
+//!
+//! etcd's `confchange.Restore` makes changes that lead to the configuration. Here the lists are taken as its sets
+//! (own):
+//!
+//! ```text
+//! Voters:[1 2] VotersOutgoing:[1 2 3] Learners:[] LearnersNext:[3] AutoLeave:true
+//! (1 2)&&(1 2 3) learners_next=(3) autoleave
+//! ```
+//!
+//! A ConfState has no progress, so each member begins anew, at the last index.
 ghost use Rattle.std.specs.Prelude.{◌≡◌, ℕ, Some, None, Err, true, false, map, IfOk, MatchResult};
 ghost use Rattle.std.specs.FinMap as finite;
 ghost use Rattle.quorum_sets.specs.AscendingLists.{IsAscending};
@@ -24,8 +34,10 @@ use thiserror::Error;
 /// Why a saved configuration is not restored.
 #[derive(Clone, Copy, Debug, PartialEq, Eq, Error)]
 pub enum RestoreFault {
+    /// A list names an id twice, the configuration is not valid, or it has members and no incoming voter.
     #[error("not a configuration")]
     NotAConfiguration,
+    /// An allocation failed.
     #[error("out of memory")]
     NoMemory,
 }
@@ -41,8 +53,8 @@ impl From<NoMemory> for RestoreFault {
 }
 
 impl<S: MemberSet> Changer<S> {
-    /// A changer with the saved configuration, fresh progress and floor one. A ConfState is refused unless each list names
-    /// each id once, the configuration is valid, and it has an incoming voter or is empty (own).
+    /// A changer with the saved configuration, fresh progress and floor one. A ConfState is refused unless each list
+    /// names each id once, the configuration is valid, and it has an incoming voter or is empty (own).
     pub fn restore(
         alloc: Global,
         state: &ConfState,
@@ -82,8 +94,8 @@ impl<S: MemberSet> Changer<S> {
     }
 }
 
-/// The configuration that a ConfState describes, valid or not. Refused with NotAConfiguration if one of its lists names an id
-/// twice.
+/// The configuration that a ConfState describes, valid or not. Refused with NotAConfiguration if one of its lists names
+/// an id twice (own).
 pub fn described<S: MemberSet>(alloc: Global, state: &ConfState) -> Result<Config<S>, RestoreFault>
     ensures described { IfOk result (λ config. Describes state.now config) }
     ensures refused { result ≡ Err RestoreFault.NotAConfiguration → (c : Configuration) → Describes state.now c → ⊥ }
@@ -101,7 +113,7 @@ pub fn described<S: MemberSet>(alloc: Global, state: &ConfState) -> Result<Confi
     })
 }
 
-// The set of the ids of a list, if it names each once.
+// The set of the ids of a list, if it names each once; otherwise the set is smaller than the list.
 fn set_from<S: MemberSet>(alloc: Global, list: &[u64]) -> Result<S, RestoreFault>
     ensures once { IfOk result (λ set. Lists list.now (S.ids set)) }
     ensures twice { result ≡ Err RestoreFault.NotAConfiguration → names_once list.now ≡ false }
@@ -121,7 +133,8 @@ fn is_restorable<S: MemberSet>(config: &Config<S>) -> bool
     check(config).is_ok() && has_voter_or_is_empty(config)
 }
 
-// Whether the configuration has an incoming voter or is empty.
+// Whether the configuration has an incoming voter or is empty. Steps from an empty one never lead to one without a
+// voter.
 fn has_voter_or_is_empty<S: MemberSet>(config: &Config<S>) -> bool
     ensures { result ≡ has_voter_or_is_empty config.now }
 {

@@ -1,4 +1,5 @@
-//! The roles of an id in a configuration.
+//! The roles of an id in a configuration. An id may be an incoming and an outgoing voter at once, or an outgoing voter
+//! that is to become a learner; a learner has no other role.
 ghost use Rattle.std.specs.Prelude.{◌≡◌};
 ghost use Rattle.conf_change.specs.Roles.{roles_after, has_member_role, membership_in};
 
@@ -16,7 +17,8 @@ pub(crate) struct Roles {
 }
 
 impl Roles {
-    // The roles after the last effective change of the id. A new learner that is an outgoing voter becomes a next learner.
+    // The roles after the last effective change of the id. A new learner that is an outgoing voter becomes a next
+    // learner, and a removed one goes on as an outgoing voter: only leaving the joint configuration ends that role.
     pub(crate) fn after(self, last: Option<Kind>) -> Roles
         ensures { result ≡ roles_after self last }
     {

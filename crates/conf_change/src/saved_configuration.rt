@@ -1,4 +1,4 @@
-//! Saved configurations.
+//! Saved configurations. A snapshot of the log has with it the configuration at that index, which etcd calls ConfState.
 ghost use Rattle.std.specs.Prelude.{◌≡◌, IfOk};
 ghost use Rattle.quorum_sets.specs.Ids.{ascending};
 ghost use Rattle.conf_change.specs.ConfState.{Describes, lists_of};
@@ -9,16 +9,16 @@ use std::alloc::Global;
 use std::marker::Model;
 use thiserror::Error;
 
-/// A saved configuration (etcd's `ConfState`): its sets as lists in any order, and its flag.
+/// A saved configuration (etcd's `raftpb.ConfState`): its sets as lists in any order, and its flag.
 #[derive(Debug, Drop)]
 pub struct ConfState {
-    /// The incoming voters.
+    /// The voters, or in a joint configuration the incoming ones.
     pub voters: Vec<u64>,
-    /// The outgoing voters.
+    /// The outgoing voters, none if the configuration is not joint.
     pub voters_outgoing: Vec<u64>,
     /// The learners.
     pub learners: Vec<u64>,
-    /// The next learners.
+    /// The outgoing voters that become learners when the joint configuration is left.
     pub learners_next: Vec<u64>,
     /// Whether the joint configuration is left automatically.
     pub auto_leave: bool,
@@ -57,13 +57,16 @@ impl PartialEq for ConfState {
 /// Why a text is not a ConfState line.
 #[derive(Clone, Copy, Debug, PartialEq, Eq, Error)]
 pub enum ConfStateFault {
+    /// It does not have the form of a ConfState line.
     #[error("bad conf state")]
     BadConfState,
+    /// An allocation failed.
     #[error("out of memory")]
     NoMemory,
 }
 
-/// The ConfState of a configuration, its lists in ascending order.
+/// The ConfState of a configuration, its lists in ascending order (etcd's `ProgressTracker.ConfState`). It has no
+/// progress.
 pub fn conf_state<S: MemberSet>(alloc: Global, config: &Config<S>) -> Result<ConfState, NoMemory>
     ensures ascending { IfOk result (λ state. state ≡ lists_of config.now) }
     ensures describes { IfOk result (λ state. Describes state config.now) }

@@ -1,19 +1,19 @@
-//! Steps from one configuration to another.
+//! Steps from one configuration to another. Each is safe by itself: the quorums before and after it overlap.
 ghost use Rattle.std.specs.Prelude.{◌≡◌};
 ghost use Rattle.conf_change.specs.Step.{changes_of};
 ghost use Rattle.conf_change.specs.Transition.{step_of};
 
 use crate::change::{Change, Changes};
 
-/// A step from one configuration to the next: a simple change, entering a joint configuration (with or without auto-leave), or
-/// leaving it (Ongaro's dissertation, sections 4.1 and 4.3).
+/// A step from one configuration to the next: a simple change, entering a joint configuration (with or without
+/// auto-leave), or leaving it (Ongaro's dissertation, sections 4.1 and 4.3).
 #[derive(Debug, PartialEq, Drop)]
 pub enum Step {
-    /// At most one voter changes, and any number of learners.
+    /// At most one voter changes, and any number of learners: `v4 l5 l6`, say.
     Simple(Changes),
-    /// Enters a joint configuration, with auto-leave or not, by these changes.
+    /// Enters a joint configuration, with auto-leave or not, by these changes, which may alter any voters.
     EnterJoint(bool, Changes),
-    /// Leaves a joint configuration.
+    /// Leaves a joint configuration: from then on the incoming voters decide alone.
     LeaveJoint,
 }
 
@@ -29,7 +29,7 @@ pub enum StepKind {
 }
 
 impl Step {
-    /// Its changes in order; leaving a joint configuration has none.
+    /// The changes in the order in which they are made; leaving a joint configuration has none.
     pub fn changes(&self) -> &[Change]
         ensures { result.now ≡ changes_of self.now }
     {
@@ -39,7 +39,7 @@ impl Step {
         }
     }
 
-    /// Its kind.
+    /// The kind of the step.
     pub fn kind(&self) -> StepKind
         ensures { step_of result (changes_of self.now) ≡ self.now }
     {

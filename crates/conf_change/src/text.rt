@@ -1,4 +1,12 @@
-//! The printed texts of configurations, progress and refusals, as the test scripts of etcd's raft packages have them.
+//! The printed texts of configurations, progress and refusals, as the test scripts of etcd's raft packages have them:
+//!
+//! ```text
+//! voters=(2 3)&&(1 2) learners=(4) autoleave
+//! 1: StateProbe match=0 next=1
+//! 2: StateProbe match=0 next=1
+//! 3: StateProbe match=0 next=1
+//! 4: StateProbe match=0 next=1 learner
+//! ```
 ghost use Rattle.std.specs.Prelude.{◌≡◌, ◌≢◌, ◌++◌, not, decimal, OnOk, OnErr, IsSomeAnd};
 ghost use Rattle.quorum_sets.specs.Ids.{ascending, is_empty};
 ghost use Rattle.ascii_text.specs.Append.{Extends};
@@ -13,8 +21,9 @@ use crate::refused::Refused;
 use ascii_text::append::{append, append_number, keep_whole};
 use quorum_sets::{MemberSet, NoMemory};
 
-/// Appends a configuration, without a newline: `voters=(1 2)`, `&&(2 3)` if it is joint, its learners and next learners if it
-/// has any, and `autoleave` if that is set. Sets are in ascending order.
+/// Appends a configuration, without a newline: `voters=(1 2)`, `&&(2 3)` if it is joint, its learners and next learners
+/// if it has any, and `autoleave` if that is set. Sets are in ascending order (`Config.String` of etcd's package
+/// `tracker`).
 pub fn write_config<S: MemberSet>(text: &mut Vec<u8>, config: &Config<S>) -> Result<(), NoMemory>
     ensures ok { OnOk result (text.new.items ≡ text.old.items ++ config_text config.now) }
     ensures err { OnErr result (text.new.items ≡ text.old.items) }
@@ -72,8 +81,9 @@ fn append_ids<S: MemberSet>(text: &mut Vec<u8>, set: &S) -> Result<(), NoMemory>
     Ok(())
 }
 
-/// Appends a member's progress, without a newline: `1: StateProbe match=0 next=1`, followed by ` learner` for a learner. The
-/// state is the one in which every member begins.
+/// Appends a member's progress, without a newline: `1: StateProbe match=0 next=1`, followed by ` learner` for a learner
+/// (`ProgressMap.String` of etcd's package `tracker`). StateProbe is the state in which etcd's leader begins with every
+/// member.
 pub fn write_progress(text: &mut Vec<u8>, id: u64, progress: Progress) -> Result<(), NoMemory>
     ensures ok { OnOk result (text.new.items ≡ text.old.items ++ progress_text id progress) }
     ensures err { OnErr result (text.new.items ≡ text.old.items) }
@@ -93,6 +103,7 @@ fn append_progress(text: &mut Vec<u8>, id: u64, progress: Progress) -> Result<()
     append_if(text, progress.learner, b" learner")
 }
 
+// Appends a label, such as ` next=`, and its number.
 fn append_labelled(text: &mut Vec<u8>, label: &[u8], number: u64) -> Result<(), NoMemory>
     ensures ok { OnOk result (text.new.items ≡ text.old.items ++ (label.now ++ decimal number)) }
     ensures extends { Extends text.old.items text.new.items }
@@ -102,7 +113,8 @@ fn append_labelled(text: &mut Vec<u8>, label: &[u8], number: u64) -> Result<(), 
     Ok(())
 }
 
-/// Appends the message of a refusal, without a newline, as etcd's `confchange` package has it.
+/// Appends the message of a refusal, without a newline, as etcd's `confchange` package has it: `removed all voters`,
+/// say.
 pub fn write_refused(text: &mut Vec<u8>, refused: Refused) -> Result<(), NoMemory>
     requires { refused ≢ Refused.NoMemory }
     ensures ok { OnOk result (text.new.items ≡ text.old.items ++ refused_text refused) }
@@ -112,8 +124,8 @@ pub fn write_refused(text: &mut Vec<u8>, refused: Refused) -> Result<(), NoMemor
     Ok(())
 }
 
-/// Appends the message of a bad token, without a newline: `unknown token `, `unknown input: ` or `bad number: `, as etcd's
-/// test scripts have it, and the token. `NoMemory` has no message; it is returned.
+/// Appends the message of a bad token, without a newline: `unknown token ` or `unknown input: `, as etcd's test scripts
+/// have it, or `bad number: ` (own), and the token. `NoMemory` has no message; it is returned.
 pub fn write_token_fault(text: &mut Vec<u8>, fault: TokenFault<'_>) -> Result<(), NoMemory>
     ensures ok { OnOk result (IsSomeAnd (bad_token fault.entry) (λ bad. text.new.items ≡ text.old.items ++ bad_token_text bad)) }
     ensures err { OnErr result (text.new.items ≡ text.old.items) }
@@ -126,7 +138,7 @@ pub fn write_token_fault(text: &mut Vec<u8>, fault: TokenFault<'_>) -> Result<()
     }
 }
 
-// Appends a message and its token, or nothing.
+// Appends a message and its token.
 fn append_both(text: &mut Vec<u8>, message: &[u8], token: &[u8]) -> Result<(), NoMemory>
     ensures ok { OnOk result (text.new.items ≡ text.old.items ++ (message.now ++ token.now)) }
     ensures err { OnErr result (text.new.items ≡ text.old.items) }

@@ -1,4 +1,12 @@
-//! The tracker: a configuration, and the progress of its members.
+//! The tracker: a configuration, and the progress of its members. A step is made on both at once:
+//!
+//! ```text
+//! (1 2)    1: match=5 next=6                        --simple r1 v1 l3-->
+//!          2: match=4 next=5
+//! (1 2)    1: match=0 next=9, since 1 was removed
+//!          2: match=4 next=5
+//!          3: match=0 next=9, a new learner, if the last index is 9
+//! ```
 ghost use Rattle.std.specs.Prelude.{◌≡◌, ℕ, ◌-◌, ◌^◌, min, true, false, not, [], ◌∷◌, ◌++◌, map, length, slice_get, IfOk, OnOk, OnErr, if◌then◌else◌, ◌==◌, Some, is_some};
 ghost use Rattle.std.specs.Ordering.{nat_cmp};
 ghost use Rattle.std.specs.FinMap as finite;
@@ -30,8 +38,8 @@ use std::mem::replace;
 // The longest list whose changes are made one after another; the changes of a longer one are summarized first.
 const SHORT_LIST: usize = 16;
 
-/// A configuration and the progress of its members (etcd's `tracker.ProgressTracker`), and the smallest initial next index.
-/// The members are the incoming and outgoing voters and the learners; no other id has progress.
+/// A configuration and the progress of its members (etcd's `tracker.ProgressTracker`), and the smallest initial next
+/// index. The members are the incoming and outgoing voters and the learners; no other id has progress.
 #[derive(Drop)]
 pub struct Tracker<S: MemberSet> {
     config: Config<S>,
@@ -128,7 +136,8 @@ impl<S: MemberSet> Tracker<S> {
         self.members.len()
     }
 
-    /// The member at a position in ascending order of the ids, with its progress.
+    /// The member at a position, counted from 0 in ascending order of the ids, with its progress, or `None` past the
+    /// end.
     pub fn member_at(&self, position: usize) -> Option<(u64, Progress)>
         ensures { result ≡ slice_get (finite.entries self.now.progress) position }
     {
@@ -170,7 +179,8 @@ impl<S: MemberSet> Tracker<S> {
         self.config.incoming.len() != 0
     }
 
-    // Whether an incoming voter is left after one change.
+    // Whether an incoming voter is left after one change. This is known before the change is made, so that it can be
+    // made in place.
     pub(crate) fn has_voter_after(&self, change: Change) -> bool
         ensures { result ≡ has_voter (result_of self.now.config (change ∷ [])) }
     {
@@ -182,7 +192,7 @@ impl<S: MemberSet> Tracker<S> {
         }
     }
 
-    // Makes one change, with this initial next index for a new member. On `NoMemory` the tracker is unchanged.
+    // Makes one change, with this initial next index for a new member.
     pub(crate) fn make_change(&mut self, change: Change, next_index: u64) -> Result<(), NoMemory>
         requires { IsSound self.old }
         ensures ok { OnOk result (Applies next_index (change ∷ []) self.old self.new) }
@@ -211,8 +221,9 @@ impl<S: MemberSet> Tracker<S> {
         Tracker::new(self.alloc, self.floor)
     }
 
-    // Overwrites `self` with another tracker after a list of changes, with these outgoing voters and this flag, and this
-    // initial next index for new members. On `NoMemory` its contents are unspecified.
+    // Overwrites `self` with another tracker after a list of changes, with these outgoing voters and this flag, and
+    // this initial next index for new members. A simple change leaves both as they are; entering a joint configuration
+    // makes the incoming voters the outgoing ones. On `NoMemory` the contents are unspecified.
     pub(crate) fn become_changed(
         &mut self,
         before: &Tracker<S>,
@@ -235,7 +246,7 @@ impl<S: MemberSet> Tracker<S> {
     }
 
     // Overwrites `self` with another tracker with these outgoing voters and this flag, and reserves capacity for `more`
-    // members.
+    // members. On `NoMemory` the contents are unspecified.
     fn begin_as(
         &mut self,
         before: &Tracker<S>,
@@ -308,8 +319,9 @@ impl<S: MemberSet> Tracker<S> {
         }
     }
 
-    // The progress of an id after the changes that a summary has: a member keeps its progress unless it is removed and is not
-    // an outgoing voter; then, and if it is new, it gets fresh progress. Any other id has none.
+    // The progress of an id after the changes that a summary has: a member keeps its progress unless it is removed and
+    // is not an outgoing voter; then, and if it is new, it gets fresh progress. Any other id has none. After `r1 v1`,
+    // for example, a voter 1 begins anew, unless it was an outgoing voter all along.
     fn entry_after(
         &self,
         summary: ChangeSummary,
@@ -332,7 +344,8 @@ impl<S: MemberSet> Tracker<S> {
         Some(Progress { learner, ..known })
     }
 
-    // The progress of the id, or `None` if it is not a member. It is looked up first at the position.
+    // The progress of the id, or `None` if it is not a member. It is looked up first at the position, where it is when
+    // the ids come in ascending order.
     fn next_progress(&self, position: &mut usize, id: u64) -> Option<Progress>
         ensures { result ≡ finite.get self.now.progress id }
     {
@@ -345,7 +358,7 @@ impl<S: MemberSet> Tracker<S> {
         }
     }
 
-    // Overwrites `self` with another tracker after leaving the joint configuration. On `NoMemory` its contents are
+    // Overwrites `self` with another tracker after leaving the joint configuration. On `NoMemory` the contents are
     // unspecified.
     pub(crate) fn become_left(&mut self, before: &Tracker<S>) -> Result<(), NoMemory>
         ensures { OnOk result (Keeps (after_leave before.now.config) before.now self.new) }
@@ -392,8 +405,8 @@ fn copy_members(
     Ok(())
 }
 
-// Overwrites the members with those of others that are members of a configuration. They keep their progress, and are marked
-// as learners or not.
+// Overwrites the members with those of others that are members of a configuration. They keep their progress, and are
+// marked as learners or not: a next learner is marked when it becomes a learner.
 fn keep_members<S: MemberSet>(
     members: &mut SmallVec<(u64, Progress), 1>,
     config: &Config<S>,

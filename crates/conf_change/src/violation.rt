@@ -1,4 +1,5 @@
-//! What is wrong with a saved form that describes no valid configuration, or with a configuration that is not valid.
+//! What is wrong with a ConfState that describes no valid configuration, or with a configuration that is not valid. A
+//! user who wrote it by hand is shown the id to look at.
 ghost use Rattle.std.specs.Prelude.{◌≡◌, ◌↔◌, ◌||◌, None, true, not, find, IsTrue};
 ghost use Rattle.quorum_sets.specs.Ids.{has, ascending};
 ghost use Rattle.conf_change.specs.Configuration.{is_valid};
@@ -8,28 +9,34 @@ use crate::config::{Config, Invariant, check};
 use quorum_sets::MemberSet;
 use thiserror::Error;
 
-/// An id that a list of a saved form names twice, or an invariant that a configuration breaks, with the least id that
+/// An id that a list of a ConfState names twice, or an invariant that a configuration breaks, with the least id that
 /// breaks it, if the invariant is about ids (own).
 #[derive(Clone, Copy, Debug, PartialEq, Eq, Error)]
 pub enum Violation {
+    /// As in `Voters:[3 3]`.
     #[error("{0} is listed twice")]
     ListedTwice(u64),
+    /// As in `Voters:[0 1]`.
     #[error("0 is not an id")]
     ZeroId,
+    /// As in `Voters:[1] VotersOutgoing:[1 2] Learners:[] LearnersNext:[3]`.
     #[error("{0} is a next learner and not an outgoing voter")]
     NextNotOutgoing(u64),
+    /// As in `Voters:[1 2] VotersOutgoing:[1 2] Learners:[] LearnersNext:[2]`.
     #[error("{0} is a next learner and an incoming voter")]
     NextAndIncoming(u64),
+    /// As in `Voters:[1 2] VotersOutgoing:[] Learners:[2]`.
     #[error("{0} is a voter and a learner")]
     LearnerAndVoter(u64),
+    /// Never the first violation, since the id is then not an outgoing voter either.
     #[error("{0} is a next learner without outgoing voters")]
     NotJointButNext(u64),
+    /// As in `Voters:[1 2] VotersOutgoing:[] Learners:[] LearnersNext:[] AutoLeave:true`.
     #[error("auto-leave without outgoing voters")]
     NotJointButAutoLeave,
 }
 
-/// The first invariant that a configuration breaks, with the least id that breaks it; none if it is valid. It takes no
-/// memory.
+/// The first invariant that a configuration breaks, with the least id that breaks it; none if it is valid (own).
 pub fn first_violation<S: MemberSet>(config: &Config<S>) -> Option<Violation>
     ensures value { result ≡ violation_of config.now }
     ensures none { (result ≡ None) ↔ IsTrue (is_valid config.now) }
@@ -40,7 +47,7 @@ pub fn first_violation<S: MemberSet>(config: &Config<S>) -> Option<Violation>
     }
 }
 
-// A broken invariant, with the least id that breaks it.
+// The violation of a broken invariant, with the least id that breaks it.
 fn violation_by<S: MemberSet>(config: &Config<S>, invariant: Invariant) -> Option<Violation>
     ensures { result ≡ violation_by config.now invariant }
 {

@@ -1,4 +1,5 @@
--- What a path promises to a cluster that goes on serving while it takes the steps.
+-- What a path promises to a cluster that goes on serving while it takes the steps (own; section 4.2.1 of Ongaro's
+-- dissertation describes how a cluster stalls).
 use Rattle.std.specs.Prelude.{◌≡◌, ℕ, ◌+◌, ◌≤◌, true, false, not, ◌||◌, IsTrue, List, length, ⊤}
 use Rattle.quorum_sets.specs.Ids.{Ids, no_ids, has, ids_where}
 use Rattle.quorum_sets.specs.Voters.{is_quorum}
@@ -31,7 +32,7 @@ abbrev pub IsAsTolerant : Configuration → Configuration → Configuration → 
 IsAsTolerant now target c =
     (k : ℕ) → Endures (voters_of now) no_ids k → Endures (voters_of target) no_ids k → Endures (voters_of c) no_ids k
 
--- no configuration on the way tolerates fewer failures than the weaker end
+-- no configuration on the way tolerates fewer failures than the weaker end: from (1 2 3) to (3 4 5) each tolerates one
 abbrev pub KeepsTolerance : Configuration → List Step → Configuration → Type 0
 KeepsTolerance now steps target = EachOnTheWay (IsAsTolerant now target) now steps target
 
@@ -67,14 +68,16 @@ pub record ChangesOneLearnerFirst (before : Configuration) (step : Step) (after 
   pub learners : (id : ℕ) → has after.incoming id ≡ true → (has before.incoming id || has before.outgoing id) ≡ false → has before.learners id ≡ true
 
 -- ---- what each strategy promises
--- The steps are the best plan, at most four. A quorum of both ends is a quorum on the whole way, and no configuration there tolerates fewer failures than the weaker end.
+-- The steps are the best plan, at most four. A quorum of both ends is a quorum on the whole way, and no configuration
+-- there tolerates fewer failures than the weaker end.
 pub record ShortestServes (now : Configuration) (steps : List Step) (target : Configuration) : Type 0 where
   pub best : IsBest now steps target
   pub at_most_four : length steps ≤ 4
   pub quorums : KeepsQuorums now steps target
   pub tolerance : KeepsTolerance now steps target
 
--- At most one step more than any other run, and at most five. Quorums and tolerance are as for the plan, and each new voter was a learner with progress before.
+-- At most one step more than any other run, and at most five. Quorums and tolerance are as for the plan, and each new
+-- voter was a learner with progress before.
 pub record LearnersFirstServes (now : Configuration) (steps : List Step) (target : Configuration) : Type 0 where
   pub run : IsRun now steps target
   pub one_more : (other : List Step) → IsRun now other target → length steps ≤ length other + 1
@@ -84,7 +87,8 @@ pub record LearnersFirstServes (now : Configuration) (steps : List Step) (target
   pub voters : VotersLearnFirst now steps target
   pub overlap : IsRunWith (λ before step after. Overlap (voters_of before) (voters_of after)) now steps target
 
--- Each step changes one member, and each new voter was a learner with progress before. No other run of such steps, which make voters of learners only, is shorter.
+-- Each step changes one member, and each new voter was a learner with progress before. No other run of such steps,
+-- which make voters of learners only, is shorter.
 pub record OneAtATimeServes (now : Configuration) (steps : List Step) (target : Configuration) : Type 0 where
   pub run : IsRunWith ChangesOneLearnerFirst now steps target
   pub least : (other : List Step) → IsRunWith ChangesOneLearnerFirst now other target → length steps ≤ length other

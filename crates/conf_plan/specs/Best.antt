@@ -1,4 +1,5 @@
--- What makes a plan the best one: how many steps it has, whose progress it preserves, how often it names an id, and that voters overlap. Logs are not considered.
+-- What makes a plan the best one (own): how many steps it has, whose progress it preserves, how often it names an id,
+-- and that voters overlap. Logs are not considered.
 use Rattle.std.specs.Prelude.{◌≡◌, ◌≢◌, ℕ, ◌≤◌, Bool, true, ◌&&◌, ◌||◌, ◌↔◌, List, [], ◌∷◌, length, sum_by, count_by}
 use Rattle.std.specs.List.{All}
 use Rattle.quorum_sets.specs.Ids.{has}
@@ -20,7 +21,7 @@ abbrev pub Preserves : Configuration → List Step → Configuration → ℕ →
 Preserves before steps after id =
     (is_member before id ≡ true) × IsRunWith (λ at step next. keeps_progress at step next id ≡ true) before steps after
 
--- how many effective changes of the steps name the id
+-- how many effective changes of the steps name the id: two for 4 in simple l4, simple v4
 abbrev pub times_named : ℕ → List Step → ℕ
 times_named id steps = sum_by (λ step. count_by (names id) (changes_of step)) steps
 
@@ -46,7 +47,9 @@ pub record IsPlain (change : Change) : Type 0 where
   pub named : change.id ≢ 0
   pub no_update : change.kind ≢ Update
 
--- The steps lead to the target. No other run there is shorter, preserves the progress of a member that they reset, or names an id in fewer changes. They preserve exactly the members of both configurations that leaving a joint one first does not drop. The voters before and after each step overlap.
+-- The steps lead to the target. No other run there is shorter, preserves the progress of a member that they reset, or
+-- names an id in fewer changes. They preserve exactly the members of both configurations that leaving a joint one first
+-- does not drop. The voters before and after each step overlap.
 pub record IsBest (now : Configuration) (steps : List Step) (target : Configuration) : Type 0 where
   pub run : IsRun now steps target
   pub shortest : (other : List Step) → IsRun now other target → length steps ≤ length other

@@ -1,4 +1,5 @@
--- From a configuration that is not joint, one member at a time, as etcd's server changes its members.
+-- The path from a configuration that is not joint, on which one member changes at a time, as etcd's server changes its
+-- members (section 4.1 of Ongaro's dissertation).
 use Rattle.std.specs.Prelude.{ℕ, false, not, ◌||◌, List, [], ◌∷◌, ◌++◌, filter, Option, None, option_map, filter_map, if◌then◌else◌}
 use Rattle.quorum_sets.specs.Ids.{has, ascending, union}
 use Rattle.conf_change.specs.Configuration.{Configuration}
@@ -8,7 +9,7 @@ use Rattle.conf_change.specs.declared.step.Step.{Step}
 use Rattle.conf_change.specs.declared.step.Step.TheVariants.{Simple}
 use Rattle.conf_plan.specs.Planned.{kind_by}
 
--- a simple step of one change
+-- a simple step of one change, as simple v4
 abbrev pub one_change : Kind → ℕ → Step
 one_change kind id = Simple (record { kind = kind; id = id } ∷ [])
 
@@ -20,15 +21,15 @@ joining c target = filter (λ id. not (has c.incoming id)) (ascending target.inc
 abbrev pub retiring : Configuration → Configuration → List ℕ
 retiring c target = filter (λ id. not (has target.incoming id)) (ascending c.incoming)
 
--- an id becomes a voter, and a learner before that if it is not one
+-- the steps by which an id becomes a voter, and a learner before that if it is not one
 abbrev pub join_steps : Configuration → ℕ → List Step
 join_steps c id = if has c.learners id then one_change Voter id ∷ [] else one_change Learner id ∷ one_change Voter id ∷ []
 
--- a voter becomes a learner if it is one in the target, and is removed otherwise
+-- the step by which a voter becomes a learner if it is one in the target, and is removed otherwise
 abbrev pub retire_step : Configuration → ℕ → Step
 retire_step target id = one_change (if has target.learners id then Learner else Remove) id
 
--- in turn, one id joins and one retires, until there are no more
+-- the steps by which, in turn, one id joins and one retires, until there are no more
 abbrev pub in_turn : Configuration → Configuration → List ℕ → List ℕ → List Step
 in_turn c target [] [] = []
 in_turn c target (id ∷ joins) [] = join_steps c id ++ in_turn c target joins []
@@ -40,9 +41,11 @@ abbrev pub learner_change : Configuration → Configuration → ℕ → Option K
 learner_change c target id =
     if has c.incoming id || has target.incoming id then None else kind_by false (has target.learners id) false (has c.learners id)
 
--- the steps of these ids, ascending
+-- the steps of the ids that are voters neither before nor after, ascending
 abbrev pub learner_steps : Configuration → Configuration → List Step
 learner_steps c target = filter_map (λ id. option_map (λ kind. one_change kind id) (learner_change c target id)) (ascending (union c.learners target.learners))
 
+-- the path: the voters change first, and then the ids that are learners only; from (1 2 3) to (3 4 5), l4 v4 r1 l5 v5
+-- r2
 abbrev pub one_at_a_time_from_single : Configuration → Configuration → List Step
 one_at_a_time_from_single c target = in_turn c target (joining c target) (retiring c target) ++ learner_steps c target

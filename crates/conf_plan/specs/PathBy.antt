@@ -1,4 +1,4 @@
--- The path from one configuration to another by each strategy.
+-- The path from one configuration to another by each strategy (own).
 use Rattle.std.specs.Prelude.{Bool, true, not, ◌||◌, List, [], ◌∷◌, if◌then◌else◌}
 use Rattle.conf_change.specs.Configuration.{Configuration, is_joint, is_same}
 use Rattle.conf_change.specs.Outcome.{after_leave}
@@ -11,19 +11,20 @@ use Rattle.conf_plan.specs.Planned.{planned_from_single}
 use Rattle.conf_plan.specs.declared.strategy.Strategy.{Strategy}
 use Rattle.conf_plan.specs.declared.strategy.Strategy.TheVariants.{Shortest, LearnersFirst, OneAtATime}
 
--- from a configuration that is not joint
+-- the path from a configuration that is not joint, by a strategy
 abbrev pub from_single_by : Strategy → Configuration → Configuration → List Step
 from_single_by Shortest = planned_from_single
 from_single_by LearnersFirst = learners_first_from_single
 from_single_by OneAtATime = one_at_a_time_from_single
 
--- from any configuration: a joint one is left first
+-- the path from any configuration, by a strategy: a joint one is left first
 abbrev pub path_by : Strategy → Configuration → Configuration → List Step
 path_by strategy now target =
     if is_same now target then []
     else (if is_joint now then LeaveJoint ∷ from_single_by strategy (after_leave now) target else from_single_by strategy now target)
 
--- whether the strategy has a path between configurations with voters: one member at a time does not lead into a joint configuration
+-- whether the strategy has a path between configurations with voters: one member at a time does not lead into a joint
+-- configuration
 abbrev pub has_path : Strategy → Configuration → Configuration → Bool
 has_path Shortest now target = true
 has_path LearnersFirst now target = true

@@ -18,16 +18,17 @@ list_in tokens = result_ok (changes_in_tokens tokens)
 abbrev pub flag_of_token : List ℕ → Option Bool
 flag_of_token token = if bytes_eq token (flag_token true) then Some true else (if bytes_eq token (flag_token false) then Some false else None)
 
+-- the step into a joint configuration with this flag, if there is one, by the changes of the tokens
 abbrev pub enter_with : Option Bool → List (List ℕ) → Option Step
 enter_with None tokens = None
 enter_with (Some auto_leave) tokens = option_map (EnterJoint auto_leave) (list_in tokens)
 
--- entering a joint configuration: a flag, then changes
+-- the step of the tokens after enter-joint: a flag, then changes
 abbrev pub enter_in : List (List ℕ) → Option Step
 enter_in [] = None
 enter_in (flag ∷ tokens) = enter_with (flag_of_token flag) tokens
 
--- leaving a joint configuration has no arguments
+-- the step of the tokens after leave-joint, which takes no arguments
 abbrev pub leave_in : List (List ℕ) → Option Step
 leave_in [] = Some LeaveJoint
 leave_in (_ ∷ _) = None
@@ -40,12 +41,13 @@ step_in (command ∷ tokens) =
     else (if bytes_eq command (codes "enter-joint") then enter_in tokens
     else (if bytes_eq command (codes "leave-joint") then leave_in tokens else None))
 
+-- a step before others, or the first error: the line with this number is bad, or a later line is
 abbrev pub and_steps : ℕ → Option Step → Result (List Step) PlanTextFault → Result (List Step) PlanTextFault
 and_steps number None others = Err (BadLine number)
 and_steps number (Some step) (Err fault) = Err fault
 and_steps number (Some step) (Ok steps) = Ok (step ∷ steps)
 
--- the steps of lines that follow as many other lines
+-- the steps of lines that follow this number of other lines; a fifth line is one too many
 abbrev pub steps_in : ℕ → List (List ℕ) → Result (List Step) PlanTextFault
 steps_in before [] = Ok []
 steps_in before (line ∷ lines) =
@@ -61,6 +63,6 @@ abbrev pub plan_in_lines : List (List ℕ) → Result (List Step) PlanTextFault
 plan_in_lines (line ∷ []) = if is_nothing (tokens_in line) then Ok [] else steps_in 0 (line ∷ [])
 plan_in_lines lines = steps_in 0 lines
 
--- the plan that a text is parsed as, or why it is none
+-- the plan that a text is parsed as, or why it is not parsed
 abbrev pub plan_in : List ℕ → Result (List Step) PlanTextFault
 plan_in text = plan_in_lines (plan_lines text)

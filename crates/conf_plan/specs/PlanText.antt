@@ -11,6 +11,7 @@ use Rattle.conf_change.specs.Step.{changes_of}
 use Rattle.conf_plan.specs.declared.text.PlanTextFault.{PlanTextFault}
 use Rattle.conf_plan.specs.declared.text.PlanTextFault.TheVariants.{BadLine, TooManySteps, NoMemory}
 
+-- the flag of entering a joint configuration: autoleave=true or autoleave=false
 abbrev pub flag_token : Bool → List ℕ
 flag_token auto_leave = codes "autoleave=" ++ truth_text auto_leave
 
@@ -29,10 +30,11 @@ change_text change = letter_of change.kind ∷ decimal change.id
 abbrev pub spaced_change : Change → List ℕ
 spaced_change change = 32 ∷ change_text change
 
--- a step's line: its tokens with one space between
+-- a step's line: its tokens with one space between, as simple l4 l5
 abbrev pub line_text : Step → List ℕ
 line_text step = join_with_byte 32 (command_tokens step ++ map change_text (changes_of step))
 
+-- a step's line, and the newline that ends it
 abbrev pub line_and_newline : Step → List ℕ
 line_and_newline step = line_text step ++ codes "\n"
 
@@ -42,6 +44,7 @@ plan_text [] = codes "nothing to do\n"
 plan_text (step ∷ steps) = flat_map line_and_newline (step ∷ steps)
 
 -- ---- parsing
+-- the byte is a newline
 abbrev pub is_newline : ℕ → Bool
 is_newline byte = byte == 10
 
@@ -51,7 +54,8 @@ without_empty_end [] = []
 without_empty_end (piece ∷ []) = filter has_bytes (piece ∷ [])
 without_empty_end (piece ∷ next ∷ pieces) = piece ∷ without_empty_end (next ∷ pieces)
 
--- The lines of a text: it is split at each newline, and what follows the last newline is a line if it is not empty. The empty text is one blank line.
+-- The lines of a text: it is split at each newline, and what follows the last newline is a line if it is not empty. The
+-- empty text is one blank line.
 abbrev pub plan_lines : List ℕ → List (List ℕ)
 plan_lines text = if has_bytes text then without_empty_end (slice_split is_newline text) else [] ∷ []
 
@@ -76,7 +80,8 @@ pub record IsTextOf (text : List ℕ) (steps : List Step) : Type 0 where
 abbrev pub ParsesToPlan : List ℕ → List Step → Type 0
 ParsesToPlan text steps = ((steps ≡ []) × IsNothingToDo text) ⊎ IsTextOf text steps
 
--- the line with this number, counted from 1 and at most 4, is the first that is not parsed as a step, and the text is not `nothing to do`
+-- the line with this number, counted from 1 and at most 4, is the first that is not parsed as a step, and the text is
+-- not `nothing to do`
 pub record IsFirstBadLine (text : List ℕ) (number : ℕ) : Type 0 where
   pub before : List (List ℕ)
   pub line : List ℕ

@@ -1,4 +1,4 @@
--- The plan from one configuration to another.
+-- The plan from one configuration to another (own).
 use Rattle.std.specs.Prelude.{ℕ, Bool, false, not, ◌&&◌, ◌||◌, List, [], ◌∷◌, ◌++◌, Option, Some, None, option_map, filter_map, fold, nat_le, if◌then◌else◌}
 use Rattle.std.specs.Result.{result_unwrap_or}
 use Rattle.quorum_sets.specs.Ids.{Ids, no_ids, has, ascending, ids_where, difference_count, union}
@@ -29,12 +29,14 @@ move_of c voters learners id = option_map (λ kind. record { kind = kind; id = i
 abbrev pub single_with : Ids → Ids → Configuration
 single_with voters learners = record { incoming = voters; outgoing = no_ids; learners = learners; learners_next = no_ids; auto_leave = false }
 
--- the changes from a configuration that is not joint to these voters and learners, by ascending id
+-- the changes from a configuration that is not joint to these voters and learners, by ascending id: from (1 2 3) to
+-- (1 2 4) with the learner 3, l3 v4
 abbrev pub moves : Configuration → Ids → Ids → List Change
 moves c voters learners =
     filter_map (move_of c voters learners) (ascending (union (union voters learners) (union c.incoming c.learners)))
 
--- from a configuration that is not joint to the one with these voters and learners that is not joint either
+-- the steps from a configuration that is not joint to the one with these voters and learners that is not joint either:
+-- one simple step if at most one voter differs, and through a joint configuration otherwise
 abbrev pub single_steps : Configuration → Ids → Ids → List Step
 single_steps c voters learners =
     if nat_le (difference_count c.incoming voters) 1
@@ -45,7 +47,8 @@ single_steps c voters learners =
 abbrev pub is_shared : Configuration → ℕ → Bool
 is_shared target id = is_member target id && not (has target.outgoing id)
 
--- the members of both that are not outgoing voters of the target
+-- the members of both that are not outgoing voters of the target; they are learners on the way, so that they keep their
+-- progress
 abbrev pub shared_members : Configuration → Configuration → Ids
 shared_members c target = ids_where (is_shared target) (members c)
 
@@ -62,17 +65,18 @@ configuration_after c steps = fold (λ at step. result_unwrap_or (outcome at ste
 abbrev pub entering_step : Configuration → Configuration → Step
 entering_step c target = EnterJoint target.auto_leave (moves c target.incoming (union target.learners target.learners_next))
 
--- from a configuration that is not joint to a joint one
+-- the steps from a configuration that is not joint to a joint one: the target's outgoing voters first become the
+-- incoming ones
 abbrev pub joint_steps : Configuration → Configuration → List Step
 joint_steps c target = inserted_steps c target ++ entering_step (configuration_after c (inserted_steps c target)) target ∷ []
 
--- from a configuration that is not joint to another
+-- the plan from a configuration that is not joint
 abbrev pub planned_from_single : Configuration → Configuration → List Step
 planned_from_single c target =
     if is_same c target then []
     else (if is_joint target then joint_steps c target else single_steps c target.incoming target.learners)
 
--- the plan from one configuration to another
+-- the plan from one configuration to another: a joint one is left first
 abbrev pub planned : Configuration → Configuration → List Step
 planned now target =
     if is_same now target then []

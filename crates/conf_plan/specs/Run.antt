@@ -49,7 +49,8 @@ pub record HasKeptProgress (before after : ChangerState) (id : ℕ) : Type 0 whe
   pub same_match : kept.matched ≡ had.matched
   pub same_next : kept.next ≡ had.next
 
--- the changer takes the steps before this one, counted from 1, which is refused for this reason, running out of memory aside
+-- the changer takes the steps before this one, counted from 1, which is refused for this reason, running out of memory
+-- aside
 pub record StopsAt (before : ChangerState) (steps : List Step) (number : ℕ) (why : Refused) (after : ChangerState) : Type 0 where
   pub in_range : 0 < number
   pub taken : Takes before (take (number - 1) steps) after

@@ -11,7 +11,7 @@ IsNoLater first None = Unit {0}
 IsNoLater None (Some id) = ⊥
 IsNoLater (Some first) (Some id) = first ≤ id
 
--- the earlier of the two
+-- the result is the smaller of two ids, or the only one
 pub record IsEarliest (a b first : Option ℕ) : Type 0 where
   pub no_later_than_a : IsNoLater first a
   pub no_later_than_b : IsNoLater first b

@@ -12,18 +12,21 @@ use conf_change::{Changer, Refused};
 use quorum_sets::MemberSet;
 use thiserror::Error;
 
-/// The step at which a plan stopped, counted from 1, and why.
+/// The step at which a plan stopped, and why. If the second of three steps is refused, the first one stays taken.
 #[derive(Clone, Copy, Debug, PartialEq, Eq, Error)]
 #[error("step {step}: {refused}")]
 pub struct StepRefused {
+    /// The number of the step, counted from 1.
     pub step: usize,
+    /// Why it was refused.
     pub refused: Refused,
 }
 
-/// Takes the steps of a plan in order, up to the first that is refused; the steps before that one stay taken. A plan from
-/// the changer's configuration is taken whole, unless memory runs out, and the members whose progress it preserves keep
-/// their match and next. A plan that `plan` made for this configuration is the best one to where it leads: no other steps
-/// there preserve the progress of a member that it resets, are fewer, or name an id in fewer changes.
+/// Takes the steps of a plan in order, up to the first that is refused; the steps before that one stay taken. A plan
+/// from the changer's configuration is taken whole, unless memory runs out, and the members whose progress it preserves
+/// keep their match and next. A plan that [`plan`](crate::plan) made for this configuration is the best one to where it
+/// leads: no other steps there preserve the progress of a member that it resets, are fewer, or name an id in fewer
+/// changes (own).
 pub fn apply_plan<S: MemberSet>(changer: &mut Changer<S>, plan: &Plan) -> Result<(), StepRefused>
     ensures taken { OnOk result (Takes changer.old plan.now changer.new) }
     ensures stopped { IfErr result (λ stop. StopsAt changer.old plan.now stop.step stop.refused changer.new) }

@@ -1,4 +1,5 @@
-//! The members that have to catch up.
+//! The members that have to catch up. A new voter with an empty log cannot acknowledge new entries until it has the old
+//! ones, so until then it is as if it were down (Ongaro's dissertation, section 4.2.1).
 ghost use Rattle.std.specs.Prelude.{◌≡◌, ℕ, not, ◌&&◌, ◌||◌, IfOk, OnOk};
 ghost use Rattle.quorum_sets.specs.Ids.{has};
 ghost use Rattle.conf_change.specs.Change.{is_removal, removes};
@@ -11,8 +12,8 @@ use conf_change::{Change, Config, Kind, Step, union};
 use quorum_sets::{MemberSet, NoMemory};
 use std::alloc::Global;
 
-/// The members after a step that do not keep their progress in it. They begin with an empty log, so wait until they have
-/// caught up before the next step (own).
+/// The members after a step that do not keep their progress in it: new ones, and those that are removed and added
+/// again. They begin with an empty log, so wait until they have caught up before the next step (own).
 pub fn catching_up<S: MemberSet>(
     alloc: Global,
     before: &Config<S>,
@@ -40,6 +41,7 @@ fn add_removed<S: MemberSet>(removed: &mut S, changes: &[Change]) -> Result<(), 
     Ok(())
 }
 
+// Whether the change removes its id.
 fn is_removal(kind: Kind) -> bool
     ensures { result ≡ is_removal kind }
 {
@@ -49,14 +51,15 @@ fn is_removal(kind: Kind) -> bool
     }
 }
 
-// Whether a member after a step that removes these ids has lost its progress: it was not a member before, or a new member
-// replaces it.
+// Whether a member after a step that removes these ids has lost its progress: it was not a member before, or a new
+// member replaces it.
 fn has_lost<S: MemberSet>(before: &Config<S>, after: &Config<S>, removed: &S, id: u64) -> bool
     ensures { result ≡ (not (is_member before.now id) || (has (S.ids removed.now) id && not (has after.now.outgoing id))) }
 {
     !is_member(before, id) || (removed.contains(id) && !after.outgoing.contains(id))
 }
 
+// Whether the id is a voter of either kind, or a learner.
 fn is_member<S: MemberSet>(config: &Config<S>, id: u64) -> bool
     ensures { result ≡ is_member config.now id }
 {

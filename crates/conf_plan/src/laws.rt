@@ -1,4 +1,5 @@
-//! Laws of this crate's definitions, each the contract of a function that does nothing.
+//! Laws of this crate's definitions: what is true of all runs, plans and texts. Each is the contract of a function that
+//! does nothing.
 ghost use Rattle.std.specs.Prelude.{◌≡◌, ◌≤◌, ◌↔◌, ◌⊎◌, ℕ, true, List, length, map, Ok, Err, Some};
 ghost use Rattle.std.specs.List.{join_with_byte};
 ghost use Rattle.conf_change.specs.Configuration.{Configuration};
@@ -38,17 +39,17 @@ pub fn planned_is_run()
     ensures at_most_four { (now target : Configuration) → IsValidWithVoter now → IsValidWithVoter target → length (planned now target) ≤ 4 }
 {}
 
-/// The plan is the best run: the shortest, which preserves the progress of the most members and names each id in the fewest
-/// changes.
+/// The plan is the best run: the shortest, which preserves the progress of the most members and names each id in the
+/// fewest changes.
 pub fn planned_is_best()
     ensures { (now target : Configuration) → IsValidWithVoter now → IsValidWithVoter target → IsBest now (planned now target) target }
 {}
 
-/// Each strategy keeps its promises. No configuration on the way tolerates fewer failures than the weaker end. The shortest
-/// path is the plan. With learners first, the path is at most one step longer, and each new voter was a learner with
-/// progress. On both, a quorum of both ends is a quorum of each configuration on the way. One member at a time, the path has
-/// the fewest steps of its kind, its new voters were learners with progress too, and it does not lead into a joint
-/// configuration.
+/// Each strategy keeps its promises. No configuration on the way tolerates fewer failures than the weaker end. The
+/// shortest path is the plan. With learners first, the path is at most one step longer, and each new voter was a
+/// learner with progress. On both, a quorum of both ends is a quorum of each configuration on the way. One member at a
+/// time, the path has the fewest steps of its kind, its new voters were learners with progress too, and it does not
+/// lead into a joint configuration.
 pub fn paths_serve()
     ensures shortest { (now target : Configuration) → path_by Shortest now target ≡ planned now target }
     ensures serves { (strategy : Strategy) (now target : Configuration) → IsValidWithVoter now → IsValidWithVoter target → has_path strategy now target ≡ true → Serves strategy now (path_by strategy now target) target }
@@ -60,7 +61,8 @@ pub fn progress_is_kept()
         → keeps_progress before.tracker.config step after.tracker.config id ≡ true → HasKeptProgress before after id }
 {}
 
-/// After any run, the plan leads back in at most four steps, and in at most three if the run has one step.
+/// After any run, the plan leads back in at most four steps, and in at most three if the run has one step. The step
+/// from (1 2 3) to (2 3 4)&&(1 2 3) is undone by leave-joint, enter-joint v1 r4 and leave-joint.
 pub fn undo_of_run()
     ensures back { (before after : Configuration) (steps : List Step) → IsValidWithVoter before → IsRun before steps after
         → IsRun after (planned after before) before }
@@ -70,8 +72,8 @@ pub fn undo_of_run()
         → length steps ≡ 1 → length (planned after before) ≤ 3 }
 {}
 
-/// After any lists of changes, each applied with its transition, the plan leads back in at most four steps, and in at most
-/// three after one list.
+/// After any lists of changes, each applied with its transition, the plan leads back in at most four steps, and in at
+/// most three after one list.
 pub fn undo_of_changes()
     ensures back { (before after : Configuration) (lists : List (Transition × List Change)) → IsValidWithVoter before → IsRun before (steps_for lists) after
         → IsRun after (planned after before) before }
@@ -88,8 +90,8 @@ pub fn one_changer_after_steps()
         → (after : ChangerState) × (after_steps before steps ≡ Some after) × (after.tracker.config ≡ target) }
 {}
 
-/// A text is parsed as at most one plan, or has exactly one error; the parser returns that plan or that error. The printed
-/// text of a plan is parsed as the plan, and the printed changes of a step as these changes.
+/// A text is parsed as at most one plan, or has exactly one error; the parser returns that plan or that error. The
+/// printed text of a plan is parsed as the plan, and the printed changes of a step as these changes.
 pub fn one_plan_per_text()
     ensures ok { (text : List ℕ) (steps : List Step) → (ParsesToPlan text steps) ↔ (plan_in text ≡ Ok steps) }
     ensures err { (text : List ℕ) (fault : PlanTextFault) → (HasFault text fault) ↔ (plan_in text ≡ Err fault) }

@@ -1,4 +1,13 @@
-//! The path on which new voters are learners first.
+//! The path on which new voters are learners first (Ongaro's dissertation, section 4.2.1). A learner gets the log and
+//! does not vote, so the cluster goes on by its old voters while the learner catches up:
+//!
+//! ```text
+//! (1 2 3)                     --simple l4 l5-->
+//! (1 2 3) learners=(4 5)      wait until 4 and 5 have caught up
+//!                             --enter-joint r1 r2 v4 v5-->
+//! (3 4 5)&&(1 2 3)            --leave-joint-->
+//! (3 4 5)
+//! ```
 ghost use Rattle.std.specs.Prelude.{◌≡◌, not, ◌&&◌, IfOk, OnOk};
 ghost use Rattle.quorum_sets.specs.Ids.{has};
 ghost use Rattle.conf_plan.specs.LearnersFirst as first;
@@ -14,7 +23,8 @@ use conf_change::{Config, Step, union};
 use quorum_sets::{MemberSet, NoMemory};
 use std::alloc::Global;
 
-// From a configuration that is not joint to any.
+// Appends the steps from a configuration that is not joint to the target. Without newcomers they are the plan; with
+// them there is one more step before it.
 pub(crate) fn add_learners_first<S: MemberSet>(
     alloc: Global,
     steps: &mut Vec<Step>,
@@ -38,7 +48,7 @@ pub(crate) fn add_learners_first<S: MemberSet>(
     add_from_single(alloc, steps, &learning, target)
 }
 
-// The voters of the target, incoming or outgoing, that are not members.
+// The voters of the target, incoming or outgoing, that are not members: 4 and 5 on the way from (1 2 3) to (3 4 5).
 fn newcomers<S: MemberSet>(
     alloc: Global,
     start: &Single<S>,

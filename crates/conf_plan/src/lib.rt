@@ -1,8 +1,8 @@
 //! Plans: the membership changes that lead from one configuration to another.
 //!
-//! A plan is a list of steps that are accepted one after another: simple changes, entering a joint configuration, leaving
-//! it. [`plan`] gives the shortest one, which also preserves the progress of the most members and names each id in the
-//! fewest changes. It has at most four steps. One with four leads from a joint configuration to another:
+//! A plan is a list of steps that are accepted one after another: simple changes, entering a joint configuration,
+//! leaving it. [`plan`] gives the shortest one, which also preserves the progress of the most members and names each id
+//! in the fewest changes. It has at most four steps. One with four leads from a joint configuration to another:
 //!
 //! ```text
 //! (1 2)&&(1 3)  leave-joint                  -->  (1 2)
@@ -12,11 +12,23 @@
 //! ```
 //!
 //! A cluster may accept a step and then stall: a new voter begins with an empty log, and counts as missing until it has
-//! caught up. So [`plan_by`] makes paths by a [`Strategy`] too: one on which new voters are learners first, and one that
-//! changes one member at a time.
+//! caught up. So [`plan_by`] makes paths by a [`Strategy`] too: one on which new voters are learners first, and one
+//! that changes one member at a time. From (1 2 3) to (3 4 5) they are:
+//!
+//! ```text
+//! shortest         enter-joint r1 r2 v4 v5, leave-joint
+//! learners first   simple l4 l5, enter-joint r1 r2 v4 v5, leave-joint
+//! one at a time    simple l4, simple v4, simple r1, simple l5, simple v5, simple r2
+//! ```
 //!
 //! [`apply_plan`] takes the steps of a plan. [`print_plan`] and [`print_path`] write one step a line, and [`read_plan`]
-//! reads a plan back.
+//! reads a plan back:
+//!
+//! ```text
+//! let steps = plan(alloc, changer.tracker().config(), &target)?;
+//! print_plan(&mut text, &steps)?;
+//! apply_plan(&mut changer, &steps)?;
+//! ```
 #![tactic(auto)]
 
 pub mod apply;

@@ -1,4 +1,8 @@
-//! The changes from one configuration that is not joint to another, found in one walk over the four sets.
+//! The changes from one configuration that is not joint to another. An id that stays what it is has none:
+//!
+//! ```text
+//! (1 2 3) to (1 2 4) learners=(3)   l3 v4
+//! ```
 ghost use Rattle.std.specs.Prelude.{◌≡◌, ◌<◌, ◌^◌, IfOk};
 ghost use Rattle.std.specs.List.{All};
 ghost use Rattle.conf_plan.specs.Planned.{kind_by, moves, single_with};
@@ -11,8 +15,8 @@ use std::alloc::Global;
 // How many changes there is room for at first; there are seldom more.
 const USUAL_CHANGES: usize = 16;
 
-// The changes from the current voters and learners to those of the target, by ascending id. Each id of the four sets is
-// read once.
+// The changes from the current voters and learners to those of the target, by ascending id. The four sets are walked
+// side by side, so that each id is met once with its roles in all of them.
 pub(crate) fn moves_to<S: MemberSet>(
     alloc: Global,
     incoming: &S,
@@ -51,7 +55,7 @@ struct Walk {
 }
 
 impl Walk {
-    // At the first id.
+    // A walk at the first id.
     fn begin<S: MemberSet>(ids: &S) -> Walk
         ensures begun { result.index ≡ 0 }
         ensures standing { IsStanding (S.ids ids.now) result.index result.next }
@@ -79,7 +83,7 @@ impl Walk {
     }
 }
 
-// The first of two ids, if there is one.
+// The smaller of two ids, or the only one: a walk that is at its end has none.
 fn earlier(a: Option<u64>, b: Option<u64>) -> Option<u64>
     ensures { IsEarliest a b result }
 {
@@ -90,7 +94,8 @@ fn earlier(a: Option<u64>, b: Option<u64>) -> Option<u64>
     }
 }
 
-// What an id has to become, if anything.
+// What an id has to become, if anything, by what it is to be in the target and what it is now. A voter that is to be a
+// learner becomes one; a learner that is to be neither is removed.
 pub(crate) fn kind_of_move(
     wanted_voter: bool,
     wanted_learner: bool,

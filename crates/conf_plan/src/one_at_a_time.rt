@@ -1,4 +1,11 @@
-//! The path on which one member changes at a time.
+//! The path on which one member changes at a time, as etcd's server changes its members. From (1 2 3) to (3 4 5):
+//!
+//! ```text
+//! simple l4, simple v4, simple r1     4 joins, and 1 retires
+//! simple l5, simple v5, simple r2     5 joins, and 2 retires
+//! ```
+//!
+//! A voter joins before another retires, so at no point are fewer failures tolerated than at the weaker end.
 ghost use Rattle.std.specs.Prelude.{◌≡◌, [], ◌∷◌, ◌<◌, ◌^◌, OnOk};
 ghost use Rattle.std.specs.List.{cons_option};
 ghost use Rattle.quorum_sets.specs.Ids.{ascending};
@@ -14,7 +21,8 @@ use conf_change::{Change, Changes, Config, Kind, Step, union};
 use quorum_sets::{MemberSet, NoMemory};
 use std::alloc::Global;
 
-// From a configuration that is not joint to another.
+// Appends the steps from a configuration that is not joint to the target. The voters change first, and then the ids
+// that are learners only.
 pub(crate) fn add_one_at_a_time<S: MemberSet>(
     alloc: Global,
     steps: &mut Vec<Step>,
@@ -29,7 +37,7 @@ pub(crate) fn add_one_at_a_time<S: MemberSet>(
     add_learner_steps(alloc, steps, start, target)
 }
 
-// In turn, one id joins and one retires, until there are no more.
+// Appends the steps by which, in turn, one id joins and one retires, until there are no more.
 fn add_turns<S: MemberSet>(
     alloc: Global,
     steps: &mut Vec<Step>,
@@ -53,7 +61,7 @@ fn add_turns<S: MemberSet>(
     Ok(())
 }
 
-// One id joins, and one retires.
+// Appends the steps by which one id joins and one retires, if there are such.
 fn add_turn<S: MemberSet>(
     alloc: Global,
     steps: &mut Vec<Step>,
@@ -73,7 +81,8 @@ fn add_turn<S: MemberSet>(
     Ok(())
 }
 
-// The id becomes a voter, and a learner before that if it is not one.
+// Appends the steps by which an id becomes a voter, and a learner before that if it is not one, so that it can catch
+// up.
 fn add_join_steps<S: MemberSet>(
     alloc: Global,
     steps: &mut Vec<Step>,
@@ -88,7 +97,7 @@ fn add_join_steps<S: MemberSet>(
     add_change(alloc, steps, Kind::Voter, id)
 }
 
-// The voter becomes a learner if it is one in the target, and is removed otherwise.
+// Appends the step by which a voter becomes a learner if it is one in the target, and is removed otherwise.
 fn add_retire_step<S: MemberSet>(
     alloc: Global,
     steps: &mut Vec<Step>,
@@ -104,7 +113,8 @@ fn add_retire_step<S: MemberSet>(
     }
 }
 
-// Adds and removes the other learners, in ascending order.
+// Appends the steps that add and remove the other learners, in ascending order: those that are voters neither before
+// nor after.
 fn add_learner_steps<S: MemberSet>(
     alloc: Global,
     steps: &mut Vec<Step>,
@@ -139,7 +149,7 @@ fn learner_change<S: MemberSet>(start: &Single<S>, target: &Config<S>, id: u64) 
     )
 }
 
-// A step of one change.
+// Appends a simple step of one change.
 fn add_change(alloc: Global, steps: &mut Vec<Step>, kind: Kind, id: u64) -> Result<(), NoMemory>
     ensures { OnOk result (IsAdded steps.old.items (one_change kind id ∷ []) steps.new.items) }
 {

@@ -6,7 +6,8 @@ ghost use Rattle.conf_plan.specs.PlanSteps.{HasTokenIds};
 use conf_change::Step;
 use std::marker::Model;
 
-/// Steps that follow one another. Unlike a [`Plan`](crate::Plan), a path may have more than four.
+/// Steps that follow one another, as [`plan_by`](crate::plan_by) makes them. Unlike a [`Plan`](crate::Plan), a path may
+/// have more than four: if one member changes at a time, each new voter takes two.
 #[derive(Debug, Drop)]
 pub struct Path {
     steps: Vec<Step>,
@@ -34,7 +35,7 @@ impl Path {
         Path { steps }
     }
 
-    /// The steps in order.
+    /// The steps in the order in which they are taken.
     pub fn as_slice(&self) -> &[Step]
         ensures { result.now ≡ self.now }
     {

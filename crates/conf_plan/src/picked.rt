@@ -1,4 +1,4 @@
-//! The ids of a set that pass a test.
+//! The ids of a set that pass a test, such as the new voters of a target.
 ghost use Rattle.std.specs.Prelude.{◌≡◌, ◌&&◌, ◌||◌, ℕ, Bool, IfOk, OnOk};
 ghost use Rattle.quorum_sets.specs.Counting.{Decides};
 ghost use Rattle.quorum_sets.specs.Ids.{has, ascending, ids_where};

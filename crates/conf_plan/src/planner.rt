@@ -1,4 +1,15 @@
-//! Making a plan.
+//! Making a plan. Which steps it has depends on what is joint and on how many voters differ:
+//!
+//! ```text
+//! the two are equal                                 nothing to do
+//! the current one is joint                          leave-joint, then as below
+//! the target is not joint, one voter differs        simple
+//! the target is not joint, more voters differ       enter-joint, leave-joint
+//! the target is joint, the current voters outgoing  enter-joint
+//! the target is joint, other voters outgoing        the steps that make those the voters, then enter-joint
+//! ```
+//!
+//! So the longest plan has four steps: leave-joint, enter-joint, leave-joint, enter-joint.
 ghost use Rattle.std.specs.Prelude.{◌≡◌, ◌↔◌, true, false, [], ◌∷◌, Err, IfOk, OnOk};
 ghost use Rattle.conf_change.specs.Configuration.{is_joint, is_valid, has_voter};
 ghost use Rattle.conf_plan.specs.PathBy.{from_single_by, path_by};
@@ -22,10 +33,13 @@ use thiserror::Error;
 /// Why there is no plan.
 #[derive(Clone, Copy, Debug, PartialEq, Eq, Error)]
 pub enum PlanFault {
+    /// The current configuration has no voter, so nothing can be committed, not even a change.
     #[error("no plan: the current configuration has no voter")]
     NoVoterNow,
+    /// The target has no voter; no step leads to such a configuration.
     #[error("no plan: the target has no voter")]
     NoVoterTarget,
+    /// An allocation failed.
     #[error("out of memory")]
     NoMemory,
 }
@@ -42,8 +56,9 @@ impl From<NoMemory> for PlanFault {
 
 /// The plan from one configuration to another: the best steps that lead there. No other steps are fewer, preserve the
 /// progress of a member that the plan resets, or name an id in fewer changes, and the voters before and after each step
-/// overlap. Logs are not considered: a new voter begins with an empty one. There is a plan between any two configurations
-/// with voters, and none otherwise, which is checked before anything is allocated.
+/// overlap (own). Logs are not considered: a new voter begins with an empty one, so a cluster that has to go on serving
+/// takes another [`Strategy`]. There is a plan between any two configurations with voters, and none otherwise, which is
+/// checked before anything is allocated.
 pub fn plan<S: MemberSet>(
     alloc: Global,
     now: &Config<S>,
@@ -67,7 +82,8 @@ pub fn plan<S: MemberSet>(
     Ok(Plan::of_steps(steps))
 }
 
-// The path from one configuration to another.
+// Appends the path from one configuration to another by a strategy. Every path out of a joint configuration begins with
+// leaving it.
 pub(crate) fn add_path<S: MemberSet>(
     alloc: Global,
     strategy: Strategy,
@@ -98,7 +114,7 @@ pub(crate) fn add_path<S: MemberSet>(
     add_from_single_by(alloc, strategy, steps, &start, target)
 }
 
-// From a configuration that is not joint to any.
+// Appends the path from a configuration that is not joint to the target by a strategy.
 fn add_from_single_by<S: MemberSet>(
     alloc: Global,
     strategy: Strategy,
@@ -117,7 +133,7 @@ fn add_from_single_by<S: MemberSet>(
     }
 }
 
-// The plan from a configuration that is not joint to any.
+// Appends the plan from a configuration that is not joint to the target.
 pub(crate) fn add_from_single<S: MemberSet>(
     alloc: Global,
     steps: &mut Vec<Step>,
@@ -139,7 +155,8 @@ pub(crate) fn add_from_single<S: MemberSet>(
     }
 }
 
-// From a configuration that is not joint into a joint one.
+// Appends the plan from a configuration that is not joint into a joint one. The target's outgoing voters are those from
+// before it is entered, so they have to be the incoming voters first.
 fn add_joint_steps<S: MemberSet>(
     alloc: Global,
     steps: &mut Vec<Step>,
@@ -164,7 +181,7 @@ fn add_joint_steps<S: MemberSet>(
     add_entering_step(alloc, steps, &between, target)
 }
 
-// Into a joint target, from a configuration whose incoming voters are the target's outgoing ones.
+// Appends the step into a joint target from a configuration whose incoming voters are the target's outgoing ones.
 fn add_entering_step<S: MemberSet>(
     alloc: Global,
     steps: &mut Vec<Step>,
@@ -185,7 +202,8 @@ fn add_entering_step<S: MemberSet>(
     Ok(())
 }
 
-// From a configuration that is not joint to the one with these voters and learners.
+// Appends the steps from a configuration that is not joint to the one with these voters and learners: one simple step
+// if at most one voter differs, and through a joint configuration otherwise.
 pub(crate) fn add_single_steps<S: MemberSet>(
     alloc: Global,
     steps: &mut Vec<Step>,

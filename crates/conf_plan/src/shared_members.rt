@@ -1,4 +1,11 @@
-//! The members that two configurations share.
+//! The members that two configurations share. Where a plan goes to a joint target by way of other voters, they stay
+//! members on the way, as learners, so that they keep their progress:
+//!
+//! ```text
+//! (1 2 3)  --enter-joint r1 r2 l3 v4 v5-->  (4 5)&&(1 2 3) learners_next=(3)
+//!          --leave-joint-->                 (4 5) learners=(3)
+//!          --enter-joint v3 r4-->           (3 5)&&(4 5)
+//! ```
 ghost use Rattle.std.specs.Prelude.{◌≡◌, IfOk};
 ghost use Rattle.conf_plan.specs.Planned as planned;
 ghost use Rattle.conf_plan.specs.Planned.{single_with, is_shared};
@@ -9,7 +16,7 @@ use conf_change::{Config, union};
 use quorum_sets::{MemberSet, NoMemory};
 use std::alloc::Global;
 
-// The members of both that are not outgoing voters of the target.
+// The members of both that are not outgoing voters of the target; the outgoing voters vote on the way anyway.
 pub(crate) fn shared_members<S: MemberSet>(
     alloc: Global,
     start: &Single<S>,

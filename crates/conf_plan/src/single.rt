@@ -1,4 +1,4 @@
-//! Configurations that are not joint, where a path begins.
+//! Configurations that are not joint, where a path begins once a joint one is left.
 use quorum_sets::MemberSet;
 
 // The voters and the learners of a configuration that is not joint.

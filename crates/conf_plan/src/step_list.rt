@@ -5,7 +5,7 @@ ghost use Rattle.conf_plan.specs.PlanSteps.{IsPlan};
 use conf_change::Step;
 use std::marker::Model;
 
-/// At most four steps.
+/// At most four steps that follow one another. No two configurations with voters are further apart (own).
 #[derive(Debug, Drop)]
 pub struct Plan {
     steps: Vec<Step>,
@@ -44,7 +44,7 @@ impl Plan {
         Plan { steps }
     }
 
-    /// The steps in order.
+    /// The steps in the order in which they are taken.
     pub fn as_slice(&self) -> &[Step]
         ensures steps { result.now ≡ self.now }
         ensures plan { IsPlan self.now }
@@ -52,7 +52,7 @@ impl Plan {
         self.steps.as_slice()
     }
 
-    /// How many steps it has.
+    /// How many steps it has, 0 to 4.
     pub fn len(&self) -> usize
         ensures len { result ≡ length self.now }
         ensures at_most_four { result ≤ 4 }

@@ -10,7 +10,7 @@ use quorum_sets::{MemberSet, NoMemory};
 use std::alloc::Global;
 use thiserror::Error;
 
-/// How a path is chosen.
+/// How a path is chosen: what matters more, few steps or that the cluster goes on serving on the way.
 #[derive(Clone, Copy, Debug, PartialEq, Eq)]
 pub enum Strategy {
     /// As few steps as possible: the path is the plan.
@@ -24,12 +24,16 @@ pub enum Strategy {
 /// Why there is no path.
 #[derive(Clone, Copy, Debug, PartialEq, Eq, Error)]
 pub enum NoPath {
+    /// The current configuration has no voter, so nothing can be committed, not even a change.
     #[error("no plan: the current configuration has no voter")]
     NoVoterNow,
+    /// The target has no voter; no step leads to such a configuration.
     #[error("no plan: the target has no voter")]
     NoVoterTarget,
+    /// One member at a time, no step enters a joint configuration.
     #[error("no plan: the target is joint")]
     JointTarget,
+    /// An allocation failed.
     #[error("out of memory")]
     NoMemory,
 }
@@ -44,9 +48,9 @@ impl From<NoMemory> for NoPath {
     }
 }
 
-/// The path from one configuration to another by a strategy, which keeps the strategy's promises (`Serves`). There is none
-/// if a configuration has no voter, nor one member at a time into a joint configuration, unless the current one equals it.
-/// That is checked before anything is allocated (own).
+/// The path from one configuration to another by a strategy, which keeps the strategy's promises (`Serves`). Refused if
+/// a configuration has no voter and, one member at a time, if the target is joint and not the current configuration
+/// itself. That is checked before anything is allocated (own).
 pub fn plan_by<S: MemberSet>(
     alloc: Global,
     strategy: Strategy,

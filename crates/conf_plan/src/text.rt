@@ -1,4 +1,11 @@
-//! The text of a plan: a line for each step, or `nothing to do`. The form of the lines is own.
+//! The text of a plan: a line for each step, or `nothing to do`. The form is own: a line has the command of a step in a
+//! script, and then the changes.
+//!
+//! ```text
+//! simple l4 l5
+//! enter-joint autoleave=false r1 r2 v4 v5
+//! leave-joint
+//! ```
 ghost use Rattle.std.specs.Prelude.{◌≡◌, ◌⊎◌, ◌<◌, ◌≤◌, [], ◌∷◌, ◌++◌, List, Ok, Err, length, map, flat_map, IfOk, IfErr, OnOk, OnErr};
 ghost use Rattle.std.specs.List.{join_with_byte};
 ghost use Rattle.ascii_text.specs.Tokens.{tokens_in};
@@ -29,6 +36,7 @@ pub enum PlanTextFault {
     /// A fifth line follows four steps.
     #[error("too many steps")]
     TooManySteps,
+    /// An allocation failed.
     #[error("out of memory")]
     NoMemory,
 }
@@ -53,8 +61,8 @@ impl From<AllocFailed<Step>> for PlanTextFault {
     }
 }
 
-/// Appends the lines of a plan, each with a newline: `simple v1 r2`, `enter-joint autoleave=false l3`, `leave-joint`, or
-/// `nothing to do` if it has no step. `read_plan` reads it back as the same plan.
+/// Appends the lines of a plan, each with a newline: `simple v1 r2`, `enter-joint autoleave=false l3`, `leave-joint`,
+/// or `nothing to do` if it has no step (own). [`read_plan`] reads it back as the same plan.
 #[tactic(auto, using(crate::proofs::PlanText::PrintedPlan::printed_laws))]
 pub fn print_plan(text: &mut Vec<u8>, plan: &Plan) -> Result<(), NoMemory>
     ensures ok { OnOk result (text.new.items ≡ text.old.items ++ plan_text plan.now) }
@@ -65,8 +73,8 @@ pub fn print_plan(text: &mut Vec<u8>, plan: &Plan) -> Result<(), NoMemory>
     print_steps(text, plan.as_slice())
 }
 
-/// Appends the lines of a path, in the form of `print_plan`. If they are at most four, they are read as a plan of the
-/// same steps.
+/// Appends the lines of a path, in the form of [`print_plan`] (own). If they are at most four, they are read as a plan
+/// of the same steps.
 pub fn print_path(text: &mut Vec<u8>, path: &Path) -> Result<(), NoMemory>
     ensures ok { OnOk result (text.new.items ≡ text.old.items ++ plan_text path.now) }
     ensures reads_back { length path.now ≤ 4 → plan_in (plan_text path.now) ≡ Ok path.now }
@@ -88,6 +96,7 @@ fn print_steps(text: &mut Vec<u8>, steps: &[Step]) -> Result<(), NoMemory>
     printed
 }
 
+// Appends a line for each step, or `nothing to do`.
 fn append_plan(text: &mut Vec<u8>, steps: &[Step]) -> Result<(), NoMemory>
     ensures ok { OnOk result (text.new.items ≡ text.old.items ++ plan_text steps.now) }
     ensures extends { Extends text.old.items text.new.items }
@@ -110,6 +119,7 @@ fn append_lines(text: &mut Vec<u8>, steps: &[Step]) -> Result<(), NoMemory>
     Ok(())
 }
 
+// Appends the line of a step: its command, and each of its changes after a space.
 fn append_line(text: &mut Vec<u8>, step: &Step) -> Result<(), NoMemory>
     ensures ok { OnOk result (text.new.items ≡ text.old.items ++ line_and_newline step.now) }
     ensures extends { Extends text.old.items text.new.items }
@@ -120,7 +130,8 @@ fn append_line(text: &mut Vec<u8>, step: &Step) -> Result<(), NoMemory>
     Ok(())
 }
 
-/// The command of a step's line.
+/// The command of a step's line, with its flag: `simple`, `enter-joint autoleave=true`, `enter-joint autoleave=false`
+/// or `leave-joint`.
 pub fn command_text(step: &Step) -> &'static [u8]
     ensures { result.now ≡ join_with_byte 32 (command_tokens step.now) }
 {
@@ -143,7 +154,7 @@ fn append_changes(text: &mut Vec<u8>, changes: &[Change]) -> Result<(), NoMemory
     Ok(())
 }
 
-/// Changes with one space between, as `v1 r2`.
+/// The text of changes, with one space between: `v1 r2`, the form in which they are read as a list.
 pub fn changes_text(alloc: Global, changes: &[Change]) -> Result<Vec<u8>, NoMemory>
     ensures { IfOk result (λ text. text.items ≡ join_with_byte 32 (map change_text changes.now)) }
 {
@@ -164,7 +175,7 @@ fn append_change(text: &mut Vec<u8>, change: Change) -> Result<(), NoMemory>
     append_token(text, change)
 }
 
-// Appends a change: its letter and its id.
+// Appends a change: its letter and its id, as `v4`.
 fn append_token(text: &mut Vec<u8>, change: Change) -> Result<(), NoMemory>
     ensures ok { OnOk result (text.new.items ≡ text.old.items ++ change_text change) }
     ensures extends { Extends text.old.items text.new.items }
@@ -174,6 +185,7 @@ fn append_token(text: &mut Vec<u8>, change: Change) -> Result<(), NoMemory>
     Ok(())
 }
 
+// The letter of a kind in a list of changes.
 fn letter(kind: Kind) -> u8
     ensures { result ≡ letter_of kind }
 {
@@ -185,9 +197,9 @@ fn letter(kind: Kind) -> u8
     }
 }
 
-/// Reads the lines of a plan, in the form of `print_plan`; tokens may have any white space around them, and ids leading
-/// zeros. The first line that is not parsed as a step is reported, or the fifth line. A blank line is not a step, and the
-/// empty text is one blank line.
+/// Reads the lines of a plan, in the form of [`print_plan`]; tokens may have any white space around them, and ids
+/// leading zeros. The first line that is not parsed as a step is reported, or the fifth line. A blank line is not a
+/// step, and the empty text is one blank line (own).
 #[tactic(auto, using(crate::proofs::PlanText::PlanFromLines::answer_laws))]
 pub fn read_plan(alloc: Global, text: &[u8]) -> Result<Plan, PlanTextFault>
     ensures stands { IfOk result (ParsesToPlan text.now) }
@@ -201,6 +213,7 @@ pub fn read_plan(alloc: Global, text: &[u8]) -> Result<Plan, PlanTextFault>
     read_lines(alloc, text)
 }
 
+// Reads one step a line, up to the last line or the first error.
 fn read_lines(alloc: Global, text: &[u8]) -> Result<Plan, PlanTextFault>
     ensures { (result ≡ plan_in text.now) ⊎ (result ≡ Err PlanTextFault.NoMemory) }
 {
@@ -257,7 +270,7 @@ fn is_nothing(line: &[u8]) -> bool
         && next_token(rest).is_none()
 }
 
-// The step that a line is parsed as, if it is one.
+// Reads a step from its line, if it is one.
 fn read_step(alloc: Global, line: &[u8]) -> Result<Option<Step>, NoMemory>
     ensures { IfOk result (λ read. read ≡ step_in (tokens_in line.now)) }
 {
@@ -275,7 +288,7 @@ fn read_step(alloc: Global, line: &[u8]) -> Result<Option<Step>, NoMemory>
     }
 }
 
-// Entering a joint configuration: a flag, then changes.
+// Reads the rest of the line that enters a joint configuration: a flag, then changes.
 fn read_enter(alloc: Global, text: &[u8]) -> Result<Option<Step>, NoMemory>
     ensures { IfOk result (λ read. read ≡ enter_in (tokens_in text.now)) }
 {
@@ -289,7 +302,7 @@ fn read_enter(alloc: Global, text: &[u8]) -> Result<Option<Step>, NoMemory>
     Ok(list.map(|changes| Step::EnterJoint(auto_leave, changes)))
 }
 
-// The flag that a token is parsed as.
+// Reads the flag from its token, if it is one.
 fn read_flag(token: &[u8]) -> Option<bool>
     ensures { result ≡ code.flag_of_token token.now }
 {
@@ -302,7 +315,7 @@ fn read_flag(token: &[u8]) -> Option<bool>
     }
 }
 
-// The changes of a list, if each token is parsed as one.
+// Reads the changes of a list, if each token is parsed as one.
 fn read_list(alloc: Global, text: &[u8]) -> Result<Option<Changes>, NoMemory>
     ensures { IfOk result (λ read. read ≡ list_in (tokens_in text.now)) }
 {

@@ -1,4 +1,4 @@
--- Ascending lists of ids, and positions in them.
+-- Ascending lists of ids, and positions in them, which count from 0.
 use Rattle.std.specs.Prelude.{◌≡◌, ℕ, ◌<◌, ◌≤◌, List, length, slice_index}
 use Rattle.smallvec.specs.SmallVec.{SmallVec}
 

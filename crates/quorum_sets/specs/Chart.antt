@@ -1,4 +1,4 @@
--- The chart of the acknowledged indexes.
+-- The chart of the acknowledged indexes (etcd's `MajorityConfig.Describe`). Byte 32 is a space and 120 is x.
 use Rattle.std.specs.Prelude.{ℕ, ◌-◌, Bool, ◌&&◌, List, ◌++◌, map, length, replicate, codes, decimal, flat_map, count_by, nat_lt, nat_eq, unwrap_or, Option, Some, None, if◌then◌else◌}
 use Rattle.std.specs.Ordering.{nat_cmp, ordering_then}
 use Rattle.std.specs.List.{list_any}
@@ -15,7 +15,7 @@ abbrev pub bar_width : List ℕ → Acks → ℕ → ℕ
 bar_width ids acks id =
     if is_tied ids acks id then 0 else count_by (λ other. nat_lt (acked_index acks other) (acked_index acks id)) ids
 
--- a bar of this width, or ? for an unknown index, in a field of n + 1 columns
+-- a bar of this width, as xx>, or ? for an unknown index, in a field of n + 1 columns
 abbrev pub bar_text : ℕ → Option ℕ → ℕ → List ℕ
 bar_text n None width = codes "?" ++ replicate n 32
 bar_text n (Some index) width = replicate width 120 ++ codes ">" ++ replicate (n - width) 32
@@ -24,7 +24,7 @@ bar_text n (Some index) width = replicate width 120 ++ codes ">" ++ replicate (n
 abbrev pub in_five_columns : ℕ → List ℕ
 in_five_columns k = replicate (5 - length (decimal k)) 32 ++ decimal k
 
--- the line of one of n ids, by the index that it acknowledged and the width of its bar
+-- the line of one of n ids, by the index that it acknowledged and the width of its bar, as `xx>      7    (id=1)`
 abbrev pub row_text : ℕ → ℕ → Option ℕ → ℕ → List ℕ
 row_text n id acked width =
     bar_text n acked width ++ codes " " ++ in_five_columns (unwrap_or acked 0) ++ codes "    (id=" ++ decimal id ++ codes ")\n"

@@ -17,7 +17,7 @@ acked_index acks id = unwrap_or (finite.get acks id) 0
 abbrev pub acked_indexes : Ids → Acks → List ℕ
 acked_indexes ids acks = map (acked_index acks) (ascending ids)
 
--- the greatest index, which the empty set commits
+-- the greatest index, 2 ^ 64 - 1, which the empty set commits
 abbrev pub greatest_index : ℕ
 greatest_index = 2 ^ 64 - 1
 

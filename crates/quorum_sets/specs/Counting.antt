@@ -1,6 +1,6 @@
--- Tests of ids.
+-- Tests of ids, as a closure computes them.
 use Rattle.std.specs.Prelude.{◌≡◌, ℕ, Bool}
 
--- the test computes the function: its answer on each id is that of the function
+-- the closure computes this function of ids: its result on each id is that of the function
 abbrev pub Decides : (ℕ → Bool → Type 0) → (ℕ → Bool) → Type 0
 Decides gives passes = (id : ℕ) (answer : Bool) → gives id answer → answer ≡ passes id

@@ -30,7 +30,8 @@ pub record CarriesOn (acks : Acks) (votes : Votes) (index id : ℕ) : Type 0 whe
   pub acknowledged : index ≤ acked_index acks id
   pub voted : IsTrue (is_yes votes id)
 
--- the answer is the smallest id that two quorums share; it is none if one of the sets is not a quorum or they share no id; quorums of neighbours share one
+-- the result is the smallest id that two quorums share; it is none if one of the sets is not a quorum or they share no
+-- id; quorums of neighbours share one
 pub record IsSharedMember (before after : Voters) (first second : Ids) (answer : Option ℕ) : Type 0 where
   pub quorums : OnSome answer (AreQuorums before after first second)
   pub least : IfSome answer (IsLeastCommon first second)
@@ -44,7 +45,8 @@ pub record CommitsAndWins (one other : Voters) (acks : Acks) (votes : Votes) (in
   pub committed : index ≤ joint_committed_index one acks
   pub won : joint_vote_result other votes ≡ VoteWon
 
--- if the first pair has committed an index and a vote of the second is won, then some id voted yes and has acknowledged the index
+-- if the first pair has committed an index and a vote of the second is won, then some id voted yes and has acknowledged
+-- the index
 abbrev pub CommittedMeetsWon : Voters → Voters → Type 0
 CommittedMeetsWon one other = (acks : Acks) (votes : Votes) (index : ℕ) → CommitsAndWins one other acks votes index → (id : ℕ) × CarriesOn acks votes index id
 

@@ -16,14 +16,15 @@ commits_without voters away = is_quorum voters (voters_without voters away)
 abbrev pub Endures : Voters → Ids → ℕ → Type 0
 Endures voters uncounted k = (down : Ids) → size down ≤ k → IsTrue (commits_without voters (union down uncounted))
 
--- the answer is the greatest number of ids that may be down, or none if the other voters are not a quorum even with none down
+-- the result is the greatest number of ids that may be down, or none if the other voters are not a quorum even with
+-- none down
 pub record IsMostDown (voters : Voters) (uncounted : Ids) (answer : Option ℕ) : Type 0 where
   pub endured : IfSome answer (Endures voters uncounted)
   pub greatest : IfSome answer (λ k. (other : ℕ) → Endures voters uncounted other → other ≤ k)
   pub none : IfNone answer (¬ Endures voters uncounted 0)
 
 -- ---- by counting
--- by how many the counted ids of a set exceed a majority, or none if they are not one
+-- by how many the counted ids of a set exceed a majority, or none if they are not a majority
 abbrev pub surplus : Ids → Ids → Option ℕ
 surplus ids uncounted =
     let counted = count_of (λ id. not (has uncounted id)) ids in
@@ -35,13 +36,14 @@ least (Some a) (Some b) = Some (min a b)
 least (Some a) None = None
 least None other = None
 
--- the smallest surplus of the voter sets; an empty set of outgoing voters does not count
+-- the smallest surplus of the voter sets, none if one has none; an empty set of outgoing voters does not count
 abbrev pub may_be_down : Voters → Ids → Option ℕ
 may_be_down voters uncounted =
     if is_empty voters.outgoing then surplus voters.incoming uncounted
     else least (surplus voters.incoming uncounted) (surplus voters.outgoing uncounted)
 
--- the smallest n - (n/2 + 1) over the voter sets; an empty set of outgoing voters does not count
+-- the smallest n - (n/2 + 1) over the voter sets: 1 of 3, 1 of 4, 2 of 5; an empty set of outgoing voters does not
+-- count
 abbrev pub least_minority : Voters → ℕ
 least_minority voters =
     let of_incoming = size voters.incoming - majority (size voters.incoming) in

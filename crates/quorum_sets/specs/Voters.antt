@@ -1,4 +1,5 @@
--- Pairs of voter sets, their quorums, and which pairs are neighbours: one safe change apart.
+-- Pairs of voter sets, their quorums, and which pairs are neighbours: one safe change apart (Ongaro's dissertation, 4.1
+-- and 4.3).
 use Rattle.std.specs.Prelude.{◌≡◌, ℕ, ◌≤◌, ◌+◌, ◌/◌, Bool, ◌&&◌, ◌||◌, ◌⊎◌}
 use Rattle.quorum_sets.specs.Ids.{Ids, has, on_most, is_empty, no_ids, difference_count}
 
@@ -11,7 +12,7 @@ pub record Voters : Type 0 where
 abbrev pub pair : Ids → Ids → Voters
 pair incoming outgoing = record { incoming = incoming; outgoing = outgoing }
 
--- the size of a majority of n voters
+-- the size of a majority of n voters: 2 of 3, 3 of 4, 3 of 5
 abbrev pub majority : ℕ → ℕ
 majority n = n / 2 + 1
 
@@ -20,7 +21,7 @@ abbrev pub is_quorum : Voters → Ids → Bool
 is_quorum voters ids =
     on_most (has ids) voters.incoming && (is_empty voters.outgoing || on_most (has ids) voters.outgoing)
 
--- neither is joint, and at most one voter differs
+-- a simple change: neither is joint, and at most one voter differs, as in (1 2 3) and (1 2 3 4)
 pub record DifferInOneVoter (before after : Voters) : Type 0 where
   pub before_single : before.outgoing ≡ no_ids
   pub after_single : after.outgoing ≡ no_ids

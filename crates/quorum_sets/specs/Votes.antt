@@ -1,4 +1,4 @@
--- The result of a vote.
+-- The result of a vote (`VoteResult` of etcd's package `quorum`).
 use Rattle.std.specs.Prelude.{ℕ, Bool, true, false, not, ◌&&◌, ◌||◌, unwrap_or, if◌then◌else◌}
 use Rattle.std.specs.Ordering.{nat_cmp}
 use Rattle.std.specs.BTreeMap.{BTreeMap}
@@ -8,7 +8,7 @@ use Rattle.quorum_sets.specs.Voters.{Voters}
 use Rattle.quorum_sets.specs.declared.voting.VoteResult.{VoteResult}
 use Rattle.quorum_sets.specs.declared.voting.VoteResult.TheVariants.{VotePending, VoteLost, VoteWon}
 
--- the votes, by id
+-- the votes, by id: yes or no, and nothing of an id that has not voted
 abbrev pub Votes : Type 0
 Votes = finite.FinMap nat_cmp Bool
 

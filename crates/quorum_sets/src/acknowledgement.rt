@@ -1,11 +1,12 @@
-//! Which index of the log each server has acknowledged.
+//! Which index of the log each server has acknowledged. A leader counts these to find the committed index.
 ghost use Rattle.std.specs.Prelude.{◌≡◌};
 ghost use Rattle.std.specs.FinMap as finite;
 ghost use Rattle.quorum_sets.specs.Committed.{Acks};
 
 use std::collections::BTreeMap;
 
-/// The acknowledged indexes: a finite map from ids to indexes (`AckedIndexer` of etcd's package `quorum`).
+/// The acknowledged indexes: a finite map from ids to indexes (`AckedIndexer` of etcd's package `quorum`). An id that
+/// is not in the map is a server from which nothing has been heard.
 pub trait AckSource {
     /// The acknowledged indexes, by id.
     ghost acks: { Self → Acks };

@@ -1,4 +1,12 @@
-//! The chart of the acknowledged indexes. Its form is own.
+//! The chart of the acknowledged indexes, in the form of `MajorityConfig.Describe` of etcd's package `quorum`. It shows
+//! at a glance how far each voter has come. If 1 and 2 have acknowledged 7 and 5, and nothing is known of 3:
+//!
+//! ```text
+//!        idx
+//! xx>      7    (id=1)
+//! x>       5    (id=2)
+//! ?        0    (id=3)
+//! ```
 ghost use Rattle.std.specs.Prelude.{◌≡◌, ◌<◌, ◌≤◌, ◌^◌, ◌++◌, ℕ, List, length, flat_map, IfOk, OnOk, OnErr};
 ghost use Rattle.std.specs.List.{Contains};
 ghost use Rattle.ascii_text.specs.Append.{Extends};
@@ -18,7 +26,7 @@ use std::alloc::Global;
 
 /// Appends the chart of a set: a line for each id, in ascending order, with a bar and the index that it acknowledged.
 /// The width of the bar is the number of ids with a smaller index, or 0 if a smaller id has the same index. An unknown
-/// index counts as 0 and is drawn as `?`. Each line ends with a newline; the text of the empty set does not.
+/// index counts as 0 and is drawn as `?`. The empty set has the text `<empty majority quorum>`, without a newline.
 pub fn chart<S: MemberSet, A: AckSource>(
     text: &mut Vec<u8>,
     set: &S,
@@ -34,7 +42,7 @@ pub fn chart<S: MemberSet, A: AckSource>(
     keep_whole(text, len, appended)
 }
 
-/// Appends the chart of the ids of both sets, each once, as [`chart`] does.
+/// Appends the chart of the voters of a joint configuration, as [`chart`] does. An id in both sets has one line.
 pub fn joint_chart<S: MemberSet, A: AckSource>(
     text: &mut Vec<u8>,
     incoming: &S,
@@ -62,7 +70,8 @@ fn append_chart<A: AckSource>(text: &mut Vec<u8>, ids: &[u64], acks: &A) -> Resu
     append_rows(text, ids, acks, ranking.as_slice())
 }
 
-// The ids sorted by the index that they acknowledged, and then by id. An unknown index counts as 0.
+// The ids sorted by the index that they acknowledged, and then by id. The position of an id in this order is the width
+// of its bar, unless the id before it has the same index.
 fn ranked<A: AckSource>(alloc: Global, ids: &[u64], acks: &A) -> Result<Vec<(u64, u64)>, NoMemory>
     ensures { IfOk result (λ rows. IsRanking ids.now (A.acks acks.now) rows.items) }
 {
@@ -148,7 +157,7 @@ fn append_bar(
     append_times(text, b' ', n - bars)
 }
 
-// Appends a number, right-aligned in five columns.
+// Appends a number, right-aligned in five columns; a number of more digits takes as many columns as it has digits.
 fn append_in_five_columns(text: &mut Vec<u8>, number: u64) -> Result<(), NoMemory>
     ensures ok { OnOk result (text.new.items ≡ text.old.items ++ in_five_columns number) }
     ensures extends { Extends text.old.items text.new.items }

@@ -1,4 +1,13 @@
 //! The committed index: how far a majority has acknowledged the log.
+//!
+//! A server that has acknowledged an index has every entry up to it. So sort the acknowledged indexes: the committed
+//! one is as far from the top as a majority reaches.
+//!
+//! ```text
+//! id       1 2 3 4 5
+//! index    9 4 7 4 6
+//! sorted   4 4 6 7 9    6 is committed, since 5, 3 and 1 have it
+//! ```
 ghost use Rattle.std.specs.Prelude.{◌≡◌, ◌+◌, ◌*◌, ◌<◌, ◌≤◌, length, nat_le, nat_lt, count_by, [], IfOk, IsOk, OnOk};
 ghost use Rattle.quorum_sets.specs.Ids.{size};
 ghost use Rattle.quorum_sets.specs.Voters.{pair};
@@ -12,8 +21,8 @@ use smallvec::SmallVec;
 use std::alloc::Global;
 
 /// The committed index of a set: the greatest index that more than half of its ids have acknowledged
-/// (`CommittedIndex` of etcd's package `quorum`). An unknown index counts as 0. The empty set commits the greatest `u64`.
-/// Allocates only for more than 8 ids.
+/// (`MajorityConfig.CommittedIndex` of etcd's package `quorum`). An unknown index counts as 0. The empty set commits
+/// the greatest `u64`, so that a joint configuration without outgoing voters commits what its incoming voters do.
 pub fn committed<S: MemberSet, A: AckSource>(
     alloc: Global,
     set: &S,
@@ -28,7 +37,8 @@ pub fn committed<S: MemberSet, A: AckSource>(
     Ok(majority_index(indexes.as_mut_slice()))
 }
 
-/// The smaller of the committed indexes of a pair of sets. Allocates only if one of them has more than 8 ids.
+/// The committed index of a joint configuration: the smaller one of its two sets, since a majority of each has to
+/// acknowledge an index (`JointConfig.CommittedIndex` of etcd's package `quorum`).
 pub fn joint_committed<S: MemberSet, A: AckSource>(
     alloc: Global,
     incoming: &S,
@@ -65,7 +75,8 @@ fn gather<S: MemberSet, A: AckSource>(
     Ok(())
 }
 
-// The index that a majority has reached: the one at position n - (n/2 + 1) of the sorted indexes. It leaves them sorted.
+// The index that a majority has reached: the one at position n - (n/2 + 1) of the n sorted indexes, so that n/2 + 1 of
+// them are at least as great. It leaves the indexes sorted.
 fn majority_index(indexes: &mut [u64]) -> u64
     ensures of_none { length indexes.old ≡ 0 → result ≡ greatest_index }
     ensures reached { 0 < length indexes.old → length indexes.old < 2 * count_by (nat_le result) indexes.old }

@@ -1,4 +1,4 @@
-//! Counting the ids of a set that pass a test.
+//! Counting the ids of a set that pass a test. Quorums and failures are both counted in this way.
 ghost use Rattle.std.specs.Prelude.{◌≡◌, ℕ, Bool};
 ghost use Rattle.quorum_sets.specs.Ids.{count_of, on_most};
 ghost use Rattle.quorum_sets.specs.Counting.{Decides};
@@ -6,7 +6,7 @@ ghost use Rattle.quorum_sets.specs.Counting.{Decides};
 use crate::majority::quorum;
 use crate::member_set::MemberSet;
 
-/// How many ids pass the test.
+/// The number of ids that pass the test.
 pub fn count_where<S: MemberSet, F: Fn(u64) -> bool>(set: &S, test: F) -> usize
     requires { F.IsAlwaysCallable test }
     ensures { (passes : ℕ → Bool) → Decides (F.post test) passes → result ≡ count_of passes (S.ids set.now) }
@@ -22,7 +22,7 @@ pub fn count_where<S: MemberSet, F: Fn(u64) -> bool>(set: &S, test: F) -> usize
     count
 }
 
-/// Whether more than half of the ids pass the test.
+/// Whether a majority of the ids passes the test. The empty set has no majority.
 pub fn most_pass<S: MemberSet, F: Fn(u64) -> bool>(set: &S, test: F) -> bool
     requires { F.IsAlwaysCallable test }
     ensures { (passes : ℕ → Bool) → Decides (F.post test) passes → result ≡ on_most passes (S.ids set.now) }

@@ -1,12 +1,13 @@
-//! How far two sets differ.
+//! How far two sets differ. A simple change may alter one voter, so the voters before and after it differ in one id at
+//! most.
 ghost use Rattle.std.specs.Prelude.{◌≡◌, ◌-◌, ◌^◌, ◌≤◌, min};
 ghost use Rattle.quorum_sets.specs.Ids.{has, size, count_of, difference_count};
 
 use crate::lookup::has_next;
 use crate::member_set::MemberSet;
 
-/// How many ids are in exactly one of the sets, saturating at the greatest `usize` (`symdiff` of etcd's package
-/// `confchange`).
+/// The number of ids that are in exactly one of the sets, saturating at the greatest `usize` (`symdiff` of etcd's
+/// package `confchange`). For (1 2 3) and (2 3 4) it is 2: 1 and 4 are each in one of them.
 pub fn symdiff<S: MemberSet>(a: &S, b: &S) -> usize
     ensures { result ≡ min (difference_count (S.ids a.now) (S.ids b.now)) (2 ^ 64 - 1) }
 {
@@ -14,7 +15,7 @@ pub fn symdiff<S: MemberSet>(a: &S, b: &S) -> usize
     (a.len() - common).saturating_add(b.len() - common)
 }
 
-// How many ids are in both sets.
+// The number of ids that are in both sets.
 fn common_count<S: MemberSet>(a: &S, b: &S) -> usize
     ensures count { result ≡ count_of (has (S.ids b.now)) (S.ids a.now) }
     ensures within { result ≤ size (S.ids a.now) }

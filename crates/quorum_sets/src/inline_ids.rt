@@ -10,8 +10,8 @@ use smallvec::SmallVec;
 use std::alloc::Global;
 use std::marker::Model;
 
-/// A set of ids as a sorted list. Up to 8 ids take no heap memory. `at` and `len` take constant time, and `contains` a binary
-/// search.
+/// A set of ids as a sorted list. A cluster has few members, so the list keeps up to 8 ids in the value itself and
+/// needs no heap memory for them.
 #[derive(Drop)]
 pub struct InlineIds {
     list: SmallVec<u64, 8>,
@@ -111,7 +111,7 @@ impl MemberSet for InlineIds {
     }
 }
 
-// Whether the list is strictly ascending.
+// Whether the list is strictly ascending, as most lists of ids are written.
 fn is_ascending(list: &[u64]) -> bool
     ensures { result ≡ true → IsAscending list.now }
 {
@@ -133,7 +133,8 @@ fn make_ascending(list: &mut SmallVec<u64, 8>)
     list.dedup();
 }
 
-// The position of the id in an ascending list, or the one at which it is to be inserted.
+// The position of the id in an ascending list, or the one at which it is to be inserted. In (1 3 5) they are `Ok(1)`
+// for 3 and `Err(2)` for 4.
 fn position_of(list: &[u64], id: u64) -> Result<usize, usize>
     requires { IsAscending list.now }
     ensures { MatchResult result (λ position. IsAtPosition list.now id position) (λ position. IsInsertionPoint list.now id position) }

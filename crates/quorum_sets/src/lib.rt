@@ -1,21 +1,26 @@
 //! Majorities and quorums: who has to agree before a log entry is committed or a leader is elected.
 //!
 //! A server is named by its id, and the voters of a configuration are a set of ids. More than half of the voters are a
-//! majority of them. A joint configuration has two sets of voters, the incoming and the outgoing ones, and a quorum is a
-//! majority of each:
+//! majority of them. A joint configuration has two sets of voters, the incoming and the outgoing ones, and a quorum is
+//! a majority of each:
 //!
 //! ```text
 //! (1 2 3)            1 2 is a quorum, and so is any other pair
 //! (2 3 4)&&(1 2 3)   2 3 is a quorum, and so is 1 2 4; 1 4 is not, since it is a majority of neither set
 //! ```
 //!
-//! Both decisions of Raft count to a quorum. The committed index is the greatest one that a quorum has acknowledged, and a
-//! vote is won once a quorum has granted it. If 1, 2 and 3 have acknowledged the indexes 7, 5 and 4, then 5 is committed in
-//! `(1 2 3)`. Any two quorums of one configuration share an id, and so do quorums of neighbouring configurations
-//! ([`common_member`] finds it), so what one quorum has committed is known to a member of the other.
+//! Both decisions of Raft need a quorum. The committed index is the greatest one that a quorum has acknowledged, and a
+//! vote is won once a quorum has granted it. Any two quorums of one configuration share an id, and so do quorums of
+//! neighbouring configurations ([`common_member`] finds it), so what one quorum has committed is known to a member of
+//! the other.
 //!
-//! The rules are those of etcd's package `quorum` and of sections 4.1 and 4.3 of Ongaro's dissertation. The form of the
-//! chart, which shows what each id has acknowledged, is own. Every call works over any [`MemberSet`].
+//! ```text
+//! let voters = TreeIds::of_list(alloc, &[1, 2, 3])?;
+//! let index = committed(alloc, &voters, &acks)?;   // 5, if 1, 2 and 3 have acknowledged 7, 5 and 4
+//! ```
+//!
+//! The rules are those of etcd's package `quorum` and of sections 4.1 and 4.3 of Ongaro's dissertation. How many voters
+//! may be down is own. Every call works over any [`MemberSet`].
 #![tactic(auto)]
 
 mod acknowledgement;

@@ -1,11 +1,12 @@
-//! Lookup of ids one after another, in ascending order.
+//! Lookup of ids one after another, in ascending order. Two sets are compared in this way: each id of the one is looked
+//! up in the other, from where the last search ended.
 ghost use Rattle.std.specs.Prelude.{◌≡◌, ℕ, ◌<◌, ◌≤◌, true, false, get_or};
 ghost use Rattle.quorum_sets.specs.Ids.{has, ascending, size};
 
 use crate::member_set::MemberSet;
 
-/// Whether the set has the id. The search begins at `position` and leaves it where it ended, so ascending ids are looked up
-/// in one pass over the set. The position is only a hint: an id below it is found too.
+/// Whether the set has the id. The search begins at `position` and leaves it where it ended, so ascending ids are
+/// looked up in one pass over the set. The position is only a hint: an id below it is found too.
 #[inline(always)]
 pub fn has_next<S: MemberSet>(set: &S, position: &mut usize, id: u64) -> bool
     ensures { result ≡ has (S.ids set.now) id }

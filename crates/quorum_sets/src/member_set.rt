@@ -1,11 +1,11 @@
-//! The interface of a set of ids.
+//! The interface of a set of ids. The rules are stated for it, so they hold however a set is stored.
 ghost use Rattle.std.specs.Prelude.{◌≡◌, not, IfOk, OnOk, OnErr, slice_get};
 ghost use Rattle.quorum_sets.specs.Ids.{Ids, no_ids, has, with_id, without_id, ascending, size, ids_of};
 
 use ascii_text::NoMemory;
 use std::alloc::Global;
 
-/// A finite set of ids. Only `of_list`, `try_clone`, `try_clone_from` and `insert` allocate.
+/// A finite set of ids, such as the voters of a configuration. It lists its ids in ascending order, each once.
 pub trait MemberSet: Drop {
     /// The ids that the set has.
     ghost ids: { Self → Ids };
@@ -14,7 +14,7 @@ pub trait MemberSet: Drop {
     fn empty(alloc: Global) -> Self
         ensures { ids result ≡ no_ids };
 
-    /// The set of the ids of a list, in any order and with repeats.
+    /// The set of the ids of a list, in any order and with repeats: of `[3, 1, 3]` it is (1 3).
     fn of_list(alloc: Global, list: &[u64]) -> Result<Self, NoMemory>
         ensures { IfOk result (λ set. ids set ≡ ids_of list.now) };
 
@@ -25,12 +25,12 @@ pub trait MemberSet: Drop {
     fn try_clone(&self) -> Result<Self, NoMemory>
         ensures { IfOk result (λ copy. ids copy ≡ ids self.now) };
 
-    /// Overwrites `self` with a copy of another set, reusing its memory. On `NoMemory` it is empty.
+    /// Overwrites `self` with the ids of another set.
     fn try_clone_from(&mut self, other: &Self) -> Result<(), NoMemory>
         ensures ok { OnOk result (ids self.new ≡ ids other.now) }
         ensures err { OnErr result (ids self.new ≡ no_ids) };
 
-    /// Adds the id to the set, and returns whether the set changed. On `NoMemory` the set is unchanged.
+    /// Adds the id to the set, and returns whether the set changed.
     fn insert(&mut self, id: u64) -> Result<bool, NoMemory>
         ensures changed { IfOk result (λ changed. changed ≡ not (has (ids self.old) id)) }
         ensures ok { OnOk result (ids self.new ≡ with_id (ids self.old) id) }

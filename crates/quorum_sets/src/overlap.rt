@@ -1,4 +1,5 @@
-//! The overlap of two quorums.
+//! The overlap of two quorums. A change of the voters is safe because the quorums before and after it overlap: 1 2 is a
+//! quorum of (1 2 3) and 2 3 4 is one of (1 2 3 4), and they share 2.
 ghost use Rattle.std.specs.Prelude.{◌≡◌, ℕ, IfSome, IfNone};
 ghost use Rattle.quorum_sets.specs.Voters.{pair};
 ghost use Rattle.quorum_sets.specs.Overlap.{IsCommon, IsLeastCommon, IsSharedMember};
@@ -6,9 +7,9 @@ ghost use Rattle.quorum_sets.specs.Overlap.{IsCommon, IsLeastCommon, IsSharedMem
 use crate::majority::is_quorum;
 use crate::member_set::MemberSet;
 
-/// The smallest id that a quorum of the pair `before` and a quorum of the pair `after` share; `None` if one of the sets is
-/// not a quorum or they share none. Quorums of neighbouring pairs always share one (own; that quorums overlap is from
-/// Ongaro's dissertation, 4.1 and 4.3). A pair is the incoming and the outgoing voters.
+/// The smallest id that a quorum of the pair `before` and a quorum of the pair `after` share; `None` if one of the sets
+/// is not a quorum or they share none. Quorums of neighbouring pairs always share one (own; that quorums overlap is
+/// from Ongaro's dissertation, 4.1 and 4.3). A pair is the incoming and the outgoing voters.
 pub fn common_member<S: MemberSet>(
     before: (&S, &S),
     after: (&S, &S),
@@ -26,7 +27,7 @@ pub fn common_member<S: MemberSet>(
     }
 }
 
-// The smallest id in both sets.
+// The smallest id in both sets: of (1 2 3) and (2 3 4) it is 2.
 fn least_common<S: MemberSet>(a: &S, b: &S) -> Option<u64>
     ensures least { IfSome result (IsLeastCommon (S.ids a.now) (S.ids b.now)) }
     ensures none { IfNone result ((id : ℕ) → ¬ IsCommon (S.ids a.now) (S.ids b.now) id) }

@@ -9,7 +9,8 @@ use std::alloc::Global;
 use std::collections::BTreeSet;
 use std::marker::Model;
 
-/// A set of ids over a `BTreeSet`. Its `at` takes linear time.
+/// A set of ids over a `BTreeSet`, for sets that get their ids one at a time and in no order. Its `at` walks from the
+/// first id.
 #[derive(Drop)]
 pub struct TreeIds {
     tree: BTreeSet<u64>,

@@ -1,11 +1,12 @@
-//! The votes that servers have cast.
+//! The votes that servers have cast in an election.
 ghost use Rattle.std.specs.Prelude.{◌≡◌};
 ghost use Rattle.std.specs.FinMap as finite;
 ghost use Rattle.quorum_sets.specs.Votes.{Votes, votes_in};
 
 use std::collections::BTreeMap;
 
-/// The votes: a finite map from ids to yes or no.
+/// The votes: a finite map from ids to yes or no. An id that is not in the map has not voted yet (the map that etcd's
+/// `VoteResult` takes).
 pub trait VoteSource {
     /// The votes, by id.
     ghost votes: { Self → Votes };

@@ -1,4 +1,12 @@
 //! The result of a vote, as etcd's package `quorum` counts it.
+//!
+//! A candidate wins once a majority has voted yes, and has lost once so many have voted no that no majority is left:
+//!
+//! ```text
+//! (1 2 3 4)   1 yes, 2 yes           pending
+//!             1 yes, 2 yes, 3 yes    won
+//!             1 no, 2 no             lost, since 3 and 4 are not a majority
+//! ```
 ghost use Rattle.std.specs.Prelude.{◌≡◌};
 ghost use Rattle.quorum_sets.specs.Ids.{count_of};
 ghost use Rattle.quorum_sets.specs.Voters.{pair};
@@ -8,7 +16,7 @@ use crate::majority::quorum;
 use crate::member_set::MemberSet;
 use crate::vote_source::VoteSource;
 
-/// The result of a vote (etcd's `quorum.VoteResult`).
+/// The result of a vote (`VoteResult` of etcd's package `quorum`).
 #[derive(Clone, Copy, Debug, PartialEq, Eq)]
 pub enum VoteResult {
     /// Neither won nor lost: it depends on ids that have not voted.
@@ -19,7 +27,8 @@ pub enum VoteResult {
     VoteWon,
 }
 
-/// The result of the vote of one set.
+/// The result of the vote of one set (`MajorityConfig.VoteResult` of etcd's package `quorum`). The vote of the empty
+/// set is won, so that a joint configuration without outgoing voters votes as its incoming voters do.
 pub fn vote<S: MemberSet, V: VoteSource>(set: &S, votes: &V) -> VoteResult
     ensures { result ≡ vote_result (S.ids set.now) (V.votes votes.now) }
 {
@@ -64,7 +73,8 @@ fn count_votes<S: MemberSet, V: VoteSource>(set: &S, votes: &V) -> Tally
     }
 }
 
-/// The result of the vote of a pair of sets: won if both are won, lost if one is lost, else pending.
+/// The result of the vote of a joint configuration: won if both sets win it, lost if one loses it, else pending
+/// (`JointConfig.VoteResult` of etcd's package `quorum`).
 pub fn joint_vote<S: MemberSet, V: VoteSource>(incoming: &S, outgoing: &S, votes: &V) -> VoteResult
     ensures { result ≡ joint_vote_result (pair (S.ids incoming.now) (S.ids outgoing.now)) (V.votes votes.now) }
 {

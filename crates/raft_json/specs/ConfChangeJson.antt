@@ -9,20 +9,20 @@ use Rattle.std.specs.Prelude.{ℕ}
 use Rattle.serde_json.specs.Data.{Data, number, unsigned, string, array, object, no_members, member}
 use Rattle.serde_json.specs.View.{items_of}
 
--- raftpb.ConfChangeType
+-- the name of a kind in Go: raftpb.ConfChangeType
 abbrev pub kind_name : Kind → List ℕ
 kind_name Voter = codes "ConfChangeAddNode"
 kind_name Learner = codes "ConfChangeAddLearnerNode"
 kind_name Remove = codes "ConfChangeRemoveNode"
 kind_name Update = codes "ConfChangeUpdateNode"
 
--- raftpb.ConfChangeTransition
+-- the name of a transition in Go: raftpb.ConfChangeTransition
 abbrev pub transition_name : Transition → List ℕ
 transition_name Auto = codes "ConfChangeTransitionAuto"
 transition_name Implicit = codes "ConfChangeTransitionJointImplicit"
 transition_name Explicit = codes "ConfChangeTransitionJointExplicit"
 
--- raftpb.ConfChangeSingle
+-- one change, as raftpb.ConfChangeSingle: {"node_id":4,"type":"ConfChangeAddNode"}
 abbrev pub change_json : Change → Data
 change_json change = object (member (codes "node_id") (number (unsigned change.id)) (member (codes "type") (string (kind_name change.kind)) no_members))
 
@@ -30,7 +30,7 @@ change_json change = object (member (codes "node_id") (number (unsigned change.i
 abbrev pub changes_json : List Change → Data
 changes_json changes = array (items_of (map change_json changes))
 
--- raftpb.ConfChangeV2
+-- a list of changes with its transition, as raftpb.ConfChangeV2
 abbrev pub conf_change_json : Transition → List Change → Data
 conf_change_json transition changes =
     object (member (codes "changes") (changes_json changes) (member (codes "transition") (string (transition_name transition)) no_members))

@@ -7,13 +7,13 @@ use Rattle.serde_json.specs.Find.{as_object, get}
 use Rattle.serde_json.specs.Read.{read}
 use Rattle.raft_json.specs.IdsJson.{ids_json, ids_in}
 
--- the keys that raftpb.ConfState has
+-- the key is one that raftpb.ConfState has
 unfoldable pub is_conf_state_key : List ℕ → Bool
 is_conf_state_key key =
     bytes_eq key (codes "voters") || bytes_eq key (codes "voters_outgoing") || bytes_eq key (codes "learners")
     || bytes_eq key (codes "learners_next") || bytes_eq key (codes "auto_leave")
 
--- there is no other key
+-- each key is one that raftpb.ConfState has
 abbrev pub has_only_keys : Members → Bool
 has_only_keys no_members = true
 has_only_keys (member key d ms) = is_conf_state_key key && has_only_keys ms
@@ -25,7 +25,7 @@ boolean_in (Some null) = Some false
 boolean_in (Some (boolean b)) = Some b
 boolean_in (Some _) = None
 
--- the lists and the boolean, each at its key
+-- the four lists and the boolean, each at its key, if each is one
 abbrev pub lists_in : Data → Option ConfStateLists
 lists_in d =
     option_and_then (λ voters.

@@ -4,7 +4,7 @@ use Rattle.serde_json.specs.Data.{Data, null, number, unsigned, array, Items, no
 use Rattle.serde_json.specs.Find.{as_number, as_u64}
 use Rattle.serde_json.specs.View.{items_of}
 
--- a list of ids as JSON, in its order
+-- a list of ids as JSON, in its order, as [1,2,3]
 abbrev pub ids_json : List ℕ → Data
 ids_json ids = array (items_of (map (λ id. number (unsigned id)) ids))
 

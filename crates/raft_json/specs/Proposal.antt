@@ -1,4 +1,4 @@
--- What to propose to etcd for a step, and where it leads etcd.
+-- What to propose to etcd for a step, and where it leads etcd (etcd's `raftpb.ConfChangeV2`).
 use Rattle.std.specs.Prelude.{ℕ, true, false, List, [], ◌∷◌, Option, Some, None, Ok, Err, slice_get, if◌then◌else◌}
 use Rattle.quorum_sets.specs.Ids.{ascending}
 use Rattle.conf_change.specs.Configuration.{Configuration}
@@ -16,18 +16,19 @@ abbrev pub update_of : Option ℕ → List Change
 update_of None = []
 update_of (Some id) = record { kind = Update; id = id } ∷ []
 
--- the changes, or if there are none, an update of the least incoming voter: on an empty list etcd leaves the joint configuration
+-- the changes, or if there are none, an update of the least incoming voter: on an empty list etcd leaves the joint
+-- configuration
 abbrev pub or_update : Configuration → List Change → List Change
 or_update c [] = update_of (slice_get (ascending c.incoming) 0)
 or_update c (change ∷ changes) = change ∷ changes
 
--- the changes to propose
+-- the changes to propose for a step
 abbrev pub proposed_changes : Configuration → Step → List Change
 proposed_changes c (Simple changes) = or_update c changes
 proposed_changes c (EnterJoint _ changes) = or_update c changes
 proposed_changes c LeaveJoint = []
 
--- the transition to propose
+-- the transition to propose for a step
 abbrev pub transition_of : Step → Transition
 transition_of (Simple _) = Auto
 transition_of (EnterJoint true _) = Implicit
@@ -38,7 +39,7 @@ transition_of LeaveJoint = Auto
 abbrev pub proposed_step : Configuration → Step → Step
 proposed_step c step = step_for (transition_of step) (proposed_changes c step)
 
--- a joint configuration with auto-leave is left automatically
+-- the outcome after auto-leave: a joint configuration with auto-leave is left automatically
 abbrev pub after_auto_leave : Outcome → Outcome
 after_auto_leave (Ok c) = if c.auto_leave then leave_outcome c else Ok c
 after_auto_leave (Err why) = Err why

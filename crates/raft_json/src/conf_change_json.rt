@@ -1,4 +1,9 @@
 //! The JSON of the change to propose to etcd for a step.
+//!
+//! ```text
+//! enter-joint autoleave=true v4
+//! {"changes":[{"node_id":4,"type":"ConfChangeAddNode"}],"transition":"ConfChangeTransitionJointImplicit"}
+//! ```
 ghost use Rattle.std.specs.Prelude.{◌≡◌, IfOk, map};
 ghost use Rattle.serde_json.specs.View.{view};
 ghost use Rattle.raft_json.specs.ConfChangeJson as spec;
@@ -11,10 +16,11 @@ use quorum_sets::{MemberSet, NoMemory};
 use serde_json::{Map, Value, put};
 use std::alloc::Global;
 
-/// The `raftpb.ConfChangeV2` to propose for a step from a configuration, so that etcd's raft ends in the same configuration
-/// as the step (the module `laws` says for which steps). The transition of a simple step is Auto; entering a joint
-/// configuration is JointImplicit with auto-leave, and JointExplicit without it. If either has no change, an update of the
-/// least incoming voter is proposed, since on an empty list etcd leaves the joint configuration.
+/// The `raftpb.ConfChangeV2` to propose for a step from a configuration, so that etcd's raft ends in the same
+/// configuration as the step (the module `laws` says for which steps). The transition of a simple step is Auto;
+/// entering a joint configuration is JointImplicit with auto-leave, and JointExplicit without it. If either has no
+/// change, an update of the least incoming voter is proposed, since on an empty list etcd leaves the joint
+/// configuration.
 pub fn conf_change_value<S: MemberSet>(
     alloc: Global,
     before: &Config<S>,
@@ -30,7 +36,7 @@ pub fn conf_change_value<S: MemberSet>(
     Ok(Value::Object(members))
 }
 
-// The changes to propose for a step.
+// The changes to propose for a step: its own, or the update of the least incoming voter.
 fn proposed<S: MemberSet>(alloc: Global, before: &Config<S>, step: &Step) -> Result<Value, NoMemory>
     ensures { IfOk result (λ v. view v ≡ changes_json (proposed_changes before.now step.now)) }
 {
@@ -64,6 +70,7 @@ fn change_value(alloc: Global, change: Change) -> Result<Value, NoMemory>
     Ok(Value::Object(members))
 }
 
+// The transition to propose for a step.
 fn transition_of(step: &Step) -> Transition
     ensures { result ≡ proposal.transition_of step.now }
 {
@@ -74,6 +81,7 @@ fn transition_of(step: &Step) -> Transition
     }
 }
 
+// The name of a transition in Go (`raftpb.ConfChangeTransition`).
 fn transition_name(transition: Transition) -> &'static str
     ensures { result.now ≡ spec.transition_name transition }
 {
@@ -84,6 +92,7 @@ fn transition_name(transition: Transition) -> &'static str
     }
 }
 
+// The name of a kind of change in Go (`raftpb.ConfChangeType`).
 fn kind_name(kind: Kind) -> &'static str
     ensures { result.now ≡ spec.kind_name kind }
 {

@@ -1,4 +1,4 @@
-//! Lists of ids in JSON.
+//! Lists of ids in JSON, as `[1,2,3]`.
 ghost use Rattle.std.specs.Prelude.{◌≡◌, Some, None, Err, IfOk, option_map};
 ghost use Rattle.serde_json.specs.View.{view, items_view};
 ghost use Rattle.raft_json.specs.IdsJson as spec;

@@ -1,8 +1,8 @@
 //! The JSON of raftpb messages: saved configurations, and changes to propose to a cluster of etcd's raft.
 //!
-//! A program that embeds go.etcd.io/raft keeps a `raftpb.ConfState` and proposes `raftpb.ConfChangeV2`. Go's encoding/json
-//! reads and writes both as objects. [`read_conf_state_json`] reads a saved configuration, whose keys come in any order and
-//! may be missing, and [`conf_state_value`] makes one, with every key in ascending order:
+//! A program that embeds go.etcd.io/raft keeps a `raftpb.ConfState` and proposes `raftpb.ConfChangeV2`. Go's
+//! encoding/json reads and writes both as objects. [`read_conf_state_json`] reads a saved configuration, whose keys
+//! come in any order and may be missing, and [`conf_state_value`] makes one, with every key in ascending order:
 //!
 //! ```text
 //! {"voters":[1,2,3],"learners":[4]}
