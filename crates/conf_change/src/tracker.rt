@@ -1,11 +1,9 @@
-//! The tracker: a configuration, and the progress of its members. A step is made on both at once:
+//! The tracker: a configuration, and the progress of its members. A step changes both. If the last index is 9, and 1 is
+//! removed and added again:
 //!
 //! ```text
-//! (1 2)    1: match=5 next=6                        --simple r1 v1 l3-->
-//!          2: match=4 next=5
-//! (1 2)    1: match=0 next=9, since 1 was removed
-//!          2: match=4 next=5
-//!          3: match=0 next=9, a new learner, if the last index is 9
+//!              (1 2)                1: match=5 next=6   2: match=4 next=6
+//! --r1 v1 l3-> (1 2) learners=(3)   1: match=0 next=9   2: match=4 next=6   3: match=0 next=9 learner
 //! ```
 ghost use Rattle.std.specs.Prelude.{◌≡◌, ℕ, ◌-◌, ◌^◌, min, true, false, not, [], ◌∷◌, ◌++◌, map, length, slice_get, IfOk, OnOk, OnErr, if◌then◌else◌, ◌==◌, Some, is_some};
 ghost use Rattle.std.specs.Ordering.{nat_cmp};
