@@ -40,7 +40,7 @@ pub fn restored_is_described()
 
 /// The ConfState of a configuration, its lists in ascending order, describes it, and a ConfState describes at most one
 /// configuration. So a configuration that is saved and restored is the one from before.
-pub fn saved_form_describes()
+pub fn conf_state_describes()
     ensures own { (c : Configuration) → Describes (lists_of c) c }
     ensures one { (saved : ConfStateLists) (c d : Configuration) → Describes saved c → Describes saved d → c ≡ d }
 {}

@@ -30,7 +30,7 @@ abbrev pub is_any_learner : Configuration → ℕ → Bool
 is_any_learner c id = has c.learners id || has c.learners_next id
 
 -- the id has the roles that it had: incoming voter, learner (now or next), or neither
-pub record HasSamePart (before after : Configuration) (id : ℕ) : Type 0 where
+pub record HasSameRoles (before after : Configuration) (id : ℕ) : Type 0 where
   pub voter : has after.incoming id ≡ has before.incoming id
   pub learner : is_any_learner after id ≡ is_any_learner before id
 

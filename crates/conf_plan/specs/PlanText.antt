@@ -90,7 +90,7 @@ pub record IsFirstBadLine (text : List ℕ) (number : ℕ) : Type 0 where
   pub position : plan_lines text ≡ before ++ line ∷ after
   pub counted : number ≡ length before + 1
   pub in_first_four : number ≤ 4
-  pub stand : AllZip IsLineOf before steps
+  pub parsed : AllZip IsLineOf before steps
   pub bad : (step : Step) → ¬ (IsLineOf line step)
   pub something : ¬ (IsNothingToDo text)
 
@@ -102,7 +102,7 @@ pub record IsTooLong (text : List ℕ) : Type 0 where
   pub steps : List Step
   pub position : plan_lines text ≡ before ++ fifth ∷ after
   pub four : length before ≡ 4
-  pub stand : AllZip IsLineOf before steps
+  pub parsed : AllZip IsLineOf before steps
 
 -- the text is not parsed as a plan, for this reason; running out of memory is never the text's fault
 abbrev pub HasFault : List ℕ → PlanTextFault → Type 0

@@ -12,9 +12,9 @@ use Rattle.conf_change.specs.declared.step.Step.TheVariants.{Simple, EnterJoint,
 
 -- what an id has to become, if anything, by its roles in the target (voter, learner) and now (incoming voter, learner)
 abbrev pub kind_by : Bool → Bool → Bool → Bool → Option Kind
-kind_by wanted_voter wanted_learner voter learner =
-    if wanted_voter then (if voter then None else Some Voter)
-    else (if wanted_learner then (if learner then None else Some Learner)
+kind_by target_voter target_learner voter learner =
+    if target_voter then (if voter then None else Some Voter)
+    else (if target_learner then (if learner then None else Some Learner)
     else (if voter || learner then Some Remove else None))
 
 -- what an id of a configuration has to become, if anything, on the way to these voters and learners

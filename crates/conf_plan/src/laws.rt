@@ -14,7 +14,7 @@ ghost use Rattle.conf_change.specs.declared.transition.Transition.{Transition};
 ghost use Rattle.conf_plan.specs.declared.strategy.Strategy.{Strategy};
 ghost use Rattle.conf_plan.specs.declared.strategy.Strategy.TheVariants.{Shortest, LearnersFirst};
 ghost use Rattle.conf_plan.specs.declared.text.PlanTextFault.{PlanTextFault};
-ghost use Rattle.conf_plan.specs.Best.{times_named, HasSamePart, IsBest};
+ghost use Rattle.conf_plan.specs.Best.{times_named, HasSameRoles, IsBest};
 ghost use Rattle.conf_plan.specs.PathBy.{has_path, path_by, Serves};
 ghost use Rattle.conf_plan.specs.Planned.{planned};
 ghost use Rattle.conf_plan.specs.PlanSteps.{HasTokenIds, IsPlan};
@@ -30,7 +30,7 @@ pub fn run_stays_valid()
 
 /// A run that does not name an id leaves its roles as they are: incoming voter, learner (now or next), or neither.
 pub fn unnamed_stays()
-    ensures { (before after : Configuration) (steps : List Step) (id : ℕ) → IsRun before steps after → times_named id steps ≡ 0 → HasSamePart before after id }
+    ensures { (before after : Configuration) (steps : List Step) (id : ℕ) → IsRun before steps after → times_named id steps ≡ 0 → HasSameRoles before after id }
 {}
 
 /// The plan from one configuration to another is a run of at most four steps.

@@ -36,11 +36,11 @@ pub(crate) fn moves_to<S: MemberSet>(
         earlier(to_voter_walk.next, to_learner_walk.next),
         earlier(voter_walk.next, learner_walk.next),
     ) {
-        let wanted_voter = to_voter_walk.pass(to_voters, id);
-        let wanted_learner = to_learner_walk.pass(to_learners, id);
+        let target_voter = to_voter_walk.pass(to_voters, id);
+        let target_learner = to_learner_walk.pass(to_learners, id);
         let voter = voter_walk.pass(incoming, id);
         let learner = learner_walk.pass(learners, id);
-        if let Some(kind) = kind_of_move(wanted_voter, wanted_learner, voter, learner) {
+        if let Some(kind) = kind_of_move(target_voter, target_learner, voter, learner) {
             changes.push(Change { kind, id })?;
         }
     }
@@ -97,16 +97,16 @@ fn earlier(a: Option<u64>, b: Option<u64>) -> Option<u64>
 // What an id has to become, if anything, by what it is to be in the target and what it is now. A voter that is to be a
 // learner becomes one; a learner that is to be neither is removed.
 pub(crate) fn kind_of_move(
-    wanted_voter: bool,
-    wanted_learner: bool,
+    target_voter: bool,
+    target_learner: bool,
     voter: bool,
     learner: bool,
 ) -> Option<Kind>
-    ensures { result ≡ kind_by wanted_voter wanted_learner voter learner }
+    ensures { result ≡ kind_by target_voter target_learner voter learner }
 {
-    if wanted_voter {
+    if target_voter {
         if voter { None } else { Some(Kind::Voter) }
-    } else if wanted_learner {
+    } else if target_learner {
         if learner { None } else { Some(Kind::Learner) }
     } else if voter || learner {
         Some(Kind::Remove)

@@ -66,7 +66,7 @@ impl From<AllocFailed<Step>> for PlanTextFault {
 #[tactic(auto, using(crate::proofs::PlanText::PrintedPlan::printed_laws))]
 pub fn print_plan(text: &mut Vec<u8>, plan: &Plan) -> Result<(), NoMemory>
     ensures ok { OnOk result (text.new.items ≡ text.old.items ++ plan_text plan.now) }
-    ensures stands { ParsesToPlan (plan_text plan.now) plan.now }
+    ensures denotes { ParsesToPlan (plan_text plan.now) plan.now }
     ensures reads_back { plan_in (plan_text plan.now) ≡ Ok plan.now }
     ensures err { OnErr result (text.new.items ≡ text.old.items) }
 {
@@ -202,7 +202,7 @@ fn letter(kind: Kind) -> u8
 /// step, and the empty text is one blank line (own).
 #[tactic(auto, using(crate::proofs::PlanText::PlanFromLines::answer_laws))]
 pub fn read_plan(alloc: Global, text: &[u8]) -> Result<Plan, PlanTextFault>
-    ensures stands { IfOk result (ParsesToPlan text.now) }
+    ensures denotes { IfOk result (ParsesToPlan text.now) }
     ensures fault { IfErr result (λ fault. (fault ≡ PlanTextFault.NoMemory) ⊎ HasFault text.now fault) }
     ensures read { (steps : List Step) → ParsesToPlan text.now steps → (result ≡ Ok steps) ⊎ (result ≡ Err PlanTextFault.NoMemory) }
     ensures refused { (fault : PlanTextFault) → HasFault text.now fault → (result ≡ Err fault) ⊎ (result ≡ Err PlanTextFault.NoMemory) }

@@ -26,7 +26,7 @@ abbrev pub QuorumsMeet : Voters → Voters → Type 0
 QuorumsMeet before after = (first second : Ids) → AreQuorums before after first second → (id : ℕ) × IsCommon first second id
 
 -- the id has acknowledged the index, and voted yes
-pub record CarriesOn (acks : Acks) (votes : Votes) (index id : ℕ) : Type 0 where
+pub record HasAcknowledgedAndVoted (acks : Acks) (votes : Votes) (index id : ℕ) : Type 0 where
   pub acknowledged : index ≤ acked_index acks id
   pub voted : IsTrue (is_yes votes id)
 
@@ -48,7 +48,7 @@ pub record CommitsAndWins (one other : Voters) (acks : Acks) (votes : Votes) (in
 -- if the first pair has committed an index and a vote of the second is won, then some id voted yes and has acknowledged
 -- the index
 abbrev pub CommittedMeetsWon : Voters → Voters → Type 0
-CommittedMeetsWon one other = (acks : Acks) (votes : Votes) (index : ℕ) → CommitsAndWins one other acks votes index → (id : ℕ) × CarriesOn acks votes index id
+CommittedMeetsWon one other = (acks : Acks) (votes : Votes) (index : ℕ) → CommitsAndWins one other acks votes index → (id : ℕ) × HasAcknowledgedAndVoted acks votes index id
 
 -- quorums of before and after meet, and what is committed on one side meets every vote that is won on the other
 pub record Overlap (before after : Voters) : Type 0 where

@@ -32,10 +32,10 @@ use Rattle.conf_plan.proofs.Runs.JointEnds.{not_both}
 -- ---- what an id costs
 -- how many changes an id needs, by whether it is wanted as a voter, is wanted as a learner, is a voter and is a learner
 abbrev cost : Bool → Bool → Bool → Bool → ℕ
-cost true wanted_learner true learner = 0
-cost true wanted_learner false true = 1
-cost true wanted_learner false false = 2
-cost false wanted_learner true learner = 1
+cost true target_learner true learner = 0
+cost true target_learner false true = 1
+cost true target_learner false false = 2
+cost false target_learner true learner = 1
 cost false true false true = 0
 cost false true false false = 1
 cost false false false true = 1

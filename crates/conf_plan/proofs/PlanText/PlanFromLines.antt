@@ -49,7 +49,7 @@ record IsBadAfter (count : ℕ) (lines : List (List ℕ)) (number : ℕ) : Type 
   position : lines ≡ before ++ line ∷ after
   counted : number ≡ count + length before + 1
   in_first_four : number ≤ 4
-  stand : AllZip IsLineOf before steps
+  parsed : AllZip IsLineOf before steps
   bad : (step : Step) → ¬ (IsLineOf line step)
 
 record IsLongAfter (count : ℕ) (lines : List (List ℕ)) : Type 0 where
@@ -59,7 +59,7 @@ record IsLongAfter (count : ℕ) (lines : List (List ℕ)) : Type 0 where
   steps : List Step
   position : lines ≡ before ++ fifth ∷ after
   four : count + length before ≡ 4
-  stand : AllZip IsLineOf before steps
+  parsed : AllZip IsLineOf before steps
 
 -- what an answer says of the lines that follow this many
 abbrev Tells : ℕ → List (List ℕ) → Result (List Step) PlanTextFault → Type 0
@@ -79,7 +79,7 @@ Tells-step count line lines step (Err (BadLine number)) is h = record {
   position = ap (λ ls. line ∷ ls) h.position;
   counted = omega (arith, h.counted);
   in_first_four = h.in_first_four;
-  stand = (is, h.stand);
+  parsed = (is, h.parsed);
   bad = h.bad;
 }
 Tells-step count line lines step (Err TooManySteps) is h = record {
@@ -89,7 +89,7 @@ Tells-step count line lines step (Err TooManySteps) is h = record {
   steps = step ∷ h.steps;
   position = ap (λ ls. line ∷ ls) h.position;
   four = omega (arith, h.four);
-  stand = (is, h.stand);
+  parsed = (is, h.parsed);
 }
 Tells-step count line lines step (Err NoMemory) is h = absurd h
 
@@ -98,7 +98,7 @@ Tells-steps_in count [] small = (omega arith, tt)
 Tells-steps_in count (line ∷ lines) small = go (eqb count 4) (step_in (tokens_in line)) refl refl (Tells-steps_in (count + 1) lines) where
   go : (full : Bool) (found : Option Step) → eqb count 4 ≡ full → step_in (tokens_in line) ≡ found → (count + 1 ≤ 4 → Tells (count + 1) lines (steps_in (count + 1) lines))
       → Tells count (line ∷ lines) (cond full (Err TooManySteps) (and_steps (count + 1) found (steps_in (count + 1) lines)))
-  go true found is_full is_found later = record { before = []; fifth = line; after = lines; steps = []; position = refl; four = grind (arith, nat_tests); stand = tt }
+  go true found is_full is_found later = record { before = []; fifth = line; after = lines; steps = []; position = refl; four = grind (arith, nat_tests); parsed = tt }
   go false None is_full is_found later = record {
     before = [];
     line = line;
@@ -107,7 +107,7 @@ Tells-steps_in count (line ∷ lines) small = go (eqb count 4) (step_in (tokens_
     position = refl;
     counted = omega arith;
     in_first_four = grind (arith, nat_tests);
-    stand = tt;
+    parsed = tt;
     bad = IsLineOf-none line is_found;
   }
   go false (Some step) is_full is_found later =
@@ -177,10 +177,10 @@ plan_in-ok text steps h = elim h [
 
 pub plan_in-fault : (text : List ℕ) (fault : PlanTextFault) → HasFault text fault → plan_in text ≡ Err fault
 plan_in-fault text (BadLine number) h =
-    plan_in-steps text h.something ∙ ap (steps_in 0) h.position ∙ steps_in-bad 0 number h.before h.steps h.line h.after h.stand (omega (arith, h.counted)) h.in_first_four h.bad
+    plan_in-steps text h.something ∙ ap (steps_in 0) h.position ∙ steps_in-bad 0 number h.before h.steps h.line h.after h.parsed (omega (arith, h.counted)) h.in_first_four h.bad
 plan_in-fault text TooManySteps h =
     let long : ¬ (IsNothingToDo text) = λ s. omega (arith, ap length (sym s.alone ∙ h.position), length-append h.before (h.fifth ∷ h.after), h.four) in
-    plan_in-steps text long ∙ ap (steps_in 0) h.position ∙ steps_in-long 0 h.before h.steps h.fifth h.after h.stand (omega (arith, h.four))
+    plan_in-steps text long ∙ ap (steps_in 0) h.position ∙ steps_in-long 0 h.before h.steps h.fifth h.after h.parsed (omega (arith, h.four))
 plan_in-fault text NoMemory h = absurd h
 
 -- what an answer says of the text
@@ -198,11 +198,11 @@ TellsOf-lines text something (Err (BadLine number)) h = record {
   position = h.position;
   counted = omega (arith, h.counted);
   in_first_four = h.in_first_four;
-  stand = h.stand;
+  parsed = h.parsed;
   bad = h.bad;
   something = something;
 }
-TellsOf-lines text something (Err TooManySteps) h = record { before = h.before; fifth = h.fifth; after = h.after; steps = h.steps; position = h.position; four = omega (arith, h.four); stand = h.stand }
+TellsOf-lines text something (Err TooManySteps) h = record { before = h.before; fifth = h.fifth; after = h.after; steps = h.steps; position = h.position; four = omega (arith, h.four); parsed = h.parsed }
 TellsOf-lines text something (Err NoMemory) h = absurd h
 
 TellsOf-plan_in : (text : List ℕ) → TellsOf text (plan_in text)

@@ -17,7 +17,7 @@ use Rattle.conf_change.specs.declared.step.Step.{Step}
 use Rattle.conf_change.specs.declared.step.Step.TheVariants.{Simple, EnterJoint, LeaveJoint}
 use Rattle.conf_change.proofs.Offered.{SimpleTaken-from_outcome, EnterTaken-from_outcome, LeaveTaken-from_outcome, has-incoming_after, has-learners_after, has-next_after, has-after_leave}
 use Rattle.conf_plan.specs.Run.{IsRun}
-use Rattle.conf_plan.specs.Best.{times_named, is_any_learner, HasSamePart}
+use Rattle.conf_plan.specs.Best.{times_named, is_any_learner, HasSameRoles}
 use Rattle.conf_plan.proofs.FindingMoves.OfEachId.{last_effective-cons}
 
 -- ---- a step decides by its last word alone, whether the id goes out or not
@@ -67,7 +67,7 @@ no_token q (x ∷ xs) none =
     let both : cond (names q x) 1 0 + count_by (names q) xs ≡ 0 = sym (sum_by-cons (λ y. cond (names q y) 1 0) x xs) ∙ none in
     last_effective-cons x xs q ∙ (λ i. option_or (no_token q xs (omega arith) i) (cond (not_counted (names q x) (omega arith) i) (Some x.kind) None))
 
-outcome-same_part : (c after : Configuration) (step : Step) (q : ℕ) → outcome c step ≡ Ok after → count_by (names q) (changes_of step) ≡ 0 → HasSamePart c after q
+outcome-same_part : (c after : Configuration) (step : Step) (q : ℕ) → outcome c step ≡ Ok after → count_by (names q) (changes_of step) ≡ 0 → HasSameRoles c after q
 outcome-same_part c after step q e none =
     let part = outcome-part c after step q e in
     let silent = no_token q (changes_of step) none in
@@ -76,7 +76,7 @@ outcome-same_part c after step q e none =
       learner = part.learner ∙ ap (λ token. is_learner_after token false (is_any_learner c q)) silent;
     }
 
-pub run-same_part : (before after : Configuration) (steps : List Step) (q : ℕ) → IsRun before steps after → times_named q steps ≡ 0 → HasSamePart before after q
+pub run-same_part : (before after : Configuration) (steps : List Step) (q : ℕ) → IsRun before steps after → times_named q steps ≡ 0 → HasSameRoles before after q
 run-same_part before after [] q run none = record { voter = ap (λ c. has c.incoming q) (sym run); learner = ap (λ c. is_any_learner c q) (sym run) }
 run-same_part before after (step ∷ steps) q run none =
     let both : count_by (names q) (changes_of step) + times_named q steps ≡ 0 =

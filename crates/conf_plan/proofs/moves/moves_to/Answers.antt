@@ -19,14 +19,14 @@ loop-id-smaller-in-Continue-branch-2 g c =
     let now = c.loop-id.invariant in
     left_of_four-shorter _ _ _ _ _ _ _ _ _ _ _ _ _ _ _ _ _
     (four-first _ _ _ _ _ _ _ _ _ _ _ _ _ _ _ now.to_voter.here now.to_learner.here now.voter.here now.learner.here c.earlier.ensures c.earlier-in-loop-id.ensures c.in-Some.ensures)
-    c.pass-wanted_voter.ensures.passed c.pass-wanted_learner.ensures.passed c.pass-voter.ensures.passed c.pass-learner.ensures.passed
+    c.pass-target_voter.ensures.passed c.pass-target_learner.ensures.passed c.pass-voter.ensures.passed c.pass-learner.ensures.passed
 
 pub loop-id-smaller : goal.loop-id-smaller
 loop-id-smaller g c =
     let now = c.loop-id.invariant in
     left_of_four-shorter _ _ _ _ _ _ _ _ _ _ _ _ _ _ _ _ _
     (four-first _ _ _ _ _ _ _ _ _ _ _ _ _ _ _ now.to_voter.here now.to_learner.here now.voter.here now.learner.here c.earlier.ensures c.earlier-in-loop-id.ensures c.in-Some.ensures)
-    c.pass-wanted_voter.ensures.passed c.pass-wanted_learner.ensures.passed c.pass-voter.ensures.passed c.pass-learner.ensures.passed
+    c.pass-target_voter.ensures.passed c.pass-target_learner.ensures.passed c.pass-voter.ensures.passed c.pass-learner.ensures.passed
 
 pub loop-id-preserved-in-Continue-branch-2 : goal.loop-id-preserved-in-Continue-branch-2
 loop-id-preserved-in-Continue-branch-2 g c =
@@ -38,9 +38,9 @@ loop-id-preserved-in-Continue-branch-2 g c =
           subst (IsWalked from _ _ _ _ _ _) (ap (λ kind. with_move changes kind c.in-Some.id) (sym c.in-Some-kind_of_move.ensures) ∙ sym c.in_ok-push.ensures.items)
           (IsWalked-one_more from _ _ _ _ _ _ _ _ _ _ c.in-Some.id changes _ _ _ _ now.walked
           (four-first _ _ _ _ _ _ _ _ _ _ _ _ _ _ _ now.to_voter.here now.to_learner.here now.voter.here now.learner.here c.earlier.ensures c.earlier-in-loop-id.ensures c.in-Some.ensures)
-          c.pass-wanted_voter.ensures.passed c.pass-wanted_learner.ensures.passed c.pass-voter.ensures.passed c.pass-learner.ensures.passed (omega arith));
-      to_voter = c.pass-wanted_voter.ensures.standing;
-      to_learner = c.pass-wanted_learner.ensures.standing;
+          c.pass-target_voter.ensures.passed c.pass-target_learner.ensures.passed c.pass-voter.ensures.passed c.pass-learner.ensures.passed (omega arith));
+      to_voter = c.pass-target_voter.ensures.standing;
+      to_learner = c.pass-target_learner.ensures.standing;
       voter = c.pass-voter.ensures.standing;
       learner = c.pass-learner.ensures.standing;
     }
@@ -55,9 +55,9 @@ loop-id-preserved g c =
           subst (IsWalked from _ _ _ _ _ _) (ap (λ kind. with_move changes kind c.in-Some.id) (sym c.in_default-kind_of_move.ensures))
           (IsWalked-one_more from _ _ _ _ _ _ _ _ _ _ c.in-Some.id changes _ _ _ _ now.walked
           (four-first _ _ _ _ _ _ _ _ _ _ _ _ _ _ _ now.to_voter.here now.to_learner.here now.voter.here now.learner.here c.earlier.ensures c.earlier-in-loop-id.ensures c.in-Some.ensures)
-          c.pass-wanted_voter.ensures.passed c.pass-wanted_learner.ensures.passed c.pass-voter.ensures.passed c.pass-learner.ensures.passed (omega arith));
-      to_voter = c.pass-wanted_voter.ensures.standing;
-      to_learner = c.pass-wanted_learner.ensures.standing;
+          c.pass-target_voter.ensures.passed c.pass-target_learner.ensures.passed c.pass-voter.ensures.passed c.pass-learner.ensures.passed (omega arith));
+      to_voter = c.pass-target_voter.ensures.standing;
+      to_learner = c.pass-target_learner.ensures.standing;
       voter = c.pass-voter.ensures.standing;
       learner = c.pass-learner.ensures.standing;
     }

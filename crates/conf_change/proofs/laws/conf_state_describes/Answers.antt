@@ -1,5 +1,5 @@
 use Rattle.conf_change.proofs.Configurations.DescribedByLists.{Describes-lists_of, Describes-same}
-use Rattle.conf_change.proofs.laws.saved_form_describes.Goals as goal
+use Rattle.conf_change.proofs.laws.conf_state_describes.Goals as goal
 
 pub returns-clause-own : goal.returns-clause-own
 returns-clause-own c = Describes-lists_of
