@@ -1,11 +1,11 @@
-/* Plans the change that puts 5 in the place of 1, applies the plan, and counts what is committed then. README tells how this is built. */
+/* Plans the change that puts 5 in the place of 1, applies the plan, and counts what is committed then. README says how this is built. */
 #include <stdio.h>
 #include <string.h>
 
 #include "confscript.h"
 
 static const char now[] = "Voters:[1 2 3] VotersOutgoing:[] Learners:[] LearnersNext:[] AutoLeave:false";
-static const char wanted[] = "Voters:[2 3 5] VotersOutgoing:[] Learners:[] LearnersNext:[] AutoLeave:false";
+static const char target[] = "Voters:[2 3 5] VotersOutgoing:[] Learners:[] LearnersNext:[] AutoLeave:false";
 
 static const uint8_t *bytes(const char *text) { return (const uint8_t *)text; }
 
@@ -13,7 +13,7 @@ int main(void) {
     uint8_t plan[512], after[512];
 
     struct confscript_answer planned =
-        confscript_plan(bytes(now), strlen(now), bytes(wanted), strlen(wanted), CONFSCRIPT_SHORTEST, plan, sizeof plan);
+        confscript_plan(bytes(now), strlen(now), bytes(target), strlen(target), CONFSCRIPT_SHORTEST, plan, sizeof plan);
     if (planned.status != CONFSCRIPT_DONE) {
         fprintf(stderr, "no plan: status %u, number %llu\n", (unsigned)planned.status, (unsigned long long)planned.number);
         return 1;

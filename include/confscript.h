@@ -11,7 +11,7 @@
  * Each call returns a status and a number, and keeps no state. It reads its arguments, and writes only to `out`.
  * Nothing checks these rules for callers:
  * - Each pointer is aligned and not NULL, even for no elements, and points to as many elements as the count after it says.
- *   For no elements any pointer will do that is: a C++ caller writes `v.empty() ? &one : v.data()`.
+ *   For no elements any pointer will do that is aligned and not NULL: a C++ caller writes `v.empty() ? &one : v.data()`.
  * - `out` overlaps nothing else that the call is given, and nobody else uses it while the call runs. Nobody changes what the
  *   other pointers point to meanwhile.
  * - malloc, realloc and free belong to one allocator, which aligns a block as malloc of the C library does.
@@ -48,8 +48,8 @@ enum confscript_status {
     CONFSCRIPT_BAD_CONF_STATE = 3,
     /* confscript_check: a list of the line names an id twice. confscript_committed and _vote: `ids` does. */
     CONFSCRIPT_REPEATED_ID = 4,
-    /* The line names no configuration that the call accepts. confscript_check says why, with one exception: a valid
-       configuration with members but no incoming voter, which confscript_apply does not accept. The number is as for
+    /* The line names no configuration that the call accepts. confscript_check says why, with one exception: it accepts a
+       valid configuration with members but no incoming voter, and confscript_apply does not. The number is as for
        CONFSCRIPT_BAD_CONF_STATE. */
     CONFSCRIPT_NOT_A_CONFIGURATION = 5,
     /* There is no plan, since a configuration has no incoming voter. The number is 1 for the first, and 2 for the second. */
@@ -84,7 +84,7 @@ enum confscript_status {
 
     /* confscript_plan: the strategy is not an enum confscript_strategy. */
     CONFSCRIPT_BAD_STRATEGY = 24,
-    /* There is no plan one at a time into a joint configuration. */
+    /* There is no plan one at a time into a joint configuration, unless it equals the first. */
     CONFSCRIPT_JOINT_TARGET = 25
 };
 
@@ -111,7 +111,7 @@ struct confscript_answer {
 uint32_t confscript_version(void);
 
 /*
- * Writes what a status means, in words; of a number that is no status, that it is unknown. The text is written to `out`,
+ * Writes what a status means, in words, or `unknown status` if the number is not a status. The text is written to `out`,
  * without a byte 0 after it. The number is how many bytes it has.
  */
 struct confscript_answer confscript_status_text(uint32_t status, uint8_t *out, size_t out_len);
@@ -131,7 +131,8 @@ struct confscript_answer confscript_status_text(uint32_t status, uint8_t *out, s
  *   fewer steps. The second configuration must not be joint, unless it equals the first.
  *
  * A step `simple` may have several changes, of which one at most changes who votes. A store that proposes etcd's ConfChangeV2
- * takes them one at a time, each as a ConfChangeV2 of one change. As one ConfChangeV2 they would enter a joint configuration.
+ * proposes them one at a time, each as a ConfChangeV2 of one change. As one ConfChangeV2 they would enter a joint
+ * configuration.
  */
 struct confscript_answer confscript_plan(const uint8_t *now, size_t now_len, const uint8_t *target, size_t target_len,
                                          uint32_t strategy, uint8_t *out, size_t out_len);
@@ -150,17 +151,17 @@ struct confscript_answer confscript_check(const uint8_t *state, size_t state_len
 
 /*
  * Returns the committed index of the voters in `incoming`, and of those in `outgoing` if there are any: both must have
- * committed it. The id at each place of `ids` has acknowledged the index at that place of `acknowledged`. An id that is
- * not in `ids` has acknowledged 0. An id that a set names twice is one voter. The number is the index. It is 2^64-1 if there are
- * no voters.
+ * committed it. Each id of `ids` has acknowledged the index at the same position of `acknowledged`. An id that is not in
+ * `ids` has acknowledged 0. An id that a set names twice is one voter. The number is the committed index. It is 2^64-1 if
+ * there are no voters.
  */
 struct confscript_answer confscript_committed(const uint64_t *incoming, size_t incoming_len, const uint64_t *outgoing,
                                               size_t outgoing_len, const uint64_t *ids, size_t ids_len,
                                               const uint64_t *acknowledged, size_t acknowledged_len);
 
 /*
- * Returns the result of a vote of these voters: both sets must win it. The id at each place of `ids` said yes if the byte
- * at that place of `votes` is 1, and no if it is 0. An id that is not in `ids` has not voted. The number is an
+ * Returns the result of a vote of these voters: both sets must win it. Each id of `ids` said yes if the byte at the same
+ * position of `votes` is 1, and no if it is 0. An id that is not in `ids` has not voted. The number is an
  * enum confscript_vote_result. If there are no voters, the vote is won.
  */
 struct confscript_answer confscript_vote(const uint64_t *incoming, size_t incoming_len, const uint64_t *outgoing,
@@ -169,7 +170,7 @@ struct confscript_answer confscript_vote(const uint64_t *incoming, size_t incomi
 
 /*
  * Returns how many ids may be down, whichever they are, while the other voters in `incoming`, and in `outgoing` if there are
- * any, are a quorum. The ids in `uncounted`, as those of members whose logs are still empty, are no help to a quorum, whether
+ * any, are a quorum. The ids in `uncounted`, such as members whose logs are still empty, are no help to a quorum, whether
  * they are down or not. The number is the greatest such count.
  */
 struct confscript_answer confscript_may_be_down(const uint64_t *incoming, size_t incoming_len, const uint64_t *outgoing,

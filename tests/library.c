@@ -52,7 +52,7 @@ static void report(const char *name, int holds, struct confscript_answer got) {
 
 static const uint8_t *bytes(const char *text) { return (const uint8_t *)text; }
 
-/* Whether the buffer begins with the text, and is as it was behind it. */
+/* Whether the buffer begins with the text, and is as it was after it. */
 static int holds_text(const char *text) {
     size_t len = strlen(text);
     if (memcmp(out, text, len) != 0) return 0;

@@ -4,7 +4,7 @@
 # needs_rt SCRIPT: says in one line what is missing where there is no toolchain.
 needs_rt() {
   command -v rt >/dev/null && return
-  echo "$1: the toolchain Rattle is missing (no rt on the path); 'How to get it' in README.md says where it comes from, and what needs no toolchain" >&2
+  echo "$1: the toolchain Rattle is missing (no rt on the path); 'How to get it' in README.md says what it is, and what needs no toolchain" >&2
   return 1
 }
 
