@@ -1,17 +1,18 @@
--- A list of ids with commas between them, as the value of an option.
+-- A list of ids with commas between them, as the value of the option `--down`: `4,6`.
 use Rattle.std.specs.Prelude.{ℕ, Bool, ◌==◌, List, [], ◌∷◌, Option, Some}
 use Rattle.std.specs.List.{slice_split}
 use Rattle.conf_change.specs.ConfStateLine.{and_number}
 use Rattle.conf_session.specs.Parameter.{id_in}
 
+-- the byte is ,
 abbrev pub is_comma : ℕ → Bool
 is_comma byte = byte == 44
 
--- the ids that the parts denote, if each is one
+-- the ids that some texts denote, if each of them is an id
 abbrev pub ids_in_pieces : List (List ℕ) → Option (List ℕ)
 ids_in_pieces [] = Some []
 ids_in_pieces (full_line ∷ full_lines) = and_number (id_in full_line) (ids_in_pieces full_lines)
 
--- the ids of a text that is split at each comma, if each part is one; an empty part is none
+-- the ids that a text denotes if it is split at each comma, if each part is an id; an empty part is not
 abbrev pub ids_listed : List ℕ → Option (List ℕ)
 ids_listed text = ids_in_pieces (slice_split is_comma text)
