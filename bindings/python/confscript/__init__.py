@@ -64,12 +64,12 @@ _library.confscript_version.argtypes, _library.confscript_version.restype = (), 
 
 def _bytes(text):
     data = text.encode() if isinstance(text, str) else bytes(text)
-    # (a pointer to its bytes, and one that is not null where there are none)
+    # ctypes passes a pointer to the bytes, which is not null even if there are none.
     return data, len(data)
 
 
 def _ids(ids):
-    # (an array has room for one at least, so that the pointer is never null)
+    # The array has room for at least one id, so that its pointer is never null.
     return (ctypes.c_uint64 * max(len(ids), 1))(*ids), len(ids)
 
 

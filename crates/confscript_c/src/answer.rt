@@ -6,7 +6,7 @@ use crate::status::Status;
 use quorum_sets::NoMemory;
 
 /// What each call returns, as `struct confscript_answer`: the code of a [`Status`], and a number whose meaning depends
-/// on the status. It is 0 if there is nothing to say.
+/// on the status. It is 0 if the status needs none.
 #[repr(C)]
 #[derive(Clone, Copy)]
 pub struct Answer {

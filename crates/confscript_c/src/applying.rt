@@ -4,8 +4,8 @@
 //! Voters:[1 2 3] ..  and  enter-joint autoleave=false r1 v5  ->  Voters:[2 3 5] VotersOutgoing:[1 2 3] ..
 //! ```
 //!
-//! A program keeps its configuration as a line, takes one step when its cluster has committed it, and keeps the line
-//! that it gets. Progress does not matter here, so the line says all.
+//! A program keeps its configuration as a line. Once its cluster has committed a step, it takes the step here, and
+//! keeps the line that it gets. Progress is not looked at, so the line is all that it has to keep.
 ghost use Rattle.std.specs.Prelude.{◌≡◌, ◌⊎◌, Ok, Err, IfOk, IfErr, OnOk, MatchResult};
 ghost use Rattle.conf_change.specs.ConfState.{lists_of};
 ghost use Rattle.conf_change.specs.ConfStateLine.{conf_state_in, conf_state_text};
@@ -53,7 +53,7 @@ fn line_after(alloc: Global, state: &[u8], plan: &[u8]) -> Result<Vec<u8>, Answe
     Ok(line_of(alloc, changer.tracker().config())?)
 }
 
-// A changer with the configuration of a line, with fresh progress, which is not looked at.
+// A changer with the configuration of a line. Its progress is fresh, and not looked at.
 fn read_changer(alloc: Global, state: &[u8]) -> Result<Changer<InlineIds>, Answer>
     ensures restored { IfOk result (λ changer. restored_of (read_as 1 (conf_state_in state.now)) ≡ Ok changer.tracker.config) }
     ensures refused { IfErr result (λ why. (why ≡ no_memory) ⊎ (restored_of (read_as 1 (conf_state_in state.now)) ≡ Err why)) }

@@ -16,8 +16,8 @@ use quorum_sets::InlineIds;
 use std::alloc::Global;
 
 /// Reports the first broken invariant of the configuration of a ConfState line, in the order of the statuses. It is
-/// done if none is broken, also if there is no voter. A line that is no ConfState line, or that lists an id twice, is
-/// refused (etcd's `confchange`).
+/// done if none is broken, also if there is no voter. Refused are a text that is not a ConfState line, and a line that
+/// lists an id twice (etcd's `confchange`).
 #[unsafe(no_mangle)]
 pub extern "C" fn confscript_check(alloc: Global, state: &[u8]) -> Answer
     ensures { (result ≡ no_memory) ⊎ (result ≡ check_answer state.now) }

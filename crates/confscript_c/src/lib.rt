@@ -17,9 +17,9 @@
 //! confscript_plan         two lines, a strategy        the steps from the first to the second
 //! confscript_apply        a line, steps                the line after the steps
 //! confscript_check        a line                       the first broken invariant
-//! confscript_committed    voters, what each has        the committed index
-//! confscript_vote         voters, who said what        pending, lost or won
-//! confscript_may_be_down  voters, ids without logs     how many may be down
+//! confscript_committed    voters, indexes by id        the committed index
+//! confscript_vote         voters, votes by id          pending, lost or won
+//! confscript_may_be_down  voters, ids with no log      how many ids may be down
 //! ```
 //!
 //! The rules are those of the crates below, which say where they come from. The form of the calls is own.

@@ -22,9 +22,9 @@ use quorum_sets::InlineIds;
 use std::alloc::Global;
 
 /// Writes the text of the path from the configuration of one ConfState line to that of another: 0 for the shortest, 1
-/// for learners first, 2 for one at a time. The number is its length in bytes. It is refused if a line is no valid
-/// configuration or has no voter, or if the strategy has no path (sections 4.2.1 and 4.3 of Ongaro's dissertation; the
-/// strategies are own).
+/// for learners first, 2 for one at a time. The number is its length in bytes. It is refused if a line does not name a
+/// valid configuration with a voter, or if the strategy has no path (sections 4.2.1 and 4.3 of Ongaro's dissertation;
+/// the strategies are own).
 #[unsafe(no_mangle)]
 pub extern "C" fn confscript_plan(
     alloc: Global,

@@ -7,7 +7,7 @@
 //! incoming 1 2 3    uncounted 3                        ->  0 may be down
 //! ```
 //!
-//! Voters may be named twice, and then count once. An id with two values is refused, since one of them would be lost.
+//! A voter that is listed twice counts once. An id with two values is refused, since only one of them could count.
 ghost use Rattle.std.specs.Prelude.{◌≡◌, ◌⊎◌, true, false, not, ◌&&◌, length, map, nat_eq, IfOk, IfErr};
 ghost use Rattle.std.specs.List.{zip, list_all};
 ghost use Rattle.std.specs.Ordering.{nat_cmp};

@@ -61,7 +61,7 @@ pub(super) trait PartByPart<P> {
         ensures write { W.has_failed writer.new ≡ (W.has_failed writer.old || is_write_failure result) }
         ensures kinds { IfSome fault (CanBeFaulty mode) → CanAnswer mode result };
 
-    /// What was written stays so after a flush.
+    /// A flush does not change what was written.
     ghost stays: { (m : Self) (total : ScriptOf P → Output) (parts : List P) (before after later : Option (List ℕ)) →
         HasAnswered m total parts before after → Keeps after later → HasAnswered m total parts before later };
 
