@@ -61,8 +61,8 @@ jobs_for_machine() {
   echo $((processors < most ? processors : most))
 }
 
-# rattle_build JOBS CRATE ROOT ARGUMENTS..: proves a crate from nothing, and builds it. The crates that it depends on have
-# to be built.
+# rattle_build JOBS CRATE ROOT ARGUMENTS..: proves a crate from nothing, and builds it. The crates that it depends on
+# have to be built.
 rattle_build() {
   local jobs=$1 crate=$2 root=$3 kit library words
   shift 3

@@ -1,5 +1,5 @@
-// Package confscript plans and checks who votes in a raft group. It is a thin layer over libconfscript; confscript.h says
-// what each call returns. A configuration is a ConfState line, and a plan is the text of its lines.
+// Package confscript plans and checks who votes in a raft group. It is a thin layer over libconfscript; confscript.h
+// says what each call returns. A configuration is a ConfState line, and a plan is the text of its lines.
 //
 // The compiler finds the header and the library by pkg-config, or by CGO_CFLAGS and CGO_LDFLAGS with the build tag
 // confscript_flags.
@@ -66,7 +66,8 @@ func PlanBy(strategy Strategy, now, target string) (string, error) {
 	})
 }
 
-// Apply returns the ConfState line of the configuration after the steps of a plan, at most four, or after a single change.
+// Apply returns the ConfState line of the configuration after the steps of a plan, at most four, or after a single
+// change.
 func Apply(state, steps string) (string, error) {
 	from, by := []byte(state), []byte(steps)
 	return written(func(out *C.uint8_t, room C.size_t) C.struct_confscript_answer {
