@@ -1,4 +1,4 @@
-/* Plans the change that puts 5 in the place of 1, applies the plan, and counts what is committed then. README tells how this is built. */
+/* Plans the change that replaces 1 by 5, applies the plan, and computes the committed index afterwards. README says how to build it. */
 #include <stdio.h>
 #include <string.h>
 

@@ -1,6 +1,6 @@
-/* Loaded before the C library (LD_PRELOAD), it refuses one call of the program that it is loaded into: the one that the variable
-   REFUSE_ALLOCATION, REFUSE_READ or REFUSE_WRITE counts, from 1. An allocation is answered with nothing, a read or write with EIO.
-   Later calls are answered as ever, so a call that is tried again shows. The file that REFUSED names is made where a call was refused. */
+/* Loaded before the C library (LD_PRELOAD), this refuses one call of a program: the one whose number, from 1, is in the variable
+   REFUSE_ALLOCATION, REFUSE_READ or REFUSE_WRITE. An allocation returns NULL, and a read or write fails with EIO. Later calls
+   succeed, so that a program which tries a call again is noticed. If a call was refused, the file that REFUSED names is created. */
 #define _GNU_SOURCE
 #include <dlfcn.h>
 #include <errno.h>
