@@ -30,7 +30,7 @@ next_in_answer view new more (Ok None) = Over
 next_in_answer view new more (Ok (Some found)) = Found (view found) new.position (new.buffered ++ more)
 next_in_answer view new more (Err fault) = Faulty fault
 
--- reading was interrupted by a failed read or since memory ran out, so the result says nothing of the input
+-- reading was interrupted by a failed read, or because memory ran out, so the result does not depend on the input alone
 abbrev pub IsInterrupted : {X : Type 0} → Result X FileFault → Type 0
 IsInterrupted result = (result ≡ Err Read) ⊎ (result ≡ Err NoMemory)
 

@@ -72,7 +72,7 @@ impl<W: Sink> Blocks<W> {
         Ok(())
     }
 
-    /// Writes a prefix of bytes that do not fit into the block. A full block is flushed first, and then bytes that
+    /// Writes a prefix of bytes that do not fit into the block. A full block is flushed first; after that, bytes that
     /// would fill a block by themselves go to the writer directly.
     #[cold]
     fn write_part(&mut self, bytes: &[u8]) -> Result<usize, DeviceFault>

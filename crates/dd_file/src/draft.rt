@@ -53,7 +53,7 @@ impl Model for Draft {
 }
 
 impl Draft {
-    /// An item without lines, which will begin at this line, counted from 1. The memory of `raw_lines` is reused.
+    /// An item without lines, which begins at this line, counted from 1.
     pub(crate) fn new(alloc: Global, line: usize, raw_lines: RawLines) -> Draft
         requires { raw_lines ≡ [] }
         ensures { result ≡ blank_draft line }

@@ -7,8 +7,7 @@
 //! ----               Separator
 //! ----               Double
 //! voters=(1 2)       Double
-//! ----               Double: one line of dashes is output
-//! ----               Double
+//! ----               Double, since one line of dashes may be output
 //! ----               Pair
 //!                    Complete
 //! ```

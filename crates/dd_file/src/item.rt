@@ -71,8 +71,7 @@ impl Argument {
         Values::after_key(self.token.as_slice().split_at(self.key_len).1)
     }
 
-    /// The value at an index, counted from 0 (datadriven's `CmdArg.Vals`). It takes time linear in the length of the
-    /// argument.
+    /// The value at an index, counted from 0 (datadriven's `CmdArg.Vals`).
     pub fn value(&self, i: usize) -> Option<&[u8]>
         ensures { option_map (λ value. value.now) result ≡ slice_get self.now.values i }
     {
@@ -275,7 +274,7 @@ impl Item {
         }
     }
 
-    /// Whether an actual output belongs to the item.
+    /// Whether the item is a directive, after which an output is written.
     pub(crate) fn is_directive(&self) -> bool
         ensures { result ≡ is_directive self.now }
     {

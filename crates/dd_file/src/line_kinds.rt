@@ -21,8 +21,8 @@ pub(crate) fn is_continued(line: &[u8]) -> bool
     trimmed(line).ends_with(b"\\")
 }
 
-/// Whether the line is four dashes with any white space around them: the separator of a directive. (datadriven 1.0.2
-/// takes no white space there; own.)
+/// Whether the line is four dashes with any white space around them: the separator of a directive (own; datadriven
+/// 1.0.2 takes no white space there).
 pub(crate) fn is_separator(line: &[u8]) -> bool
     ensures { result ≡ is_separator line.now }
 {

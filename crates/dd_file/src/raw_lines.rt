@@ -46,7 +46,7 @@ impl RawLines {
         }
     }
 
-    /// No lines, with the memory of this empty text.
+    /// No lines, in a buffer that is reused.
     pub(crate) fn over(alloc: Global, text: &mut Vec<u8>) -> RawLines
         requires { text.old.items ≡ [] }
         ensures lines { result ≡ [] }
@@ -58,7 +58,7 @@ impl RawLines {
         }
     }
 
-    /// One line, whose memory becomes that of the text.
+    /// One line.
     pub(crate) fn of_line(alloc: Global, line: Vec<u8>) -> Result<RawLines, AllocError>
         ensures { IfOk result (λ lines. lines ≡ line.items ∷ []) }
     {
@@ -142,7 +142,7 @@ impl RawLines {
         self.ends.truncate(count);
     }
 
-    /// The text of all lines; its memory can be used for the lines of another item.
+    /// The lines as one text, each with a newline.
     pub(crate) fn into_text(self) -> Vec<u8>
         ensures { result.items ≡ text_of self }
     {

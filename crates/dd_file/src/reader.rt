@@ -31,7 +31,7 @@ pub struct Reader {
     alloc: Global,
     lines: Lines,
     fault: Option<FileFault>,
-    /// An empty buffer, whose memory the raw lines of the next item reuse.
+    /// An empty buffer, in which the raw lines of the next item are gathered.
     text_buffer: Vec<u8>,
 }
 
@@ -98,7 +98,7 @@ impl Reader {
         Some(answer)
     }
 
-    /// Gives back an item that is no longer used, whose memory a later item reuses (own).
+    /// Gives back an item that is no longer used, so that a later one reuses its buffer (own).
     #[inline(always)]
     pub fn reuse(&mut self, item: Item)
         ensures { self.new ≡ self.old }
@@ -129,8 +129,7 @@ fn fault_in(found: &Result<Option<Item>, FileFault>) -> Option<FileFault>
     }
 }
 
-/// Reads the lines of one item, and none after them. An error in reading a line becomes the error of the item. The
-/// memory of `raw_lines` is reused.
+/// Reads the lines of one item, and none after them. An error in reading a line becomes the error of the item.
 fn read_item<R: Source>(
     alloc: Global,
     raw_lines: RawLines,
@@ -159,7 +158,7 @@ fn read_item<R: Source>(
 }
 
 /// The next item if all its lines are buffered. The lines are counted as returned only once the item is complete, so
-/// that otherwise nothing has changed. The memory of `raw_lines` is reused.
+/// that otherwise nothing has changed.
 #[inline(always)]
 fn buffered_item<R: Source>(
     alloc: Global,

@@ -1,5 +1,8 @@
-//! The tokens of a directive line. They are separated by white space that is not between parentheses: `vote cfg=(1, 2)
-//! votes=(y, n)` has the tokens `vote`, `cfg=(1, 2)` and `votes=(y, n)`.
+//! The tokens of a directive line. They are separated by white space that is not between parentheses:
+//!
+//! ```text
+//! vote cfg=(1, 2) votes=(y, n)      the tokens are    vote    cfg=(1, 2)    votes=(y, n)
+//! ```
 ghost use Rattle.std.specs.Prelude.{◌≡◌, ◌<◌, ◌≤◌, false, [], ◌∷◌, length, take, drop, IfSome, MatchOption};
 ghost use Rattle.dd_file.specs.DirectiveLine.{token_len, tokens_of};
 

@@ -1,7 +1,7 @@
 //! Writing all of some bytes to a sink.
 //!
-//! One call of a sink may write only a prefix, so the rest is written by further calls. A call that fails, or that
-//! takes no byte, is the last one: nothing is tried again, and no byte is written twice.
+//! One call of a sink may write only a prefix, so the rest is written by further calls. After a call that fails, or
+//! that takes no byte, nothing is tried again: no byte is written twice.
 ghost use Rattle.std.specs.Prelude.{◌≡◌, ◌≤◌, ◌<◌, ◌||◌, ◌==◌, nat_lt, ℕ, List, [], Option, IsOk, OnOk, OnErr, true, length, take};
 ghost use Rattle.std.specs.Io.KnownBytes.{Appends};
 ghost use Rattle.dd_file.specs.Device.{AppendsPart};
@@ -42,8 +42,7 @@ fn write_rest<W: Sink>(writer: &mut W, bytes: &[u8], first_count: usize) -> usiz
     written
 }
 
-/// Writes until all bytes are written or a write fails, and returns how many were written. Mostly the first call takes
-/// all.
+/// Writes until all bytes are written or a write fails, and returns how many were written.
 #[inline(always)]
 pub(crate) fn write_prefix<W: Sink>(writer: &mut W, bytes: &[u8]) -> usize
     ensures bound { result ≤ length bytes.now }

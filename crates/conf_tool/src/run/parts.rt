@@ -42,7 +42,7 @@ pub(super) trait Parts<P> {
         requires { W.reached writer.now ≡ W.contents writer.now }
         ensures { ReadsOn R.remaining R.has_failed (λ part. part) coming IsFault (reader_state self.old) (reader_state self.new) reader.old reader.new result };
 
-    /// Takes back a part that was replied to; its memory may be reused for a later one.
+    /// Takes back a part that was replied to, so that a later one reuses its buffer.
     fn take_back(&mut self, part: P)
         ensures { reader_state self.new ≡ reader_state self.old };
 
