@@ -62,7 +62,7 @@ rewrite_left session rest = record { text = answered_text session rest.items; ou
 abbrev pub ended : Output → Output
 ended output = record { text = without_double_end output.text; outcome = output.outcome }
 
--- `rewrite` has written these parts, but for a newline that is kept back until it knows what follows
+-- `rewrite` has written these parts, but for a newline at their end, which is kept back until it is known what follows
 pub record HasRewritten (session : SessionState) (rewriter : RewriterState) (total : Script Item → Output) (parts : List Item) (before after : Option (List ℕ)) : Type 0 where
   pub text : List ℕ
   pub wrote : HasWritten rewriter.newlines before after text

@@ -40,11 +40,11 @@ abbrev pub clean_unless : Option FileFault → Result Status ToolFault
 clean_unless None = Ok Clean
 clean_unless (Some fault) = Err (ScriptFault fault)
 
--- the output of `lines`, which begins with the empty configuration
+-- the output of `lines` from a configuration on: the replies to the lines, up to an error
 abbrev pub lined_from : Configuration → Script (List ℕ) → Output
 lined_from c listing = record { text = line_replies c listing.items; outcome = clean_unless listing.fault }
 
--- of `lines`: the replies, from the empty configuration on
+-- the output of `lines`, which begins with the empty configuration
 abbrev pub lined : List ℕ → Output
 lined input = lined_from empty_configuration (listing_of input)
 

@@ -50,13 +50,13 @@ abbrev pub difference_text : List ℕ → DirectiveText → List ℕ
 difference_text actual directive =
     line (decimal directive.line ++ codes ": " ++ directive.command) ++ marked (codes "- ") directive.expected ++ marked (codes "+ ") actual
 
--- the report on an entry; empty unless it differs
+-- the report on an item with this actual output; empty unless it differs
 abbrev pub report_of : List ℕ → Item → List ℕ
 report_of actual (Comment lines) = []
 report_of actual (Blank lines) = []
 report_of actual (Directive directive) = if not (bytes_eq actual directive.expected) then difference_text actual directive else []
 
--- the report on an entry: nothing, unless it differs
+-- the report on an entry; empty unless it differs
 abbrev pub report : Entry → List ℕ
 report entry = report_of entry.output entry.item
 

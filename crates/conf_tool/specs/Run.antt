@@ -28,8 +28,8 @@ Means output (Err Read) before after = AppendsPart before after output.text
 Means output (Err Write) before after = AppendsPart before after output.text
 Means output (Err NoMemory) before after = AppendsPart before after output.text
 
--- A run answers its input: its result means what it says, for each input that agrees with what the reader gave. Nothing
--- is claimed of a reader or writer whose bytes are not known.
+-- A run answers its input: what its result means holds for each input that agrees with what the reader gave. Nothing is
+-- claimed of a reader or writer whose bytes are not known.
 abbrev pub Answers : (List ℕ → Output) → Option (List ℕ) → Option (List ℕ) → Option (List ℕ) → Option (List ℕ) → Result Status ToolFault → Type 0
 Answers output left_before left_after before after result =
     (input more : List ℕ) → Agrees fresh left_before left_after input more → Means (output input) result before after
@@ -69,7 +69,7 @@ IsInputTooLong (InputTooLong line) = ⊤
 IsInputTooLong ReadOfScript = ⊥
 IsInputTooLong NoMemoryForScript = ⊥
 
--- the statuses that a mode has: `lines` and `rewrite` have nothing to compare, and end clean
+-- the errors in an input that a mode reports: `lines` and `plan` read lines, which have no syntax error
 abbrev pub CanBeFaulty : Mode → FileFault → Type 0
 CanBeFaulty Lines fault = IsInputTooLong fault
 CanBeFaulty Check fault = IsScriptFault fault
@@ -85,7 +85,7 @@ WantsConfigurations Rewrite = ⊥
 WantsConfigurations Undo = ⊥
 WantsConfigurations Plan = ⊤
 
--- the statuses of a mode: only `check` reports a difference, and only `undo` and `plan` report that there is no plan
+-- the statuses that a mode has: `lines` and `rewrite` have nothing to compare, and end clean
 abbrev pub CanBe : Mode → Status → Type 0
 CanBe mode Clean = ⊤
 CanBe Lines Different = ⊥

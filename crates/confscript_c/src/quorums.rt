@@ -43,7 +43,7 @@ pub extern "C" fn confscript_committed(
     committed_answer(alloc, incoming, outgoing, ids, acknowledged).unwrap_or(Answer::no_memory())
 }
 
-// The answer of `confscript_committed`, unless memory runs out.
+// The answer of `confscript_committed`, as a result, so that `?` returns `NoMemory` early.
 fn committed_answer(
     alloc: Global,
     incoming: &[u64],
@@ -96,7 +96,7 @@ pub extern "C" fn confscript_vote(
     vote_answer(alloc, incoming, outgoing, ids, votes).unwrap_or(Answer::no_memory())
 }
 
-// The answer of `confscript_vote`, unless memory runs out.
+// The answer of `confscript_vote`, as a result, so that `?` returns `NoMemory` early.
 fn vote_answer(
     alloc: Global,
     incoming: &[u64],
@@ -151,7 +151,7 @@ pub extern "C" fn confscript_may_be_down(
     may_be_down_answer(alloc, incoming, outgoing, uncounted).unwrap_or(Answer::no_memory())
 }
 
-// The answer of `confscript_may_be_down`, unless memory runs out.
+// The answer of `confscript_may_be_down`, as a result, so that `?` returns `NoMemory` early.
 fn may_be_down_answer(
     alloc: Global,
     incoming: &[u64],

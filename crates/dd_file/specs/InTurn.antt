@@ -11,8 +11,8 @@ use Rattle.dd_file.specs.Answer.{Agrees}
 abbrev pub ConsumedInTurn : Type 0
 ConsumedInTurn = (before between after : Option (List ℕ)) → LosesPrefix before between → LosesPrefix between after → LosesPrefix before after
 
--- An input that agrees with what two calls read, and so with what the first one read; what is buffered after the first
--- one and the rest of the input agree with what the second one read.
+-- An input that agrees with what two calls read, taken call by call: it agrees with what the first one read; and what
+-- is buffered then, with the rest of the input, agrees with what the second one read.
 pub record AgreesInTurn (old mid : ReaderState) (before between after : Option (List ℕ)) (input more : List ℕ) : Type 0 where
   pub suffix : List ℕ
   pub first : Agrees old before between input suffix

@@ -45,12 +45,12 @@ closing false = newline
 abbrev pub output_text : List ℕ → List ℕ
 output_text output = (opening (has_blank_line output) ++ output) ++ closing (has_blank_line output)
 
--- A text that can be written as an output and read back: whole lines, none of four dashes and none that ends in a
--- carriage return.
+-- a line that an output may have: not four dashes, and no carriage return at its end
 abbrev pub is_output_line : List ℕ → Bool
 is_output_line line = not (is_dashes line || ends_with nat_eq line (13 ∷ []))
 
--- A text that can be written as an output: whole lines, none of four dashes and none that ends in a carriage return.
+-- A text that can be written as an output and read back: whole lines, none of four dashes and none that ends in a
+-- carriage return.
 abbrev pub is_output : List ℕ → Bool
 is_output text = (length text == 0 || ends_with nat_eq text newline) && list_all (λ full_line. is_output_line (without_last 10 full_line)) (full_lines text)
 

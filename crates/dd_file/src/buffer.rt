@@ -37,7 +37,6 @@ impl Model for Buffer {
 }
 
 impl Buffer {
-    /// An empty buffer.
     pub(crate) fn new(alloc: Global) -> Result<Buffer, AllocError>
         ensures { IfOk result (λ buffer. buffer ≡ []) }
     {
@@ -48,14 +47,12 @@ impl Buffer {
         })
     }
 
-    /// Whether no byte is buffered.
     pub(crate) fn is_empty(&self) -> bool
         ensures { result ≡ (length self.now == 0) }
     {
         self.start == self.end
     }
 
-    /// The buffered bytes.
     pub(crate) fn buffered(&self) -> &[u8]
         ensures { result.now ≡ self.now }
     {

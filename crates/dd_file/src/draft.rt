@@ -155,7 +155,7 @@ impl Draft {
         state_after_directive_line(self.alloc, text.as_slice())
     }
 
-    /// Input goes on up to the separator, whatever it contains, blank lines and comments too.
+    /// Input continues up to the separator, whatever it contains, blank lines and comments too.
     fn add_input(&mut self, command: Command, line: &[u8]) -> Result<DraftState, AllocError>
         requires fits { FitsIn (DraftState.Input command) self.old }
         ensures { IfOk result (λ next. AddsIn (DraftState.Input command) self.old (counted self.new next) line.now) }
@@ -178,7 +178,7 @@ impl Draft {
         self.add_single(command, line)
     }
 
-    /// Expected output after a single separator goes on up to a blank line.
+    /// Expected output after a single separator continues up to a blank line.
     fn add_single(&mut self, command: Command, line: &[u8]) -> Result<DraftState, AllocError>
         requires fits { FitsIn (DraftState.Single command) self.old }
         ensures { IfOk result (λ next. AddsIn (DraftState.Single command) self.old (counted self.new next) line.now) }
@@ -190,8 +190,8 @@ impl Draft {
         Ok(DraftState::Single(command))
     }
 
-    /// Expected output after a double separator goes on up to two lines of dashes in a row. One line of dashes alone is
-    /// output, so it is filed as output first, and taken out again if a second one follows.
+    /// Expected output after a double separator continues up to two lines of dashes in a row. One line of dashes alone
+    /// is output, so it is filed as output first, and taken out again if a second one follows.
     fn add_double(&mut self, command: Command, line: &[u8]) -> Result<DraftState, AllocError>
         requires fits { FitsIn (DraftState.Double command) self.old }
         ensures { IfOk result (λ next. AddsIn (DraftState.Double command) self.old (counted self.new next) line.now) }

@@ -17,8 +17,8 @@
 //! A program runs each directive and compares what it prints, the actual output, with the expected one. Or it writes
 //! the script again with the actual outputs in place of the expected ones, which is how such tests are kept up to date.
 //!
-//! Two rules complete the form. A directive line that ends in a backslash goes on in the next line. Output with blank
-//! lines is written between two pairs of separators:
+//! Two rules complete the form. A directive line that ends in a backslash is continued in the next line. Output with
+//! blank lines is written between double separators:
 //!
 //! ```text
 //! committed cfg=(1, 2) \

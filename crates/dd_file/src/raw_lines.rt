@@ -36,7 +36,6 @@ impl Model for RawLines {
 }
 
 impl RawLines {
-    /// No lines.
     pub(crate) fn new(alloc: Global) -> RawLines
         ensures { result ≡ [] }
     {
@@ -58,7 +57,6 @@ impl RawLines {
         }
     }
 
-    /// One line.
     pub(crate) fn of_line(alloc: Global, line: Vec<u8>) -> Result<RawLines, AllocError>
         ensures { IfOk result (λ lines. lines ≡ line.items ∷ []) }
     {
@@ -92,7 +90,6 @@ impl RawLines {
         Ok(())
     }
 
-    /// How many lines there are.
     pub(crate) fn count(&self) -> usize
         ensures { result ≡ length self.now }
     {
@@ -110,7 +107,6 @@ impl RawLines {
         Some(self.text_after(i).split_at(len).0)
     }
 
-    /// The last line, if there is one.
     pub(crate) fn last(&self) -> Option<&[u8]>
         ensures { option_map (λ line. line.now) result ≡ slice_get self.now (length self.now - 1) }
     {
@@ -132,7 +128,6 @@ impl RawLines {
         self.text().split_at(self.start(count)).1
     }
 
-    /// Keeps the first `count` lines.
     pub(crate) fn truncate(&mut self, count: usize)
         requires { count ≤ length self.old }
         ensures { self.new ≡ take count self.old }

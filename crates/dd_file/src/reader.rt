@@ -119,7 +119,6 @@ impl Reader {
     }
 }
 
-/// The error of a result, if it is one.
 fn fault_in(found: &Result<Option<Item>, FileFault>) -> Option<FileFault>
     ensures { result ≡ fault_of found.now }
 {

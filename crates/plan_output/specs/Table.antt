@@ -48,7 +48,7 @@ down_text None = codes "stalls"
 abbrev pub until_text : StageState → List ℕ
 until_text stage = text_if (not (is_empty stage.catching_up)) (down_text (until_then stage))
 
--- whether a configuration commits, as a word
+-- whether a configuration commits: commits or stalls
 abbrev pub commits_text : Bool → List ℕ
 commits_text true = codes "commits"
 commits_text false = codes "stalls"

@@ -166,7 +166,7 @@ pub(crate) fn until_text<S: MemberSet>(alloc: Global, stage: &Stage<S>) -> Resul
     down_text(alloc, stage.until_then())
 }
 
-// Whether the stage commits, as a word.
+// Whether the stage commits: `commits` or `stalls`.
 pub(crate) fn commits_text(alloc: Global, commits: bool) -> Result<Vec<u8>, NoMemory>
     ensures { IfOk result (λ text. text.items ≡ spec.commits_text commits) }
 {

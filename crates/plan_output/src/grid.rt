@@ -48,7 +48,6 @@ impl Row {
         Ok(())
     }
 
-    // How many cells it has.
     fn len(&self) -> usize
         ensures { result ≡ length self.now }
     {
