@@ -10,7 +10,7 @@
 //!     leave-joint
 //! ```
 //!
-//! If the buffer is too small, nothing is written and the number is the length of the text, so that the caller can come
+//! If the buffer is too small, nothing is written and the number is the length of the text, so that the caller can call
 //! again with a larger one. If memory runs out, the status says so and nothing is written either.
 //!
 //! ```text
