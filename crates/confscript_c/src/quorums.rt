@@ -183,7 +183,7 @@ fn are_votes(votes: &[u8]) -> bool
     votes.iter().all(|byte| *byte == 0 || *byte == 1)
 }
 
-// Votes as truth values: whether each is a yes.
+// Votes as truth values: a yes is true.
 fn truths(alloc: Global, votes: &[u8]) -> Result<Vec<bool>, NoMemory>
     ensures { IfOk result (λ truths. truths.items ≡ map is_yes votes.now) }
 {

@@ -132,6 +132,7 @@ impl<W: Sink> Sink for Blocks<W> {
 
     ghost has_failed = { λ s. W.has_failed s.writer };
 
+    // Bytes that fit are added to the block, and the writer is not called.
     fn write(&mut self, bytes: &[u8]) -> Result<usize, DeviceFault> {
         if self.writer.failed() {
             return Err(DeviceFault);
@@ -143,6 +144,7 @@ impl<W: Sink> Sink for Blocks<W> {
         Ok(bytes.len())
     }
 
+    // Flushes the block, and then the writer, which may buffer bytes too.
     fn write_on(&mut self) -> Result<(), DeviceFault> {
         self.flush_block()?;
         self.writer.write_on()

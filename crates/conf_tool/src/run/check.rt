@@ -85,12 +85,14 @@ impl PartByPart<Item> for Checking {
 
     ghost HasAnswered = { λ s. HasChecked s.session s.counts.directives s.counts.mismatches };
 
+    // Prints the report on the item, if its output differs.
     fn answer<W: Sink>(&mut self, item: &Item, writer: &mut W) -> Result<(), ToolFault> {
         self.check_item(item)?;
         write_all(writer, self.text.as_slice())?;
         Ok(())
     }
 
+    // Prints the counts, unless the script has an error: then they would not be those of the whole script.
     fn end<W: Sink>(
         &mut self,
         fault: Option<FileFault>,

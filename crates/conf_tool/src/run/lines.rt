@@ -58,6 +58,7 @@ impl PartByPart<Line> for LineByLine {
 
     ghost HasAnswered = { λ s total. WrotePrefix total (lined_from s.changer.tracker.config) };
 
+    // Replies to a line with the configuration after its change, or with the reason why the change is refused.
     fn answer<W: Sink>(&mut self, line: &Line, writer: &mut W) -> Result<(), ToolFault> {
         self.text.clear();
         answer_line(&mut self.changer, line.as_slice(), &mut self.text)?;
@@ -65,6 +66,7 @@ impl PartByPart<Line> for LineByLine {
         Ok(())
     }
 
+    // Nothing is printed at the end.
     fn end<W: Sink>(
         &mut self,
         fault: Option<FileFault>,

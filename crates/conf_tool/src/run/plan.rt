@@ -147,6 +147,8 @@ impl PartByPart<Line> for Planning {
 
     ghost HasAnswered = { λ s. HasPlanned s.options s.lines s.pair s.now s.status };
 
+    // Keeps the first line of a pair, and replies to the second. Blank lines and comments are skipped. A line that is
+    // not a valid configuration ends the run.
     fn answer<W: Sink>(&mut self, line: &Line, writer: &mut W) -> Result<(), ToolFault> {
         self.lines += 1;
         if is_passed_over(line.as_slice()) {
@@ -162,6 +164,7 @@ impl PartByPart<Line> for Planning {
         }
     }
 
+    // An input without a pair, and one that ends after the first line of a pair, is an error.
     fn end<W: Sink>(
         &mut self,
         fault: Option<FileFault>,

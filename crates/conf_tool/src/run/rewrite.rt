@@ -127,6 +127,7 @@ impl PartByPart<Item> for Rewriting {
 
     ghost HasAnswered = { λ s. HasRewritten s.session s.rewriter };
 
+    // Prints the item with its actual output.
     fn answer<W: Sink>(&mut self, item: &Item, writer: &mut W) -> Result<(), ToolFault> {
         rewrite_item(
             self.alloc,
@@ -137,6 +138,7 @@ impl PartByPart<Item> for Rewriting {
         )
     }
 
+    // Ends what is printed, also after an error: it is then the script up to the error.
     fn end<W: Sink>(
         &mut self,
         fault: Option<FileFault>,

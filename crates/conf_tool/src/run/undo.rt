@@ -171,6 +171,7 @@ impl PartByPart<Item> for Undoing {
         Ok(())
     }
 
+    // Prints the second script. If the first one has an error, its last changes are not known, and nothing is printed.
     fn end<W: Sink>(
         &mut self,
         fault: Option<FileFault>,
