@@ -1,6 +1,6 @@
 /*
- * The library as a C program meets it: each call once for each answer. A line for each case, 'ok: ..' or 'FAILED: ..'.
- * It is linked with malloc, realloc and free wrapped, so that each allocation of a call can be refused in turn.
+ * Tests the library from a C program: each call, once for each of its statuses. Prints a line for each case, 'ok: ..' or
+ * 'FAILED: ..'. malloc, realloc and free are wrapped when it is linked, so that each allocation of a call can be refused.
  */
 #include <stdio.h>
 #include <stdlib.h>
@@ -52,7 +52,11 @@ static void report(const char *name, int holds, struct confscript_answer got) {
 
 static const uint8_t *bytes(const char *text) { return (const uint8_t *)text; }
 
+<<<<<<< HEAD
 /* Whether the buffer begins with the text, and is as it was after it. */
+=======
+/* Whether the buffer begins with the text, and is unchanged after it. */
+>>>>>>> e56c06fef8653c98ac445e7b532c261606e166f4
 static int holds_text(const char *text) {
     size_t len = strlen(text);
     if (memcmp(out, text, len) != 0) return 0;
@@ -60,7 +64,7 @@ static int holds_text(const char *text) {
     return 1;
 }
 
-/* A call of any of them, on texts or numbers that are set before. */
+/* One of the calls, with its arguments in variables. */
 typedef struct confscript_answer (*call)(void);
 
 static const char *first, *second;
@@ -103,7 +107,7 @@ static struct confscript_answer called(call which, long granted) {
     return answer;
 }
 
-/* The call answers so and leaves the buffer so, and before that NO_MEMORY as long as an allocation is refused. */
+/* Expects this answer and this buffer of a call, and NO_MEMORY as long as one of its allocations is refused. */
 static void expect(const char *name, call which, uint32_t status, uint64_t number, const char *text) {
     struct confscript_answer got;
     for (long granted = 0;; granted++) {
@@ -118,7 +122,7 @@ static void expect(const char *name, call which, uint32_t status, uint64_t numbe
 static void on_texts(const char *a, const char *b) { first = a; second = b; room = ROOM; }
 
 static void texts(void) {
-    /* (each by its place, and the last for a number that is no status) */
+    /* The text of each status, by its code; the last is that of a number that is not a status. */
     static const char *const words[] = {
         "done", "the buffer is too small", "out of memory", "not a ConfState line", "an id is named twice", "not a configuration",
         "no incoming voter", "not a step", "more than four steps", "config is already joint", "can't make a zero-voter config joint",
@@ -308,7 +312,7 @@ static void quorums(void) {
     expect("may be down: nobody votes", may_be_down, CONFSCRIPT_NO_QUORUM, 0, "");
 }
 
-/* Applies a plan to a line, four lines a call, and writes the last result to `line`. */
+/* Applies a plan to a line, four steps in each call, and writes the last result to `line`. */
 static struct confscript_answer applied(char *line, const char *steps) {
     struct confscript_answer answer;
     do {
@@ -327,7 +331,7 @@ static struct confscript_answer applied(char *line, const char *steps) {
     return answer;
 }
 
-/* Plans from each line to each other by each strategy, and applies the plan: the other line comes out. */
+/* Plans from each line to each other one by each strategy, and applies the plan: the result has to be the other line. */
 static void rounds(void) {
     static const char *const lines[] = {
         LINE("1", "", "", "", "false"),

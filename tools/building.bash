@@ -1,14 +1,15 @@
-# What ./confscript, ./library and the other scripts at the top share: which crates crates.txt lists, which of them are built, and
-# how one is proved and built by the toolchain's own compiler. They source it, with the top of the repository in $top.
+# Functions of ./confscript, ./library and the other scripts at the top: which crates crates.txt lists, which of them are
+# built, and how the toolchain's compiler proves and builds one. A script that sources this file has the top of the
+# repository in $top.
 
-# needs_rt SCRIPT: says in one line what is missing where there is no toolchain.
+# needs_rt SCRIPT: fails with a message of one line if the toolchain is missing.
 needs_rt() {
   command -v rt >/dev/null && return
   echo "$1: the toolchain Rattle is missing (no rt on the path); 'How to get it' in README.md says what it is, and what needs no toolchain" >&2
   return 1
 }
 
-# libraries_of CRATE: the libraries that crates.txt lists for a crate, its own among them and the toolchain's.
+# libraries_of CRATE: the libraries that crates.txt lists for a crate: crates of this repository, and of the toolchain.
 libraries_of() {
   sed -n "s/^$1\( staticlib\)\{0,1\}: *//p" "$top/crates.txt"
 }
@@ -18,7 +19,8 @@ is_own() {
   grep -q "^$1[: ]" "$top/crates.txt"
 }
 
-# crates_below CRATE: the crates of this repository below a crate, each after those that it uses; some are named more than once.
+# crates_below CRATE: the crates of this repository that a crate depends on, each after those that it depends on itself.
+# Some are printed more than once.
 crates_below() {
   local library
   for library in $(libraries_of "$1"); do
@@ -29,13 +31,13 @@ crates_below() {
   done
 }
 
-# rlib_of CRATE: where the library of a crate is built.
+# rlib_of CRATE: the path of the library that is built of a crate.
 rlib_of() {
   echo "$top/crates/$1/out/rlib/$1.rlib"
 }
 
-# is_built CRATE: whether a crate was proved and built after its sources were written, and after the crates below it were built. (What
-# `rt ci` kept may be older, but the folder that it stands in is not.)
+# is_built CRATE: whether a crate was proved and built after its sources were written, and after the crates that it
+# depends on were built. The time is that of the library's folder, since files that `rt ci` restored may be older.
 is_built() {
   local built sources library
   built=$(rlib_of "$1")
@@ -48,7 +50,8 @@ is_built() {
   [ -z "$(find "${sources[@]}" -newer "$built" -print -quit 2>/dev/null)" ]
 }
 
-# jobs_for_machine: how many jobs a proof gets: one a processor, as far as 5 GB of free memory for the first and 2 GB for each further one go.
+# jobs_for_machine: how many jobs a proof may use: one for each processor, but no more than free memory allows, with 5 GB
+# for the first job and 2 GB for each other one.
 jobs_for_machine() {
   local processors memory most
   processors=$(nproc)
@@ -58,7 +61,8 @@ jobs_for_machine() {
   echo $((processors < most ? processors : most))
 }
 
-# rattle_build JOBS CRATE ROOT WORDS..: proves a crate from nothing, over the crates below it as they were built, and builds it.
+# rattle_build JOBS CRATE ROOT ARGUMENTS..: proves a crate from nothing, and builds it. The crates that it depends on
+# have to be built.
 rattle_build() {
   local jobs=$1 crate=$2 root=$3 kit library words
   shift 3
@@ -79,7 +83,8 @@ rattle_build() {
   (cd "$top/crates/$crate" && exec "$kit/bin/rattle" build "$root" "${words[@]}" "$@")
 }
 
-# build_library JOBS CRATE: proves a crate and builds its library, with what the crates above read of it, unless it is built.
+# build_library JOBS CRATE: proves a crate and builds its library, with its statements for the crates above, unless that
+# is up to date.
 build_library() {
   is_built "$2" && return
   rm -rf "$top/crates/$2/out/rlib"
@@ -87,7 +92,7 @@ build_library() {
   rattle_build "$1" "$2" src/lib.rt --links "$2=" --statements -o "$(rlib_of "$2")"
 }
 
-# logged LOGS CRATE COMMAND..: runs a command that proves a crate, with a log of its own in a folder for what the prover says.
+# logged LOGS CRATE COMMAND..: runs a command that proves a crate. The prover's output goes to a log in the folder LOGS.
 logged() {
   local log=$1/$2.log crate=$2 began=$SECONDS
   shift 2

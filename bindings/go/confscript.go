@@ -1,5 +1,5 @@
-// Package confscript says who votes in a raft group. It is a thin layer over libconfscript; confscript.h says what each
-// call returns. A configuration is a ConfState line, and a plan the text of its lines.
+// Package confscript plans and checks who votes in a raft group. It is a thin layer over libconfscript; confscript.h
+// says what each call returns. A configuration is a ConfState line, and a plan is the text of its lines.
 //
 // The compiler finds the header and the library by pkg-config, or by CGO_CFLAGS and CGO_LDFLAGS with the build tag
 // confscript_flags.
@@ -46,7 +46,7 @@ const (
 // Strategy is how a plan goes from one configuration to another.
 type Strategy uint32
 
-// The strategies. Shortest is that of Plan.
+// The strategies. Plan uses Shortest.
 const (
 	Shortest      Strategy = C.CONFSCRIPT_SHORTEST
 	LearnersFirst Strategy = C.CONFSCRIPT_LEARNERS_FIRST
@@ -66,7 +66,8 @@ func PlanBy(strategy Strategy, now, target string) (string, error) {
 	})
 }
 
-// Apply returns the ConfState line of the configuration after the steps of a plan, at most four, or after a single change.
+// Apply returns the ConfState line of the configuration after the steps of a plan, at most four, or after a single
+// change.
 func Apply(state, steps string) (string, error) {
 	from, by := []byte(state), []byte(steps)
 	return written(func(out *C.uint8_t, room C.size_t) C.struct_confscript_answer {
@@ -109,18 +110,18 @@ func Vote(incoming, outgoing []uint64, votes map[uint64]bool) (VoteResult, error
 }
 
 // MayBeDown returns how many ids may be down, whichever they are, while the other voters are a quorum without the
-// uncounted ones. They are no quorum even with none down if the error is a Refused with the status 23.
+// uncounted ones. If they are no quorum even with none down, the error is a Refused with the status 23.
 func MayBeDown(incoming, outgoing, uncounted []uint64) (uint64, error) {
 	return number(C.confscript_may_be_down(first(incoming), C.size_t(len(incoming)), first(outgoing), C.size_t(len(outgoing)),
 		first(uncounted), C.size_t(len(uncounted))))
 }
 
-// Version returns the version of the library: 10,000 for each major one, 100 for each minor one, and the patch.
+// Version returns the version of the library: 10,000 for each major version, 100 for each minor one, and the patch.
 func Version() uint32 {
 	return uint32(C.confscript_version())
 }
 
-// start is where bytes begin; of none, a pointer that is not nil.
+// start returns a pointer to the first byte, which is not nil even if there is none.
 func start(text []byte) *C.uint8_t {
 	if len(text) == 0 {
 		text = make([]byte, 1)
@@ -128,7 +129,7 @@ func start(text []byte) *C.uint8_t {
 	return (*C.uint8_t)(unsafe.Pointer(&text[0]))
 }
 
-// first is where numbers begin; of none, a pointer that is not nil.
+// first returns a pointer to the first number, which is not nil even if there is none.
 func first(numbers []uint64) *C.uint64_t {
 	if len(numbers) == 0 {
 		numbers = make([]uint64, 1)
@@ -136,7 +137,7 @@ func first(numbers []uint64) *C.uint64_t {
 	return (*C.uint64_t)(unsafe.Pointer(&numbers[0]))
 }
 
-// number is the number of an answer, or why the call was refused.
+// number returns the number of an answer, or the error of a call that was refused.
 func number(answer C.struct_confscript_answer) (uint64, error) {
 	if answer.status != C.CONFSCRIPT_DONE {
 		return 0, &Refused{uint32(answer.status), uint64(answer.number)}
@@ -144,7 +145,7 @@ func number(answer C.struct_confscript_answer) (uint64, error) {
 	return uint64(answer.number), nil
 }
 
-// written is the text that a call writes: the call says how much room it takes.
+// written returns the text that a call writes. If the buffer is too small, the call returns the length that it needs.
 func written(call func(out *C.uint8_t, room C.size_t) C.struct_confscript_answer) (string, error) {
 	out := make([]byte, 256)
 	for {

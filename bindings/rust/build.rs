@@ -1,4 +1,4 @@
-//! Says where libconfscript.a is: in the folder that CONFSCRIPT_LIB names, or else where pkg-config says.
+//! Tells cargo where libconfscript.a is: in the folder that CONFSCRIPT_LIB names, or where pkg-config finds it.
 use std::process::Command;
 
 fn main() {

@@ -1,12 +1,14 @@
-"""confscript: who votes in a raft group. A thin layer over libconfscript.so; include/confscript.h says what each call returns.
+"""Plans and checks who votes in a raft group: a thin layer over libconfscript.so.
 
-A configuration is a ConfState line, and a plan the text of its lines, both as str:
+include/confscript.h says what each call returns.
+
+A configuration is a ConfState line, and a plan is the text of its lines, both as str:
 
     >>> steps = plan("Voters:[1 2] ..", "Voters:[2 3] ..")
     >>> apply("Voters:[1 2] ..", steps)
 
-A call that is refused raises Refused, which has the status and the number. The library is the one that CONFSCRIPT_LIBRARY names, or else the
-one that the system's loader finds.
+A call that is refused raises Refused, which has the status and the number. The library is the one that
+CONFSCRIPT_LIBRARY names, or the one that the system's loader finds.
 """
 import ctypes
 import os
@@ -64,12 +66,12 @@ _library.confscript_version.argtypes, _library.confscript_version.restype = (), 
 
 def _bytes(text):
     data = text.encode() if isinstance(text, str) else bytes(text)
-    # (a pointer to its bytes, and one that is not null where there are none)
+    # ctypes passes a pointer to the bytes, which is not null even if there are none.
     return data, len(data)
 
 
 def _ids(ids):
-    # (an array has room for one at least, so that the pointer is never null)
+    # The array has room for at least one id, so that its pointer is never null.
     return (ctypes.c_uint64 * max(len(ids), 1))(*ids), len(ids)
 
 
@@ -80,7 +82,7 @@ def _number(answer):
 
 
 def _written(call, *arguments):
-    """The text that a call writes: the call says how much room it takes."""
+    """The text that a call writes. If the buffer is too small, the call returns the length that it needs."""
     room = 256
     while True:
         out = (ctypes.c_char * room)()
@@ -100,29 +102,34 @@ def plan(now, target, strategy=Strategy.SHORTEST):
 
 
 def apply(state, steps):
-    """Returns the ConfState line of the configuration after the steps of a plan, at most four, or after a single change."""
+    """Returns the ConfState line of the configuration after the steps of a plan, at most four."""
     return _written(_library.confscript_apply, *_bytes(state), *_bytes(steps))
 
 
 def check(state):
-    """Raises Refused where something is wrong with the configuration of a ConfState line."""
+    """Raises Refused if something is wrong with the configuration of a ConfState line."""
     _number(_library.confscript_check(*_bytes(state)))
 
 
 def committed(incoming, outgoing, acknowledged):
-    """Returns the committed index of a voter set, or of a joint pair; `acknowledged` has the index of each id. 2**64-1 if there are no voters."""
+    """Returns the committed index of a voter set, or of a joint pair; `acknowledged` has the index of each id.
+
+    It is 2**64-1 if there are no voters.
+    """
     return _number(_library.confscript_committed(*_ids([*incoming]), *_ids([*outgoing]), *_ids([*acknowledged]), *_ids([*acknowledged.values()])))
 
 
 def vote(incoming, outgoing, votes):
-    """Returns the result of a vote of a voter set, or of a joint pair; `votes` has True or False of each id that has voted."""
+    """Returns the result of a vote by a voter set, or by a joint pair; `votes` has True or False for each id that voted."""
     said = bytes(bool(it) for it in votes.values())
     return Vote(_number(_library.confscript_vote(*_ids([*incoming]), *_ids([*outgoing]), *_ids([*votes]), *_bytes(said))))
 
 
 def may_be_down(incoming, outgoing, uncounted=()):
-    """Returns how many ids may be down, whichever they are, while the other voters are a quorum without the uncounted ones; None if they are
-    no quorum even with none down."""
+    """Returns how many ids may be down, whichever they are, while the others are a quorum without the uncounted ones.
+
+    None if they are no quorum even with none down.
+    """
     answer = _library.confscript_may_be_down(*_ids([*incoming]), *_ids([*outgoing]), *_ids([*uncounted]))
     return None if answer.status == NO_QUORUM else _number(answer)
 

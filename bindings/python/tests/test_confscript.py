@@ -1,4 +1,4 @@
-"""The calls of the binding, as a Python program meets them."""
+"""Tests the calls of the binding from a Python program."""
 import unittest
 
 import confscript

@@ -1,6 +1,7 @@
-//! Who votes in a raft group: a thin layer over `libconfscript.a`. `confscript.h` says what each call returns.
+//! Plans and checks who votes in a raft group: a thin layer over `libconfscript.a`. `confscript.h` says what each call
+//! returns.
 //!
-//! A configuration is a ConfState line, and a plan the text of its lines.
+//! A configuration is a ConfState line, and a plan is the text of its lines.
 use std::fmt;
 
 #[repr(C)]
@@ -33,7 +34,7 @@ extern "C" {
 const DONE: u32 = 0;
 const TOO_SMALL: u32 = 1;
 
-/// Why a call is refused: the statuses of `confscript.h`, with their numbers where these say something.
+/// Why a call is refused: the statuses of `confscript.h`, with their numbers if they have one.
 #[derive(Clone, Copy, Debug, PartialEq, Eq)]
 pub enum Error {
     NoMemory,
@@ -54,7 +55,7 @@ pub enum Error {
     DifferentLengths,
     BadVote,
     NoQuorum,
-    /// There is no plan one at a time into a joint configuration.
+    /// No plan that changes one member at a time leads into a joint configuration.
     JointTarget,
 }
 
@@ -135,7 +136,7 @@ fn number(answer: Answer) -> Result<u64, Error> {
     if answer.status == DONE { Ok(answer.number) } else { Err(Error::of(&answer)) }
 }
 
-// The text that a call writes: the call says how much room it takes.
+// The text that a call writes. If the buffer is too small, the call returns the length that it needs.
 fn written(call: impl Fn(&mut [u8]) -> Answer) -> Result<String, Error> {
     let mut out = vec![0; 256];
     loop {
@@ -174,8 +175,8 @@ pub fn check(state: &str) -> Result<(), Error> {
     number(unsafe { confscript_check(state.as_ptr(), state.len()) }).map(|_| ())
 }
 
-/// The committed index of a voter set, or of a joint pair, by the index that each id has acknowledged. It is `u64::MAX` if there are no
-/// voters.
+/// The committed index of a voter set, or of a joint pair, by the index that each id has acknowledged. It is `u64::MAX`
+/// if there are no voters.
 pub fn committed(incoming: &[u64], outgoing: &[u64], acknowledged: &[(u64, u64)]) -> Result<u64, Error> {
     let (ids, indexes): (Vec<u64>, Vec<u64>) = acknowledged.iter().copied().unzip();
     // SAFETY: as in `plan`; a vector's pointer is not null, also where it is empty.
@@ -200,8 +201,8 @@ pub fn vote(incoming: &[u64], outgoing: &[u64], votes: &[(u64, bool)]) -> Result
     })
 }
 
-/// How many ids may be down, whichever they are, while the other voters are a quorum without the uncounted ones; `Error::NoQuorum` if they
-/// are none even with none down.
+/// How many ids may be down, whichever they are, while the other voters are a quorum without the uncounted ones.
+/// `Error::NoQuorum` if they are no quorum even with none down.
 pub fn may_be_down(incoming: &[u64], outgoing: &[u64], uncounted: &[u64]) -> Result<u64, Error> {
     // SAFETY: as in `committed`.
     number(unsafe {
@@ -209,7 +210,7 @@ pub fn may_be_down(incoming: &[u64], outgoing: &[u64], uncounted: &[u64]) -> Res
     })
 }
 
-/// The version of the library: 10,000 for each major one, 100 for each minor one, and the patch.
+/// The version of the library: 10,000 for each major version, 100 for each minor one, and the patch.
 pub fn version() -> u32 {
     // SAFETY: the call takes nothing.
     unsafe { confscript_version() }

@@ -1,4 +1,4 @@
-//! The calls of the binding, as a Rust program meets them.
+//! Tests the calls of the binding from a Rust program.
 use confscript::{apply, check, committed, may_be_down, plan, plan_by, version, vote, Error, Strategy, VoteResult};
 
 const NOW: &str = "Voters:[1 2 3] VotersOutgoing:[] Learners:[] LearnersNext:[] AutoLeave:false";

@@ -1,4 +1,5 @@
--- What has been written of the output after some parts of the input, and what is left of it.
+-- What has been written of the output after some parts of the input, and what is left of it. Each mode has a function
+-- for what is left, by its state; the proof of a run goes from part to part by it.
 use Rattle.std.specs.Prelude.{◌≡◌, ◌≤◌, ℕ, ◌+◌, ◌||◌, true, List, [], ◌∷◌, ◌++◌, flat_map, count_by, nat_lt, length, Option, Some, None, Result, Ok, Err, IfSome}
 use Rattle.std.specs.List.{list_any}
 use Rattle.std.specs.Io.KnownBytes.{Appends, Keeps}
@@ -18,25 +19,25 @@ use Rattle.conf_tool.specs.declared.status.Status.{Status}
 use Rattle.conf_tool.specs.declared.configurations_fault.ConfigurationsFault.{ConfigurationsFault}
 use Rattle.conf_tool.specs.declared.tool_fault.ToolFault.TheVariants.{Script as ScriptFault}
 
--- what is read: these parts, and the error that ends them, if any
+-- a script of these items, ended by this error if there is one
 abbrev pub script : {A : Type 0} → List A → Option FileFault → Script A
 script items fault = record { items = items; fault = fault }
 
--- some parts before what is left
+-- a script with these parts before the rest
 abbrev pub prepended : {A : Type 0} → List A → Script A → Script A
 prepended parts rest = script (parts ++ rest.items) rest.fault
 
--- a text before an output
+-- an output with this text before its own
 abbrev pub with_prefix : List ℕ → Output → Output
 with_prefix text output = record { text = text ++ output.text; outcome = output.outcome }
 
--- The replies to these parts were written, and the output for what is left comes after them.
+-- the replies to these parts were written, and what is left of the output comes after them
 pub record WrotePrefix {A : Type 0} (total left : Script A → Output) (parts : List A) (before after : Option (List ℕ)) : Type 0 where
   pub text : List ℕ
   pub wrote : Appends before after text
   pub is : (rest : Script A) → total (prepended parts rest) ≡ with_prefix text (left rest)
 
--- For `check`, with the counts so far: no more directives than parts.
+-- What is left of the output of `check`, by the entries that are left and the counts so far.
 abbrev pub rest_checked : ℕ → ℕ → List Entry → Option FileFault → Output
 rest_checked directives mismatches entries None = record {
   text = flat_map report entries ++ counts_line (directives + count_by (λ entry. is_directive entry.item) entries) (mismatches + count_by differs entries);
@@ -44,60 +45,61 @@ rest_checked directives mismatches entries None = record {
 }
 rest_checked directives mismatches entries (Some fault) = record { text = flat_map report entries; outcome = Err (ScriptFault fault) }
 
--- what is left of `check`, by the session and the counts so far
+-- what is left of the output of `check`, by the session and the counts so far
 abbrev pub check_left : SessionState → ℕ → ℕ → Script Item → Output
 check_left session directives mismatches rest = rest_checked directives mismatches (answered_entries session rest.items) rest.fault
 
--- the replies of `check` to these parts were written
+-- `check` has written its replies to these parts, and has counted no more directives than parts
 pub record HasChecked (session : SessionState) (directives mismatches : ℕ) (total : Script Item → Output) (parts : List Item) (before after : Option (List ℕ)) : Type 0 where
   pub prefix : WrotePrefix total (check_left session directives mismatches) parts before after
   pub few : directives ≤ length parts
 
--- For `rewrite`, which may hold the last newline back until it knows what follows.
+-- what is left of the output of `rewrite`, by the session; a newline at the end of the whole may be dropped
 abbrev pub rewrite_left : SessionState → Script Item → Output
 rewrite_left session rest = record { text = answered_text session rest.items; outcome = clean_unless rest.fault }
 
--- an output with its end looked at
+-- an output without a second newline at its end, as a rewritten script is written
 abbrev pub ended : Output → Output
 ended output = record { text = without_double_end output.text; outcome = output.outcome }
 
--- the replies of `rewrite` to these parts were written
+-- `rewrite` has written these parts, but for a newline at their end, which is kept back until it is known what follows
 pub record HasRewritten (session : SessionState) (rewriter : RewriterState) (total : Script Item → Output) (parts : List Item) (before after : Option (List ℕ)) : Type 0 where
   pub text : List ℕ
   pub wrote : HasWritten rewriter.newlines before after text
   pub ready : rewriter.stage ≡ Ready
   pub is : (rest : Script Item) → total (prepended parts rest) ≡ ended (with_prefix text (rewrite_left session rest))
 
--- For `undo`, which runs what it reads, and writes at the end.
+-- what is left of the output of `undo`, by the session: all of it, since `undo` writes at the end
 abbrev pub undo_left : SessionState → ℕ → Script Item → Output
 undo_left session count rest = undone_unless (session_after_all session rest.items) count rest.fault
 
--- `undo` has read these parts
+-- `undo` has run these parts, and has written nothing
 pub record HasRun (session : SessionState) (rewriter : RewriterState) (count : ℕ) (total : Script Item → Output) (parts : List Item) (before after : Option (List ℕ)) : Type 0 where
   pub unwritten : Keeps before after
   pub ready : rewriter.stage ≡ Ready
   pub nothing : (buffered : Option (List ℕ)) → HasWritten rewriter.newlines buffered buffered []
   pub is : (rest : Script Item) → total (prepended parts rest) ≡ undo_left session count rest
 
--- For `plan`: what is left after the first line of a pair, by its configuration, ..
+-- what is left of the output of `plan` after the first line of a pair, by the configuration of that line
 abbrev pub pairs_within : PlanOptions → ℕ → Result Configuration ConfigurationsFault → List NumberedLine → Option FileFault → Output
 pairs_within options number first [] fault = ends_within first fault
 pairs_within options number first (second ∷ lines) fault = pair_then options number (both_of first (configuration_at second)) (planned_pairs options (number + 1) lines fault)
 
--- .. or before that line
+-- what is left of the output of `plan`, by the first configuration of the current pair, if it was read
 abbrev pub pairs_left : PlanOptions → ℕ → Option Configuration → List NumberedLine → Option FileFault → Output
 pairs_left options number None lines fault = planned_pairs options number lines fault
 pairs_left options number (Some now) lines fault = pairs_within options number (Ok now) lines fault
 
--- an output after pairs with this status
+-- an output, where the pairs before it had this status
 abbrev pub with_status : Status → Output → Output
 with_status status output = record { text = output.text; outcome = worse_of status output.outcome }
 
--- what is left of `plan` after this many lines, by the number of the pair, its first configuration if that was read, and the status so far
+-- What is left of the output of `plan` after this many lines, by the number of the current pair, its first
+-- configuration if that was read, and the status so far.
 abbrev pub plan_left : PlanOptions → ℕ → ℕ → Option Configuration → Status → Script (List ℕ) → Output
 plan_left options count number now status rest = with_status status (pairs_left options number now (configuration_lines (numbered (count + 1) rest.items)) rest.fault)
 
--- the replies of `plan` to these lines were written, with at most as many pairs
+-- `plan` has written its replies to these lines, which have no more pairs than lines
 pub record HasPlanned (options : PlanOptions) (count number : ℕ) (now : Option Configuration) (status : Status) (total : Script (List ℕ) → Output) (parts : List (List ℕ)) (before after : Option (List ℕ)) : Type 0 where
   pub prefix : WrotePrefix total (plan_left options count number now status) parts before after
   pub counted : count ≡ length parts

@@ -1,4 +1,4 @@
--- Laws of the modes' outputs.
+-- Laws of the modes' outputs: what a user can rely on, when one mode reads what another printed.
 use Rattle.std.specs.Prelude.{◌≡◌, ◌≤◌, ◌+◌, ◌-◌, ℕ, true, false, List, ◌++◌, [], ◌∷◌, length, slice_get, Result, Ok, Err, Some, None}
 use Rattle.ascii_text.specs.Lines.{newline, lines_of}
 use Rattle.dd_file.specs.Laws.{ends_in_long_blank, directives_of, IsComplete}
@@ -26,30 +26,30 @@ use Rattle.conf_tool.specs.Outputs.{session_after_all, checked, rewritten, undon
 use Rattle.conf_tool.specs.UndoScript.{TakesSteps}
 use Rattle.conf_tool.specs.declared.status.Status.TheVariants.{Clean}
 
--- A rewritten script checks clean, and so does what is written of one with an error. (If that ends in a blank of several
--- lines, the newline that is dropped may leave a lone backslash on the last line.)
+-- A rewritten script checks clean, and so does what is written of one with an error. (If that ends in a blank of
+-- several lines, the newline that is dropped may leave a lone backslash on the last line.)
 abbrev pub RewrittenClean : Type 0
 RewrittenClean = (input : List ℕ) (history : ℕ) (floor : Floor) →
     ends_in_long_blank (script_of input).items ≡ false → length (rewritten input history floor).text ≤ longest_input →
     (checked (rewritten input history floor).text history floor).outcome ≡ Ok Clean
 
--- A complete script that checks clean, two newlines, and the script that undoes its last changes, together check clean; also
--- if there is nothing to do, or no plan.
+-- A complete script that checks clean, two newlines, and the script that undoes its last changes, together check clean;
+-- also if there is nothing to do, or no plan.
 abbrev pub JoinedClean : Type 0
 JoinedClean = (script : List ℕ) (history : ℕ) (floor : Floor) (count : ℕ) →
     IsComplete 1 (lines_of script) → (checked script history floor).outcome ≡ Ok Clean →
     let joined = (script ++ newline ++ newline) ++ (undone_output script history floor count).text in
     length joined ≤ longest_input → (checked joined history floor).outcome ≡ Ok Clean
 
--- The script is read without an error. A session that runs it takes the steps, one for each directive, and returns to the
--- configuration before the last `count` changes.
+-- A script is read without an error, and a session that runs it takes the steps, one for each directive, and returns to
+-- the configuration before its last `count` changes.
 pub record LeadsBackBy (session : SessionState) (count : ℕ) (steps : List Step) (script : Script Item) : Type 0 where
   pub whole : script.fault ≡ None
   pub taken : TakesSteps session (directives_of script.items) steps
   pub back : slice_get session.kept (count - 1) ≡ Some (current (session_after_all session script.items))
 
--- A session that ran a script without an error, and then runs what `undo` prints for it, takes the steps of the plan and
--- comes back. (The ids of a plan that is made are numbers of 64 bits, and it has at most four steps.)
+-- A session that ran a script without an error, and then runs what `undo` prints for it, takes the steps of the plan
+-- and comes back. (The ids of a plan that is made are numbers of 64 bits, and it has at most four steps.)
 abbrev pub UndoScriptLeadsBack : Type 0
 UndoScriptLeadsBack = (script : List ℕ) (history : ℕ) (floor : Floor) (count : ℕ) (steps : List Step) →
     let session = session_after_all (new_session history floor) (script_of script).items in
@@ -57,38 +57,38 @@ UndoScriptLeadsBack = (script : List ℕ) (history : ℕ) (floor : Floor) (count
     (script_of script).fault ≡ None → 1 ≤ count → undo_plan_of session count ≡ Ok steps → IsPlan steps → length printed ≤ longest_input →
     LeadsBackBy session count steps (script_of printed)
 
--- a pair before others, if both lines are configurations
+-- pairs with one more before them, if both of its lines are configurations
 abbrev pub pair_before : Result (Configuration × Configuration) ConfigurationsFault → List (Configuration × Configuration) → List (Configuration × Configuration)
 pair_before (Err bad) pairs = []
 pair_before (Ok pair) pairs = pair ∷ pairs
 
--- the pairs of configurations on the lines, up to the first line that is not one
+-- the pairs of configurations that lines denote, up to the first line that is not a configuration
 abbrev pub named_pairs : List NumberedLine → List (Configuration × Configuration)
 named_pairs [] = []
 named_pairs (line ∷ []) = []
 named_pairs (first ∷ second ∷ lines) = pair_before (both_of (configuration_at first) (configuration_at second)) (named_pairs lines)
 
--- the pairs of an input
+-- the pairs of configurations that an input denotes, up to the first line that is not one
 abbrev pub pairs_in : List ℕ → List (Configuration × Configuration)
 pairs_in input = named_pairs (configuration_lines (numbered 1 (listing_of input).items))
 
--- what `plan` prints for pairs, the first of which has this number
+-- the replies of `plan` to pairs, the first of which has this number
 abbrev pub texts_from : PlanOptions → ℕ → List (Configuration × Configuration) → List (List ℕ)
 texts_from options number [] = []
 texts_from options number (pair ∷ pairs) = plan_text_between options number pair.0 pair.1 ∷ texts_from options (number + 1) pairs
 
--- texts, joined with a separator
+-- texts with a separator between each two
 abbrev pub parted_by : List ℕ → List (List ℕ) → List ℕ
 parted_by part [] = []
 parted_by part (text ∷ []) = text
 parted_by part (text ∷ next ∷ texts) = text ++ (part ++ parted_by part (next ∷ texts))
 
--- a text is that of the best steps from the first configuration of a pair to the second, if both have voters
+-- the text is that of the best plan from the first configuration of a pair to the second, if both have a voter
 abbrev pub IsBestPlan : Configuration × Configuration → List ℕ → Type 0
 IsBestPlan pair text = has_voter pair.0 ≡ true → has_voter pair.1 ≡ true → (steps : List Step) × (text ≡ plan_text steps) × IsBest pair.0 steps pair.1
 
--- `plan` prints the texts of the pairs with an empty line between each two, and each is the best plan. For an input of one
--- pair nothing else is printed, and the run ends clean if no ids are down.
+-- `plan` prints the texts of the pairs with an empty line between each two, and each is the best plan. For an input of
+-- one pair nothing else is printed, and the run ends clean if no ids are down.
 pub record PrintedPlanIsBest : Type 0 where
   pub each : (options : PlanOptions) (input : List ℕ) → options.strategy ≡ Shortest → options.output ≡ Steps →
       (texts : List (List ℕ)) × ((planned_output options input).text ≡ parted_by newline texts) × AllZip IsBestPlan (pairs_in input) texts
@@ -96,12 +96,14 @@ pub record PrintedPlanIsBest : Type 0 where
       (listing_of input).fault ≡ None → configuration_lines (numbered 1 (listing_of input).items) ≡ first ∷ second ∷ [] → configuration_at first ≡ Ok now → configuration_at second ≡ Ok target →
       has_voter now ≡ true → has_voter target ≡ true → (steps : List Step) × (planned_output options input ≡ record { text = plan_text steps; outcome = Ok Clean }) × IsBest now steps target
 
--- a text is that of a path by the strategy, which keeps what the strategy promises, if both configurations have voters and there is one
+-- The text is that of a path that keeps what the strategy promises, if both configurations of the pair have a voter and
+-- the strategy has a path.
 abbrev pub IsServingPath : Strategy → Configuration × Configuration → List ℕ → Type 0
 IsServingPath strategy pair text =
     has_voter pair.0 ≡ true → has_voter pair.1 ≡ true → has_path strategy pair.0 pair.1 ≡ true → (steps : List Step) × (text ≡ plan_text steps) × Serves strategy pair.0 steps pair.1
 
--- By each strategy, what `plan` prints is the texts of the pairs in turn with an empty line between each two, and each is a path that serves.
+-- By each strategy, `plan` prints the texts of the pairs with an empty line between each two, and each is that of a
+-- path that keeps what the strategy promises.
 abbrev pub PrintedPathServes : Type 0
 PrintedPathServes = (options : PlanOptions) (input : List ℕ) → options.output ≡ Steps →
     (texts : List (List ℕ)) × ((planned_output options input).text ≡ parted_by newline texts) × AllZip (IsServingPath options.strategy) (pairs_in input) texts

@@ -1,4 +1,4 @@
--- The output of each mode, for a whole input.
+-- The output of each mode, as a function of its whole input and its options.
 use Rattle.std.specs.Prelude.{ℕ, ◌+◌, Bool, true, false, List, [], ◌∷◌, ◌++◌, flat_map, nat_lt, Option, Some, None, Result, Ok, Err, if◌then◌else◌}
 use Rattle.ascii_text.specs.Lines.{newline}
 use Rattle.std.specs.List.{list_any}
@@ -30,101 +30,101 @@ use Rattle.conf_tool.specs.declared.configurations_fault.ConfigurationsFault.The
 use Rattle.conf_tool.specs.declared.tool_fault.ToolFault.{ToolFault}
 use Rattle.conf_tool.specs.declared.tool_fault.ToolFault.TheVariants.{Script as ScriptFault, Configurations}
 
--- what is written, and how it ends: with a status, or with an error in the input
+-- an output: what is written, and how the run ends, with a status or with an error in the input
 pub record Output : Type 0 where
   pub text : List ℕ
   pub outcome : Result Status ToolFault
 
--- clean unless there is an error
+-- a run ends clean unless its input has an error
 abbrev pub clean_unless : Option FileFault → Result Status ToolFault
 clean_unless None = Ok Clean
 clean_unless (Some fault) = Err (ScriptFault fault)
 
--- the replies to the lines up to an error, from a configuration on
+-- the output of `lines` from a configuration on: the replies to the lines, up to an error
 abbrev pub lined_from : Configuration → Script (List ℕ) → Output
 lined_from c listing = record { text = line_replies c listing.items; outcome = clean_unless listing.fault }
 
--- of `lines`: the replies, from the empty configuration on
+-- the output of `lines`, which begins with the empty configuration
 abbrev pub lined : List ℕ → Output
 lined input = lined_from empty_configuration (listing_of input)
 
--- different if a directive differs
+-- the status of `check`: different if a directive differs
 abbrev pub check_status : Bool → Status
 check_status false = Clean
 check_status true = Different
 
--- the reports, and the counts unless there is an error
+-- the output of `check` for some entries: the reports on them, and the counts unless there is an error
 abbrev pub checked_entries : List Entry → Option FileFault → Output
 checked_entries entries None = record { text = flat_map report entries ++ counts_text entries; outcome = Ok (check_status (list_any differs entries)) }
 checked_entries entries (Some fault) = record { text = flat_map report entries; outcome = Err (ScriptFault fault) }
 
--- of `check`, by the items of the script
+-- the output of `check` for the items of a script
 abbrev pub checked_script : ℕ → Floor → Script Item → Output
 checked_script history floor script = checked_entries (answered_entries (new_session history floor) script.items) script.fault
 
--- of `check`: what differs in a script, in a session that keeps this many earlier configurations and has this initial next index
+-- the output of `check`, in a session that keeps this many earlier configurations and has this initial next index
 abbrev pub checked : List ℕ → ℕ → Floor → Output
 checked input history floor = checked_script history floor (script_of input)
 
--- of `rewrite`, by the items of the script
+-- the output of `rewrite` for the items of a script
 abbrev pub rewritten_script : ℕ → Floor → Script Item → Output
 rewritten_script history floor script = record {
   text = rewritten_text (answered_entries (new_session history floor) script.items);
   outcome = clean_unless script.fault;
 }
 
--- of `rewrite`: the script up to an error, with its actual output
+-- the output of `rewrite`: the script up to an error, with its actual outputs
 abbrev pub rewritten : List ℕ → ℕ → Floor → Output
 rewritten input history floor = rewritten_script history floor (script_of input)
 
--- the session after some items
+-- the session after it has run these items
 abbrev pub session_after_all : SessionState → List Item → SessionState
 session_after_all session [] = session
 session_after_all session (item ∷ items) = session_after_all (session_after session item) items
 
--- different if there is no plan
+-- the status of `undo`: different if there is no plan
 abbrev pub undo_status : Result (List Step) UndoFault → Status
 undo_status (Ok steps) = Clean
 undo_status (Err fault) = Different
 
--- the items that undo changes, with their actual output in the session
+-- the output of `undo` for a plan: its steps, or why there is none, with what the session prints for them
 abbrev pub undone_with : SessionState → Result (List Step) UndoFault → Output
 undone_with session plan = record { text = rewritten_text (answered_entries session (undo_items plan)); outcome = Ok (undo_status plan) }
 
--- nothing is undone if the script has an error
+-- the output of `undo` after it has run a script; empty if the script has an error
 abbrev pub undone_unless : SessionState → ℕ → Option FileFault → Output
 undone_unless session count None = undone_with session (undo_plan_of session count)
 undone_unless session count (Some fault) = record { text = []; outcome = Err (ScriptFault fault) }
 
--- of `undo`, by the items of the script
+-- the output of `undo` for the items of a script
 abbrev pub undone_script : ℕ → Floor → ℕ → Script Item → Output
 undone_script history floor count script = undone_unless (session_after_all (new_session history floor) script.items) count script.fault
 
--- of `undo`: the script that undoes the last changes of a script, at least one
+-- the output of `undo`: a script that undoes the last count changes of a script, at least one
 abbrev pub undone_output : List ℕ → ℕ → Floor → ℕ → Output
 undone_output input history floor count = undone_script history floor count (script_of input)
 
--- nothing more is written
+-- a run that ends so, with nothing more written
 abbrev pub ends : Result Status ToolFault → Output
 ends outcome = record { text = []; outcome = outcome }
 
--- the text between the outputs of two pairs
+-- the text between the replies to two pairs, by the form of the output
 abbrev pub separator : PlanOutput → List ℕ
 separator Steps = newline
 separator Table = newline
 separator Json = []
 
--- the text of the pair with this number, counted from 1
+-- the reply to the pair with this number, counted from 1, with the separator before it
 abbrev pub pair_text : PlanOptions → ℕ → Configuration → Configuration → List ℕ
 pair_text options number now target = (if nat_lt 1 number then separator options.output else []) ++ plan_text_between options number now target
 
--- the worse of a status and of how the rest ends
+-- how a run ends that has this status so far: an error decides, and then the worse status
 abbrev pub worse_of : Status → Result Status ToolFault → Result Status ToolFault
 worse_of status (Err fault) = Err fault
 worse_of Clean (Ok later) = Ok later
 worse_of Different (Ok later) = Ok Different
 
--- the output of a pair, and of the pairs after it
+-- the output of `plan` for a pair and the pairs after it; a line with an error ends it
 abbrev pub pair_then : PlanOptions → ℕ → Result (Configuration × Configuration) ConfigurationsFault → Output → Output
 pair_then options number (Err bad) rest = ends (Err (Configurations bad))
 pair_then options number (Ok pair) rest = record {
@@ -132,33 +132,33 @@ pair_then options number (Ok pair) rest = record {
   outcome = worse_of (plan_status options pair.0 pair.1) rest.outcome;
 }
 
--- the end of the input, where the pair with this number would begin; an input without a pair is an error
+-- the output of `plan` at the end of its input, where the pair with this number would begin; no pair at all is an error
 abbrev pub ends_before : ℕ → Option FileFault → Output
 ends_before number (Some fault) = ends (Err (ScriptFault fault))
 ends_before number None = ends (if nat_lt 1 number then Ok Clean else Err (Configurations NotTwoLines))
 
--- the end of the input after the first line of a pair
+-- the output of `plan` at the end of its input, after the first line of a pair: an error
 abbrev pub ends_within : Result Configuration ConfigurationsFault → Option FileFault → Output
 ends_within (Err bad) fault = ends (Err (Configurations bad))
 ends_within (Ok now) (Some fault) = ends (Err (ScriptFault fault))
 ends_within (Ok now) None = ends (Err (Configurations NotTwoLines))
 
--- of the pairs of these lines, from the one with a number on
+-- the output of `plan` for these lines, the first pair of which has this number
 abbrev pub planned_pairs : PlanOptions → ℕ → List NumberedLine → Option FileFault → Output
 planned_pairs options number [] fault = ends_before number fault
 planned_pairs options number (line ∷ []) fault = ends_within (configuration_at line) fault
 planned_pairs options number (first ∷ second ∷ lines) fault =
     pair_then options number (both_of (configuration_at first) (configuration_at second)) (planned_pairs options (number + 1) lines fault)
 
--- of `plan`, by the lines of the input
+-- the output of `plan` for the lines of an input
 abbrev pub planned_script : PlanOptions → Script (List ℕ) → Output
 planned_script options listing = planned_pairs options 1 (configuration_lines (numbered 1 listing.items)) listing.fault
 
--- of `plan`: for each pair of lines the plan from the configuration of the first to that of the second
+-- the output of `plan`: for each pair of lines the path from the configuration of the first to that of the second
 abbrev pub planned_output : PlanOptions → List ℕ → Output
 planned_output options input = planned_script options (listing_of input)
 
--- of a mode with its options
+-- the output of a mode, by its options
 abbrev pub output_of : Mode → Options → List ℕ → Output
 output_of Lines options input = lined input
 output_of Check options input = checked input options.history options.floor

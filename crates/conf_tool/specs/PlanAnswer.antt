@@ -1,4 +1,4 @@
--- The output of the mode `plan`: the plan between two configurations, or why there is none.
+-- The output of the mode `plan` for a pair: the path between two configurations, or why there is none.
 use Rattle.std.specs.Prelude.{ℕ, List, ◌++◌, Option, Some, None, codes, if◌then◌else◌}
 use Rattle.quorum_sets.specs.Ids.{Ids}
 use Rattle.conf_change.specs.Configuration.{Configuration, has_voter}
@@ -15,13 +15,13 @@ use Rattle.conf_tool.specs.declared.plan_options.PlanOutput.TheVariants.{Steps, 
 use Rattle.conf_tool.specs.declared.status.Status.{Status}
 use Rattle.conf_tool.specs.declared.status.Status.TheVariants.{Clean, Different}
 
--- the text of a path from a configuration, for the pair with this number and with these ids down
+-- the text of a path in one of three forms, for the pair with this number and with these ids down
 abbrev pub text_as : PlanOutput → ℕ → Option Ids → Configuration → List Step → List ℕ
 text_as Steps number down now steps = plan_text steps
 text_as Table number down now steps = table_text now steps down
 text_as Json number down now steps = json_text number now steps down
 
--- the same by the options
+-- the text of a path in the form that the options name
 abbrev pub path_text : PlanOptions → ℕ → Configuration → List Step → List ℕ
 path_text options number now steps = text_as options.output number options.down now steps
 
@@ -29,25 +29,25 @@ path_text options number now steps = text_as options.output number options.down 
 abbrev pub no_plan_comment : List ℕ → List ℕ
 no_plan_comment why = codes "# no plan: " ++ why ++ newline
 
--- why the pair with this number has no plan
+-- the reply to the pair with this number if it has no plan: the reason, in the form of the output
 abbrev pub no_plan_text : PlanOutput → ℕ → List ℕ → List ℕ
 no_plan_text Steps number why = no_plan_comment why
 no_plan_text Table number why = no_plan_comment why
 no_plan_text Json number why = value_line (no_plan_json number why)
 
--- different if ids are down and the path stalls
+-- the status of a path: different if ids are named that are down and the path stalls then
 abbrev pub path_status : Option Ids → Configuration → List Step → Status
 path_status None now steps = Clean
 path_status (Some down) now steps = if stalls now steps down then Different else Clean
 
--- the text of the path by the strategy, or why there is none
+-- the reply to a pair: the text of the path by the strategy, or why there is none
 abbrev pub plan_text_between : PlanOptions → ℕ → Configuration → Configuration → List ℕ
 plan_text_between options number now target =
     if has_voter now then (if has_voter target then (if has_path options.strategy now target then path_text options number now (path_by options.strategy now target)
     else no_plan_text options.output number (codes "the target is joint")) else no_plan_text options.output number (codes "the target has no voter"))
     else no_plan_text options.output number (codes "the current configuration has no voter")
 
--- different if there is no plan, or if it stalls
+-- the status of a pair: different if there is no path, or if it stalls
 abbrev pub plan_status : PlanOptions → Configuration → Configuration → Status
 plan_status options now target =
     if has_voter now then (if has_voter target then (if has_path options.strategy now target then path_status options.down now (path_by options.strategy now target)

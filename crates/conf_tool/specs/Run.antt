@@ -1,4 +1,5 @@
--- What the result of a run means for its input and for what was written.
+-- What the result of a run means for its input and for what was written. A status, and an error in the input, mean that
+-- the whole output was written; any other error, that a prefix of it was.
 use Rattle.std.specs.Prelude.{◌≡◌, ℕ, Bool, true, false, List, Option, Result, Ok, Err, ⊤}
 use Rattle.std.specs.Io.KnownBytes.{Appends}
 use Rattle.dd_file.specs.Device.{AppendsPart}
@@ -14,11 +15,11 @@ use Rattle.conf_tool.specs.declared.status.Status.TheVariants.{Clean, Different}
 use Rattle.conf_tool.specs.declared.tool_fault.ToolFault.{ToolFault}
 use Rattle.conf_tool.specs.declared.tool_fault.ToolFault.TheVariants.{Script, Configurations, Read, Write, NoMemory}
 
--- the whole output was written, and it ends so
+-- the whole output was written, and it ends with this status or error
 abbrev pub Wrote : Output → Result Status ToolFault → Option (List ℕ) → Option (List ℕ) → Type 0
 Wrote output outcome before after = (output.outcome ≡ outcome) × Appends before after output.text
 
--- what a result means for an output, and for the bytes that the writer had before and has after
+-- what a result means for an output and for the bytes of the writer before and after
 abbrev pub Means : Output → Result Status ToolFault → Option (List ℕ) → Option (List ℕ) → Type 0
 Means output (Ok status) before after = Wrote output (Ok status) before after
 Means output (Err (Script fault)) before after = Wrote output (Err (Script fault)) before after
@@ -27,13 +28,13 @@ Means output (Err Read) before after = AppendsPart before after output.text
 Means output (Err Write) before after = AppendsPart before after output.text
 Means output (Err NoMemory) before after = AppendsPart before after output.text
 
--- This holds for each input that agrees with what the reader gave. If the bytes of the reader or of the writer are not
--- specified, there is no promise.
+-- A run answers its input: what its result means holds for each input that agrees with what the reader gave. Nothing is
+-- claimed of a reader or writer whose bytes are not known.
 abbrev pub Answers : (List ℕ → Output) → Option (List ℕ) → Option (List ℕ) → Option (List ℕ) → Option (List ℕ) → Result Status ToolFault → Type 0
 Answers output left_before left_after before after result =
     (input more : List ℕ) → Agrees fresh left_before left_after input more → Means (output input) result before after
 
--- a reader's error as one of the run: a failed read and `NoMemory` are not errors in the input
+-- an error of the reader as that of the run: a failed read and `NoMemory` are not errors in the input
 abbrev pub as_tool_fault : FileFault → ToolFault
 as_tool_fault (BadDirective line) = Script (BadDirective line)
 as_tool_fault (AfterDouble line) = Script (AfterDouble line)
@@ -42,7 +43,7 @@ as_tool_fault (InputTooLong line) = Script (InputTooLong line)
 as_tool_fault ReadOfScript = Read
 as_tool_fault NoMemoryForScript = NoMemory
 
--- an error that does not come from the input or its reader
+-- an error of writing a reply: a failed write, or no memory
 abbrev pub IsAnswerFault : ToolFault → Type 0
 IsAnswerFault (Script fault) = ⊥
 IsAnswerFault (Configurations fault) = ⊥
@@ -50,7 +51,7 @@ IsAnswerFault Read = ⊥
 IsAnswerFault Write = ⊤
 IsAnswerFault NoMemory = ⊤
 
--- an error in the input
+-- an error in the input, as a script has it
 abbrev pub IsScriptFault : FileFault → Type 0
 IsScriptFault (BadDirective line) = ⊤
 IsScriptFault (AfterDouble line) = ⊤
@@ -59,7 +60,7 @@ IsScriptFault (InputTooLong line) = ⊤
 IsScriptFault ReadOfScript = ⊥
 IsScriptFault NoMemoryForScript = ⊥
 
--- an error of an input beyond the limit
+-- the error of an input beyond the limit
 abbrev pub IsInputTooLong : FileFault → Type 0
 IsInputTooLong (BadDirective line) = ⊥
 IsInputTooLong (AfterDouble line) = ⊥
@@ -68,7 +69,7 @@ IsInputTooLong (InputTooLong line) = ⊤
 IsInputTooLong ReadOfScript = ⊥
 IsInputTooLong NoMemoryForScript = ⊥
 
--- the errors in an input that a mode reports
+-- the errors in an input that a mode reports: `lines` and `plan` read lines, which have no syntax error
 abbrev pub CanBeFaulty : Mode → FileFault → Type 0
 CanBeFaulty Lines fault = IsInputTooLong fault
 CanBeFaulty Check fault = IsScriptFault fault
@@ -76,7 +77,7 @@ CanBeFaulty Rewrite fault = IsScriptFault fault
 CanBeFaulty Undo fault = IsScriptFault fault
 CanBeFaulty Plan fault = IsInputTooLong fault
 
--- only `plan` reads configurations
+-- whether a mode reads configurations: only `plan` does
 abbrev pub WantsConfigurations : Mode → Type 0
 WantsConfigurations Lines = ⊥
 WantsConfigurations Check = ⊥
@@ -84,7 +85,7 @@ WantsConfigurations Rewrite = ⊥
 WantsConfigurations Undo = ⊥
 WantsConfigurations Plan = ⊤
 
--- the statuses of a mode: only `check` reports a difference, and only `undo` and `plan` report that there is no plan
+-- the statuses that a mode has: `lines` and `rewrite` have nothing to compare, and end clean
 abbrev pub CanBe : Mode → Status → Type 0
 CanBe mode Clean = ⊤
 CanBe Lines Different = ⊥
@@ -93,7 +94,7 @@ CanBe Rewrite Different = ⊥
 CanBe Undo Different = ⊤
 CanBe Plan Different = ⊤
 
--- the results that a mode has, whatever the reader and the writer are
+-- the results that a mode has, whatever its reader and writer are
 abbrev pub CanAnswer : Mode → Result Status ToolFault → Type 0
 CanAnswer mode (Ok status) = CanBe mode status
 CanAnswer mode (Err (Script fault)) = CanBeFaulty mode fault
@@ -102,8 +103,8 @@ CanAnswer mode (Err Read) = ⊤
 CanAnswer mode (Err Write) = ⊤
 CanAnswer mode (Err NoMemory) = ⊤
 
--- What stops a run at a part of its input: an error that does not come from the input, or one in the input, which is then
--- the result whatever follows.
+-- What stops a run at a part of its input: a failed write or no memory, or an error in the input, where the whole
+-- output was written, whatever input follows.
 abbrev pub IsStop : Mode → ToolFault → Type 0 → Type 0
 IsStop mode (Script fault) IsWhole = ⊥
 IsStop mode (Configurations fault) IsWhole = WantsConfigurations mode × IsWhole
@@ -111,7 +112,7 @@ IsStop mode Read IsWhole = ⊥
 IsStop mode Write IsWhole = ⊤
 IsStop mode NoMemory IsWhole = ⊤
 
--- a read, or a write, failed in a call
+-- whether the result is that a read failed
 abbrev pub is_read_failure : {X : Type 0} → Result X ToolFault → Bool
 is_read_failure (Ok x) = false
 is_read_failure (Err (Script fault)) = false
@@ -120,7 +121,7 @@ is_read_failure (Err Read) = true
 is_read_failure (Err Write) = false
 is_read_failure (Err NoMemory) = false
 
--- a write failed in a call
+-- whether the result is that a write failed
 abbrev pub is_write_failure : {X : Type 0} → Result X ToolFault → Bool
 is_write_failure (Ok x) = false
 is_write_failure (Err (Script fault)) = false
@@ -129,7 +130,7 @@ is_write_failure (Err Read) = false
 is_write_failure (Err Write) = true
 is_write_failure (Err NoMemory) = false
 
--- a result that means that the output is whole: a status, or an error in the input
+-- whether a result means that the whole output was written: a status, or an error in the input
 abbrev pub stands_for_whole : Result Status ToolFault → Bool
 stands_for_whole (Ok status) = true
 stands_for_whole (Err (Script fault)) = true
@@ -138,8 +139,8 @@ stands_for_whole (Err Read) = false
 stands_for_whole (Err Write) = false
 stands_for_whole (Err NoMemory) = false
 
--- What a result means for whether the writer has failed, before and after. After a failed read or `NoMemory`, a write may
--- have failed too.
+-- What a result means for whether the writer has failed, before and after. After a failed read or `NoMemory`, the flush
+-- at the end may have failed too.
 abbrev pub ReportsWrite : Bool → Bool → Result Status ToolFault → Type 0
 ReportsWrite before after (Ok status) = after ≡ before
 ReportsWrite before after (Err (Script fault)) = after ≡ before

@@ -1,4 +1,5 @@
--- The script that undoes changes: the steps of a plan as directives, or a comment with the reason why there are none.
+-- The script that undoes changes: the steps of a plan as directives, or a comment with the reason why there are none;
+-- and what a session does that runs it.
 use Rattle.std.specs.Prelude.{◌≡◌, ℕ, ⊤, List, [], ◌∷◌, ◌++◌, map, Result, Ok, Err, codes}
 use Rattle.std.specs.List.{join_with_byte}
 use Rattle.dd_file.specs.DirectiveText.{DirectiveText}
@@ -19,41 +20,41 @@ use Rattle.conf_session.specs.SessionState.{SessionState}
 use Rattle.conf_session.specs.Undo.{undo_fault_text}
 use Rattle.conf_session.specs.declared.undo_fault.UndoFault.{UndoFault}
 
--- a step's command with its arguments
+-- the command of a step, with its arguments
 abbrev pub step_command : Step → CommandText
 step_command (Simple changes) = record { name = codes "simple"; arguments = [] }
 step_command (EnterJoint auto_leave changes) = record { name = codes "enter-joint"; arguments = with_key (codes "autoleave") (truth_text auto_leave ∷ []) ∷ [] }
 step_command LeaveJoint = record { name = codes "leave-joint"; arguments = [] }
 
--- its directive line
+-- the directive line of a step
 abbrev pub step_line : Step → List ℕ
 step_line step = join_with_byte 32 (command_tokens step)
 
--- changes as a line of input, if there are any
+-- the input of a step: its changes on one line, if there are any
 abbrev pub change_lines : List Change → List (List ℕ)
 change_lines [] = []
 change_lines (change ∷ changes) = join_with_byte 32 (map change_text (change ∷ changes)) ∷ []
 
--- the directive of a step, which expects no output yet
+-- a step as a directive, which expects no output yet
 abbrev pub step_directive : Step → Item
 step_directive step = directive 1 (step_command step) (step_line step ∷ []) (change_lines (changes_of step)) []
 
--- a comment with a text
+-- a comment of this text
 abbrev pub comment : List ℕ → Item
 comment text = Comment ((codes "# " ++ text) ∷ [])
 
--- the directives of the steps, or a comment: there is nothing to do, or why there is no plan
+-- the items of the script: a directive for each step, or a comment that there is nothing to do, or why there is no plan
 abbrev pub undo_items : Result (List Step) UndoFault → List Item
 undo_items (Ok []) = comment (codes "nothing to do") ∷ []
 undo_items (Ok (step ∷ steps)) = map step_directive (step ∷ steps)
 undo_items (Err fault) = comment (undo_fault_text fault) ∷ []
 
 -- ---- its effect
--- the session takes the step, and replies with the members afterwards, as after any accepted change
+-- a session that runs a directive takes the step, and prints the members afterwards, as after any accepted change
 abbrev pub TakesStep : SessionState → DirectiveText → Step → Type 0
 TakesStep session directive step = (next : ChangerState) × Accepts session.changer step next × (answer session directive ≡ answered session (stepped next))
 
--- the session takes the steps in order, one for each directive
+-- a session that runs directives takes the steps in order, one for each directive
 abbrev pub TakesSteps : SessionState → List DirectiveText → List Step → Type 0
 TakesSteps session [] [] = ⊤
 TakesSteps session [] (step ∷ steps) = ⊥

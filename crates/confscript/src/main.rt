@@ -1,4 +1,15 @@
-//! The program: its arguments, its input, its output and its exit status.
+//! The program: its arguments, its input, its output and its exit status. What a mode prints is in the crate
+//! `conf_tool`.
+//!
+//! ```text
+//! 0   done, and in check nothing differs
+//! 1   something differs; in undo and plan there is no plan, or it stalls with the ids that are down
+//! 2   the arguments or the input are wrong
+//! 3   a file, a read or a write failed, or memory ran out
+//! ```
+//!
+//! An error is one line on standard error, `confscript: ` and what is wrong. What was printed before it is a prefix of
+//! the output.
 #![tactic(auto)]
 
 ghost use Rattle.conf_tool.specs.Ranges.{IsInRange};
@@ -19,6 +30,7 @@ const BAD_INPUT: u8 = 2;
 /// The exit status if a file, a read or a write failed, or memory ran out.
 const IO_FAILED: u8 = 3;
 
+// Runs the program, and returns its exit status.
 fn main(rt: HostRuntime) -> ExitCode {
     match arguments(&rt) {
         Ok(arguments) => run_arguments(&rt, arguments.as_slice()),
@@ -26,13 +38,13 @@ fn main(rt: HostRuntime) -> ExitCode {
     }
 }
 
-// The arguments, of which the first is the program's name.
+// The arguments, the first of which is the name of the program.
 fn arguments(rt: &HostRuntime) -> io::Result<Vec<String>> {
     let arguments = env::args(rt)?.collect(rt.alloc())?;
     Ok(arguments)
 }
 
-// Reports why there are no arguments: one of them is not UTF-8, or memory ran out.
+// Reports why the arguments could not be read: one of them is not UTF-8, or memory ran out.
 fn report_arguments(rt: &HostRuntime, error: &io::Error) -> ExitCode {
     if error.kind() != io::ErrorKind::InvalidData {
         return fail(rt, ToolFault::NoMemory);
@@ -56,7 +68,7 @@ fn run_arguments(rt: &HostRuntime, arguments: &[String]) -> ExitCode {
     }
 }
 
-// Prints the help that was asked for, or what is wrong with the arguments.
+// Prints the help or the version that was asked for, or what is wrong with the arguments.
 fn explain(rt: &HostRuntime, error: &clap::Error) -> ExitCode {
     if error.kind() == ErrorKind::OutOfMemory {
         return fail(rt, ToolFault::NoMemory);
@@ -71,7 +83,7 @@ fn explain(rt: &HostRuntime, error: &clap::Error) -> ExitCode {
     }
 }
 
-// Reads the file that is named, or standard input if none is, or `-`.
+// Runs the mode over the file that is named, or over standard input if none is, or `-`.
 fn open(rt: &HostRuntime, invocation: Invocation<'_>) -> ExitCode
     requires { IsInRange invocation.options }
 {
@@ -88,7 +100,7 @@ fn open(rt: &HostRuntime, invocation: Invocation<'_>) -> ExitCode
     }
 }
 
-// Runs the mode with this reader and standard output, which is written in blocks.
+// Runs the mode over this reader. Standard output is written in blocks, and flushed before more input is waited for.
 fn run_over<R: Source>(rt: &HostRuntime, invocation: Invocation<'_>, reader: &mut R) -> ExitCode
     requires { IsInRange invocation.options }
 {
@@ -111,7 +123,7 @@ fn run_over<R: Source>(rt: &HostRuntime, invocation: Invocation<'_>, reader: &mu
     }
 }
 
-// Reports the error in one line on standard error.
+// Reports an error in one line on standard error.
 fn fail(rt: &HostRuntime, fault: ToolFault) -> ExitCode {
     let _ = eprintln!(rt; "confscript: {fault}");
     match fault {

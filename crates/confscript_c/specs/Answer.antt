@@ -1,17 +1,18 @@
--- What a call answers: a status, and its number.
+-- What a call answers: a status, and a number whose meaning depends on it.
 use Rattle.std.specs.Prelude.{ℕ}
 use Rattle.confscript_c.specs.Status.{code_of}
 use Rattle.confscript_c.specs.declared.answer.Answer.{Answer}
 use Rattle.confscript_c.specs.declared.status.Status.{Status}
 use Rattle.confscript_c.specs.declared.status.Status.TheVariants.{Done, NoMemory}
 
+-- the answer of a status with a number
 abbrev pub status_answer : Status → ℕ → Answer
 status_answer status number = record { status = code_of status; number = number }
 
--- the call did what it is for, with this number
+-- the call did its work, with this number as its result
 abbrev pub done : ℕ → Answer
 done number = status_answer Done number
 
--- no memory is left
+-- memory ran out
 abbrev pub no_memory : Answer
 no_memory = status_answer NoMemory 0

@@ -1,4 +1,4 @@
--- What the steps of a plan make of the configuration that a line names.
+-- What the steps of a plan make of the configuration of a line.
 use Rattle.std.specs.Prelude.{ℕ, ◌+◌, List, [], ◌∷◌, Option, Some, None, Result, Ok, Err}
 use Rattle.conf_change.specs.Configuration.{Configuration}
 use Rattle.conf_change.specs.ConfState.{ConfStateLists, lists_of, restored}
@@ -16,22 +16,23 @@ use Rattle.confscript_c.specs.Written.{TextResult}
 use Rattle.confscript_c.specs.declared.answer.Answer.{Answer}
 use Rattle.confscript_c.specs.declared.status.Status.TheVariants.{NotAConfiguration, BadLine, TooManySteps, AlreadyJoint, ZeroVoterJoint, NotJoint, SimpleInJoint, RemovedAllVoters, MoreThanOneVoter}
 
--- the configuration to which the saved form is restored
+-- the configuration that was restored from line 1, or that there is none
 abbrev pub restored_one : Option Configuration → Result Configuration Answer
 restored_one None = Err (status_answer NotAConfiguration 1)
 restored_one (Some c) = Ok c
 
+-- the configuration to which a saved one is restored, if the line was read as one
 abbrev pub restored_of : Result ConfStateLists Answer → Result Configuration Answer
 restored_of (Err why) = Err why
 restored_of (Ok saved) = restored_one (restored saved)
 
--- why a text is no plan
+-- why a text is not a plan
 abbrev pub text_fault_answer : PlanTextFault → Answer
 text_fault_answer (fault.BadLine number) = status_answer BadLine number
 text_fault_answer fault.TooManySteps = status_answer TooManySteps 0
 text_fault_answer fault.NoMemory = no_memory
 
--- why the step with this number is refused
+-- why the step of this number is refused
 abbrev pub refusal_answer : Refused → ℕ → Answer
 refusal_answer refused.AlreadyJoint number = status_answer AlreadyJoint number
 refusal_answer refused.ZeroVoterJoint number = status_answer ZeroVoterJoint number
@@ -41,19 +42,23 @@ refusal_answer refused.RemovedAllVoters number = status_answer RemovedAllVoters 
 refusal_answer refused.MoreThanOneVoter number = status_answer MoreThanOneVoter number
 refusal_answer refused.NoMemory number = no_memory
 
+-- the result after the outcome of one step: why it is refused, or the result of the rest
 abbrev pub then_result : ℕ → Outcome → (Configuration → TextResult) → TextResult
 then_result number (Err why) rest = Err (refusal_answer why number)
 then_result number (Ok next) rest = rest next
 
--- the line of the configuration after the steps, of which the first has this number; or why one of them is refused, the first that is
+-- The line of the configuration after all steps, the first of which has this number; or why the first refused step is
+-- refused.
 abbrev pub steps_result : ℕ → Configuration → List Step → TextResult
 steps_result number c [] = Ok (conf_state_text (lists_of c))
 steps_result number c (step ∷ steps) = then_result number (outcome c step) (λ next. steps_result (number + 1) next steps)
 
+-- the result of taking steps from a configuration: what is wrong with the configuration comes first, then with the plan
 abbrev pub applied : Result Configuration Answer → Result (List Step) PlanTextFault → TextResult
 applied (Err why) steps = Err why
 applied (Ok c) (Err fault) = Err (text_fault_answer fault)
 applied (Ok c) (Ok steps) = steps_result 1 c steps
 
+-- the result of `confscript_apply` for the texts of a line and of a plan
 abbrev pub apply_result : List ℕ → List ℕ → TextResult
 apply_result state plan = applied (restored_of (read_as 1 (conf_state_in state))) (plan_in plan)

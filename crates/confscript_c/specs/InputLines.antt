@@ -1,4 +1,5 @@
--- What the lines that are passed to a call are read as, each with a number, counted from 1.
+-- What the lines that a call is given denote. A line has a number, counted from 1, which the answer names if it is
+-- wrong.
 use Rattle.std.specs.Prelude.{ℕ, List, Option, Some, None, Result, Ok, Err}
 use Rattle.conf_change.specs.Configuration.{Configuration}
 use Rattle.conf_change.specs.ConfState.{ConfStateLists}
@@ -9,7 +10,7 @@ use Rattle.confscript_c.specs.Answer.{status_answer, no_memory}
 use Rattle.confscript_c.specs.declared.answer.Answer.{Answer}
 use Rattle.confscript_c.specs.declared.status.Status.TheVariants.{BadConfState, NotAConfiguration}
 
--- the line is read as a saved configuration, or it is none
+-- the saved configuration of the line of this number, or that it is not one
 abbrev pub read_as : ℕ → Option ConfStateLists → Result ConfStateLists Answer
 read_as number None = Err (status_answer BadConfState number)
 read_as number (Some saved) = Ok saved
@@ -20,10 +21,11 @@ fault_answer number BadLine = status_answer BadConfState number
 fault_answer number (NotValid violation) = status_answer NotAConfiguration number
 fault_answer number OutOfMemory = no_memory
 
+-- a configuration, or what is wrong with the line of this number
 abbrev pub answered_at : ℕ → Result Configuration ConfigurationFault → Result Configuration Answer
 answered_at number (Ok c) = Ok c
 answered_at number (Err fault) = Err (fault_answer number fault)
 
--- the valid configuration that the line of this number names
+-- the valid configuration of the line of this number
 abbrev pub configuration_or_answer : ℕ → List ℕ → Result Configuration Answer
 configuration_or_answer number line = answered_at number (configuration_in line)

@@ -1,8 +1,9 @@
--- The codes of the statuses.
+-- The codes of the statuses and their texts, which include/confscript.h gives to callers.
 use Rattle.std.specs.Prelude.{ℕ, List, codes, ◌==◌, if◌then◌else◌}
 use Rattle.confscript_c.specs.declared.status.Status.{Status}
 use Rattle.confscript_c.specs.declared.status.Status.TheVariants.{Done, TooSmall, NoMemory, BadConfState, RepeatedId, NotAConfiguration, NoVoter, BadLine, TooManySteps, AlreadyJoint, ZeroVoterJoint, NotJoint, SimpleInJoint, RemovedAllVoters, MoreThanOneVoter, ZeroId, NextNotOutgoing, NextAndIncoming, LearnerAndVoter, NotJointButNext, NotJointButAutoLeave, DifferentLengths, BadVote, NoQuorum, BadStrategy, JointTarget}
 
+-- the code of a status; codes never change
 abbrev pub code_of : Status → ℕ
 code_of Done = 0
 code_of TooSmall = 1
@@ -31,7 +32,7 @@ code_of NoQuorum = 23
 code_of BadStrategy = 24
 code_of JointTarget = 25
 
--- what a status means, in words; a refused step as the program prints it
+-- what a status means, in words; that of a refused step is what the program prints
 abbrev pub status_text : Status → List ℕ
 status_text Done = codes "done"
 status_text TooSmall = codes "the buffer is too small"
@@ -60,7 +61,7 @@ status_text NoQuorum = codes "the voters are no quorum"
 status_text BadStrategy = codes "unknown strategy"
 status_text JointTarget = codes "the target is joint"
 
--- the same by the code; any other number is no status
+-- what the status of a code means; a number above 25 is not the code of one
 abbrev pub text_of_code : ℕ → List ℕ
 text_of_code code =
     if code == 0 then status_text Done

@@ -5,16 +5,19 @@ ghost use Rattle.confscript_c.specs.Answer.{status_answer, done, no_memory};
 use crate::status::Status;
 use quorum_sets::NoMemory;
 
-/// A status, and its number.
+/// What each call returns, as `struct confscript_answer`: the code of a [`Status`], and a number whose meaning depends
+/// on the status. It is 0 if the status needs none.
 #[repr(C)]
 #[derive(Clone, Copy)]
 pub struct Answer {
+    /// The code of a status.
     pub status: u32,
+    /// The length of a text, an index, a count, or which line or step is meant, counted from 1.
     pub number: u64,
 }
 
 impl Answer {
-    // The answer of a status and its number.
+    // The answer of a status, with its number.
     pub(crate) fn new(status: Status, number: u64) -> Answer
         ensures { result ≡ status_answer status number }
     {
@@ -24,14 +27,14 @@ impl Answer {
         }
     }
 
-    // The call did what it is for, with this number.
+    // The call did its work; the number is its result.
     pub(crate) fn done(number: u64) -> Answer
         ensures { result ≡ done number }
     {
         Answer::new(Status::Done, number)
     }
 
-    // No memory is left.
+    // Memory ran out, at whatever point of the call.
     pub(crate) fn no_memory() -> Answer
         ensures { result ≡ no_memory }
     {

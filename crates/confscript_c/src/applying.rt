@@ -1,4 +1,11 @@
-//! What the steps of a plan make of a configuration.
+//! Taking the steps of a plan:
+//!
+//! ```text
+//! Voters:[1 2 3] ..  and  enter-joint autoleave=false r1 v5  ->  Voters:[2 3 5] VotersOutgoing:[1 2 3] ..
+//! ```
+//!
+//! A program keeps its configuration as a line. Once its cluster has committed a step, it takes the step here, and
+//! keeps the line that it gets. Progress is not looked at, so the line is all that it has to keep.
 ghost use Rattle.std.specs.Prelude.{◌≡◌, ◌⊎◌, Ok, Err, IfOk, IfErr, OnOk, MatchResult};
 ghost use Rattle.conf_change.specs.ConfState.{lists_of};
 ghost use Rattle.conf_change.specs.ConfStateLine.{conf_state_in, conf_state_text};
@@ -17,7 +24,9 @@ use conf_plan::{Plan, PlanTextFault, StepRefused, apply_plan, read_plan};
 use quorum_sets::{InlineIds, NoMemory};
 use std::alloc::Global;
 
-/// Takes the steps of a plan from the configuration of a ConfState line, and writes the line of the result.
+/// Takes the steps of a plan, at most four, from the configuration of a ConfState line, and writes the line of the
+/// result. The number is its length in bytes. It is refused if the line names no valid configuration, if the plan has a
+/// bad line or a fifth one, or if a step is refused; the number then says which (etcd's `confchange`).
 #[unsafe(no_mangle)]
 pub extern "C" fn confscript_apply(
     alloc: Global,
@@ -33,7 +42,7 @@ pub extern "C" fn confscript_apply(
     }
 }
 
-// The line of the configuration after the steps of a plan.
+// The line of the configuration after all steps, or the answer that says why there is none.
 fn line_after(alloc: Global, state: &[u8], plan: &[u8]) -> Result<Vec<u8>, Answer>
     ensures line { IfOk result (λ line. apply_result state.now plan.now ≡ Ok line.items) }
     ensures refused { IfErr result (λ why. (why ≡ no_memory) ⊎ (apply_result state.now plan.now ≡ Err why)) }
@@ -44,7 +53,7 @@ fn line_after(alloc: Global, state: &[u8], plan: &[u8]) -> Result<Vec<u8>, Answe
     Ok(line_of(alloc, changer.tracker().config())?)
 }
 
-// A changer with the configuration of a line.
+// A changer with the configuration of a line. Its progress is fresh, and not looked at.
 fn read_changer(alloc: Global, state: &[u8]) -> Result<Changer<InlineIds>, Answer>
     ensures restored { IfOk result (λ changer. restored_of (read_as 1 (conf_state_in state.now)) ≡ Ok changer.tracker.config) }
     ensures refused { IfErr result (λ why. (why ≡ no_memory) ⊎ (restored_of (read_as 1 (conf_state_in state.now)) ≡ Err why)) }
@@ -57,7 +66,7 @@ fn read_changer(alloc: Global, state: &[u8]) -> Result<Changer<InlineIds>, Answe
     }
 }
 
-// The plan of a text.
+// The plan that a text denotes.
 fn read_steps(alloc: Global, text: &[u8]) -> Result<Plan, Answer>
     ensures plan { IfOk result (λ plan. plan_in text.now ≡ Ok plan) }
     ensures refused { IfErr result (λ why. (why ≡ no_memory) ⊎ MatchResult (plan_in text.now) (λ _. ⊥) (λ fault. why ≡ text_fault_answer fault)) }
@@ -70,7 +79,7 @@ fn read_steps(alloc: Global, text: &[u8]) -> Result<Plan, Answer>
     }
 }
 
-// Takes the steps of a plan.
+// Takes the steps of a plan. The first step that is refused ends the call.
 fn take(changer: &mut Changer<InlineIds>, plan: &Plan) -> Result<(), Answer>
     ensures taken { OnOk result (steps_result 1 changer.old.tracker.config plan.now ≡ Ok (conf_state_text (lists_of changer.new.tracker.config))) }
     ensures refused { IfErr result (λ why. (why ≡ no_memory) ⊎ (steps_result 1 changer.old.tracker.config plan.now ≡ Err why)) }
@@ -81,7 +90,7 @@ fn take(changer: &mut Changer<InlineIds>, plan: &Plan) -> Result<(), Answer>
     }
 }
 
-// Why the step with this number is refused.
+// The answer that says why a step is refused; the number is that of the step, counted from 1.
 fn refusal(refused: Refused, number: u64) -> Answer
     ensures { result ≡ refusal_answer refused number }
 {
@@ -96,7 +105,7 @@ fn refusal(refused: Refused, number: u64) -> Answer
     }
 }
 
-// The ConfState line of a configuration.
+// The ConfState line of a configuration, its lists in ascending order.
 fn line_of(alloc: Global, config: &Config<InlineIds>) -> Result<Vec<u8>, NoMemory>
     ensures { IfOk result (λ line. line.items ≡ conf_state_text (lists_of config.now)) }
 {

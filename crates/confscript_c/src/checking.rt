@@ -1,4 +1,8 @@
-//! What is wrong with a configuration.
+//! What is wrong with a configuration, by the invariants of etcd's `confchange`:
+//!
+//! ```text
+//! Voters:[1 2] VotersOutgoing:[] Learners:[2] LearnersNext:[] AutoLeave:false    a learner is a voter
+//! ```
 ghost use Rattle.std.specs.Prelude.{◌≡◌, ◌⊎◌, Ok, IfOk, IfErr};
 ghost use Rattle.confscript_c.specs.Answer.{no_memory};
 ghost use Rattle.confscript_c.specs.Checked.{check_answer, saved_answer, broken_answer, status_of};
@@ -11,7 +15,9 @@ use conf_change::{ConfState, Config, Invariant, RestoreFault, check, described};
 use quorum_sets::InlineIds;
 use std::alloc::Global;
 
-/// Reports the first broken invariant of the configuration that a ConfState line names.
+/// Reports the first broken invariant of the configuration of a ConfState line, in the order of the statuses. It is
+/// done if none is broken, also if there is no voter. Refused are a text that is not a ConfState line, and a line that
+/// lists an id twice (etcd's `confchange`).
 #[unsafe(no_mangle)]
 pub extern "C" fn confscript_check(alloc: Global, state: &[u8]) -> Answer
     ensures { (result ≡ no_memory) ⊎ (result ≡ check_answer state.now) }
@@ -22,6 +28,7 @@ pub extern "C" fn confscript_check(alloc: Global, state: &[u8]) -> Answer
     }
 }
 
+// The answer for a saved configuration, whose lists may still name an id twice.
 fn check_saved(alloc: Global, saved: &ConfState) -> Answer
     ensures { (result ≡ no_memory) ⊎ (result ≡ saved_answer (Ok saved.now)) }
 {
@@ -32,6 +39,7 @@ fn check_saved(alloc: Global, saved: &ConfState) -> Answer
     }
 }
 
+// The answer for a configuration: done, or its first broken invariant.
 fn checked(config: &Config<InlineIds>) -> Answer
     ensures { result ≡ broken_answer (first_broken config.now) }
 {
@@ -41,7 +49,7 @@ fn checked(config: &Config<InlineIds>) -> Answer
     }
 }
 
-// The status of a broken invariant.
+// The status that reports a broken invariant.
 fn status_of(broken: Invariant) -> Status
     ensures { result ≡ status_of broken }
 {

@@ -1,4 +1,5 @@
-//! Reading the lines that are passed to a call.
+//! Reading the lines that a call is given. A caller sees no error type, so an error becomes a status, and the number
+//! says which line is meant: 1 or 2.
 ghost use Rattle.std.specs.Prelude.{◌≡◌, ◌⊎◌, true, Ok, Err, IfOk, IfErr};
 ghost use Rattle.conf_change.specs.Configuration.{is_valid, has_voter};
 ghost use Rattle.conf_change.specs.ConfStateLine.{conf_state_in};
@@ -14,7 +15,7 @@ use conf_change::{
 use quorum_sets::InlineIds;
 use std::alloc::Global;
 
-/// The saved configuration of the line with this number.
+/// The saved configuration of a line. It may be invalid.
 pub(crate) fn read_saved(alloc: Global, number: u64, line: &[u8]) -> Result<ConfState, Answer>
     ensures saved { IfOk result (λ saved. read_as number (conf_state_in line.now) ≡ Ok saved) }
     ensures refused { IfErr result (λ why. (why ≡ no_memory) ⊎ (read_as number (conf_state_in line.now) ≡ Err why)) }
@@ -26,7 +27,7 @@ pub(crate) fn read_saved(alloc: Global, number: u64, line: &[u8]) -> Result<Conf
     }
 }
 
-/// The valid configuration that the line with this number names.
+/// The valid configuration of a line: a plan leads from one valid configuration to another.
 pub(crate) fn configuration_at(
     alloc: Global,
     number: u64,
@@ -43,7 +44,7 @@ pub(crate) fn configuration_at(
     }
 }
 
-// What is wrong with the line with this number.
+// The answer that says what is wrong with a line.
 fn fault_answer(number: u64, fault: ConfigurationFault) -> Answer
     ensures { result ≡ fault_answer number fault }
 {

@@ -1,7 +1,8 @@
-//! The library for C, Go, Rust and Python, declared in `include/confscript.h`.
+//! The library for C, Go, Rust and Python, declared in `include/confscript.h`: the plans, checks and quorums of the
+//! crates below, as calls that any language can make.
 //!
-//! Each call takes numbers and slices and keeps nothing between calls. It returns a status and a number, and writes its
-//! text, if it has one, into the caller's buffer:
+//! A call takes numbers, texts and lists of ids, and keeps nothing. It returns a status with a number, and writes its
+//! text, if it has one, into a buffer of the caller:
 //!
 //! ```text
 //! confscript_plan("Voters:[1 2 3] ..", "Voters:[2 3 5] ..")  ->  done, 46 bytes
@@ -9,7 +10,19 @@
 //!     leave-joint
 //! ```
 //!
-//! If the buffer is too small, nothing is written and the number is the length that the text needs.
+//! If the buffer is too small, nothing is written and the number is the length of the text, so that the caller can call
+//! again with a larger one. If memory runs out, the status says so and nothing is written either.
+//!
+//! ```text
+//! confscript_plan         two lines, a strategy        the steps from the first to the second
+//! confscript_apply        a line, steps                the line after the steps
+//! confscript_check        a line                       the first broken invariant
+//! confscript_committed    voters, indexes by id        the committed index
+//! confscript_vote         voters, votes by id          pending, lost or won
+//! confscript_may_be_down  voters, ids with no log      how many ids may be down
+//! ```
+//!
+//! The rules are those of the crates below, which say where they come from. The form of the calls is own.
 #![tactic(auto)]
 
 mod answer;

@@ -1,4 +1,11 @@
-//! The path from one configuration to another, by a strategy.
+//! The path from one configuration to another, by a strategy. Of the paths from `(1 2 3)` to `(1 2 4)`, these are two:
+//!
+//! ```text
+//! 0 shortest                           1 learners first
+//! enter-joint autoleave=false r3 v4    simple l4
+//! leave-joint                          enter-joint autoleave=false r3 v4
+//!                                      leave-joint
+//! ```
 ghost use Rattle.std.specs.Prelude.{◌≡◌, ◌≢◌, ◌⊎◌, ℕ, List, true, Ok, Err, IfOk, IfErr};
 ghost use Rattle.conf_change.specs.Configuration.{is_valid};
 ghost use Rattle.confscript_c.specs.Answer.{no_memory};
@@ -14,8 +21,10 @@ use conf_plan::{NoPath, Strategy, plan_by, print_path};
 use quorum_sets::InlineIds;
 use std::alloc::Global;
 
-/// Writes the text of the path that leads from the configuration of one ConfState line to that of another, by the strategy
-/// with this code.
+/// Writes the text of the path from the configuration of one ConfState line to that of another: 0 for the shortest, 1
+/// for learners first, 2 for one at a time. The number is its length in bytes. It is refused if a line does not name a
+/// valid configuration with a voter, or if the strategy has no path (sections 4.2.1 and 4.3 of Ongaro's dissertation;
+/// the strategies are own).
 #[unsafe(no_mangle)]
 pub extern "C" fn confscript_plan(
     alloc: Global,
@@ -35,7 +44,7 @@ pub extern "C" fn confscript_plan(
     }
 }
 
-// The text of the path between the configurations of two lines.
+// The text of the path between the configurations of two lines. The strategy is looked at first, then the lines.
 fn text_between_lines(
     alloc: Global,
     now: &[u8],
@@ -52,7 +61,7 @@ fn text_between_lines(
     text_between(alloc, strategy, &now, &target)
 }
 
-// The strategy with this code.
+// The strategy of a code, as `enum confscript_strategy` has them.
 fn strategy_at(code: u32) -> Result<Strategy, Answer>
     ensures { result ≡ strategy_at code }
 {
@@ -64,7 +73,7 @@ fn strategy_at(code: u32) -> Result<Strategy, Answer>
     }
 }
 
-// The text of the path between two configurations.
+// The text of the path between two configurations, a step a line.
 fn text_between(
     alloc: Global,
     strategy: Strategy,

@@ -1,4 +1,13 @@
-//! Committed indexes, results of votes, and how many ids may be down.
+//! Committed indexes, results of votes, and how many ids may be down, for a pair of voter sets. What is known of the
+//! ids comes as two lists, since C has no maps: `ids`, and beside it a value for each of them.
+//!
+//! ```text
+//! incoming 1 2 3    ids 1 2 3    acknowledged 7 5 4    ->  committed 5
+//! incoming 1 2 3    ids 1 2      votes 1 0             ->  pending
+//! incoming 1 2 3    uncounted 3                        ->  0 may be down
+//! ```
+//!
+//! A voter that is listed twice counts once. An id with two values is refused, since only one of them could count.
 ghost use Rattle.std.specs.Prelude.{◌≡◌, ◌⊎◌, true, false, not, ◌&&◌, length, map, nat_eq, IfOk, IfErr};
 ghost use Rattle.std.specs.List.{zip, list_all};
 ghost use Rattle.std.specs.Ordering.{nat_cmp};
@@ -18,8 +27,9 @@ use quorum_sets::{
 use std::alloc::Global;
 use std::collections::BTreeMap;
 
-/// The committed index of a pair of voter sets, or of one set where `outgoing` is empty: each id of `ids` has
-/// acknowledged the index at its position in `acknowledged`, and any other id has acknowledged 0.
+/// The committed index of a pair of voter sets, or of one set if `outgoing` is empty. Each id of `ids` has acknowledged
+/// the index at its position in `acknowledged`, and any other id has acknowledged 0. It is refused if the lists have
+/// different lengths or `ids` names an id twice (etcd's `quorum`).
 #[unsafe(no_mangle)]
 pub extern "C" fn confscript_committed(
     alloc: Global,
@@ -33,6 +43,7 @@ pub extern "C" fn confscript_committed(
     committed_answer(alloc, incoming, outgoing, ids, acknowledged).unwrap_or(Answer::no_memory())
 }
 
+// The answer of `confscript_committed`, as a result, so that `?` returns `NoMemory` early.
 fn committed_answer(
     alloc: Global,
     incoming: &[u64],
@@ -52,7 +63,7 @@ fn committed_answer(
     Ok(Answer::done(index))
 }
 
-// What the sets of two lists have committed.
+// The committed index of two sets of voters, given as lists.
 fn index_of(
     alloc: Global,
     incoming: &[u64],
@@ -69,8 +80,9 @@ fn index_of(
     joint_committed(alloc, &incoming, &outgoing, &acks)
 }
 
-/// The result of a vote of a pair of voter sets, or of one set where `outgoing` is empty: an id of `ids` voted yes if the
-/// byte at its position in `votes` is 1, and no if it is 0; any other id has not voted.
+/// The result of a vote by a pair of voter sets, or by one set if `outgoing` is empty: 0 pending, 1 lost, 2 won. An id
+/// of `ids` voted yes if the byte at its position in `votes` is 1, and no if it is 0; any other id has not voted. It is
+/// refused as `confscript_committed` is, and if a byte is neither 0 nor 1 (etcd's `quorum`).
 #[unsafe(no_mangle)]
 pub extern "C" fn confscript_vote(
     alloc: Global,
@@ -84,6 +96,7 @@ pub extern "C" fn confscript_vote(
     vote_answer(alloc, incoming, outgoing, ids, votes).unwrap_or(Answer::no_memory())
 }
 
+// The answer of `confscript_vote`, as a result, so that `?` returns `NoMemory` early.
 fn vote_answer(
     alloc: Global,
     incoming: &[u64],
@@ -107,7 +120,7 @@ fn vote_answer(
     Ok(Answer::done(vote_number(result)))
 }
 
-// The result of a vote of the sets of two lists.
+// The result of a vote by two sets of voters, given as lists.
 fn result_of(
     alloc: Global,
     incoming: &[u64],
@@ -124,8 +137,8 @@ fn result_of(
     Ok(joint_vote(&incoming, &outgoing, &votes))
 }
 
-/// The greatest number of ids that may be down, whichever they are, while the other voters of a pair of sets, or of one set
-/// where `outgoing` is empty, are a quorum without the uncounted ids.
+/// How many ids may be down, whichever they are, while the other voters are still a quorum, if the uncounted ids never
+/// count: those of members whose logs are empty. It is refused if the voters are no quorum even with none down (own).
 #[unsafe(no_mangle)]
 pub extern "C" fn confscript_may_be_down(
     alloc: Global,
@@ -138,6 +151,7 @@ pub extern "C" fn confscript_may_be_down(
     may_be_down_answer(alloc, incoming, outgoing, uncounted).unwrap_or(Answer::no_memory())
 }
 
+// The answer of `confscript_may_be_down`, as a result, so that `?` returns `NoMemory` early.
 fn may_be_down_answer(
     alloc: Global,
     incoming: &[u64],
@@ -152,6 +166,7 @@ fn may_be_down_answer(
     Ok(count_answer(may_be_down((&incoming, &outgoing), &uncounted)))
 }
 
+// The answer of a count, or that there is no quorum.
 fn count_answer(count: Option<usize>) -> Answer
     ensures { result ≡ spec.count_answer count }
 {
@@ -161,20 +176,21 @@ fn count_answer(count: Option<usize>) -> Answer
     }
 }
 
-// Whether each byte is a vote.
+// Whether each byte is a vote: 0 or 1.
 fn are_votes(votes: &[u8]) -> bool
     ensures { result ≡ list_all is_vote votes.now }
 {
     votes.iter().all(|byte| *byte == 0 || *byte == 1)
 }
 
-// Whether each byte is a yes.
+// Votes as truth values: a yes is true.
 fn truths(alloc: Global, votes: &[u8]) -> Result<Vec<bool>, NoMemory>
     ensures { IfOk result (λ truths. truths.items ≡ map is_yes_byte votes.now) }
 {
     Ok(votes.iter().map(|byte| *byte == 1).collect(alloc)?)
 }
 
+// The number of a result, as `enum confscript_vote_result` has them.
 fn vote_number(vote: VoteResult) -> u64
     ensures { result ≡ spec.vote_number vote }
 {
@@ -185,15 +201,15 @@ fn vote_number(vote: VoteResult) -> u64
     }
 }
 
-// Whether each id is in the list once.
+// Whether no id is in the list twice.
 fn names_once(alloc: Global, ids: &[u64]) -> Result<bool, NoMemory>
     ensures { IfOk result (λ once. once ≡ names_once ids.now) }
 {
     Ok(InlineIds::of_list(alloc, ids)?.len() == ids.len())
 }
 
-// The value of each id: the one at its index. The last are inserted first, only because the map is then that of the list
-// of pairs.
+// The value that is known of each id: the one at its index. They are inserted from the last one on, since then the map
+// is built as its definition builds it.
 fn known<V: Copy + Drop>(
     alloc: Global,
     ids: &[u64],

@@ -1,4 +1,5 @@
-//! What a call answers: that it is done, or why it is refused.
+//! The statuses: that a call is done, or why it is refused. Their codes never change, since callers are compiled with
+//! them; a new status gets the next code.
 ghost use Rattle.std.specs.Prelude.{◌≡◌, Ok};
 ghost use Rattle.confscript_c.specs.Status.{code_of, status_text, text_of_code};
 ghost use Rattle.confscript_c.specs.Written.{WritesText};
@@ -6,46 +7,63 @@ ghost use Rattle.confscript_c.specs.Written.{WritesText};
 use crate::answer::Answer;
 use crate::buffer::write_text;
 
-/// The statuses, by their codes, which `include/confscript.h` names.
+/// The statuses with their codes, which `enum confscript_status` names. The number of an answer is 0 unless it is said
+/// here (own; those of refused steps and broken invariants are etcd's).
 #[derive(Clone, Copy)]
 pub enum Status {
+    /// The call did its work. The number is its result.
     Done = 0,
+    /// The text does not fit into the buffer. The number is its length.
     TooSmall = 1,
+    /// Memory ran out.
     NoMemory = 2,
+    /// A line is not a ConfState line. The number says which: 1 or 2.
     BadConfState = 3,
+    /// An id is listed twice.
     RepeatedId = 4,
+    /// A line names no valid configuration. The number says which: 1 or 2.
     NotAConfiguration = 5,
+    /// A configuration has no incoming voter. The number says which: 1 or 2.
     NoVoter = 6,
+    /// A line of a plan is not a step. The number is that of the line, from 1.
     BadLine = 7,
+    /// A plan has a fifth line.
     TooManySteps = 8,
+    // From here to 14 a step is refused. The number is that of the step, from 1.
     AlreadyJoint = 9,
     ZeroVoterJoint = 10,
     NotJoint = 11,
     SimpleInJoint = 12,
     RemovedAllVoters = 13,
     MoreThanOneVoter = 14,
+    // From here to 20 an invariant is broken.
     ZeroId = 15,
     NextNotOutgoing = 16,
     NextAndIncoming = 17,
     LearnerAndVoter = 18,
     NotJointButNext = 19,
     NotJointButAutoLeave = 20,
+    /// There are more or fewer values than ids.
     DifferentLengths = 21,
+    /// A vote is neither 0 nor 1.
     BadVote = 22,
+    /// The voters are no quorum even with none down.
     NoQuorum = 23,
+    /// The code of the strategy is unknown.
     BadStrategy = 24,
+    /// The strategy has no path into a joint configuration.
     JointTarget = 25,
 }
 
 impl Status {
-    /// Its code.
+    /// The code of the status, from 0 to 25.
     pub fn code(self) -> u32
         ensures { result ≡ code_of self }
     {
         self as u32
     }
 
-    /// What it means, in words.
+    /// What the status means, in words. That of a refused step is etcd's message.
     pub fn text(self) -> &'static str
         ensures { result.now ≡ status_text self }
     {
@@ -80,7 +98,8 @@ impl Status {
     }
 }
 
-/// Writes what the status with this code means; of any other number, that it is unknown.
+/// Writes what the status of this code means, or `unknown status` for any other number. The number of the answer is the
+/// length of the text in bytes. It is refused if the buffer is too small (own).
 #[unsafe(no_mangle)]
 pub extern "C" fn confscript_status_text(code: u32, out: &mut [u8]) -> Answer
     ensures { WritesText (Ok (text_of_code code)) out.old result out.new }
@@ -88,7 +107,7 @@ pub extern "C" fn confscript_status_text(code: u32, out: &mut [u8]) -> Answer
     write_text(text_of_code(code).as_bytes(), out)
 }
 
-// What the status with this code means.
+// What the status of this code means.
 fn text_of_code(code: u32) -> &'static str
     ensures { result.now ≡ text_of_code code }
 {

@@ -1,4 +1,5 @@
--- The result of reading the next item or line, against the input.
+-- The result of reading the next item or line, against the input. A contract cannot know what is still to come, so it
+-- speaks of every input that agrees with what was read.
 use Rattle.std.specs.Prelude.{◌≡◌, ◌≤◌, ◌<◌, ◌+◌, ℕ, Bool, true, false, ◌||◌, ◌⊎◌, List, [], ◌++◌, length, Option, Some, None, Result, Ok, Err, ⊤, IfOk, IfSome, IfErr, OnOk}
 use Rattle.std.specs.Io.KnownBytes.{IsAtEnd}
 use Rattle.dd_file.specs.Position.{Position, longest_input, longest_lookahead}
@@ -8,8 +9,8 @@ use Rattle.dd_file.specs.Device.{LosesPrefix}
 use Rattle.dd_file.specs.declared.fault.FileFault.{FileFault}
 use Rattle.dd_file.specs.declared.fault.FileFault.TheVariants.{Read, NoMemory, BadDirective, AfterDouble, UnclosedDouble, InputTooLong}
 
--- The input, from the position of a state on, agrees with the bytes that a call read: it is the buffered bytes, the bytes
--- that the call read, and more, which is empty if the end was reached or the reader has no bytes left.
+-- The input, from the position of a state on, agrees with the bytes that a call read: it is the buffered bytes, then
+-- the bytes that the call read, and then more; that is empty if the end was reached or the reader has no bytes left.
 pub record AgreesWith (state : ReaderState) (before after input more : List ℕ) : Type 0 where
   pub given : List ℕ
   pub consumed : before ≡ given ++ after
@@ -23,13 +24,13 @@ Agrees state (Some before) (Some after) input more = AgreesWith state before aft
 Agrees state (Some before) None input more = ⊥
 Agrees state None after input more = ⊥
 
--- what comes next by the result of a call, with more bytes after the buffered ones
+-- what comes next according to the result of a call; after an item come the buffered bytes, and then more
 abbrev pub next_in_answer : {X A : Type 0} → (X → A) → ReaderState → List ℕ → Result (Option X) FileFault → Next A
 next_in_answer view new more (Ok None) = Over
 next_in_answer view new more (Ok (Some found)) = Found (view found) new.position (new.buffered ++ more)
 next_in_answer view new more (Err fault) = Faulty fault
 
--- reading was cut short: the result says nothing of the input
+-- reading was interrupted by a failed read, or because memory ran out, so the result does not depend on the input alone
 abbrev pub IsInterrupted : {X : Type 0} → Result X FileFault → Type 0
 IsInterrupted result = (result ≡ Err Read) ⊎ (result ≡ Err NoMemory)
 
@@ -39,7 +40,7 @@ abbrev pub IsNextOfInput : {X A : Type 0} → (X → A) → (Position → List �
 IsNextOfInput view next old new before after result =
     (input more : List ℕ) → Agrees old before after input more → IsInterrupted result ⊎ (next old.position input ≡ next_in_answer view new more result)
 
--- the result is that a read failed
+-- whether the result is that a read failed
 abbrev pub is_read_fault : {X : Type 0} → Result X FileFault → Bool
 is_read_fault (Ok found) = false
 is_read_fault (Err Read) = true
@@ -54,7 +55,7 @@ abbrev pub fault_of : {X : Type 0} → Result X FileFault → Option FileFault
 fault_of (Ok found) = None
 fault_of (Err fault) = Some fault
 
--- an error that may occur when lines are read from this position on
+-- the errors that reading lines from this position on may have, with their lines
 abbrev pub IsLineFault : Position → FileFault → Type 0
 IsLineFault position Read = ⊤
 IsLineFault position NoMemory = ⊤
@@ -63,7 +64,7 @@ IsLineFault position (BadDirective line) = ⊥
 IsLineFault position (AfterDouble line) = ⊥
 IsLineFault position (UnclosedDouble line) = ⊥
 
--- an error that may occur when an item is read from this position on
+-- the errors that reading an item from this position on may have, with their lines
 abbrev pub IsItemFault : Position → FileFault → Type 0
 IsItemFault position Read = ⊤
 IsItemFault position NoMemory = ⊤
@@ -72,15 +73,15 @@ IsItemFault position (BadDirective line) = line ≡ position.lines + 1
 IsItemFault position (AfterDouble line) = position.lines + 1 < line
 IsItemFault position (UnclosedDouble line) = line ≡ position.lines + 1
 
--- A call that moves the reader on: known bytes lose a prefix, the end is reported only if the reader has none left, and after
--- that the reader is not called again.
+-- A call that reads: known bytes of the reader lose a prefix, the end is reported only if the reader has none left, and
+-- once the end was reached the reader is not called again.
 pub record MovesOn {R : Type 0} (remaining : R → Option (List ℕ)) (old new : ReaderState) (before after : R) : Type 0 where
   pub taken : LosesPrefix (remaining before) (remaining after)
   pub met : new.is_ended ≡ true → (old.is_ended ≡ true) ⊎ IsAtEnd (remaining after)
   pub stays : old.is_ended ≡ true → (after ≡ before) × (new.is_ended ≡ true)
 
--- A call that reads the next item or line. A reader is modelled by the bytes that are left, if they are known, and by whether
--- a read has failed.
+-- A call that reads the next item or line. A reader is modelled by the bytes that are left, if they are known, and by
+-- whether a read has failed.
 pub record ReadsOn {R X A : Type 0} (remaining : R → Option (List ℕ)) (has_failed : R → Bool) (view : X → A) (next : Position → List ℕ → Next A) (IsFault : Position → FileFault → Type 0)
     (old new : ReaderState) (before after : R) (result : Result (Option X) FileFault) : Type 0 where
   -- the result is the next item or line of each input that agrees with what was read

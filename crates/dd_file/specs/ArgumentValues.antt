@@ -1,4 +1,4 @@
--- Arguments as they are stored, and the values that an iterator has left.
+-- Arguments as they are stored, by their tokens, and the values that an iterator has left.
 use Rattle.std.specs.Prelude.{ℕ, Bool, true, ◌&&◌, ◌==◌, List, [], ◌∷◌, map, length, unwrap_or, is_some}
 use Rattle.std.specs.List.{list_any}
 use Rattle.ascii_text.specs.WhiteSpace.{trimmed}
@@ -7,7 +7,7 @@ use Rattle.dd_file.specs.DirectiveLine.{ArgumentText, is_closing, split_at_comma
 use Rattle.dd_file.specs.declared.values.Left.{Left}
 use Rattle.dd_file.specs.declared.values.Left.TheVariants.{Nothing, Plain, Listed}
 
--- whether a token is an argument
+-- whether a token is a valid argument
 abbrev pub is_argument : List ℕ → Bool
 is_argument token = is_some (parsed_argument token)
 
@@ -15,21 +15,21 @@ is_argument token = is_some (parsed_argument token)
 abbrev pub argument_in : List ℕ → ArgumentText
 argument_in token = unwrap_or (parsed_argument token) (with_key [] [])
 
--- whether a text is empty, or a byte followed by values
+-- whether the text after a key is empty, or a byte and then values
 abbrev pub has_values : List ℕ → Bool
 has_values [] = true
 has_values (b ∷ text) = is_some (values_of text)
 
--- the values of such a text
+-- the values of the text after a key
 abbrev pub values_after : List ℕ → List (List ℕ)
 values_after [] = []
 values_after (b ∷ text) = unwrap_or (values_of text) []
 
--- the first closing parenthesis is the last byte
+-- whether the first closing parenthesis is the last byte
 abbrev pub ends_at_closing : List ℕ → Bool
 ends_at_closing inside = list_any is_closing inside && (length (suffix is_closing inside) == 0)
 
--- the remaining values
+-- the values that are left, by what the rest of the argument is
 abbrev pub values_left : Left → List ℕ → List (List ℕ)
 values_left Nothing rest = []
 values_left Plain rest = rest ∷ []

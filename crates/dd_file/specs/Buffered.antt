@@ -1,4 +1,4 @@
--- Lines and items that are buffered, so that they are returned without a read.
+-- Lines and items that are buffered, and so can be returned without a read.
 use Rattle.std.specs.Prelude.{◌≡◌, ◌≤◌, ◌+◌, ℕ, Bool, false, List, length, drop, map, filter, Option, Some, None, Result}
 use Rattle.std.specs.List.{list_any}
 use Rattle.ascii_text.specs.Lines.{full_lines, line_of, is_whole}
@@ -30,16 +30,17 @@ whole_lines bytes = map line_of (filter is_whole (full_lines bytes))
 abbrev pub is_line_buffered : Position → List ℕ → Bool
 is_line_buffered position buffered = list_any is_whole (full_lines buffered)
 
--- there is an item, and no later line could change it
+-- whether there is an item that no line that follows could change
 abbrev pub is_ended_item : Option FirstItem → Bool
 is_ended_item None = false
 is_ended_item (Some item) = item.is_ended
 
--- an item or its error is buffered if the whole lines of the buffer end it
+-- whether an item or its error is buffered: the buffered lines that end in a newline are enough to end it
 abbrev pub is_item_buffered : Position → List ℕ → Bool
 is_item_buffered position buffered = is_ended_item (first_of (position.lines + 1) (whole_lines buffered))
 
--- A call that does not read: it returns the next item or line if one is buffered, and else none.
+-- A call that reads nothing: it returns the next item or line if that is buffered, and otherwise nothing, and nothing
+-- changes.
 abbrev pub BufferedReadsOn : {R X A : Type 0} → (R → Option (List ℕ)) → (R → Bool) → (X → A) → (Position → List ℕ → Next A) → (Position → FileFault → Type 0) → (Position → List ℕ → Bool) →
     ReaderState → ReaderState → R → Option (Result (Option X) FileFault) → Type 0
 BufferedReadsOn remaining has_failed view next IsFault is_buffered old new reader None = (new ≡ old) × (CanReadBuffered old → is_buffered old.position old.buffered ≡ false)

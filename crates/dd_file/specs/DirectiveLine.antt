@@ -1,4 +1,4 @@
--- The grammar of a directive line: a command and its arguments.
+-- The grammar of a directive line, which is own: a command and its arguments, separated by white space.
 use Rattle.std.specs.Prelude.{ℕ, suc, Bool, true, false, not, ◌&&◌, ◌||◌, List, [], ◌∷◌, ◌==◌, length, map, filter, Option, Some, None, option_map, if◌then◌else◌, codes, bytes_eq}
 use Rattle.std.specs.List.{list_all, list_any}
 use Rattle.std.specs.Char.{is_ascii_alphanumeric}
@@ -31,13 +31,13 @@ is_equals b = b == 61
 abbrev pub is_comma : ℕ → Bool
 is_comma b = b == 44
 
--- the byte is added to the first token, or separates a new one from it
+-- a byte separates a new, empty part from the parts after it, or is the first byte of the first of them
 abbrev pub split_or_prepend : Bool → ℕ → List (List ℕ) → List (List ℕ)
 split_or_prepend true b tokens = [] ∷ tokens
 split_or_prepend false b [] = (b ∷ []) ∷ []
 split_or_prepend false b (token ∷ tokens) = (b ∷ token) ∷ tokens
 
--- whether the next byte is between parentheses
+-- whether the byte after this one is between parentheses; they do not nest
 abbrev pub inside_after : Bool → ℕ → Bool
 inside_after inside b = is_opening b || (inside && not (is_closing b))
 
@@ -46,7 +46,7 @@ abbrev pub split_at_spaces : Bool → List ℕ → List (List ℕ)
 split_at_spaces inside [] = [] ∷ []
 split_at_spaces inside (b ∷ bs) = split_or_prepend (is_space b && not inside) b (split_at_spaces (inside_after inside b) bs)
 
--- how many bytes come before the first white space that is not between parentheses
+-- the length of the leading token: the bytes before the first white space that is not between parentheses
 abbrev pub token_len : Bool → List ℕ → ℕ
 token_len inside [] = 0
 token_len inside (b ∷ bs) = if is_space b && not inside then 0 else suc (token_len (inside_after inside b) bs)
@@ -55,7 +55,7 @@ token_len inside (b ∷ bs) = if is_space b && not inside then 0 else suc (token
 abbrev pub tokens_of : List ℕ → List (List ℕ)
 tokens_of text = filter (λ token. not (length token == 0)) (split_at_spaces false text)
 
--- letters, digits and - _ / , .
+-- ASCII letters, digits and - _ / , .
 abbrev pub is_key_byte : ℕ → Bool
 is_key_byte b = is_ascii_alphanumeric b || list_any (λ c. b == c) (codes "-_/,.")
 
@@ -63,7 +63,7 @@ is_key_byte b = is_ascii_alphanumeric b || list_any (λ c. b == c) (codes "-_/,.
 abbrev pub is_key : List ℕ → Bool
 is_key token = not (length token == 0) && list_all is_key_byte token
 
--- no white space and no parenthesis
+-- a plain value: no white space and no parenthesis; it may be empty
 abbrev pub is_plain : List ℕ → Bool
 is_plain bytes = list_all (λ b. not (is_space b || (is_opening b || is_closing b))) bytes
 
@@ -72,22 +72,23 @@ abbrev pub split_at_commas : List ℕ → List (List ℕ)
 split_at_commas [] = [] ∷ []
 split_at_commas (b ∷ bs) = split_or_prepend (is_comma b) b (split_at_commas bs)
 
--- the values between parentheses; white space alone has none
+-- the values between parentheses, split at commas and trimmed; white space alone has none
 abbrev pub list_values : List ℕ → List (List ℕ)
 list_values text = if is_blank text then [] else map trimmed (split_at_commas text)
 
--- the values after `=`: a list in parentheses, or one plain value
+-- The values that a text after = denotes: a list up to the first closing parenthesis, which is its last byte, or one
+-- plain value.
 abbrev pub values_of : List ℕ → Option (List (List ℕ))
 values_of [] = Some ([] ∷ [])
 values_of (b ∷ bs) =
     if is_opening b then (if list_any is_closing bs && length (suffix is_closing bs) == 0 then Some (list_values (up_to is_closing bs)) else None)
     else (if is_plain (b ∷ bs) then Some ((b ∷ bs) ∷ []) else None)
 
--- a key with these values
+-- the argument with this key and these values
 abbrev pub with_key : List ℕ → List (List ℕ) → ArgumentText
 with_key key values = record { key = key; values = values }
 
--- the argument that a token parses to: a key alone, or a key, `=` and values
+-- the argument that a token denotes, if it is valid: a key alone, or a key, = and values
 abbrev pub parsed_argument : List ℕ → Option ArgumentText
 parsed_argument token =
     if is_key token then Some (with_key token [])
@@ -99,25 +100,25 @@ before_others (Some argument) (Some others) = Some (argument ∷ others)
 before_others (Some argument) None = None
 before_others None others = None
 
--- the arguments that the tokens parse to, if all are valid
+-- the arguments that tokens denote, if all are valid
 abbrev pub arguments_of : List (List ℕ) → Option (List ArgumentText)
 arguments_of [] = Some []
 arguments_of (token ∷ tokens) = before_others (parsed_argument token) (arguments_of tokens)
 
--- the key of each argument is a key
+-- the key of each argument is a key of the grammar
 abbrev pub has_keys : List ArgumentText → Bool
 has_keys arguments = list_all (λ argument. is_key argument.key) arguments
 
--- a command is a key, and not `subtest`
+-- the name of a command is a key, but not subtest
 abbrev pub is_command_name : List ℕ → Bool
 is_command_name token = is_key token && not (bytes_eq token (codes "subtest"))
 
--- the command and the arguments that the tokens parse to
+-- the command that tokens denote: a name, and then its arguments; none if a token is not valid
 abbrev pub command_of_tokens : List (List ℕ) → Option CommandText
 command_of_tokens [] = None
 command_of_tokens (token ∷ tokens) =
     if is_command_name token then option_map (λ arguments. record { name = token; arguments = arguments }) (arguments_of tokens) else None
 
--- the command that a directive line parses to
+-- the command that a directive line denotes, if it is valid
 abbrev pub command_of : List ℕ → Option CommandText
 command_of text = command_of_tokens (tokens_of text)

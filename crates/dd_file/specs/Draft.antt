@@ -1,4 +1,5 @@
--- An item of a script while its lines are read.
+-- An item of a script while its lines are read. The meaning of a state is the item that the lines so far are the
+-- beginning of, whatever lines follow (first_item_in).
 use Rattle.std.specs.Prelude.{◌≡◌, ◌<◌, ◌+◌, ◌-◌, ℕ, Bool, true, false, not, ◌&&◌, List, [], ◌∷◌, ◌++◌, length, drop, Option, Some, None, Result, Ok, Err, ⊤, if◌then◌else◌}
 use Rattle.std.specs.List.{list_all, list_any}
 use Rattle.ascii_text.specs.WhiteSpace.{is_blank}
@@ -11,8 +12,8 @@ use Rattle.dd_file.specs.declared.item.Item.TheVariants.{Comment, Blank}
 use Rattle.dd_file.specs.declared.fault.FileFault.{FileFault}
 use Rattle.dd_file.specs.declared.fault.FileFault.TheVariants.{Read, NoMemory, BadDirective, AfterDouble, UnclosedDouble, InputTooLong}
 
--- An item so far: the number of its first line, its parts, how many lines it has, and its state, which has the command of a
--- directive.
+-- An item so far: the number of its first line, its parts, how many lines it has with its separators, and its state,
+-- which has the command of a directive.
 pub record DraftText : Type 0 where
   pub line : ℕ
   pub directive_lines : List (List ℕ)
@@ -34,11 +35,11 @@ state_of_command (Some command) = Input command
 abbrev pub state_after_directive_line : List ℕ → DraftState
 state_after_directive_line text = if is_blank text then BlankLines else state_of_command (command_of text)
 
--- one more line is counted, and the state is this
+-- a draft with one more line, in this state
 abbrev pub counted : DraftText → DraftState → DraftText
 counted draft state = record draft { count = draft.count + 1; state = state }
 
--- whether no further line belongs to the item
+-- whether the item is complete: the next line begins another
 abbrev pub is_done : DraftState → Bool
 is_done Begin = false
 is_done CommentLine = true
@@ -53,7 +54,7 @@ is_done (Pair command) = false
 is_done (Complete command) = true
 is_done AfterPair = true
 
--- the item after a separator: its expected output is in double dashes if another line of dashes follows
+-- the item after its separator: another line of dashes makes that a double one
 abbrev pub after_separator : DraftText → List (List ℕ) → CommandText → FirstItem
 after_separator draft more command =
     if begins_with_dashes more then in_double draft.line command draft.directive_lines draft.input (drop 1 more) else in_single draft.line command draft.directive_lines draft.input more
@@ -81,18 +82,18 @@ first_item_in AfterPair draft more = Some (first_item (Err (AfterDouble (draft.l
 abbrev pub first_item_of : DraftText → List (List ℕ) → Option FirstItem
 first_item_of draft more = first_item_in draft.state draft more
 
--- the first line begins a directive
+-- whether the first line begins a directive: it is neither a comment nor blank
 abbrev pub begins_directive : List (List ℕ) → Bool
 begins_directive [] = false
 begins_directive (line ∷ lines) = not (is_comment line) && not (is_blank line)
 
--- the last line is four dashes
+-- whether the last line is four dashes
 abbrev pub ends_in_dashes : List (List ℕ) → Bool
 ends_in_dashes [] = false
 ends_in_dashes (line ∷ []) = is_dashes line
 ends_in_dashes (line ∷ next ∷ lines) = ends_in_dashes (next ∷ lines)
 
--- the parts so far fit the state: nothing in them ends them, and each line is counted
+-- the parts so far fit a state: no line in them ends the part that it is in, and each line is counted
 abbrev pub FitsIn : DraftState → DraftText → Type 0
 FitsIn Begin draft = (draft.directive_lines ≡ []) × (draft.input ≡ []) × (draft.expected ≡ []) × (draft.count ≡ 0)
 FitsIn CommentLine draft = draft.input ≡ []
@@ -111,24 +112,25 @@ FitsIn AfterPair draft = 1 < draft.count
 abbrev pub Fits : DraftText → Type 0
 Fits draft = FitsIn draft.state draft
 
--- One more line was added: the item of the lines so far is the same as before if that line followed.
+-- One more line was added: whatever lines follow, the item is that of the draft before it, if this line and then those
+-- follow.
 pub record AddsIn (state : DraftState) (old new : DraftText) (line : List ℕ) : Type 0 where
   pub fits : Fits new
   pub first_item : (more : List (List ℕ)) → first_item_of new more ≡ first_item_in state old (line ∷ more)
   pub count : new.count ≡ old.count + 1
   pub first : new.line ≡ old.line
 
--- the result for an item or its error
+-- a read that gives an item, or its error
 abbrev pub item_result : Result Item FileFault → Result (Option Item) FileFault
 item_result (Ok item) = Ok (Some item)
 item_result (Err fault) = Err fault
 
--- the result for the item of some lines, if there is one
+-- a read that gives the first item of some lines, if there is one
 abbrev pub result_of_first : Option FirstItem → Result (Option Item) FileFault
 result_of_first None = Ok None
 result_of_first (Some item) = item_result item.result
 
--- an error that an item from line n on may have
+-- the errors of an item that begins at line n, with their lines
 abbrev pub IsDraftFault : ℕ → FileFault → Type 0
 IsDraftFault n Read = ⊥
 IsDraftFault n NoMemory = ⊤
@@ -137,7 +139,7 @@ IsDraftFault n (BadDirective line) = line ≡ n
 IsDraftFault n (AfterDouble line) = n < line
 IsDraftFault n (UnclosedDouble line) = line ≡ n
 
--- an error of a line as that of the item that begins at line n
+-- an error in reading a line, reported for the item that begins at line n
 abbrev pub fault_at_line : ℕ → FileFault → FileFault
 fault_at_line n Read = Read
 fault_at_line n NoMemory = NoMemory

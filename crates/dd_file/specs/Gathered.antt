@@ -1,4 +1,4 @@
--- A sink that gathers blocks.
+-- A sink that gathers what is written into blocks.
 use Rattle.std.specs.Prelude.{◌≡◌, ℕ, List, [], Option, drop}
 use Rattle.std.specs.Io.KnownBytes.{append_known}
 use Rattle.dd_file.specs.declared.blocks.Blocks.{Blocks}
@@ -7,14 +7,14 @@ use Rattle.dd_file.specs.declared.blocks.Blocks.{Blocks}
 abbrev pub gathering_writer : {W : Type 0} → Blocks W → W
 gathering_writer blocks = blocks.writer
 
--- the buffered bytes, which are not flushed yet
+-- the bytes that are buffered: the writer does not have them yet
 abbrev pub waiting_bytes : {W : Type 0} → Blocks W → List ℕ
 waiting_bytes blocks = drop blocks.written blocks.block.items
 
--- all bytes so far are flushed
+-- no byte is buffered: the writer has all of them
 abbrev pub NothingWaits : {W : Type 0} → Blocks W → Type 0
 NothingWaits blocks = waiting_bytes blocks ≡ []
 
--- all bytes so far: those that were written to the writer, if they are known, and the buffered ones
+-- all bytes that were written to the blocks: those of the writer, if they are known, and then the buffered ones
 abbrev pub gathered_bytes : {W : Type 0} → (W → Option (List ℕ)) → Blocks W → Option (List ℕ)
 gathered_bytes contents blocks = append_known (contents blocks.writer) (waiting_bytes blocks)

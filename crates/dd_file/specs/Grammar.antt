@@ -1,4 +1,5 @@
--- The bytes of a script, read item by item or line by line, up to a limit.
+-- What an input denotes: its items or its lines, one after the other, up to an error. An input beyond the limit denotes
+-- those that end within it, and then the error that it is too long.
 use Rattle.std.specs.Prelude.{ℕ, ◌+◌, ◌-◌, zero, suc, Bool, true, false, not, ◌&&◌, List, [], ◌∷◌, nat_lt, length, take, drop, map, filter, Option, Some, None, Result, Ok, Err, if◌then◌else◌}
 use Rattle.std.specs.List.{concat}
 use Rattle.dd_file.specs.Position.{Position, start, longest_input}
@@ -8,54 +9,55 @@ use Rattle.dd_file.specs.declared.item.Item.{Item}
 use Rattle.dd_file.specs.declared.fault.FileFault.{FileFault}
 use Rattle.dd_file.specs.declared.fault.FileFault.TheVariants.{InputTooLong}
 
--- What comes next in an input: the end, an item or line with the position after it and the bytes from there on, or an error.
+-- What comes next in an input: nothing, since it is over; an item or line, the position after it and the bytes from
+-- there on; or an error.
 pub data Next (A : Type 0) : Type 0 where
   Over : Next A
   Found : A → Position → List ℕ → Next A
   Faulty : FileFault → Next A
 
--- the bytes from this position on exceed the limit
+-- the input with these bytes from this position on exceeds the limit
 abbrev pub is_too_long : ℕ → Position → List ℕ → Bool
 is_too_long limit position bytes = nat_lt limit (position.bytes + length bytes)
 
--- the full lines that are read: all of them, or those that end within the limit
+-- the full lines that are looked at: all of them, or those that end within the limit
 abbrev pub full_lines_within : ℕ → Position → List ℕ → List (List ℕ)
 full_lines_within limit position bytes =
     if is_too_long limit position bytes then filter is_whole (full_lines (take (limit - position.bytes) bytes)) else full_lines bytes
 
--- the next item or line is made of the first count full lines
+-- what comes next is this result, made of the first count full lines
 abbrev pub next_of_lines : {A : Type 0} → ℕ → A → Position → List ℕ → Next A
 next_of_lines count result position bytes =
     let taken = length (concat (take count (full_lines bytes))) in
     Found result (record { lines = position.lines + count; bytes = position.bytes + taken }) (drop taken bytes)
 
--- nothing is left, or the limit is exceeded
+-- what comes next if no item is complete: the error that the input is too long, or nothing
 abbrev pub at_end : {A : Type 0} → Bool → Position → Next A
 at_end true position = Faulty (InputTooLong (position.lines + 1))
 at_end false position = Over
 
--- the next item, or its error
+-- what comes next by a first item of count lines, or its error
 abbrev pub with_count : ℕ → Result Item FileFault → Position → List ℕ → Next Item
 with_count count (Ok item) position bytes = next_of_lines count item position bytes
 with_count count (Err fault) position bytes = Faulty fault
 
--- the next item by the first item of the lines; beyond the limit, only an item that is ended within it is read
+-- what comes next by the first item of the lines; beyond the limit only an item that ends within it
 abbrev pub from_first_item : Bool → Option FirstItem → Position → List ℕ → Next Item
 from_first_item too_long None position bytes = at_end too_long position
 from_first_item too_long (Some item) position bytes =
     if too_long && not item.is_ended then at_end true position else with_count item.count item.result position bytes
 
--- the next item of the bytes from this position on
+-- what item comes next, in an input with these bytes from this position on
 abbrev pub next_item : ℕ → Position → List ℕ → Next Item
 next_item limit position bytes =
     from_first_item (is_too_long limit position bytes) (first_of (position.lines + 1) (map line_of (full_lines_within limit position bytes))) position bytes
 
--- the next line by the full lines that are left
+-- what line comes next by the full lines that are left
 abbrev pub from_full_lines : Bool → List (List ℕ) → Position → List ℕ → Next (List ℕ)
 from_full_lines too_long [] position bytes = at_end too_long position
 from_full_lines too_long (full_line ∷ more) position bytes = next_of_lines 1 (line_of full_line) position bytes
 
--- the next line of the bytes from this position on
+-- what line comes next, in an input with these bytes from this position on
 abbrev pub next_line : ℕ → Position → List ℕ → Next (List ℕ)
 next_line limit position bytes = from_full_lines (is_too_long limit position bytes) (full_lines_within limit position bytes) position bytes
 
@@ -64,22 +66,22 @@ pub record Script (A : Type 0) : Type 0 where
   pub items : List A
   pub fault : Option FileFault
 
--- one more item before the others
+-- a script with one more item before the others
 abbrev pub with_first : {A : Type 0} → A → Script A → Script A
 with_first item script = record { items = item ∷ script.items; fault = script.fault }
 
--- the next item, and then the rest
+-- what comes next, and then the rest of the script from there on
 abbrev pub followed : {A : Type 0} → (Position → List ℕ → Script A) → Next A → Script A
 followed rest Over = record { items = []; fault = None }
 followed rest (Found item position bytes) = with_first item (rest position bytes)
 followed rest (Faulty fault) = record { items = []; fault = Some fault }
 
--- at most count items, one after another
+-- the first count items from a position on, or all if there are fewer
 abbrev pub first_items : {A : Type 0} → (Position → List ℕ → Next A) → ℕ → Position → List ℕ → Script A
 first_items next zero position bytes = record { items = []; fault = None }
 first_items next (suc count) position bytes = followed (first_items next count) (next position bytes)
 
--- all items from a position on; each has at least one byte
+-- all items from a position on; there are no more of them than bytes, since each has at least one
 abbrev pub script_from : {A : Type 0} → (Position → List ℕ → Next A) → Position → List ℕ → Script A
 script_from next position bytes = first_items next (length bytes + 1) position bytes
 
@@ -91,10 +93,10 @@ items_from = script_from (next_item longest_input)
 abbrev pub lines_from : Position → List ℕ → Script (List ℕ)
 lines_from = script_from (next_line longest_input)
 
--- the items of a script
+-- the script that an input denotes: its items, and the error that ends them
 abbrev pub script_of : List ℕ → Script Item
 script_of = items_from start
 
--- the lines of an input
+-- the lines that an input denotes, and the error that ends them
 abbrev pub listing_of : List ℕ → Script (List ℕ)
 listing_of = lines_from start

@@ -1,4 +1,5 @@
--- Laws of scripts: their next item, rewriting, and joining.
+-- Laws of scripts: what comes next in them, rewriting them, and joining them. The contracts of the module `laws` cite
+-- these statements.
 use Rattle.std.specs.Prelude.{◌≡◌, ℕ, ◌+◌, ◌≤◌, Bool, true, false, not, ◌==◌, nat_lt, List, [], ◌∷◌, ◌++◌, length, drop, map, flat_map, Option, Some, option_map, None, Result, Ok, Err, ⊤, if◌then◌else◌}
 use Rattle.std.specs.List.{list_all, list_any}
 use Rattle.ascii_text.specs.Lines.{newline, lines_of}
@@ -14,11 +15,11 @@ use Rattle.dd_file.specs.declared.item.Item.TheVariants.{Comment, Blank, Directi
 use Rattle.dd_file.specs.declared.fault.FileFault.{FileFault}
 use Rattle.dd_file.specs.declared.fault.FileFault.TheVariants.{Read, NoMemory, BadDirective, AfterDouble, UnclosedDouble, InputTooLong}
 
--- The items from a position on are none at the end, the next item and those after it, or an error.
+-- the items from a position on are none at the end, the next item and those after it, or an error
 abbrev pub ItemsByNext : Type 0
 ItemsByNext = (position : Position) (bytes : List ℕ) → items_from position bytes ≡ followed items_from (next_item longest_input position bytes)
 
--- The lines from a position on are none at the end, the next line and those after it, or an error.
+-- the lines from a position on are none at the end, the next line and those after it, or an error
 abbrev pub LinesByNext : Type 0
 LinesByNext = (position : Position) (bytes : List ℕ) → lines_from position bytes ≡ followed lines_from (next_line longest_input position bytes)
 
@@ -26,11 +27,12 @@ LinesByNext = (position : Position) (bytes : List ℕ) → lines_from position b
 abbrev pub is_line : List ℕ → Bool
 is_line bytes = list_all (λ b. not (b == 10)) bytes
 
--- the lines are the same except for white space at their ends
+-- the lines are equal but for white space at their ends
 abbrev pub SameButEnds : List (List ℕ) → List (List ℕ) → Type 0
 SameButEnds lines others = map without_trailing_space lines ≡ map without_trailing_space others
 
--- the directive was read back, at line n and with this expected output
+-- A directive that was read back: at line n, with this expected output, and otherwise as it was but for white space at
+-- the ends of lines.
 pub record IsSameDirective (n : ℕ) (output : List ℕ) (directive again : DirectiveText) : Type 0 where
   pub line : again.line ≡ n
   pub command : again.command ≡ directive.command
@@ -39,22 +41,23 @@ pub record IsSameDirective (n : ℕ) (output : List ℕ) (directive again : Dire
   pub expected : again.expected ≡ output
   pub raw_lines : SameButEnds again.raw_lines directive.raw_lines
 
--- the item was read back, at line n; a directive has this expected output
+-- An item that was read back at line n, as it was but for white space at the ends of lines; a directive has this
+-- expected output.
 abbrev pub IsSameItem : ℕ → List ℕ → Item → Item → Type 0
 IsSameItem n output (Comment lines) again = (others : List (List ℕ)) × (again ≡ Comment others) × SameButEnds others lines
 IsSameItem n output (Blank lines) again = (others : List (List ℕ)) × (again ≡ Blank others) × SameButEnds others lines
 IsSameItem n output (Directive directive) again = (other : DirectiveText) × (again ≡ Directive other) × IsSameDirective n output directive other
 
--- An item of a script that is written with an actual output is read back as that item, whatever lines follow, and those lines
--- are left.
+-- An item of a script that is written with an actual output is read back as that item, whatever lines follow, and those
+-- lines are left.
 abbrev pub WrittenItem : Type 0
 WrittenItem =
     (n m count : ℕ) (is_ended : Bool) (lines more : List (List ℕ)) (item : Item) (output : List ℕ) →
     list_all is_line lines ≡ true → is_output output ≡ true → first_of n lines ≡ Some (first_item (Ok item) count is_ended) →
     (again : Item) × (first_of m (lines_of (entry_text item output) ++ more) ≡ Some (first_item (Ok again) (length (lines_of (entry_text item output))) true)) × IsSameItem m output item again
 
--- The entries are read back item by item, each with its actual output as the expected one. A blank of one empty line at the
--- end may be missing.
+-- The entries are read back item by item, each with its actual output as the expected one. A blank of one empty line at
+-- the end may be missing.
 pub data AreReadAgain : List Entry → List Item → Type 0 where
   AreOver : AreReadAgain [] []
   LastIsRemoved : (output : List ℕ) → AreReadAgain (entry (Blank ([] ∷ [])) output ∷ []) []
@@ -69,7 +72,7 @@ ends_in_long_blank (Blank lines ∷ []) = nat_lt 1 (length lines)
 ends_in_long_blank (Directive directive ∷ []) = false
 ends_in_long_blank (item ∷ next ∷ items) = ends_in_long_blank (next ∷ items)
 
--- an item of the grammar: the first item of some lines
+-- an item of the grammar: the first item of some lines, without an error
 pub record IsWellFormed (item : Item) : Type 0 where
   pub number : ℕ
   pub lines : List (List ℕ)
@@ -78,24 +81,24 @@ pub record IsWellFormed (item : Item) : Type 0 where
   pub is_ended : Bool
   pub first : first_of number lines ≡ Some (first_item (Ok item) count is_ended)
 
--- items of the grammar
+-- items, each of which is one of the grammar
 abbrev pub AreWellFormed : List Item → Type 0
 AreWellFormed [] = ⊤
 AreWellFormed (item ∷ items) = IsWellFormed item × AreWellFormed items
 
--- The items of a script, up to its error if it has one, are items of the grammar.
+-- the items of a script, up to its error if it has one, are items of the grammar
 abbrev pub ItemsAreWellFormed : Type 0
 ItemsAreWellFormed = (input : List ℕ) → AreWellFormed (script_of input).items
 
--- A directive with one directive line, lines of input and no expected output is an item of the grammar.
+-- a directive with one directive line, lines of input and no expected output is an item of the grammar
 abbrev pub DirectiveIsWellFormed : Type 0
 DirectiveIsWellFormed =
     (n : ℕ) (line : List ℕ) (input : List (List ℕ)) (command : CommandText) →
     is_comment line ≡ false → is_blank line ≡ false → is_continued line ≡ false → command_of (trimmed line) ≡ Some command →
     list_any is_separator input ≡ false → list_all is_line (line ∷ input) ≡ true → IsWellFormed (directive n command (line ∷ []) input [])
 
--- Items of the grammar that are written with actual outputs are read back without an error. (If they end in a blank of several
--- lines, the newline that is dropped may leave a lone backslash on the last line.)
+-- Items of the grammar that are written with actual outputs are read back without an error. (If they end in a blank of
+-- several lines, the newline that is dropped may leave a lone backslash on the last line.)
 abbrev pub WrittenScript : Type 0
 WrittenScript =
     (entries : List Entry) →
@@ -104,28 +107,29 @@ WrittenScript =
     length (rewritten_text entries) ≤ longest_input →
     let again = script_of (rewritten_text entries) in (again.fault ≡ None) × AreReadAgain entries again.items
 
--- the keys of a directive's arguments are keys
+-- the keys of the arguments of an item are keys of the grammar
 abbrev pub item_has_keys : Item → Bool
 item_has_keys (Comment lines) = true
 item_has_keys (Blank lines) = true
 item_has_keys (Directive directive) = has_keys directive.arguments
 
--- The items of a script have keys.
+-- the arguments of each item of a script have keys of the grammar
 abbrev pub ItemsHaveKeys : Type 0
 ItemsHaveKeys = (input : List ℕ) → list_all item_has_keys (script_of input).items ≡ true
 
--- a comment, a blank, or a directive with its separator
+-- whether the first count lines are a comment, a blank, or a directive with its separator
 abbrev pub has_separator : ℕ → Result Item FileFault → Bool
 has_separator count (Ok item) = if is_directive item then nat_lt (length (raw_lines_of item)) count else true
 has_separator count (Err fault) = false
 
--- The lines from number n on are complete: they are items without an error, and each directive has its separator.
+-- Lines from number n on are complete: they are items without an error, and each directive has its separator. Without
+-- one, a text that is appended would become input of the last directive.
 pub data IsComplete : ℕ → List (List ℕ) → Type 0 where
   Done : (n : ℕ) → IsComplete n []
   More : (n : ℕ) (lines : List (List ℕ)) (item : FirstItem) → first_of n lines ≡ Some item → has_separator item.count item.result ≡ true →
       IsComplete (n + item.count) (drop item.count lines) → IsComplete n lines
 
--- complete by the first item of the lines: it has its separator and complete lines follow; an error is not complete
+-- complete by a first item of count lines: it has its separator, and the lines after it are complete; an error never is
 abbrev pub IsCompleteWith : ℕ → List (List ℕ) → ℕ → Result Item FileFault → Type 0
 IsCompleteWith n lines count (Ok item) = (has_separator count (Ok item) ≡ true) × IsComplete (n + count) (drop count lines)
 IsCompleteWith n lines count (Err fault) = ⊥
@@ -140,11 +144,11 @@ abbrev pub CompleteByFirst : Type 0
 CompleteByFirst = (n : ℕ) (lines : List (List ℕ)) →
     (IsComplete n lines → IsCompleteBy n lines (first_of n lines)) × (IsCompleteBy n lines (first_of n lines) → IsComplete n lines)
 
--- the directive, this many lines further down
+-- a directive as it is with this many lines before it
 abbrev pub moved : ℕ → DirectiveText → DirectiveText
 moved lines directive = record directive { line = lines + directive.line }
 
--- the directives of some items
+-- an item as a list of directives: itself, or none
 abbrev pub directive_in : Item → List DirectiveText
 directive_in (Comment lines) = []
 directive_in (Blank lines) = []
@@ -154,7 +158,7 @@ directive_in (Directive directive) = directive ∷ []
 abbrev pub directives_of : List Item → List DirectiveText
 directives_of items = flat_map directive_in items
 
--- the error, this many lines further down
+-- an error as it is with this many lines before it
 abbrev pub moved_fault : ℕ → FileFault → FileFault
 moved_fault lines Read = Read
 moved_fault lines NoMemory = NoMemory
@@ -163,8 +167,8 @@ moved_fault lines (AfterDouble line) = AfterDouble (lines + line)
 moved_fault lines (UnclosedDouble line) = UnclosedDouble (lines + line)
 moved_fault lines (InputTooLong line) = InputTooLong (lines + line)
 
--- The directives of a complete script, two newlines and any text are those of the script and then those of the text, and the
--- error is that of the text.
+-- The directives of a complete script, two newlines and any text are those of the script and then those of the text,
+-- and the error is that of the text.
 abbrev pub JoinedItems : Type 0
 JoinedItems =
     (script text : List ℕ) → IsComplete 1 (lines_of script) → length ((script ++ newline ++ newline) ++ text) ≤ longest_input →

@@ -1,7 +1,7 @@
--- A position in an input.
+-- A position in an input, and the limits of one.
 use Rattle.std.specs.Prelude.{ℕ, ◌-◌, ◌^◌}
 
--- a position: how many lines and bytes of the input are before it
+-- how many lines and bytes of the input are before a position
 pub record Position : Type 0 where
   pub lines : ℕ
   pub bytes : ℕ

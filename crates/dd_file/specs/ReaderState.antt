@@ -3,25 +3,25 @@ use Rattle.std.specs.Prelude.{◌≡◌, ◌≤◌, ℕ, Bool, true, false, List
 use Rattle.dd_file.specs.Position.{Position, start, longest_input, longest_lookahead}
 use Rattle.dd_file.specs.declared.fault.FileFault.{FileFault}
 
--- The buffered bytes, whether the end of the input was reached, the position after the items so far, and the error that ended
--- the reading.
+-- The state of a reader: the bytes that were read and not returned, whether the end of the input was reached, the
+-- position after what was returned, and the error that was returned.
 pub record ReaderState : Type 0 where
   pub buffered : List ℕ
   pub is_ended : Bool
   pub position : Position
   pub fault : Option FileFault
 
--- the state before the first call
+-- the state of a reader before its first call
 abbrev pub fresh : ReaderState
 fresh = record { buffered = []; is_ended = false; position = start; fault = None }
 
--- the end was reached, and everything before it was returned
+-- the end was reached, and all before it was returned
 pub record IsOver (state : ReaderState) : Type 0 where
   pub fault : state.fault ≡ None
   pub buffered : state.buffered ≡ []
   pub ended : state.is_ended ≡ true
 
--- The buffer is bounded, and empty at the end; each line has at least one byte; and the limit is not exceeded.
+-- the buffer is bounded and empty at the end, each line has at least one byte, and the limit is not exceeded
 pub record IsWithin (buffered : List ℕ) (is_ended : Bool) (lines bytes : ℕ) : Type 0 where
   pub ahead : length buffered ≤ longest_lookahead
   pub ended : is_ended ≡ true → buffered ≡ []

@@ -1,4 +1,4 @@
--- A rewritten script: the actual outputs replace the expected ones.
+-- A rewritten script: the actual outputs replace the expected ones, as datadriven writes them.
 use Rattle.std.specs.Prelude.{ℕ, Bool, true, false, not, ◌&&◌, ◌||◌, List, [], ◌∷◌, ◌++◌, ◌==◌, nat_eq, length, flat_map, if◌then◌else◌, codes}
 use Rattle.std.specs.List.{list_all, list_any, ends_with}
 use Rattle.ascii_text.specs.Lines.{newline, full_lines, lines_of, text_of, without_last}
@@ -19,7 +19,7 @@ is_directive (Comment lines) = false
 is_directive (Blank lines) = false
 is_directive (Directive directive) = true
 
--- the raw lines as they are written
+-- the raw lines of an item as they are written
 abbrev pub kept_text : Item → List ℕ
 kept_text item = text_of (raw_lines_of item)
 
@@ -27,21 +27,21 @@ kept_text item = text_of (raw_lines_of item)
 abbrev pub dashes : List ℕ
 dashes = codes "----" ++ newline
 
--- a line of the text is blank
+-- whether a line of the text is blank, so that it needs double separators
 abbrev pub has_blank_line : List ℕ → Bool
 has_blank_line text = list_any is_blank (lines_of text)
 
--- what is written before an output: its separator, in double dashes if the output has a blank line
+-- the text before an output: a single separator, or a double one
 abbrev pub opening : Bool → List ℕ
 opening true = dashes ++ dashes
 opening false = dashes
 
--- what is written after an output: the closing dashes of a double separator, and an empty line
+-- the text after an output: the closing pair of a double separator, and an empty line
 abbrev pub closing : Bool → List ℕ
 closing true = (dashes ++ dashes) ++ newline
 closing false = newline
 
--- an output with its separator
+-- an output with its separators; they are double if it has a blank line
 abbrev pub output_text : List ℕ → List ℕ
 output_text output = (opening (has_blank_line output) ++ output) ++ closing (has_blank_line output)
 
@@ -49,7 +49,8 @@ output_text output = (opening (has_blank_line output) ++ output) ++ closing (has
 abbrev pub is_output_line : List ℕ → Bool
 is_output_line line = not (is_dashes line || ends_with nat_eq line (13 ∷ []))
 
--- A text that can be written as an output: whole lines, none of four dashes and none that ends in a carriage return.
+-- A text that can be written as an output and read back: whole lines, none of four dashes and none that ends in a
+-- carriage return.
 abbrev pub is_output : List ℕ → Bool
 is_output text = (length text == 0 || ends_with nat_eq text newline) && list_all (λ full_line. is_output_line (without_last 10 full_line)) (full_lines text)
 
@@ -57,11 +58,11 @@ is_output text = (length text == 0 || ends_with nat_eq text newline) && list_all
 abbrev pub entry_text : Item → List ℕ → List ℕ
 entry_text item output = kept_text item ++ (if is_directive item then output_text output else [])
 
--- the text without its last newline if it ends in two
+-- a text without its last newline if it ends in two; this is own
 abbrev pub without_double_end : List ℕ → List ℕ
 without_double_end text = if ends_with nat_eq text (newline ++ newline) then without_last 10 text else text
 
--- an item with its actual output
+-- an item with its actual output, which is empty unless it is a directive
 pub record Entry : Type 0 where
   pub item : Item
   pub output : List ℕ
@@ -70,7 +71,7 @@ pub record Entry : Type 0 where
 abbrev pub entry : Item → List ℕ → Entry
 entry item output = record { item = item; output = output }
 
--- the text of a rewritten script
+-- the text of a rewritten script: its entries one after the other, without a second newline at the end
 abbrev pub rewritten_text : List Entry → List ℕ
 rewritten_text entries = without_double_end (flat_map (λ entry. entry_text entry.item entry.output) entries)
 

@@ -7,11 +7,11 @@ use Rattle.dd_file.specs.DirectiveLine.{is_opening, is_closing, token_len}
 abbrev pub is_plain_byte : ℕ → Bool
 is_plain_byte b = not (is_space b || (is_opening b || is_closing b))
 
--- the text is empty or begins with white space, so that a token before it ends
+-- whether a token before this text ends there: the text is empty or begins with white space
 abbrev pub ends_token : List ℕ → Bool
 ends_token [] = true
 ends_token (b ∷ bs) = is_space b
 
--- the token that the text begins with
+-- the token that a text begins with; empty if it begins with white space
 abbrev pub first_token : List ℕ → List ℕ
 first_token text = take (token_len false text) text

@@ -1,4 +1,16 @@
-//! The arguments of a directive: a key with values, by a grammar that is own.
+//! The arguments of a directive: a key, and after `=` its values. The grammar is own, and stricter than datadriven's.
+//!
+//! ```text
+//! auto                the key auto, and no value
+//! auto=true           one value
+//! auto=               one value, which is empty
+//! cfg=(1, 2 3)        two values: 1, and 2 3
+//! cfg=()              no value
+//! cfg=(1,)            two values, the second of them empty
+//! cfg=(1              not valid: the list is not closed
+//! cfg=(1)(2)          not valid: the token does not end with the list
+//! cfg=f(1)            not valid: a plain value has no parentheses
+//! ```
 ghost use Rattle.std.specs.Prelude.{◌≡◌, ◌+◌, ◌≤◌, ◌∷◌, true, false, length, drop, is_some, None, IfSome, MatchOption};
 ghost use Rattle.std.specs.List.{prefix_len};
 ghost use Rattle.dd_file.specs.ArgumentValues.{is_argument};
@@ -15,7 +27,7 @@ fn is_key_byte(b: u8) -> bool
     b.is_ascii_alphanumeric() || matches!(b, b'-' | b'_' | b'/' | b',' | b'.')
 }
 
-/// The length of the longest prefix of key bytes.
+/// The length of the longest prefix of key bytes: of the key, if a token begins with one.
 pub(crate) fn key_len(token: &[u8]) -> usize
     ensures len { result ≡ prefix_len is_key_byte token.now }
     ensures within { result ≤ length token.now }
@@ -31,7 +43,7 @@ fn plain_len(text: &[u8]) -> usize
     text.iter().take_while(|b| is_plain_byte(**b)).count()
 }
 
-/// Whether a plain value, one without parentheses around it, may have the byte: no white space and no parenthesis.
+/// Whether a plain value, one without parentheses around it, may have the byte: no white space, no parenthesis.
 fn is_plain_byte(b: u8) -> bool
     ensures { result ≡ is_plain_byte b }
 {
@@ -49,7 +61,8 @@ pub(crate) fn ends_token(text: &[u8], position: usize) -> bool
     }
 }
 
-/// The length of a list in parentheses without its opening one. `None` if it is not closed, or its token does not end after it.
+/// The length of a list in parentheses without its opening one. `None` if it is not closed, or its token does not end
+/// after it. White space between the parentheses does not end the token.
 fn listed_len(inside: &[u8]) -> Option<usize>
     ensures { MatchOption result (is_some (values_of (first_token (40 ∷ inside.now))) ≡ false)
         (λ len. (len + 1 ≡ token_len false (40 ∷ inside.now)) × (is_some (values_of (first_token (40 ∷ inside.now))) ≡ true)) }
@@ -83,7 +96,8 @@ fn values_len(text: &[u8]) -> Option<usize>
     Some(len)
 }
 
-/// The length of the leading argument, if it is valid: a key alone, or a key, `=` and values. `key_len` is that of its key.
+/// The length of the leading argument, if it is valid: a key alone, or a key, `=` and values. `key_len` is the length
+/// of its key.
 pub(crate) fn argument_len(text: &[u8], key_len: usize) -> Option<usize>
     requires { key_len ≡ prefix_len is_key_byte text.now }
     ensures argument { MatchOption result (parsed_argument (first_token text.now) ≡ None)

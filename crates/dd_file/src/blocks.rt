@@ -1,4 +1,8 @@
-//! A buffered writer: small writes are gathered into blocks, so a program makes one system call per block, not per line.
+//! A buffered writer: small writes are gathered into a block, so that a program makes one system call for a block, not
+//! for each line.
+//!
+//! Of std's `BufWriter` no contract says what was written when a write fails. Here a failed write is the last one, and
+//! what the writer got is a prefix of what was written to the blocks.
 ghost use Rattle.std.specs.Prelude.{◌≡◌, ◌≤◌, ◌<◌, ◌+◌, ◌++◌, ◌||◌, IsErr, is_err, OnOk, IfOk, true, [], length, vec_len, vec_capacity};
 ghost use Rattle.std.specs.Io.{WritesAtMost};
 ghost use Rattle.std.specs.Io.KnownBytes.{Appends, Keeps, WriteAppends};
@@ -10,15 +14,16 @@ use crate::room::append;
 use crate::writing::write_prefix;
 use std::alloc::{AllocError, Global};
 
+/// The size of a block in bytes.
 const BLOCK_BYTES: usize = 16_384;
 
 /// A sink that buffers what is written until it has a block of 16,384 bytes, and then writes the block. Call `flush` at
-/// the end. After an error the writer is not called again.
+/// the end. After an error the writer is not called again (own).
 #[derive(Drop)]
 pub struct Blocks<W> {
     writer: W,
     block: Vec<u8>,
-    /// How many bytes of the block are written already, if an error came in between.
+    /// How many bytes of the block the writer has, if a write failed after a part of the block.
     written: usize,
     ghost written_within: { written ≤ vec_len block },
     ghost block_within: { vec_len block ≤ 16384 },
@@ -28,7 +33,7 @@ pub struct Blocks<W> {
 impl<W: Sink> Blocks<W> {
     ghost use Rattle.dd_file.specs.Gathered.{gathering_writer, waiting_bytes, NothingWaits};
 
-    /// A sink with an empty block. If memory runs out, the writer is dropped.
+    /// A sink with an empty block, over this writer. If memory runs out, the writer is dropped (own).
     pub fn new(alloc: Global, writer: W) -> Result<Blocks<W>, AllocError>
     where
         W: Drop,
@@ -43,7 +48,7 @@ impl<W: Sink> Blocks<W> {
         })
     }
 
-    /// Flushes the block to the writer.
+    /// Writes the block to the writer and empties it. The writer itself may still buffer the bytes.
     fn flush_block(&mut self) -> Result<(), DeviceFault>
         ensures bytes { Keeps (⟦<Blocks<W> as Sink>⟧.contents self.old) (⟦<Blocks<W> as Sink>⟧.contents self.new) }
         ensures ok { OnOk result (NothingWaits self.new) }
@@ -67,8 +72,8 @@ impl<W: Sink> Blocks<W> {
         Ok(())
     }
 
-    /// Writes a prefix of bytes that do not fit into the block. A full block is flushed first; then bytes that would fill a
-    /// block themselves are written directly.
+    /// Writes a prefix of bytes that do not fit into the block. A full block is flushed first; after that, bytes that
+    /// would fill a block by themselves go to the writer directly.
     #[cold]
     fn write_part(&mut self, bytes: &[u8]) -> Result<usize, DeviceFault>
         requires { 0 < length bytes.now }
@@ -87,7 +92,7 @@ impl<W: Sink> Blocks<W> {
         Ok(count)
     }
 
-    /// Flushes the block to the writer.
+    /// Writes the buffered bytes to the writer. It fails if the writer fails, or has failed before (own).
     pub fn flush(&mut self) -> Result<(), WriteFault>
         ensures bytes { Keeps (⟦<Blocks<W> as Sink>⟧.contents self.old) (⟦<Blocks<W> as Sink>⟧.contents self.new) }
         ensures ok { OnOk result (NothingWaits self.new) }
@@ -104,7 +109,7 @@ impl<W: Sink> Blocks<W> {
         }
     }
 
-    /// The writer. Bytes that are still buffered are lost: call `flush` before.
+    /// The writer. Bytes that are still buffered are lost: call `flush` before (own).
     pub fn into_inner(self) -> W
         ensures writer { result ≡ gathering_writer self }
         ensures part { Appends (W.contents result) (⟦<Blocks<W> as Sink>⟧.contents self) (waiting_bytes self) }
@@ -127,6 +132,7 @@ impl<W: Sink> Sink for Blocks<W> {
 
     ghost has_failed = { λ s. W.has_failed s.writer };
 
+    // Bytes that fit are added to the block, and the writer is not called.
     fn write(&mut self, bytes: &[u8]) -> Result<usize, DeviceFault> {
         if self.writer.failed() {
             return Err(DeviceFault);
@@ -138,6 +144,7 @@ impl<W: Sink> Sink for Blocks<W> {
         Ok(bytes.len())
     }
 
+    // Flushes the block, and then the writer, which may buffer bytes too.
     fn write_on(&mut self) -> Result<(), DeviceFault> {
         self.flush_block()?;
         self.writer.write_on()

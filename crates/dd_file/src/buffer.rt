@@ -1,4 +1,9 @@
 //! The buffer of bytes that are read ahead.
+//!
+//! ```text
+//! bytes    returned already | buffered | unused
+//!          0                start      end      4096
+//! ```
 ghost use Rattle.std.specs.Prelude.{◌≡◌, ◌≤◌, ◌==◌, ◌++◌, ◌||◌, [], length, take, drop, is_ok, is_err, if◌then◌else◌, IfOk, OnOk, MatchResult};
 ghost use Rattle.std.specs.Io.KnownBytes.{Consumes, IsAtEnd, Keeps};
 ghost use Rattle.dd_file.specs.Position.{longest_lookahead};
@@ -13,7 +18,7 @@ use std::marker::Model;
 /// The greatest number of bytes that are read ahead of what was returned.
 const LOOKAHEAD: usize = 4096;
 
-/// The unread bytes: those that were read from a source and not yet returned.
+/// The bytes that were read from a source and not yet returned.
 #[derive(Drop)]
 pub(crate) struct Buffer {
     bytes: Vec<u8>,
@@ -48,14 +53,13 @@ impl Buffer {
         self.start == self.end
     }
 
-    /// The buffered bytes.
     pub(crate) fn buffered(&self) -> &[u8]
         ensures { result.now ≡ self.now }
     {
         &self.bytes[self.start..self.end]
     }
 
-    /// Drops the first `count` buffered bytes.
+    /// Drops the first `count` buffered bytes, since they were returned.
     pub(crate) fn pass(&mut self, count: usize)
         requires { count ≤ length self.old }
         ensures { self.new ≡ drop count self.old }
@@ -63,7 +67,7 @@ impl Buffer {
         self.start += count;
     }
 
-    /// Replaces the buffered bytes by those of one read.
+    /// Replaces the buffered bytes by those of one read; none means the end of the input.
     pub(crate) fn fill<R: Source>(&mut self, reader: &mut R) -> Result<(), DeviceFault>
         ensures bound { length self.new ≤ longest_lookahead }
         ensures bytes { MatchResult result
@@ -77,7 +81,8 @@ impl Buffer {
         Ok(())
     }
 
-    /// Moves the bytes up to the first newline, inclusive, to the end of a line.
+    /// Moves the bytes up to the first newline, inclusive, or all if there is none, to the end of a line. If memory
+    /// runs out, nothing is moved.
     pub(crate) fn move_line(&mut self, line: &mut Vec<u8>) -> Result<(), AllocError>
         ensures line { OnOk result (line.new.items ≡ line.old.items ++ take (first_len self.old) self.old) }
         ensures rest { self.new ≡ (if is_ok result then drop (first_len self.old) self.old else self.old) }

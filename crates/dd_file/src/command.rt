@@ -1,4 +1,9 @@
 //! The command of a directive with its arguments.
+//!
+//! ```text
+//! enter-joint autoleave=true      the command enter-joint, and the argument autoleave with one value
+//! subtest one                     no command: datadriven groups tests by it, and it is not supported here
+//! ```
 ghost use Rattle.std.specs.Prelude.{◌≡◌, true, false, IfOk, MatchOption, option_map};
 ghost use Rattle.dd_file.specs.TokenParts.{first_token};
 ghost use Rattle.dd_file.specs.DirectiveLine.{token_len, is_command_name, tokens_of, arguments_of, command_of};
@@ -13,7 +18,7 @@ use std::marker::Model;
 /// The name of a command.
 pub(crate) type Name = SmallVec<u8, 16>;
 
-/// A command and its arguments.
+/// A command and its arguments: what a directive line parses to.
 #[derive(Drop)]
 pub(crate) struct Command {
     pub(crate) name: Name,
@@ -31,7 +36,7 @@ impl Model for Command {
     ghost invariant = { λ a. has_keys a.arguments.items ≡ true };
 }
 
-/// The length of the leading command name, if it is valid: a key other than `subtest`, which begins no directive.
+/// The length of the leading command name, if it is valid: a key other than `subtest`, and a whole token (own).
 fn name_len(text: &[u8]) -> Option<usize>
     ensures { MatchOption result (is_command_name (first_token text.now) ≡ false)
         (λ len. (len ≡ token_len false text.now) × (is_command_name (first_token text.now) ≡ true)) }
@@ -49,7 +54,8 @@ fn name_len(text: &[u8]) -> Option<usize>
     Some(len)
 }
 
-/// Parses the tokens of a text as arguments; `None` if one of them is not an argument.
+/// Parses the tokens of a text as arguments. `None` if one of them is not an argument, so that a mistake is never
+/// skipped.
 fn parse_arguments(alloc: Global, text: &[u8]) -> Result<Option<Vec<Argument>>, AllocError>
     ensures { IfOk result (λ read. option_map (λ arguments. arguments.items) read ≡ arguments_of (tokens_of text.now)) }
 {
@@ -67,7 +73,7 @@ fn parse_arguments(alloc: Global, text: &[u8]) -> Result<Option<Vec<Argument>>, 
     Ok(Some(arguments))
 }
 
-/// Parses a directive line; `None` if it is not valid.
+/// Parses a directive line. `None` if it has no command, or one of its tokens is not an argument.
 pub(crate) fn parse_command(alloc: Global, text: &[u8]) -> Result<Option<Command>, AllocError>
     ensures { IfOk result (λ read. read ≡ command_of text.now) }
 {

@@ -1,4 +1,8 @@
 //! An item of a script while its lines are read.
+//!
+//! A reader gets one line at a time, and cannot look ahead. So a draft files each line by the state that the lines
+//! before it have led to ([`DraftState`]): as a directive line, as input, as expected output, or as a separator, which
+//! is not stored. It reports when the item is complete. Lines that come after that belong to the next item.
 ghost use Rattle.std.specs.Prelude.{◌≡◌, ◌<◌, ◌+◌, ◌^◌, [], ◌∷◌, ◌++◌, true, false, length, IfOk, IfErr, OnOk};
 ghost use Rattle.std.specs.List.{list_all};
 ghost use Rattle.dd_file.specs.Script.{is_continued};
@@ -16,14 +20,14 @@ use std::alloc::{AllocError, Global};
 use std::marker::Model;
 use std::mem::replace;
 
-/// The lines of an item so far, by the parts that they belong to. Separators belong to none.
+/// The lines of an item so far, by the parts that they belong to.
 #[derive(Drop)]
 pub(crate) struct Draft {
     alloc: Global,
     line: usize,
     /// The directive lines, and then the lines of the input.
     raw_lines: RawLines,
-    /// How many of them are directive lines.
+    /// How many of the raw lines are directive lines.
     directive_line_count: usize,
     expected: RawLines,
     count: usize,
@@ -49,7 +53,7 @@ impl Model for Draft {
 }
 
 impl Draft {
-    /// An item without lines yet, which begins at this line, counted from 1. The memory of `raw_lines` is reused.
+    /// An item without lines, which begins at this line, counted from 1.
     pub(crate) fn new(alloc: Global, line: usize, raw_lines: RawLines) -> Draft
         requires { raw_lines ≡ [] }
         ensures { result ≡ blank_draft line }
@@ -65,7 +69,8 @@ impl Draft {
         }
     }
 
-    /// Adds the next line, and returns whether it is the item's last one.
+    /// Adds the next line, and returns whether the item ends with it. If memory runs out, the draft is no longer
+    /// usable.
     pub(crate) fn add(&mut self, line: &[u8]) -> Result<bool, AllocError>
         requires fits { Fits self.old }
         requires open_end { is_done self.old.state ≡ false }
@@ -79,7 +84,7 @@ impl Draft {
         Ok(self.state.is_done())
     }
 
-    /// Adds a line to the part that it belongs to, and returns the state after it.
+    /// Files a line, and returns the state after it.
     fn next_state(&mut self, state: DraftState, line: &[u8]) -> Result<DraftState, AllocError>
         requires fits { FitsIn state self.old }
         requires open_end { is_done state ≡ false }
@@ -97,7 +102,7 @@ impl Draft {
         }
     }
 
-    /// Adds a directive line.
+    /// Files a line as one of the directive lines; also that of a comment or a blank.
     fn keep_directive_line(&mut self, line: &[u8]) -> Result<(), AllocError>
         requires { self.old.input ≡ [] }
         ensures { OnOk result (self.new ≡ record self.old { directive_lines = self.old.directive_lines ++ line.now ∷ [] }) }
@@ -107,13 +112,14 @@ impl Draft {
         Ok(())
     }
 
-    /// Adds a line of the input.
+    /// Files a line as input.
     fn keep_input(&mut self, line: &[u8]) -> Result<(), AllocError>
         ensures { OnOk result (self.new ≡ record self.old { input = self.old.input ++ line.now ∷ [] }) }
     {
         self.raw_lines.push(line)
     }
 
+    /// The first line decides the kind of the item: a comment, a blank, or a directive.
     fn add_first(&mut self, line: &[u8]) -> Result<DraftState, AllocError>
         requires fits { FitsIn DraftState.Begin self.old }
         ensures { IfOk result (λ next. AddsIn DraftState.Begin self.old (counted self.new next) line.now) }
@@ -129,7 +135,8 @@ impl Draft {
         }
     }
 
-    /// The directive lines end with the first one that is not continued.
+    /// The first line that is not continued ends the directive lines, and the command is parsed from all of them
+    /// together.
     fn add_directive_line(&mut self, line: &[u8]) -> Result<DraftState, AllocError>
         requires begins { begins_directive (self.old.directive_lines ++ line.now ∷ []) ≡ true }
         requires continued { list_all is_continued self.old.directive_lines ≡ true }
@@ -148,6 +155,7 @@ impl Draft {
         state_after_directive_line(self.alloc, text.as_slice())
     }
 
+    /// Input continues up to the separator, whatever it contains, blank lines and comments too.
     fn add_input(&mut self, command: Command, line: &[u8]) -> Result<DraftState, AllocError>
         requires fits { FitsIn (DraftState.Input command) self.old }
         ensures { IfOk result (λ next. AddsIn (DraftState.Input command) self.old (counted self.new next) line.now) }
@@ -159,7 +167,7 @@ impl Draft {
         Ok(DraftState::Input(command))
     }
 
-    /// Dashes after the separator make it a double one.
+    /// The first line after the separator: dashes make it a double one, and any other line is expected output.
     fn add_output(&mut self, command: Command, line: &[u8]) -> Result<DraftState, AllocError>
         requires fits { FitsIn (DraftState.Separator command) self.old }
         ensures { IfOk result (λ next. AddsIn (DraftState.Separator command) self.old (counted self.new next) line.now) }
@@ -170,6 +178,7 @@ impl Draft {
         self.add_single(command, line)
     }
 
+    /// Expected output after a single separator continues up to a blank line.
     fn add_single(&mut self, command: Command, line: &[u8]) -> Result<DraftState, AllocError>
         requires fits { FitsIn (DraftState.Single command) self.old }
         ensures { IfOk result (λ next. AddsIn (DraftState.Single command) self.old (counted self.new next) line.now) }
@@ -181,7 +190,8 @@ impl Draft {
         Ok(DraftState::Single(command))
     }
 
-    /// Dashes are expected output unless dashes follow.
+    /// Expected output after a double separator continues up to two lines of dashes in a row. One line of dashes alone
+    /// is output, so it is filed as output first, and taken out again if a second one follows.
     fn add_double(&mut self, command: Command, line: &[u8]) -> Result<DraftState, AllocError>
         requires fits { FitsIn (DraftState.Double command) self.old }
         ensures { IfOk result (λ next. AddsIn (DraftState.Double command) self.old (counted self.new next) line.now) }
@@ -195,7 +205,7 @@ impl Draft {
         }
     }
 
-    /// The state after the line that comes after the closing pair of dashes.
+    /// The line after the closing pair of dashes has to be blank, and belongs to the item (datadriven wants it empty).
     fn after_pair(&self, command: Command, line: &[u8]) -> DraftState
         requires fits { FitsIn (DraftState.Pair command) self.now }
         ensures { AddsIn (DraftState.Pair command) self.now (counted self.now result) line.now }
@@ -208,7 +218,8 @@ impl Draft {
         }
     }
 
-    /// An error of the lines as that of the item.
+    /// An error in reading a line, reported for the item: an input that is too long is reported at the first line of
+    /// the item that does not end in time.
     pub(crate) fn fault_at(&self, fault: FileFault) -> FileFault
         ensures { result ≡ fault_at_line self.now.line fault }
     {
@@ -218,7 +229,8 @@ impl Draft {
         }
     }
 
-    /// The item of the lines so far if no further line comes, or its error.
+    /// The item of the lines so far, if no further line comes. The end of the input ends a directive after its input,
+    /// its separator or its output, but not within continued lines or between double separators.
     #[inline(always)]
     pub(crate) fn finish(self) -> Result<Option<Item>, FileFault>
         requires fits { Fits self }
@@ -260,7 +272,7 @@ impl Draft {
     }
 }
 
-/// The state after directive lines with this text, which may be blank, have a command, or be invalid.
+/// The state after complete directive lines with this text, which may be blank, a command, or neither.
 fn state_after_directive_line(alloc: Global, text: &[u8]) -> Result<DraftState, AllocError>
     ensures { IfOk result (λ state. state ≡ state_after_directive_line text.now) }
 {
@@ -273,7 +285,7 @@ fn state_after_directive_line(alloc: Global, text: &[u8]) -> Result<DraftState, 
     }
 }
 
-/// Whether the last line is four dashes.
+/// Whether the last of these lines is four dashes.
 fn ends_in_dashes(lines: &RawLines) -> bool
     ensures { result ≡ ends_in_dashes lines.now }
 {

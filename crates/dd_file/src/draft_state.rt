@@ -1,10 +1,23 @@
-//! The states of an item while its lines are read.
+//! The states of an item while its lines are read. Each line of this directive leads to the state beside it:
+//!
+//! ```text
+//! simple a=1 \       DirectiveLines
+//!   b=2              Input
+//! v1 v2              Input
+//! ----               Separator
+//! ----               Double
+//! voters=(1 2)       Double
+//! ----               Double, since one line of dashes may be output
+//! ----               Pair
+//!                    Complete
+//! ```
 ghost use Rattle.std.specs.Prelude.{◌≡◌};
 ghost use Rattle.dd_file.specs.Draft.{is_done};
 
 use crate::command::Command;
 
-/// What an item is so far, which decides what its next line may be. After its directive lines, a directive has its command.
+/// What an item is so far, which decides what its next line may be. From its last directive line on, a directive has
+/// its command.
 #[derive(Drop)]
 pub(crate) enum DraftState {
     /// It has no line yet.
@@ -34,7 +47,7 @@ pub(crate) enum DraftState {
 }
 
 impl DraftState {
-    /// Whether no further line belongs to the item.
+    /// Whether the item is complete: the next line begins another item.
     pub(crate) fn is_done(&self) -> bool
         ensures { result ≡ is_done self.now }
     {

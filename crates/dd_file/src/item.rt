@@ -1,4 +1,7 @@
-//! The items of a script.
+//! The items of a script, with their text as it was written and, of a directive, what it parses to.
+//!
+//! Both are needed: a program runs a directive by its command, arguments and input, and writes it again by its raw
+//! lines, so that spaces, continued lines and the order of arguments stay as they were.
 ghost use Rattle.std.specs.Prelude.{◌≡◌, ◌≤◌, [], ◌∷◌, true, length, drop, map, IfOk, option_map, slice_get};
 ghost use Rattle.ascii_text.specs.WhiteSpace.{trimmed};
 ghost use Rattle.ascii_text.specs.Lines.{text_of};
@@ -13,7 +16,7 @@ use smallvec::SmallVec;
 use std::alloc::{AllocError, Global};
 use std::marker::Model;
 
-/// An argument of a directive: a key and its values.
+/// An argument of a directive: a key and its values. `cfg=(1, 2)` has the key `cfg` and the values `1` and `2`.
 #[derive(Drop)]
 pub struct Argument {
     /// Its token.
@@ -41,7 +44,7 @@ impl Argument {
     ghost use Rattle.dd_file.specs.ArgumentValues.{is_argument, argument_in};
     ghost use Rattle.dd_file.specs.DirectiveLine.{is_key_byte};
 
-    /// The argument of a token, which begins with a key of this length.
+    /// The argument that a token is. `key_len` is the length of the key at its start.
     pub(crate) fn new(alloc: Global, token: &[u8], key_len: usize) -> Result<Argument, AllocError>
         requires parses { is_argument token.now ≡ true }
         requires key { key_len ≡ prefix_len is_key_byte token.now }
@@ -53,21 +56,22 @@ impl Argument {
         })
     }
 
-    /// Its key: what is before the `=`, or all of an argument without values. It is never empty (datadriven's `CmdArg.Key`).
+    /// The key: what is before the `=`, or all of an argument without values. It is never empty (datadriven's
+    /// `CmdArg.Key`).
     pub fn key(&self) -> &[u8]
         ensures { result.now ≡ self.now.key }
     {
         &self.token.as_slice()[..self.key_len]
     }
 
-    /// Its values (datadriven's `CmdArg.Vals`).
+    /// The values in order; there may be none (datadriven's `CmdArg.Vals`).
     pub fn values(&self) -> Values<'_>
         ensures { result ≡ self.now.values }
     {
         Values::after_key(self.token.as_slice().split_at(self.key_len).1)
     }
 
-    /// The value at an index, counted from 0. It takes time linear in the length of the argument.
+    /// The value at an index, counted from 0 (datadriven's `CmdArg.Vals`).
     pub fn value(&self, i: usize) -> Option<&[u8]>
         ensures { option_map (λ value. value.now) result ≡ slice_get self.now.values i }
     {
@@ -79,7 +83,8 @@ impl Argument {
     }
 }
 
-/// A directive of a script: a command with arguments, its input, and the output that is expected.
+/// A directive of a script: a command with arguments, its input, and the output that is expected (datadriven's
+/// `TestData`).
 #[derive(Drop)]
 pub struct Directive {
     line: usize,
@@ -87,7 +92,7 @@ pub struct Directive {
     arguments: Vec<Argument>,
     /// The directive lines, and then the lines of the input.
     raw_lines: RawLines,
-    /// Where its trimmed input begins and ends in their text.
+    /// Where the trimmed input begins and ends in the text of the raw lines.
     input_start: usize,
     input_end: usize,
     expected: Vec<u8>,
@@ -114,8 +119,8 @@ impl Model for Directive {
 }
 
 impl Directive {
-    /// The directive that begins at this line, counted from 1. Its raw lines are `directive_line_count` directive lines, and
-    /// then the lines of its input.
+    /// The directive that begins at this line, counted from 1. The first `directive_line_count` raw lines are its
+    /// directive lines, and the others its input.
     #[inline(always)]
     pub(crate) fn new(
         line: usize,
@@ -151,14 +156,14 @@ impl Directive {
         }
     }
 
-    /// The line at which it begins, counted from 1.
+    /// The line at which the directive begins, counted from 1 (datadriven's `TestData.Pos`).
     pub fn line(&self) -> usize
         ensures { result ≡ self.now.line }
     {
         self.line
     }
 
-    /// Its command, never empty (datadriven's `TestData.Cmd`).
+    /// The command, never empty (datadriven's `TestData.Cmd`).
     pub fn command(&self) -> &[u8]
         ensures { result.now ≡ self.now.command }
     {
@@ -172,7 +177,7 @@ impl Directive {
         self.arguments.get(i)
     }
 
-    /// The arguments, in the order of the directive line.
+    /// The arguments, in the order of the directive line (datadriven's `TestData.CmdArgs`).
     pub fn arguments(&self) -> &[Argument]
         ensures arguments { result.now ≡ self.now.arguments }
         ensures keys { has_keys self.now.arguments ≡ true }
@@ -180,14 +185,14 @@ impl Directive {
         self.arguments.as_slice()
     }
 
-    /// Its input: what is between its directive line and its separator, trimmed (datadriven's `TestData.Input`).
+    /// The input: what is between the directive line and the separator, trimmed (datadriven's `TestData.Input`).
     pub fn input(&self) -> &[u8]
         ensures { result.now ≡ self.now.input }
     {
         &self.raw_lines.text()[self.input_start..self.input_end]
     }
 
-    /// The expected output, whole lines or nothing (datadriven's `TestData.Expected`).
+    /// The expected output: whole lines, or nothing (datadriven's `TestData.Expected`).
     pub fn expected(&self) -> &[u8]
         ensures { result.now ≡ self.now.expected }
     {
@@ -195,12 +200,12 @@ impl Directive {
     }
 }
 
-/// An item of a script.
+/// An item of a script. The items of a script, in order, are all of its text.
 #[derive(Drop)]
 pub enum Item {
-    /// A line whose first byte that is not white space is `#`.
+    /// One line, whose first byte that is not white space is `#`.
     Comment(RawLines),
-    /// Lines of white space alone.
+    /// A line of white space alone; or continued lines with nothing else but their backslashes.
     Blank(RawLines),
     /// A command with its input and its expected output.
     Directive(Directive),
@@ -209,15 +214,15 @@ pub enum Item {
 impl Item {
     ghost use Rattle.dd_file.specs.Rewritten.{raw_lines_of, kept_text, is_directive};
 
-    /// A comment of one line.
+    /// A comment of one line, which is to begin with `#`. It fails only if memory runs out (own).
     pub fn comment(alloc: Global, line: Vec<u8>) -> Result<Item, AllocError>
         ensures { IfOk result (λ item. item ≡ Item.Comment (line.items ∷ [])) }
     {
         Ok(Item::Comment(RawLines::of_line(alloc, line)?))
     }
 
-    /// The directive of a directive line, as the first line of a script, with lines of input and no expected output; `None`
-    /// if the line is not valid.
+    /// A directive that a program writes itself, as the first item of a script: its line, lines of input, and no
+    /// expected output. `None` if the line is not valid (own).
     pub fn directive(
         alloc: Global,
         line: Vec<u8>,
@@ -235,7 +240,7 @@ impl Item {
         Ok(Some(Item::Directive(Directive::new(1, command, lines, 1, expected))))
     }
 
-    /// The raw line at an index, counted from 0. The raw lines of a directive end before its separator.
+    /// The raw line at an index, counted from 0. The raw lines of a directive end before its separator (own).
     pub fn raw_line(&self, i: usize) -> Option<&[u8]>
         ensures { option_map (λ line. line.now) result ≡ slice_get (raw_lines_of self.now) i }
     {
@@ -246,7 +251,7 @@ impl Item {
         }
     }
 
-    /// The raw lines, each with a newline.
+    /// The raw lines as they are written: each with a newline.
     pub(crate) fn raw_text(&self) -> &[u8]
         ensures { result.now ≡ kept_text self.now }
     {
@@ -257,7 +262,7 @@ impl Item {
         }
     }
 
-    /// The raw lines, without the rest of the item.
+    /// The raw lines alone.
     #[inline(always)]
     pub(crate) fn into_raw_lines(self) -> RawLines
         ensures { result ≡ raw_lines_of self }
@@ -269,6 +274,7 @@ impl Item {
         }
     }
 
+    /// Whether the item is a directive, after which an output is written.
     pub(crate) fn is_directive(&self) -> bool
         ensures { result ≡ is_directive self.now }
     {

@@ -1,4 +1,9 @@
-//! Continued directive lines as one text.
+//! Continued directive lines as one text:
+//!
+//! ```text
+//! simple a=1 \      ->    simple a=1  b=2
+//!     b=2
+//! ```
 ghost use Rattle.std.specs.Prelude.{◌≡◌, IfOk};
 ghost use Rattle.dd_file.specs.Script.{joined};
 
@@ -7,7 +12,8 @@ use ascii_text::lines::without_end;
 use ascii_text::white_space::trimmed;
 use std::alloc::{AllocError, Global};
 
-/// The directive lines as one text: each is trimmed, and the backslash at the end of a continued one is replaced by a space.
+/// The directive lines as one text: each is trimmed, and the backslash at the end of a continued one is replaced by a
+/// space (datadriven).
 pub(crate) fn joined(alloc: Global, lines: &RawLines) -> Result<Vec<u8>, AllocError>
     ensures { IfOk result (λ text. text.items ≡ joined lines.now) }
 {

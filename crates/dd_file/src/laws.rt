@@ -1,4 +1,8 @@
 //! Laws of scripts that are rewritten or joined, and of what is read and written part by part.
+//!
+//! A law is a function whose contract is a theorem; it does nothing. The first ones say what a user relies on: a script
+//! that was rewritten reads as the script that it was, with its actual outputs as the expected ones. The last ones put
+//! the contracts of two calls together, for crates that read and write in loops.
 ghost use Rattle.std.specs.Prelude.{◌≡◌};
 ghost use Rattle.dd_file.specs.Gathered.{gathering_writer, NothingWaits};
 ghost use Rattle.dd_file.specs.InTurn.{ConsumedInTurn, ReadInTurn, AppendedInTurn, PartInFirst, PartInSecond, ContinuesInTurn, BreaksInFirst, BreaksInSecond};
@@ -7,72 +11,79 @@ ghost use Rattle.dd_file.specs.Laws.{ItemsByNext, LinesByNext, WrittenItem, Item
 use crate::blocks::Blocks;
 use crate::device::Sink;
 
-/// The items of a script from a position on are the next one and the items after it.
+/// The items of a script from a position on are the next item, and then those from its end on (own).
 pub fn items_by_next()
     ensures { ItemsByNext }
 {}
 
-/// The lines of an input from a position on are the next one and the lines after it.
+/// The lines of an input from a position on are the next line, and then those from its end on (own).
 pub fn lines_by_next()
     ensures { LinesByNext }
 {}
 
-/// An item that was written with its actual output is read back as that item, whatever lines follow it.
+/// An item that is written with its actual output is read back as that item with that output, whatever lines follow it
+/// (own).
 pub fn written_item()
     ensures { WrittenItem }
 {}
 
-/// The items of a script, up to its error, are items of the grammar.
+/// The items of a script, up to its error, are items of the grammar (own).
 pub fn items_are_well_formed()
     ensures { ItemsAreWellFormed }
 {}
 
-/// A directive of one line, with lines of input and no expected output, is an item of the grammar.
+/// A directive of one line, with lines of input and no expected output, is an item of the grammar. So directives that a
+/// program writes itself are read back too (own).
 pub fn directive_is_well_formed()
     ensures { DirectiveIsWellFormed }
 {}
 
-/// Items of the grammar that are written with actual outputs are read back. An empty line at the end may be missing.
+/// Items of the grammar that are written with actual outputs are read back in order. An empty line at the end may be
+/// missing, since the newline of it is dropped (own).
 pub fn written_script()
     ensures { WrittenScript }
 {}
 
-/// The argument keys of each directive of a script are keys of the grammar.
+/// The keys of all arguments in a script are keys of the grammar: one or more letters, digits or bytes of `-_/,.`
+/// (own).
 pub fn items_have_keys()
     ensures { ItemsHaveKeys }
 {}
 
-/// Lines are complete exactly if their first item is, and the lines after it.
+/// Lines are complete exactly if their first item is and the lines after it are. A complete script can be extended:
+/// each of its directives has its separator (own).
 pub fn complete_by_first()
     ensures { CompleteByFirst }
 {}
 
-/// The directives of a complete script, two newlines and a text are those of the script and of the text.
+/// A complete script, two newlines and a text have the directives of the script and then those of the text. So two
+/// scripts can be joined as files are (own).
 pub fn joined_items()
     ensures { JoinedItems }
 {}
 
-/// Two calls of a reader, one after the other: what they consume together, and the inputs that agree with both.
+/// Two calls of a reader, one after the other, consume one prefix of the input. An input that agrees with both agrees
+/// with each in turn (own).
 pub fn read_in_turn()
     ensures taken { ConsumedInTurn }
     ensures agrees { ReadInTurn }
 {}
 
-/// What is appended in two parts, whole or cut short.
+/// Two writes, one after the other, append both texts; if one of them is cut short, a prefix of both (own).
 pub fn appended_in_turn()
     ensures whole { AppendedInTurn }
     ensures first { PartInFirst }
     ensures second { PartInSecond }
 {}
 
-/// What a rewriter writes in two parts, whole or cut short.
+/// Two texts that a rewriter writes, one after the other, are written as both; if one is cut short, as a prefix (own).
 pub fn rewritten_in_turn()
     ensures whole { ContinuesInTurn }
     ensures first { BreaksInFirst }
     ensures second { BreaksInSecond }
 {}
 
-/// If nothing is buffered, the bytes written to the blocks are those of their writer.
+/// Once the blocks are flushed, their writer has all bytes that were written to them (own).
 pub fn nothing_waits<W: Sink>()
     ensures { (blocks : Blocks W) → NothingWaits blocks → ⟦<Blocks<W> as Sink>⟧.contents blocks ≡ W.contents (gathering_writer blocks) }
 {}

@@ -1,7 +1,7 @@
-//! Script files in the form of cockroachdb's `datadriven` package: they are read item by item, and written again with what
-//! each directive actually printed.
+//! Script files in the form of cockroachdb's `datadriven` package, in which etcd's raft packages keep their tests.
 //!
-//! An item of a script is a comment, a blank, or a directive with its input and the output that is expected of it:
+//! A script is a list of items. An item is a comment, a blank, or a directive with its input and the output that is
+//! expected of it:
 //!
 //! ```text
 //! # make 1 a voter                    a comment
@@ -14,11 +14,30 @@
 //!                                     the blank line that ends the item
 //! ```
 //!
-//! Output with blank lines is written between two pairs of `----` lines. A directive line that ends in a backslash goes on
-//! in the next line.
+//! A program runs each directive and compares what it prints, the actual output, with the expected one. Or it writes
+//! the script again with the actual outputs in place of the expected ones, which is how such tests are kept up to date.
 //!
-//! [`reader`](crate::reader) reads items from a source, and takes at most 4,096 bytes beyond the item that it returns.
-//! [`rewriter`](crate::rewriter) writes them to a sink. Once one of them has failed, it returns the same error again.
+//! Two rules complete the form. A directive line that ends in a backslash is continued in the next line. Output with
+//! blank lines is written between double separators:
+//!
+//! ```text
+//! committed cfg=(1, 2) \
+//!   idx=(3, 4)
+//! ----
+//! ----
+//! the output, whose blank lines
+//!
+//! do not end the item
+//! ----
+//! ----
+//! ```
+//!
+//! [`reader`](crate::reader) reads the items of a source, and takes at most 4,096 bytes beyond the item that it
+//! returns. [`rewriter`](crate::rewriter) writes them to a sink. Once one of them has failed, it returns its error from
+//! then on.
+//!
+//! The form is datadriven's. Own are the grammar of a directive line, the limit of an input, and the error of a double
+//! separator that is not closed.
 #![tactic(auto)]
 
 mod arguments;

@@ -3,7 +3,7 @@ ghost use Rattle.std.specs.Prelude.{◌≡◌};
 
 use std::marker::Model;
 
-/// A line without its newline. Its value is the list of its bytes.
+/// A line without its newline. Its value is the list of its bytes, which may be any.
 #[derive(Drop)]
 pub struct Line {
     bytes: Vec<u8>,
@@ -18,13 +18,14 @@ impl Model for Line {
 }
 
 impl Line {
+    /// A line of these bytes, none of which is a newline.
     pub(crate) fn new(bytes: Vec<u8>) -> Line
         ensures { result ≡ bytes.items }
     {
         Line { bytes }
     }
 
-    /// Its bytes.
+    /// The bytes of the line.
     pub fn as_slice(&self) -> &[u8]
         ensures { result.now ≡ self.now }
     {

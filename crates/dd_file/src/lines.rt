@@ -1,4 +1,11 @@
 //! Reading an input line by line.
+//!
+//! ```text
+//! "v1\r\nv2\n\nl3"    has the lines    "v1", "v2", "" and "l3"
+//! ```
+//!
+//! A newline ends a line, and one carriage return before it is dropped. What follows the last newline is a line too,
+//! unless it is empty.
 ghost use Rattle.std.specs.Prelude.{◌≡◌, ◌≤◌, ◌<◌, ◌+◌, ◌||◌, None, [], true, false, IfOk, IfErr, IsOkUnless, MatchOption, length, vec_len};
 ghost use Rattle.dd_file.specs.Position.{longest_input};
 ghost use Rattle.dd_file.specs.Buffered.{BufferedReadsOn, is_line_buffered, CanReadBuffered, passed};
@@ -16,10 +23,10 @@ use ascii_text::lines::{first_line_len, is_whole, line_of, without_end};
 use std::alloc::Global;
 use std::marker::Model;
 
-/// The greatest length of an input in bytes.
+/// The greatest length of an input in bytes: 2^30 - 1 (own).
 const LONGEST_INPUT: usize = 0x3fff_ffff;
 
-/// Reads the lines of an input.
+/// Reads the lines of an input from a [`Source`], with at most 4,096 bytes read ahead.
 #[derive(Drop)]
 pub struct Lines {
     alloc: Global,
@@ -46,7 +53,7 @@ impl Model for Lines {
 }
 
 impl Lines {
-    /// A reader at the beginning of its input.
+    /// A reader at the beginning of its input. It fails only if memory runs out (own).
     pub fn new(alloc: Global) -> Result<Lines, FileFault>
         ensures fresh { IfOk result (λ lines. lines ≡ fresh) }
         ensures memory { IsOkUnless result FileFault.NoMemory }
@@ -63,8 +70,8 @@ impl Lines {
     }
 
     /// The next line, without its newline and one carriage return before it; `None` at the end and from then on. The
-    /// errors are `InputTooLong` for an input of 2^30 bytes or more, `Read` if a read failed, and `NoMemory`. An error is
-    /// permanent: later calls return it again.
+    /// errors are `InputTooLong` for an input of 2^30 bytes or more, `Read` if a read failed, and `NoMemory`. An error
+    /// is permanent: later calls return it again, and read nothing (own).
     pub fn next<R: Source>(&mut self, reader: &mut R) -> Result<Option<Line>, FileFault>
         ensures { ReadsOn R.remaining R.has_failed (λ line. line) (next_line longest_input) IsLineFault self.old self.new reader.old reader.new result }
     {
@@ -84,8 +91,10 @@ impl Lines {
         }
     }
 
-    /// The next line if it is buffered, so that nothing is read. `None`, and nothing changes, if no newline is buffered, the
-    /// end was reached, an error was returned, or the buffered bytes may exceed the limit (own).
+    /// The next line if it is buffered, so that nothing is read. `None`, and nothing changes, if no newline is
+    /// buffered, the end was reached, an error was returned, or the buffered bytes may exceed the limit. A program that
+    /// replies to each line flushes its replies when this returns `None`, and then calls `next`, which may wait for
+    /// input (own).
     pub fn next_buffered<R: Source>(
         &mut self,
         reader: &R,
@@ -114,7 +123,8 @@ impl Lines {
         }
     }
 
-    /// Whether buffered lines may be returned: no error was returned, the end was not reached, and the limit is not exceeded.
+    /// Whether buffered lines may be returned: no error was returned, the end was not reached, and the buffered bytes
+    /// are within the limit.
     pub(crate) fn can_read_buffered(&self) -> bool
         ensures ready { result ≡ true → CanReadBuffered self.now }
         ensures not_ready { CanReadBuffered self.now → result ≡ true }
@@ -125,7 +135,7 @@ impl Lines {
             && self.buffer.buffered().len() <= LONGEST_INPUT - self.bytes
     }
 
-    /// The buffered bytes.
+    /// The bytes that were read and not yet returned.
     pub(crate) fn buffered(&self) -> &[u8]
         ensures { result.now ≡ self.now.buffered }
     {
@@ -144,7 +154,7 @@ impl Lines {
         self.bytes += bytes;
     }
 
-    /// Whether the end was reached and everything before it was returned.
+    /// Whether the end of the input was reached and every line was returned.
     pub(crate) fn is_over(&self) -> bool
         ensures ended { result ≡ self.now.is_ended }
         ensures empty { self.now.is_ended ≡ true → self.now.buffered ≡ [] }
@@ -155,7 +165,7 @@ impl Lines {
         self.is_ended
     }
 
-    /// How many lines were returned.
+    /// How many lines were returned; the next one has the number after that.
     pub(crate) fn count(&self) -> usize
         ensures count { result ≡ self.now.position.lines }
         ensures limit { self.now.position.lines ≤ longest_input }
@@ -163,7 +173,8 @@ impl Lines {
         self.lines
     }
 
-    /// Reads the next full line, or what is left at the end.
+    /// Reads the next full line: up to its newline, inclusive, or what is left at the end, which may be nothing. A line
+    /// may be longer than the buffer, so it is gathered part by part.
     fn read_line<R: Source>(&mut self, reader: &mut R) -> Result<Vec<u8>, FileFault>
         requires faultless { self.old.fault ≡ None }
         requires unended { self.old.is_ended ≡ false }
@@ -190,7 +201,7 @@ impl Lines {
         }
     }
 
-    /// Counts a full line that was read, and returns its line.
+    /// The line of a full line, which is counted as returned. An empty one is the end of the input.
     fn take_line(&mut self, mut full_line: Vec<u8>) -> Option<Line>
         requires { self.old.position.bytes + vec_len full_line ≤ longest_input }
         ensures { MatchOption result
@@ -209,7 +220,7 @@ impl Lines {
     }
 }
 
-/// Drops this byte at the end, if it is there.
+/// Drops this byte at the end, once, if it is there.
 fn drop_end(bytes: &mut Vec<u8>, end: u8)
     ensures { bytes.new.items ≡ without_last end bytes.old.items }
 {

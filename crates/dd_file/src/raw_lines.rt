@@ -1,4 +1,11 @@
-//! Lines that are stored in one text.
+//! Lines that are stored in one text, with the positions of their newlines beside it, so that the lines of an item are
+//! written as one text.
+//!
+//! ```text
+//! lines    "v1"  ""  "----"
+//! text     v1\n  \n  ----\n
+//! ends     2     3   8
+//! ```
 ghost use Rattle.std.specs.Prelude.{◌≡◌, ◌≤◌, ◌<◌, ◌+◌, ◌-◌, ◌^◌, [], ◌∷◌, ◌++◌, length, take, drop, map, option_map, slice_get, slice_index_or, IfOk, OnOk, OnErr};
 ghost use Rattle.ascii_text.specs.Lines.{text_of};
 
@@ -8,7 +15,7 @@ use std::alloc::{AllocError, Global};
 use std::marker::Model;
 use std::mem::replace;
 
-/// Lines without their newlines, stored in one text.
+/// Lines without their newlines, in the order in which they were added.
 #[derive(Drop)]
 pub struct RawLines {
     /// The lines, each with a newline.
@@ -38,7 +45,7 @@ impl RawLines {
         }
     }
 
-    /// No lines, with the memory of this empty text, which is taken out of it.
+    /// No lines, in a buffer that is reused.
     pub(crate) fn over(alloc: Global, text: &mut Vec<u8>) -> RawLines
         requires { text.old.items ≡ [] }
         ensures lines { result ≡ [] }
@@ -50,7 +57,6 @@ impl RawLines {
         }
     }
 
-    /// One line, reusing its memory.
     pub(crate) fn of_line(alloc: Global, line: Vec<u8>) -> Result<RawLines, AllocError>
         ensures { IfOk result (λ lines. lines ≡ line.items ∷ []) }
     {
@@ -61,7 +67,7 @@ impl RawLines {
         Ok(RawLines { text, ends })
     }
 
-    /// Appends a copy of a line.
+    /// Appends a line. On an error nothing changes.
     pub(crate) fn push(&mut self, line: &[u8]) -> Result<(), AllocError>
         ensures ok { OnOk result (self.new ≡ self.old ++ line.now ∷ []) }
         ensures err { OnErr result (self.new ≡ self.old) }
@@ -74,7 +80,7 @@ impl RawLines {
         Ok(())
     }
 
-    /// Appends a copy of each of these lines.
+    /// Appends lines in order.
     pub(crate) fn push_all(&mut self, lines: &[Vec<u8>]) -> Result<(), AllocError>
         ensures { OnOk result (self.new ≡ self.old ++ map (λ line. line.items) lines.now) }
     {
@@ -84,14 +90,13 @@ impl RawLines {
         Ok(())
     }
 
-    /// How many lines there are.
     pub(crate) fn count(&self) -> usize
         ensures { result ≡ length self.now }
     {
         self.ends.len()
     }
 
-    /// The line at an index, counted from 0.
+    /// The line at an index, counted from 0; `None` after the last (own).
     pub fn get(&self, i: usize) -> Option<&[u8]>
         ensures { option_map (λ line. line.now) result ≡ slice_get self.now i }
     {
@@ -108,7 +113,7 @@ impl RawLines {
         self.get(self.count().saturating_sub(1))
     }
 
-    /// The lines, each with a newline.
+    /// All lines as one text, each with a newline.
     pub(crate) fn text(&self) -> &[u8]
         ensures { result.now ≡ text_of self.now }
     {
@@ -123,7 +128,6 @@ impl RawLines {
         self.text().split_at(self.start(count)).1
     }
 
-    /// Keeps the first `count` lines.
     pub(crate) fn truncate(&mut self, count: usize)
         requires { count ≤ length self.old }
         ensures { self.new ≡ take count self.old }
@@ -133,6 +137,7 @@ impl RawLines {
         self.ends.truncate(count);
     }
 
+    /// The lines as one text, each with a newline.
     pub(crate) fn into_text(self) -> Vec<u8>
         ensures { result.items ≡ text_of self }
     {
@@ -152,7 +157,7 @@ impl RawLines {
         self.end(i - 1) + 1
     }
 
-    /// Where the line at an index ends in the text.
+    /// The position of the newline of the line at an index.
     fn end(&self, i: usize) -> usize
         requires { i < length self.now }
         ensures position { result ≡ length (text_of (take i self.now)) + length (slice_index_or self.now i []) }

@@ -1,4 +1,13 @@
 //! Reading a script item by item.
+//!
+//! An item is returned as soon as its last line is read, so that a script which another program writes can be run while
+//! it comes. A program that replies to each item at once goes through this loop:
+//!
+//! ```text
+//! next_buffered    while it returns an item: run it, and print the reply
+//! flush            the replies, since the other side may wait for them
+//! next             reads until the next item is complete, and returns it
+//! ```
 ghost use Rattle.std.specs.Prelude.{◌≡◌, [], None, true, false, IfOk, IfSome, IsOkUnless, OnOk};
 ghost use Rattle.dd_file.specs.Position.{longest_input};
 ghost use Rattle.dd_file.specs.Grammar.{next_item};
@@ -16,13 +25,13 @@ use ascii_text::lines::{first_line_len, is_whole, line_of};
 use std::alloc::Global;
 use std::marker::Model;
 
-/// Reads the items of a script.
+/// Reads the items of a script from a [`Source`] (own).
 #[derive(Drop)]
 pub struct Reader {
     alloc: Global,
     lines: Lines,
     fault: Option<FileFault>,
-    /// An empty buffer, whose memory the raw lines of the next item reuse.
+    /// An empty buffer, in which the raw lines of the next item are gathered.
     text_buffer: Vec<u8>,
 }
 
@@ -38,7 +47,7 @@ impl Model for Reader {
 }
 
 impl Reader {
-    /// A reader at the beginning of its script.
+    /// A reader at the beginning of its script. It fails only if memory runs out (own).
     pub fn new(alloc: Global) -> Result<Reader, FileFault>
         ensures fresh { IfOk result (λ reading. reading ≡ fresh) }
         ensures memory { IsOkUnless result FileFault.NoMemory }
@@ -51,9 +60,9 @@ impl Reader {
         })
     }
 
-    /// The next item; `None` at the end and from then on. The errors are those of the script's syntax, `InputTooLong` for an
-    /// input of 2^30 bytes or more, `Read` if a read failed, and `NoMemory`. An error is permanent: later calls return it
-    /// again.
+    /// The next item; `None` at the end and from then on. The errors are those of the script's syntax, `InputTooLong`
+    /// for an input of 2^30 bytes or more, `Read` if a read failed, and `NoMemory`. An error is permanent: later calls
+    /// return it again, and read nothing (own).
     pub fn next<R: Source>(&mut self, reader: &mut R) -> Result<Option<Item>, FileFault>
         ensures { ReadsOn R.remaining R.has_failed (λ item. item) (next_item longest_input) IsItemFault self.old self.new reader.old reader.new result }
     {
@@ -70,8 +79,9 @@ impl Reader {
         found
     }
 
-    /// The next item if all its lines are buffered, so that nothing is read. `None`, and nothing changes, if no item ends in
-    /// the buffered bytes, the end was reached, an error was returned, or the buffered bytes may exceed the limit (own).
+    /// The next item if all its lines are buffered, so that nothing is read. `None`, and nothing changes, if no item
+    /// ends in the buffered bytes, the end was reached, an error was returned, or the buffered bytes may exceed the
+    /// limit (own).
     #[inline(always)]
     pub fn next_buffered<R: Source>(
         &mut self,
@@ -88,7 +98,7 @@ impl Reader {
         Some(answer)
     }
 
-    /// Gives back an item that is no longer used. Its memory is reused for a later one (own).
+    /// Gives back an item that is no longer used, so that a later one reuses its buffer (own).
     #[inline(always)]
     pub fn reuse(&mut self, item: Item)
         ensures { self.new ≡ self.old }
@@ -98,7 +108,8 @@ impl Reader {
         self.text_buffer = text;
     }
 
-    /// Whether buffered items may be returned: no error was returned, the end was not reached, and the limit is not exceeded.
+    /// Whether buffered items may be returned: no error was returned, the end was not reached, and the buffered bytes
+    /// are within the limit.
     fn can_read_buffered(&self) -> bool
         ensures ready { result ≡ true → CanReadBuffered self.now }
         ensures not_ready { CanReadBuffered self.now → result ≡ true }
@@ -108,7 +119,6 @@ impl Reader {
     }
 }
 
-/// The error of a result, if it is one.
 fn fault_in(found: &Result<Option<Item>, FileFault>) -> Option<FileFault>
     ensures { result ≡ fault_of found.now }
 {
@@ -118,7 +128,7 @@ fn fault_in(found: &Result<Option<Item>, FileFault>) -> Option<FileFault>
     }
 }
 
-/// Reads the lines of one item, and none after them. The memory of `raw_lines` is reused.
+/// Reads the lines of one item, and none after them. An error in reading a line becomes the error of the item.
 fn read_item<R: Source>(
     alloc: Global,
     raw_lines: RawLines,
@@ -146,7 +156,8 @@ fn read_item<R: Source>(
     }
 }
 
-/// The next item if all its lines are buffered; else nothing is consumed. The memory of `raw_lines` is reused.
+/// The next item if all its lines are buffered. The lines are counted as returned only once the item is complete, so
+/// that otherwise nothing has changed.
 #[inline(always)]
 fn buffered_item<R: Source>(
     alloc: Global,

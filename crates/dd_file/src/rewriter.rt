@@ -1,4 +1,15 @@
-//! Rewriting a script with its actual outputs.
+//! Rewriting a script with its actual outputs: the items stay as they were, and the output below each separator is
+//! replaced.
+//!
+//! ```text
+//! keep              found                 what is written
+//! # a comment                             # a comment
+//! simple / v1       voters=(1)            simple / v1 / ---- / voters=(1) / (empty line)
+//! show              a / (blank) / b       show / ---- / ---- / a / (blank) / b / ---- / ---- / (empty line)
+//! ```
+//!
+//! A script that ends in two newlines is written with one (own), so the last newline so far is kept back until more
+//! text comes. A rewriter holds no text: it remembers how many newlines end what it wrote.
 ghost use Rattle.std.specs.Prelude.{◌≡◌, ℕ, List, [], ◌∷◌, ◌++◌, ◌==◌, Option, IsOk, IsErr, OnOk, OnErr, IfOk, true, false, map, if◌then◌else◌};
 ghost use Rattle.std.specs.Io.KnownBytes.{Appends};
 ghost use Rattle.ascii_text.specs.Lines.{newline, text_of, without_last};
@@ -25,7 +36,7 @@ fn count_newline(newlines: u8, byte: u8) -> u8
     if newlines == 0 { 1 } else { 2 }
 }
 
-/// How many newlines end a text after more bytes. The last two bytes decide.
+/// How many newlines end a text after more bytes. If there are two bytes or more, the last two decide.
 fn count_newlines(newlines: u8, bytes: &[u8]) -> u8
     ensures { (text : List ℕ) → newlines ≡ newlines_at_end text → result ≡ newlines_at_end (text ++ bytes.now) }
 {
@@ -38,14 +49,14 @@ fn count_newlines(newlines: u8, bytes: &[u8]) -> u8
     }
 }
 
-/// The newline that is written at the end: the one that was kept back, unless another newline is before it.
+/// The newline at the end of the script: the one that was kept back, unless the text ends in two.
 fn last_newline(newlines: u8) -> &'static [u8]
     ensures { result.now ≡ (if newlines == 1 then newline else []) }
 {
     if newlines == 1 { b"\n" } else { b"" }
 }
 
-/// Writes the newline that was kept back, if this many newlines end the text.
+/// Writes the newline that was kept back. There is one if the text so far ends in a newline.
 fn write_pending_newline<W: Sink>(writer: &mut W, newlines: u8) -> Result<(), WriteFault>
     ensures ok { OnOk result (Appends (W.contents writer.old) (W.contents writer.new) (if newlines == 0 then [] else newline)) }
     ensures err { OnErr result (AppendsPart (W.contents writer.old) (W.contents writer.new) (if newlines == 0 then [] else newline)) }
@@ -58,7 +69,7 @@ fn write_pending_newline<W: Sink>(writer: &mut W, newlines: u8) -> Result<(), Wr
     write_all(writer, b"\n")
 }
 
-/// Writes more text after a text that ends in this many newlines. A newline at its end is kept back. Returns how many
+/// Writes more text after a text that ends in this many newlines, and keeps a newline at its end back. Returns how many
 /// newlines end the text then.
 fn write_text<W: Sink>(writer: &mut W, newlines: u8, text: &[u8]) -> Result<u8, WriteFault>
     ensures ok { IfOk result (λ count. Continues newlines count (W.contents writer.old) (W.contents writer.new) text.now) }
@@ -74,7 +85,7 @@ fn write_text<W: Sink>(writer: &mut W, newlines: u8, text: &[u8]) -> Result<u8, 
     Ok(count_newlines(newlines, text))
 }
 
-/// Whether a line of the text is blank.
+/// Whether an output has a blank line, which would end it after a single separator (datadriven).
 fn needs_double(text: &[u8]) -> bool
     ensures { result ≡ has_blank_line text.now }
 {
@@ -88,7 +99,7 @@ fn needs_double(text: &[u8]) -> bool
     false
 }
 
-/// What is written before an output: the newline that was kept back, and the single or double dashes.
+/// The text before an output: the newline that was kept back, and a single or a double separator.
 fn before_output(newlines: u8, double: bool) -> &'static [u8]
     ensures { result.now ≡ (if newlines == 0 then [] else newline) ++ opening double }
 {
@@ -102,14 +113,14 @@ fn before_output(newlines: u8, double: bool) -> &'static [u8]
     }
 }
 
-/// What is written after an output: double dashes if it began with them, and an empty line.
+/// The text after an output: the closing pair of a double separator, and the empty line that ends the item.
 fn after_output(double: bool) -> &'static [u8]
     ensures { result.now ≡ closing double }
 {
     if double { b"----\n----\n\n" } else { b"\n" }
 }
 
-/// Writes an output after single dashes or between double ones. The newline at its end is kept back.
+/// Writes an output with its separators, and keeps the newline at its end back. Returns as `write_text` does.
 fn write_output<W: Sink>(
     writer: &mut W,
     newlines: u8,
@@ -126,12 +137,12 @@ fn write_output<W: Sink>(
     write_all(writer, before_output(newlines, double))?;
     write_all(writer, text)?;
     write_all(writer, without_end(suffix, b'\n'))?;
-    // One newline ends the dashes.
+    // The separator before the output ends in one newline.
     Ok(count_newlines(count_newlines(1, text), suffix))
 }
 
-/// Writes a script with its actual outputs. The last newline so far is kept back until more text comes, since a script that
-/// ends in two newlines is written with one.
+/// Writes the items of a script with their actual outputs to a [`Sink`]. After an error nothing more is written, and
+/// each call fails (datadriven's `-rewrite`; the newline at the end is own).
 #[derive(Drop)]
 pub struct Rewriter {
     stage: Stage,
@@ -147,7 +158,7 @@ impl Model for Rewriter {
 }
 
 impl Rewriter {
-    /// A rewriter at the beginning of its script.
+    /// A rewriter at the beginning of its script, with nothing written.
     pub fn new() -> Rewriter
         ensures stage { result.stage ≡ Stage.Ready }
         ensures nothing { (start : Option (List ℕ)) → HasWritten result.newlines start start [] }
@@ -158,7 +169,8 @@ impl Rewriter {
         }
     }
 
-    /// Ends a call that wrote: counts the newlines at the end of the text and enters this stage, or fails permanently.
+    /// Ends a call that wrote. If the write succeeded, the number of newlines and the stage are recorded; if not, the
+    /// rewriter fails permanently.
     fn finish_call(
         &mut self,
         written: Result<u8, WriteFault>,
@@ -180,7 +192,8 @@ impl Rewriter {
         }
     }
 
-    /// Writes the raw lines of an item. After a directive, its actual output is written by `found`.
+    /// Writes the raw lines of an item, as they are. After a directive, its actual output is to be written by `found`.
+    /// It fails if a write fails, or has failed before (datadriven).
     pub fn keep<W: Sink>(&mut self, writer: &mut W, item: &Item) -> Result<(), WriteFault>
         requires { CanKeep self.old }
         ensures { WritesMore W.contents W.has_failed self.old self.new writer.old writer.new (if is_directive item.now then Stage.NeedsOutput else Stage.Ready) (kept_text item.now) result }
@@ -197,7 +210,8 @@ impl Rewriter {
         self.finish_call(written, next)
     }
 
-    /// Writes the actual output of the directive that was kept last.
+    /// Writes the actual output of the directive that was kept last, between double separators if it has a blank line.
+    /// It fails if a write fails, or has failed before (datadriven).
     pub fn found<W: Sink>(&mut self, writer: &mut W, text: &[u8]) -> Result<(), WriteFault>
         requires output_next { IsOutputNext self.old }
         requires output { self.old.stage ≡ Stage.NeedsOutput → is_output text.now ≡ true }
@@ -211,7 +225,8 @@ impl Rewriter {
         self.finish_call(written, Stage::Ready)
     }
 
-    /// As `found`, for an output without blank lines, which is not searched for one (own).
+    /// Writes the actual output of the directive that was kept last, which has no blank line; it is not searched for
+    /// one. It fails if a write fails, or has failed before (own).
     pub fn found_without_blanks<W: Sink>(
         &mut self,
         writer: &mut W,
@@ -229,7 +244,8 @@ impl Rewriter {
         self.finish_call(written, Stage::Ready)
     }
 
-    /// Ends the script: writes the newline that was kept back, unless the text ends in two.
+    /// Ends the script: writes the newline that was kept back, unless the text ends in two. It fails if a write fails,
+    /// or has failed before (own).
     pub fn end<W: Sink>(&mut self, writer: &mut W) -> Result<(), WriteFault>
         requires { CanKeep self.old }
         ensures { WritesEnd W.contents W.has_failed self.old self.new writer.old writer.new result }

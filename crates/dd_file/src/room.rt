@@ -1,12 +1,13 @@
-//! Vectors of bytes with reserved capacity.
+//! Room in vectors of bytes: memory is reserved first, and then bytes are appended without a chance to fail. So a step
+//! that runs out of memory leaves things as they were.
 ghost use Rattle.std.specs.Prelude.{◌≡◌, ◌≤◌, ◌+◌, ◌++◌, length, OnOk, vec_len, vec_capacity};
 
 use std::alloc::AllocError;
 
-/// The smallest capacity that is reserved, enough for most items.
+/// The smallest capacity that is reserved, in bytes: enough for most items.
 const LEAST_ROOM: usize = 128;
 
-/// Reserves capacity for `more` bytes.
+/// Reserves capacity for `more` bytes beyond those that are there.
 pub(crate) fn make_room(bytes: &mut Vec<u8>, more: usize) -> Result<(), AllocError>
     ensures items { bytes.new.items ≡ bytes.old.items }
     ensures room { OnOk result (vec_len bytes.old + more ≤ vec_capacity bytes.new) }
@@ -17,7 +18,7 @@ pub(crate) fn make_room(bytes: &mut Vec<u8>, more: usize) -> Result<(), AllocErr
     bytes.reserve(more)
 }
 
-/// Appends to a vector that has the capacity.
+/// Appends bytes for which the capacity is reserved.
 pub(crate) fn append(bytes: &mut Vec<u8>, more: &[u8])
     requires { vec_len bytes.old + length more.now ≤ vec_capacity bytes.old }
     ensures items { bytes.new.items ≡ bytes.old.items ++ more.now }

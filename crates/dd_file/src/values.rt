@@ -1,10 +1,18 @@
-//! An iterator over the values of an argument.
+//! An iterator over the values of an argument. The values are cut from the text when they are asked for, not stored:
+//!
+//! ```text
+//! =(1, 2,3)    gives 1, then 2, then 3
+//! =true        gives true
+//! =            gives one empty value
+//! =( )         gives nothing
+//! ```
 
 use ascii_text::position::position_of;
 use ascii_text::white_space::{is_blank, trimmed};
 use std::marker::Model;
 
-/// What the rest of an argument is.
+/// What the rest of an argument is. The rest is empty after the last value of a list, and also before a last value that
+/// is empty: this tells them apart.
 #[derive(Clone, Copy, Debug)]
 enum Left {
     /// No value.
@@ -15,7 +23,7 @@ enum Left {
     Listed,
 }
 
-/// The remaining values of an argument, in order.
+/// The remaining values of an argument, in order (datadriven's `CmdArg.Vals`).
 #[derive(Drop)]
 pub struct Values<'a> {
     rest: &'a [u8],
@@ -61,7 +69,7 @@ impl<'a> Values<'a> {
         Values { rest, left }
     }
 
-    /// The next value, if there is one.
+    /// The next value, without the white space around it; `None` at the end and from then on.
     pub fn next(&mut self) -> Option<&'a [u8]>
         ensures { MatchOption result ((self.old ≡ []) × (self.new ≡ [])) (λ value. self.old ≡ value.now ∷ self.new) }
     {

@@ -1,4 +1,7 @@
 //! Writing all of some bytes to a sink.
+//!
+//! One call of a sink may write only a prefix, so the rest is written by further calls. After a call that fails, or
+//! that takes no byte, nothing is tried again: no byte is written twice.
 ghost use Rattle.std.specs.Prelude.{◌≡◌, ◌≤◌, ◌<◌, ◌||◌, ◌==◌, nat_lt, ℕ, List, [], Option, IsOk, OnOk, OnErr, true, length, take};
 ghost use Rattle.std.specs.Io.KnownBytes.{Appends};
 ghost use Rattle.dd_file.specs.Device.{AppendsPart};
@@ -6,7 +9,7 @@ ghost use Rattle.dd_file.specs.Device.{AppendsPart};
 use crate::device::Sink;
 use crate::fault::WriteFault;
 
-/// Writes by one call, and returns how many bytes were written: 0 only if the write failed.
+/// Writes a prefix by one call, and returns its length: 0 only if the write failed.
 fn write_once<W: Sink>(writer: &mut W, bytes: &[u8]) -> usize
     requires { 0 < length bytes.now }
     ensures bound { result ≤ length bytes.now }
@@ -19,8 +22,8 @@ fn write_once<W: Sink>(writer: &mut W, bytes: &[u8]) -> usize
     }
 }
 
-/// Writes the bytes after the first `first_count`, until all are written or a write fails. Returns how many of all are
-/// written.
+/// Writes the bytes after the first `first_count`, which are written already, until all are written or a write fails.
+/// Returns how many of all bytes are written.
 #[cold]
 fn write_rest<W: Sink>(writer: &mut W, bytes: &[u8], first_count: usize) -> usize
     requires { first_count ≤ length bytes.now }
@@ -57,8 +60,8 @@ pub(crate) fn write_prefix<W: Sink>(writer: &mut W, bytes: &[u8]) -> usize
     write_rest(writer, bytes, count)
 }
 
-/// Writes all of the bytes. It fails if the writer fails or takes no byte. Then a prefix of the bytes is written, and no byte
-/// is written twice.
+/// Writes all of the bytes. It fails if a call of the writer fails or takes no byte; then a prefix of the bytes is
+/// written. For no bytes the writer is not called (own).
 #[inline(always)]
 pub fn write_all<W: Sink>(writer: &mut W, bytes: &[u8]) -> Result<(), WriteFault>
     ensures ok { OnOk result (Appends (W.contents writer.old) (W.contents writer.new) bytes.now) }

@@ -12,17 +12,18 @@ use Rattle.raft_json.specs.ConfChangeJson.{conf_change_json}
 use Rattle.raft_json.specs.Proposal.{proposed_changes, transition_of}
 use Rattle.plan_output.specs.Stages.{StageState, stages, stage_may_be_down, until_then, commits}
 
--- a number, or null where there is none
+-- a number, or null if there is none
 abbrev pub count_json : Option ℕ → Data
 count_json None = null
 count_json (Some count) = number (unsigned count)
 
--- whether the stage commits, before the other members, if ids are named that are down
+-- the key that says whether the stage commits, before the other keys; only if ids are named that are down
 abbrev pub with_commits : Option Ids → StageState → Members → Members
 with_commits None stage others = others
 with_commits (Some down) stage others = member (codes "commits") (boolean (commits stage down)) others
 
--- the members of an object after the first: what is proposed for the step, where it leads, and which step of how many it is
+-- The keys of an object from `conf_change` on: what is proposed for the step, where it leads, what may be down there,
+-- and which step of how many it is.
 abbrev pub step_members : ℕ → ℕ → ℕ → StageState → Step → StageState → Members
 step_members plan count number_of before step after =
     member (codes "conf_change") (conf_change_json (transition_of step) (proposed_changes before.config step))
@@ -33,13 +34,13 @@ step_members plan count number_of before step after =
     (member (codes "steps") (number (unsigned count))
     (member (codes "until_then") (count_json (until_then after)) no_members))))))
 
--- the object of a step, from one stage to the next
+-- the object of a step, which leads from the stage before it to the one after
 abbrev pub step_json : Option Ids → ℕ → ℕ → ℕ → StageState → Step → StageState → Data
 step_json down plan count number_of before step after =
     object (member (codes "catch_up") (ids_json (ascending after.catching_up))
     (with_commits down after (step_members plan count number_of before step after)))
 
--- the objects of the steps, of which the first has this number, each from its stage to the next
+-- the objects of steps, the first of which has this number, each between its two stages
 abbrev pub steps_json : Option Ids → ℕ → ℕ → ℕ → List StageState → List Step → List Data
 steps_json down plan count number_of (before ∷ after ∷ all) (step ∷ steps) =
     step_json down plan count number_of before step after ∷ steps_json down plan count (number_of + 1) (after ∷ all) steps
@@ -51,16 +52,16 @@ steps_json down plan count number_of [] steps = []
 abbrev pub no_steps_json : ℕ → Data
 no_steps_json plan = object (member (codes "plan") (number (unsigned plan)) (member (codes "steps") (number (unsigned 0)) no_members))
 
--- the objects of a path: one for each step
+-- the objects of a path: one for each step, or the one of a path without a step
 abbrev pub path_json : ℕ → Configuration → List Step → Option Ids → List Data
 path_json plan now [] down = no_steps_json plan ∷ []
 path_json plan now (step ∷ steps) down = steps_json down plan (length (step ∷ steps)) 1 (stages now (step ∷ steps)) (step ∷ steps)
 
--- the object of a pair without a plan
+-- the object of a pair without a plan, with the reason
 abbrev pub no_plan_json : ℕ → List ℕ → Data
 no_plan_json plan why = object (member (codes "no_plan") (string why) (member (codes "plan") (number (unsigned plan)) no_members))
 
--- a value on a line
+-- a value, written without spaces, and a newline
 abbrev pub value_line : Data → List ℕ
 value_line d = compact_text d ++ 10 ∷ []
 

@@ -1,4 +1,5 @@
--- The configurations on the way of a path, and what the cluster endures at each of them.
+-- The configurations on the way of a path, and what the cluster endures at each of them: own, over the quorums of the
+-- crate below.
 use Rattle.std.specs.Prelude.{ℕ, Bool, not, List, [], ◌∷◌, Option, refl}
 use Rattle.std.specs.Coded.{Coded, coded×, code_by}
 use Rattle.std.specs.List.{list_any}
@@ -12,7 +13,8 @@ use Rattle.conf_change.specs.Outcome.{outcome}
 use Rattle.conf_change.specs.declared.step.Step.{Step}
 use Rattle.conf_plan.specs.Alive.{catching_up}
 
--- a configuration on the way, and its members that have to catch up, since they did not keep their progress in the step that led there
+-- A configuration on the way, and its members that have to catch up, since they did not keep their progress in the step
+-- that led there.
 pub record StageState : Type 0 where
   pub config : Configuration
   pub catching_up : Ids
@@ -28,7 +30,7 @@ stage_code =
 abbrev pub first_stage : Configuration → StageState
 first_stage now = record { config = now; catching_up = no_ids }
 
--- the configuration after a step; a step that is refused leaves it as it is
+-- the configuration after a step; a step that is refused changes nothing
 abbrev pub configuration_after : Configuration → Step → Configuration
 configuration_after before step = result_unwrap_or (outcome before step) before
 
@@ -36,7 +38,7 @@ configuration_after before step = result_unwrap_or (outcome before step) before
 abbrev pub stage_after : Configuration → Step → StageState
 stage_after before step = record { config = configuration_after before step; catching_up = catching_up before step (configuration_after before step) }
 
--- the stages that steps lead to, one after another
+-- the stages after each of the steps, in order
 abbrev pub stages_after : Configuration → List Step → List StageState
 stages_after before [] = []
 stages_after before (step ∷ steps) = stage_after before step ∷ stages_after (configuration_after before step) steps
@@ -46,22 +48,23 @@ abbrev pub stages : Configuration → List Step → List StageState
 stages now steps = first_stage now ∷ stages_after now steps
 
 -- ---- what the cluster endures there
--- the most ids that may be down, whichever they are, while the others are still a quorum
+-- how many ids may be down, whichever they are, while the others are still a quorum; every member counts
 abbrev pub stage_may_be_down : StageState → Option ℕ
 stage_may_be_down stage = tolerance.may_be_down (voters_of stage.config) no_ids
 
--- the same until the members have caught up: they do not count, be they down or not
+-- how many ids may be down until the members have caught up, which do not count, be they down or not
 abbrev pub until_then : StageState → Option ℕ
 until_then stage = tolerance.may_be_down (voters_of stage.config) stage.catching_up
 
--- whether the ids that are neither down nor have to catch up are a quorum
+-- whether the voters that are neither down nor have to catch up are a quorum
 abbrev pub commits : StageState → Ids → Bool
 commits stage down = commits_without (voters_of stage.config) (union down stage.catching_up)
 
--- some stage does not commit with these ids down
+-- whether some stage does not commit with these ids down
 abbrev pub some_stalls : List StageState → Ids → Bool
 some_stalls all down = list_any (λ stage. not (commits stage down)) all
 
--- The path stalls with these ids down if some configuration on the way does, the first one among them. The next step is committed by the configuration before it, so a path is taken to its end only if none stalls.
+-- Whether a path stalls with these ids down: some configuration on the way does, the first one among them. A step is
+-- committed by the configuration before it, so a path is taken to its end only if none stalls.
 abbrev pub stalls : Configuration → List Step → Ids → Bool
 stalls now steps down = some_stalls (stages now steps) down

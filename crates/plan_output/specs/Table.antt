@@ -11,7 +11,8 @@ use Rattle.plan_output.specs.Grid.{grid_text}
 use Rattle.plan_output.specs.Stages.{StageState, stages, stage_may_be_down, until_then, commits}
 
 -- ---- the cells of a row
--- The marks of ids: a voter, of both sets if there are two; an incoming or an outgoing voter alone; an outgoing voter alone that is a next learner; a learner; an id that is no member.
+-- The mark of an id: `V` for a voter, of both sets in a joint configuration; `+` for an incoming voter alone; `-` for
+-- an outgoing voter alone, or `~` if it is a next learner; `L` for a learner; `.` for an id that is not a member.
 abbrev pub mark : Configuration → ℕ → List ℕ
 mark c id =
     if has c.incoming id then (if is_joint c && not (has c.outgoing id) then codes "+" else codes "V")
@@ -22,32 +23,32 @@ mark c id =
 abbrev pub flush_right : ℕ → List ℕ → List ℕ
 flush_right width cell = replicate (width - length cell) 32 ++ cell
 
--- what is before the text at this index of those that are joined with one space between
+-- the space before the text at this index; none before the first
 abbrev pub gap : ℕ → List ℕ
 gap index = text_if (nat_lt 0 index) (codes " ")
 
--- the marks of ids with one space between, each flush right under its id
+-- the marks of ids, each flush right below its id
 abbrev pub marks_text : List ℕ → Configuration → List ℕ
 marks_text ids c = join_with_byte 32 (map (λ id. flush_right (length (decimal id)) (mark c id)) ids)
 
--- how many of the ids are a majority of them
+-- the majority of a set and how many ids it has: 2 of 3
 abbrev pub majority_of : Ids → List ℕ
 majority_of ids = decimal (majority (size ids)) ++ codes " of " ++ decimal (size ids)
 
--- the majority of the voters, or in a joint configuration that of the incoming and that of the outgoing ones
+-- the majority of the voters, or in a joint configuration of the incoming and of the outgoing ones: 3 of 5 and 2 of 3
 abbrev pub majority_text : Configuration → List ℕ
 majority_text c = majority_of c.incoming ++ text_if (is_joint c) (codes " and " ++ majority_of c.outgoing)
 
--- the most ids that may be down, if the others are a quorum with none down
+-- how many ids may be down, or that the voters are no quorum even with none down
 abbrev pub down_text : Option ℕ → List ℕ
 down_text (Some most) = decimal most
 down_text None = codes "stalls"
 
--- what may be down until the members have caught up that have to; where there are none, nothing
+-- how many ids may be down until the members have caught up; empty if none has to
 abbrev pub until_text : StageState → List ℕ
 until_text stage = text_if (not (is_empty stage.catching_up)) (down_text (until_then stage))
 
--- whether a configuration commits
+-- whether a configuration commits: commits or stalls
 abbrev pub commits_text : Bool → List ℕ
 commits_text true = codes "commits"
 commits_text false = codes "stalls"
@@ -57,14 +58,14 @@ abbrev pub commits_cells : Option Ids → StageState → List (List ℕ)
 commits_cells None stage = []
 commits_cells (Some down) stage = commits_text (commits stage down) ∷ []
 
--- the row of this name
+-- the row of a stage, which begins with its name
 abbrev pub row : List ℕ → Option Ids → List ℕ → StageState → List (List ℕ)
 row ids down name stage =
     name ∷ marks_text ids stage.config ∷ majority_text stage.config ∷ down_text (stage_may_be_down stage) ∷ spaced_numbers (ascending stage.catching_up)
     ∷ until_text stage ∷ commits_cells down stage
 
 -- ---- the rows
--- the heading of the column where these ids are down
+-- the heading of the column for these ids that are down
 abbrev pub down_heading : Ids → List ℕ
 down_heading down = codes "with " ++ spaced_numbers (ascending down) ++ codes " down"
 
@@ -78,7 +79,7 @@ abbrev pub headings : List ℕ → Option Ids → List (List ℕ)
 headings ids down =
     codes "step" ∷ spaced_numbers ids ∷ codes "majority" ∷ codes "may be down" ∷ codes "catch up" ∷ codes "until then" ∷ down_headings down
 
--- a step's number, counted from 1, and its line
+-- the name of a step: its number, counted from 1, and its line
 abbrev pub step_name : ℕ → Step → List ℕ
 step_name number step = decimal number ++ codes " " ++ line_text step
 
@@ -87,17 +88,17 @@ abbrev pub step_names : ℕ → List Step → List (List ℕ)
 step_names number [] = []
 step_names number (step ∷ steps) = step_name number step ∷ step_names (number + 1) steps
 
--- the names of the stages
+-- the names of the stages: now, and then the steps
 abbrev pub stage_names : List Step → List (List ℕ)
 stage_names steps = codes "now" ∷ step_names 1 steps
 
--- a row for each stage, by its name
+-- a row for each stage, with its name
 abbrev pub rows_of : List ℕ → Option Ids → List (List ℕ) → List StageState → List (List (List ℕ))
 rows_of ids down [] stages = []
 rows_of ids down (name ∷ names) [] = []
 rows_of ids down (name ∷ names) (stage ∷ stages) = row ids down name stage ∷ rows_of ids down names stages
 
--- all that are members at some stage
+-- the ids that are members at some stage
 abbrev pub ids_on_the_way : List StageState → Ids
 ids_on_the_way all = ids_of (flat_map (λ stage. members stage.config) all)
 
@@ -107,6 +108,6 @@ stage_rows all steps down =
     let ids = ascending (ids_on_the_way all) in
     headings ids down ∷ rows_of ids down (stage_names steps) all
 
--- the table of a path, and with ids that are down of what commits without them
+-- the table of a path; with ids that are down, its last column says what commits then
 abbrev pub table_text : Configuration → List Step → Option Ids → List ℕ
 table_text now steps down = grid_text (stage_rows (stages now steps) steps down)

@@ -1,4 +1,12 @@
-//! The cells of a table.
+//! The cells of a table. The cell below the ids marks what each of them is in the configuration:
+//!
+//! ```text
+//! 1 2 3 10 11
+//! - V ~  +  .     1 votes among the outgoing voters alone, 2 among both, 3 among the outgoing ones until it is a
+//!                 learner, 10 among the incoming ones alone, and 11 is not a member
+//! ```
+//!
+//! `L` marks a learner. All cells are own.
 ghost use Rattle.std.specs.Prelude.{◌≡◌, ◌++◌, decimal, length, IfOk, OnOk};
 ghost use Rattle.quorum_sets.specs.Ids.{ascending};
 ghost use Rattle.conf_change.specs.Text.{spaced_numbers};
@@ -12,7 +20,7 @@ use itoa::Buffer;
 use quorum_sets::{MemberSet, NoMemory, quorum};
 use std::alloc::Global;
 
-// A step's number, counted from 1, and its line.
+// The name of a step: its number, counted from 1, and its line, as in `1 simple l4 l5`.
 pub(crate) fn step_name(alloc: Global, number: usize, step: &Step) -> Result<Vec<u8>, NoMemory>
     ensures { IfOk result (λ name. name.items ≡ spec.step_name number step.now) }
 {
@@ -28,7 +36,7 @@ pub(crate) fn step_name(alloc: Global, number: usize, step: &Step) -> Result<Vec
     Ok(name)
 }
 
-// Ids with one space between.
+// Ids, ascending, with one space between.
 pub(crate) fn ids_text<S: MemberSet>(alloc: Global, ids: &S) -> Result<Vec<u8>, NoMemory>
     ensures { IfOk result (λ text. text.items ≡ spaced_numbers (ascending (S.ids ids.now))) }
 {
@@ -42,7 +50,7 @@ pub(crate) fn ids_text<S: MemberSet>(alloc: Global, ids: &S) -> Result<Vec<u8>, 
     Ok(text)
 }
 
-// Appends a space, but not before the first of what is joined.
+// Appends the space before the text at this index; there is none before the first.
 fn append_gap(text: &mut Vec<u8>, index: usize) -> Result<(), NoMemory>
     ensures { OnOk result (text.new.items ≡ text.old.items ++ spec.gap index) }
 {
@@ -52,7 +60,7 @@ fn append_gap(text: &mut Vec<u8>, index: usize) -> Result<(), NoMemory>
     Ok(())
 }
 
-// The marks of ids with one space between, each flush right under its id.
+// The marks of these ids, each flush right below its id.
 pub(crate) fn marks_text<S: MemberSet>(
     alloc: Global,
     ids: &S,
@@ -70,7 +78,7 @@ pub(crate) fn marks_text<S: MemberSet>(
     Ok(text)
 }
 
-// Appends the mark of an id, flush right under the id.
+// Appends the mark of an id, with spaces before it up to the length of the id.
 fn append_mark<S: MemberSet>(
     text: &mut Vec<u8>,
     config: &Config<S>,
@@ -85,7 +93,8 @@ fn append_mark<S: MemberSet>(
     append(text, mark)
 }
 
-// The mark of an id.
+// The mark of an id. In a joint configuration `V` is a voter of both sets, `+` one of the incoming set alone, and `-`
+// or `~` one of the outgoing set alone, where `~` is a next learner.
 fn mark<S: MemberSet>(config: &Config<S>, id: u64) -> &'static [u8]
     ensures { result.now ≡ spec.mark config.now id }
 {
@@ -108,7 +117,7 @@ fn mark<S: MemberSet>(config: &Config<S>, id: u64) -> &'static [u8]
     }
 }
 
-// The majority of the voters, or in a joint configuration that of the incoming and that of the outgoing ones.
+// The majority and the number of voters: `2 of 3`, or `3 of 5 and 2 of 3` in a joint configuration, incoming first.
 pub(crate) fn majority_text<S: MemberSet>(
     alloc: Global,
     config: &Config<S>,
@@ -124,7 +133,7 @@ pub(crate) fn majority_text<S: MemberSet>(
     Ok(text)
 }
 
-// Appends how many of the ids are a majority of them.
+// Appends the majority of one set of voters, as in `2 of 3`.
 fn append_majority<S: MemberSet>(text: &mut Vec<u8>, ids: &S) -> Result<(), NoMemory>
     ensures { OnOk result (text.new.items ≡ text.old.items ++ spec.majority_of (S.ids ids.now)) }
 {
@@ -134,7 +143,7 @@ fn append_majority<S: MemberSet>(text: &mut Vec<u8>, ids: &S) -> Result<(), NoMe
     Ok(())
 }
 
-// The most ids that may be down, if the others are a quorum with none down.
+// How many ids may be down, or `stalls` if the voters are no quorum even with none down.
 pub(crate) fn down_text(alloc: Global, most: Option<usize>) -> Result<Vec<u8>, NoMemory>
     ensures { IfOk result (λ text. text.items ≡ spec.down_text most) }
 {
@@ -146,7 +155,8 @@ pub(crate) fn down_text(alloc: Global, most: Option<usize>) -> Result<Vec<u8>, N
     Ok(text)
 }
 
-// What may be down until the members have caught up that have to; where there are none, nothing.
+// How many ids may be down until the new members have caught up. The cell is empty if there are none, since the number
+// is then that of the column before.
 pub(crate) fn until_text<S: MemberSet>(alloc: Global, stage: &Stage<S>) -> Result<Vec<u8>, NoMemory>
     ensures { IfOk result (λ text. text.items ≡ spec.until_text stage.now) }
 {
@@ -156,7 +166,7 @@ pub(crate) fn until_text<S: MemberSet>(alloc: Global, stage: &Stage<S>) -> Resul
     down_text(alloc, stage.until_then())
 }
 
-// Whether the configuration commits with these ids down.
+// Whether the stage commits: `commits` or `stalls`.
 pub(crate) fn commits_text(alloc: Global, commits: bool) -> Result<Vec<u8>, NoMemory>
     ensures { IfOk result (λ text. text.items ≡ spec.commits_text commits) }
 {
@@ -164,7 +174,7 @@ pub(crate) fn commits_text(alloc: Global, commits: bool) -> Result<Vec<u8>, NoMe
     Ok(Vec::from_slice(alloc, text)?)
 }
 
-// The heading of the column that says which ids are down.
+// The heading of the last column: `with 4 6 down`.
 pub(crate) fn down_heading<S: MemberSet>(alloc: Global, down: &S) -> Result<Vec<u8>, NoMemory>
     ensures { IfOk result (λ text. text.items ≡ spec.down_heading (S.ids down.now)) }
 {

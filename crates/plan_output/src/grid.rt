@@ -1,4 +1,10 @@
-//! Grids of cells as lines of text.
+//! A grid of cells, laid out as lines of text.
+//!
+//! ```text
+//! ["step", "majority"]           step         majority
+//! ["now", "2 of 3"]        ->    now          2 of 3
+//! ["1 simple v4", ""]            1 simple v4
+//! ```
 ghost use Rattle.std.specs.Prelude.{◌≡◌, ℕ, ◌<◌, ◌^◌, max, [], ◌∷◌, ◌++◌, length, flat_map, slice_index, IfOk, OnOk, OnErr};
 ghost use Rattle.ascii_text.specs.Append.{Extends};
 ghost use Rattle.plan_output.specs.Grid as grid;
@@ -10,7 +16,7 @@ use quorum_sets::NoMemory;
 use std::alloc::Global;
 use std::marker::Model;
 
-/// A row: its cells, from left to right.
+/// A row: its cells, from left to right. Rows of one grid may have different lengths.
 #[derive(Drop)]
 pub(crate) struct Row {
     cells: Vec<Vec<u8>>,
@@ -42,14 +48,13 @@ impl Row {
         Ok(())
     }
 
-    // How many cells it has.
     fn len(&self) -> usize
         ensures { result ≡ length self.now }
     {
         self.cells.len()
     }
 
-    // The cell in a column, counted from 0; from the last one on, an empty one.
+    // The cell in a column, counted from 0; an empty one in a column that the row does not reach.
     fn cell(&self, column: usize) -> &[u8]
         ensures cell { result.now ≡ cell column self.now }
         ensures small { length result.now < 2 ^ 63 }
@@ -61,8 +66,8 @@ impl Row {
     }
 }
 
-/// Appends rows as lines: each column is as wide as its widest cell, and two spaces are between columns. No line has white
-/// space at its end. On `NoMemory` the text is unchanged.
+/// Appends rows as lines. Each column is as wide as its widest cell, two spaces are between columns, and no line has
+/// white space at its end. On `NoMemory` the text is unchanged (own).
 pub(crate) fn add_grid(alloc: Global, text: &mut Vec<u8>, rows: &[Row]) -> Result<(), NoMemory>
     ensures ok { OnOk result (text.new.items ≡ text.old.items ++ grid_text rows.now) }
     ensures err { OnErr result (text.new.items ≡ text.old.items) }
@@ -73,7 +78,7 @@ pub(crate) fn add_grid(alloc: Global, text: &mut Vec<u8>, rows: &[Row]) -> Resul
     keep_whole(text, len, appended)
 }
 
-// How wide each column is.
+// The width of each column: that of its widest cell.
 fn widths(alloc: Global, rows: &[Row]) -> Result<Vec<usize>, NoMemory>
     ensures widths { IfOk result (λ widths. (column : ℕ) → slice_index widths.items column ≡ width rows.now column) }
     ensures small { IfOk result (λ widths. (column : ℕ) → slice_index widths.items column < 2 ^ 63) }
@@ -85,7 +90,7 @@ fn widths(alloc: Global, rows: &[Row]) -> Result<Vec<usize>, NoMemory>
     Ok(widths)
 }
 
-// Makes each column as wide as the cell of this row, if that is wider.
+// Widens each column to the cell of one more row, where that is wider.
 fn widen(widths: &mut Vec<usize>, row: &Row) -> Result<(), NoMemory>
     requires { (column : ℕ) → slice_index widths.old.items column < 2 ^ 63 }
     ensures wider { OnOk result ((column : ℕ) → slice_index widths.new.items column ≡ max (slice_index widths.old.items column) (length (cell column row.now))) }
@@ -102,7 +107,7 @@ fn widen(widths: &mut Vec<usize>, row: &Row) -> Result<(), NoMemory>
     Ok(())
 }
 
-// Appends the lines of rows, with columns of these widths.
+// Appends a line for each row, by the widths of the columns. On `NoMemory` some lines may be there.
 fn append_lines(
     alloc: Global,
     text: &mut Vec<u8>,
@@ -121,7 +126,8 @@ fn append_lines(
     Ok(())
 }
 
-// The cells of a row, each in a column of its width, and two spaces after it.
+// The cells of a row, each filled up with spaces to the width of its column, and two spaces after it. The spaces at the
+// end are cut off later.
 fn cells_text(alloc: Global, row: &Row, widths: &[usize]) -> Result<Vec<u8>, NoMemory>
     requires { (column : ℕ) → slice_index widths.now column < 2 ^ 63 }
     ensures { IfOk result (λ text. text.items ≡ grid.cells_text (slice_index widths.now) 0 row.now) }

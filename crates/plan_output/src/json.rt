@@ -1,4 +1,15 @@
 //! The JSON lines of a path, for programs that embed etcd's raft.
+//!
+//! Each step is one object on one line, with its keys in ascending order. `conf_change` is what to propose to etcd, and
+//! the other keys say what the cluster endures after it. The step `simple v4` from `(1 2 3)` is this, here with line
+//! breaks:
+//!
+//! ```text
+//! {"catch_up":[4],
+//!  "conf_change":{"changes":[{"node_id":4,"type":"ConfChangeAddNode"}],"transition":"ConfChangeTransitionAuto"},
+//!  "conf_state":{"auto_leave":false,"learners":[],"learners_next":[],"voters":[1,2,3,4],"voters_outgoing":[]},
+//!  "may_be_down":1,"plan":1,"step":1,"steps":1,"until_then":0}
+//! ```
 ghost use Rattle.std.specs.Prelude.{◌≡◌, ◌++◌, true, false, Some, IfOk, OnOk, OnErr, flat_map, option_copied, option_map, codes, length};
 ghost use Rattle.quorum_sets.specs.Ids.{ascending};
 ghost use Rattle.conf_change.specs.Configuration.{is_restorable};
@@ -18,7 +29,7 @@ use raft_json::{conf_change_value, conf_state_value};
 use serde_json::{Map, Value, put};
 use std::alloc::Global;
 
-/// Which step of a path an object is of.
+/// Which step of which path an object is of.
 #[derive(Clone, Copy)]
 struct Number {
     // The number of the path, as the caller counts.
@@ -29,9 +40,10 @@ struct Number {
     step: usize,
 }
 
-/// Appends an object for each step of a path, one a line: what is proposed to etcd for it, the configuration after it, and
-/// what the cluster endures there; with `down` also whether it commits without these ids. A path without a step is one
-/// object too. On `NoMemory` the text is unchanged (own).
+/// Appends an object for each step of a path, on a line each: what is proposed to etcd for it, the configuration after
+/// it, and what the cluster endures there; with `down` also whether it commits while these ids are down. A path without
+/// a step is the one line `{"plan":1,"steps":0}`. `plan` is the number of the path, as the caller counts. On `NoMemory`
+/// the text is unchanged (own).
 pub fn add_json_lines<S: MemberSet>(
     alloc: Global,
     text: &mut Vec<u8>,
@@ -48,7 +60,8 @@ pub fn add_json_lines<S: MemberSet>(
     append(text, lines.as_slice())
 }
 
-/// Appends the object of a pair that has no plan, on a line: why there is none. On `NoMemory` the text is unchanged (own).
+/// Appends the object of a pair that has no plan, as `{"no_plan":"the target is joint","plan":1}`. On `NoMemory` the
+/// text is unchanged (own).
 pub fn add_no_plan_line(
     alloc: Global,
     text: &mut Vec<u8>,
@@ -65,7 +78,7 @@ pub fn add_no_plan_line(
     add_line(alloc, text, &Value::Object(members))
 }
 
-// Appends a value on a line. On `NoMemory` the text is unchanged.
+// Appends a value, written without spaces, and a newline. On `NoMemory` the text is unchanged.
 fn add_line(alloc: Global, text: &mut Vec<u8>, value: &Value) -> Result<(), NoMemory>
     requires { has_float (view value.now) ≡ false }
     ensures ok { OnOk result (text.new.items ≡ text.old.items ++ value_line (view value.now)) }
@@ -76,7 +89,7 @@ fn add_line(alloc: Global, text: &mut Vec<u8>, value: &Value) -> Result<(), NoMe
     append(text, line.as_slice())
 }
 
-// The lines of a path.
+// The lines of a path. They are built on their own, so that a text to which they are appended gets all or none.
 fn lines_of<S: MemberSet>(
     alloc: Global,
     plan: u64,
@@ -107,7 +120,7 @@ fn lines_of<S: MemberSet>(
     Ok(lines)
 }
 
-// Appends the object of a step, on a line.
+// Appends the line of one step.
 fn add_step<S: MemberSet>(
     alloc: Global,
     lines: &mut Vec<u8>,
@@ -134,7 +147,7 @@ fn no_steps_value(alloc: Global, plan: u64) -> Result<Value, NoMemory>
     Ok(Value::Object(members))
 }
 
-// The object of a step, from one stage to the next.
+// The object of a step, which leads from the stage before it to the one after.
 fn step_value<S: MemberSet>(
     alloc: Global,
     number: Number,
@@ -160,7 +173,7 @@ fn step_value<S: MemberSet>(
     Ok(Value::Object(members))
 }
 
-// The members of the object that come after the first, but for whether it commits.
+// The keys `conf_change` to `until_then`, which every object of a step has.
 fn step_members<S: MemberSet>(
     alloc: Global,
     number: Number,
@@ -195,7 +208,7 @@ fn step_members<S: MemberSet>(
     Ok(members)
 }
 
-// A number, or null where there is none.
+// A number, or `null` if the voters are no quorum even with none down.
 fn count_value(count: Option<usize>) -> Value
     ensures { view result ≡ spec.count_json count }
 {
@@ -205,7 +218,7 @@ fn count_value(count: Option<usize>) -> Value
     }
 }
 
-// The ids of a set, ascending.
+// Ids as an array of numbers, ascending.
 fn ids_value<S: MemberSet>(alloc: Global, ids: &S) -> Result<Value, NoMemory>
     ensures { IfOk result (λ v. view v ≡ ids_json (ascending (S.ids ids.now))) }
 {

@@ -1,4 +1,13 @@
 //! The configurations on the way of a path, and what the cluster endures at each of them.
+//!
+//! A path of n steps has n + 1 stages. A step is committed by the configuration before it, so the cluster comes to the
+//! end of the path only if each stage commits:
+//!
+//! ```text
+//! (1 2 3)  --enter-joint r1 r2 v4 v5-->  (3 4 5)&&(1 2 3)  --leave-joint-->  (3 4 5)
+//! may be down 1                          may be down 1                       may be down 1
+//!                                        4 and 5 catch up: stalls till then
+//! ```
 ghost use Rattle.std.specs.Prelude.{◌≡◌, true, IfOk, OnOk};
 ghost use Rattle.quorum_sets.specs.Ids.{no_ids};
 ghost use Rattle.quorum_sets.specs.Tolerance.{IsMostDown};
@@ -12,8 +21,8 @@ use quorum_sets::{MemberSet, NoMemory, union};
 use std::alloc::Global;
 use std::marker::Model;
 
-/// A configuration on the way, and its members that have to catch up there: they did not keep their progress in the step
-/// that led to it, so they begin with an empty log (own).
+/// A configuration on the way, and its members that have to catch up there: the step that led to it reset their
+/// progress, or made them members, so they begin with an empty log (own).
 #[derive(Drop)]
 pub struct Stage<S: MemberSet> {
     config: Config<S>,
@@ -31,7 +40,7 @@ impl<S: MemberSet> Model for Stage<S> {
 }
 
 impl<S: MemberSet> Stage<S> {
-    // The stage with which a path begins.
+    // The stage before the first step, where no member has to catch up.
     fn first(alloc: Global, now: &Config<S>) -> Result<Stage<S>, NoMemory>
         ensures { IfOk result (λ stage. stage ≡ first_stage now.now) }
     {
@@ -41,21 +50,22 @@ impl<S: MemberSet> Stage<S> {
         })
     }
 
-    /// The configuration.
+    /// The configuration of the stage.
     pub fn config(&self) -> &Config<S>
         ensures { result.now ≡ self.now.config }
     {
         &self.config
     }
 
-    /// The members that have to catch up.
+    /// Its members that have to catch up, a set of ids that may be empty.
     pub fn catching_up(&self) -> &S
         ensures { S.ids result.now ≡ self.now.catching_up }
     {
         &self.catching_up
     }
 
-    /// The greatest number of ids that may be down, whichever they are, so that the others are still a quorum.
+    /// How many ids may be down, whichever they are, if every member counts: 1 of `(1 2 3)`, 2 of `(1 2 3 4 5)`. `None`
+    /// if the configuration has no incoming voter (own).
     pub fn may_be_down(&self) -> Option<usize>
         ensures most { IsMostDown (voters_of self.now.config) no_ids result }
         ensures counted { result ≡ spec.stage_may_be_down self.now }
@@ -65,8 +75,8 @@ impl<S: MemberSet> Stage<S> {
         quorum_sets::may_be_down((&config.incoming, &config.outgoing), &no_ids)
     }
 
-    /// The same until the members have caught up: they do not count, be they down or not. `None` if the others are no
-    /// quorum even with none down: nothing commits.
+    /// How many ids may be down while the members that have to catch up do not count, be they down or not. `None` if
+    /// the others are no quorum even with none down: the stage stalls until then (own).
     pub fn until_then(&self) -> Option<usize>
         ensures most { IsMostDown (voters_of self.now.config) self.now.catching_up result }
         ensures counted { result ≡ spec.until_then self.now }
@@ -75,7 +85,8 @@ impl<S: MemberSet> Stage<S> {
         quorum_sets::may_be_down((&config.incoming, &config.outgoing), &self.catching_up)
     }
 
-    /// Whether the ids that are neither down nor have to catch up are a quorum.
+    /// Whether the configuration commits while these ids are down and the members that have to catch up do not count.
+    /// An id that is not a member changes nothing (own).
     pub fn commits(&self, down: &S) -> Result<bool, NoMemory>
         ensures { IfOk result (λ commits. commits ≡ spec.commits self.now (S.ids down.now)) }
     {
@@ -85,7 +96,8 @@ impl<S: MemberSet> Stage<S> {
     }
 }
 
-/// The stages of a path: the configuration with which it begins, and the one after each step.
+/// The stages of a path: the configuration with which it begins, and the one after each step. It fails only with
+/// `NoMemory` (own).
 pub fn stages<S: MemberSet>(
     alloc: Global,
     now: &Config<S>,
@@ -105,7 +117,8 @@ pub fn stages<S: MemberSet>(
     Ok(stages)
 }
 
-// A changer with the configuration.
+// A changer with this configuration and fresh progress. Its steps are those that a live cluster takes: which members
+// have to catch up depends on the configurations and the step alone.
 fn changer_of<S: MemberSet>(alloc: Global, now: &Config<S>) -> Result<Changer<S>, NoMemory>
     requires { is_restorable now.now ≡ true }
     ensures { IfOk result (λ changer. changer.tracker.config ≡ now.now) }
@@ -117,7 +130,8 @@ fn changer_of<S: MemberSet>(alloc: Global, now: &Config<S>) -> Result<Changer<S>
     }
 }
 
-// Takes a step, and returns the stage that it leads to. A step that is refused leaves the changer as it is.
+// Takes a step, and returns the stage that it leads to. A step that is refused leads nowhere, so the configuration
+// stays.
 fn next_stage<S: MemberSet>(
     alloc: Global,
     changer: &mut Changer<S>,
@@ -139,7 +153,7 @@ fn next_stage<S: MemberSet>(
 }
 
 /// Whether a path stalls with these ids down: some configuration on the way, the first one among them, does not commit.
-/// The next step is committed by the configuration before it, so a path is taken to its end only if none stalls (own).
+/// With 2 down, `(1 2 3)` commits and `(1 2)` stalls (own).
 pub fn stalls<S: MemberSet>(
     alloc: Global,
     now: &Config<S>,
@@ -152,7 +166,7 @@ pub fn stalls<S: MemberSet>(
     some_stalls(stages(alloc, now, path)?.as_slice(), down)
 }
 
-// Whether some stage does not commit with these ids down.
+// Whether one of these stages stalls with these ids down.
 fn some_stalls<S: MemberSet>(stages: &[Stage<S>], down: &S) -> Result<bool, NoMemory>
     ensures { IfOk result (λ answer. answer ≡ spec.some_stalls stages.now (S.ids down.now)) }
 {

@@ -1,4 +1,12 @@
-//! The table of a path.
+//! The table of a path: a line of headings, a row `now`, and a row for each step with the configuration after it.
+//!
+//! All columns but the last are always there. The last one is there if ids are named that are down:
+//!
+//! ```text
+//! step         1 2 3 4  majority  may be down  catch up  until then  with 2 down
+//! now          V V V .  2 of 3    1                                  commits
+//! 1 simple v4  V V V V  3 of 4    1            4         0           stalls
+//! ```
 ghost use Rattle.std.specs.Prelude.{◌≡◌, ℕ, ◌+◌, ◌≤◌, true, [], ◌++◌, length, option_copied, option_map, slice_index_or, IfOk, OnOk, OnErr};
 ghost use Rattle.quorum_sets.specs.Ids.{ascending, has};
 ghost use Rattle.conf_change.specs.Configuration.{is_member, is_restorable};
@@ -17,9 +25,9 @@ use quorum_sets::{MemberSet, NoMemory, union};
 use std::alloc::Global;
 
 /// Appends the table of a path: a row for the configuration with which it begins, and one for each step with the
-/// configuration after it. It shows who votes and learns there, the majority, how many may be down, who has to catch up, and
-/// how many may be down until then. If ids are named that are down, the last column has whether the configuration commits
-/// without them. Each line ends with a newline (own).
+/// configuration after it. It shows who votes and learns there, the majority, how many may be down, who has to catch
+/// up, and how many may be down until then. With `down`, the last column says whether the configuration commits while
+/// these ids are down. Each line ends with a newline. On `NoMemory` the text is unchanged (own).
 pub fn add_table<S: MemberSet>(
     alloc: Global,
     text: &mut Vec<u8>,
@@ -36,7 +44,7 @@ pub fn add_table<S: MemberSet>(
     add_grid(alloc, text, rows.as_slice())
 }
 
-// The headings, and a row for each stage of a path.
+// The row of headings, and a row for each stage of the path.
 fn rows<S: MemberSet>(
     alloc: Global,
     stages: &[Stage<S>],
@@ -56,7 +64,8 @@ fn rows<S: MemberSet>(
     Ok(rows)
 }
 
-// All that are members at some stage.
+// The ids that are members at some stage. They are the same in each row, so that a reader can follow one id down its
+// column.
 fn ids_on_the_way<S: MemberSet>(alloc: Global, stages: &[Stage<S>]) -> Result<S, NoMemory>
     ensures { IfOk result (λ ids. S.ids ids ≡ spec.ids_on_the_way stages.now) }
 {
@@ -67,7 +76,7 @@ fn ids_on_the_way<S: MemberSet>(alloc: Global, stages: &[Stage<S>]) -> Result<S,
     Ok(ids)
 }
 
-// The members of a configuration.
+// The members of a configuration: its voters and its learners. A next learner is an outgoing voter.
 fn members<S: MemberSet>(config: &Config<S>) -> Result<S, NoMemory>
     ensures { IfOk result (λ ids. (q : ℕ) → has (S.ids ids) q ≡ is_member config.now q) }
 {
@@ -75,7 +84,7 @@ fn members<S: MemberSet>(config: &Config<S>) -> Result<S, NoMemory>
     union(&voters, &config.learners)
 }
 
-// The headings of the columns.
+// The headings of the columns, by the ids on the way.
 fn headings<S: MemberSet>(alloc: Global, ids: &S, down: Option<&S>) -> Result<Row, NoMemory>
     ensures { IfOk result (λ row. row ≡ spec.headings (ascending (S.ids ids.now)) (option_map S.ids (option_copied down.entry))) }
 {
@@ -92,7 +101,7 @@ fn headings<S: MemberSet>(alloc: Global, ids: &S, down: Option<&S>) -> Result<Ro
     Ok(row)
 }
 
-// The name of the stage at an index of a path: `now`, or the step that leads to it.
+// The name of a stage: `now`, or the step that leads to it. Stage 0 is before the first step.
 fn stage_name(alloc: Global, path: &Path, index: usize) -> Result<Vec<u8>, NoMemory>
     requires { index ≤ length path.now }
     ensures { IfOk result (λ name. name.items ≡ slice_index_or (stage_names path.now) index []) }
@@ -105,7 +114,7 @@ fn stage_name(alloc: Global, path: &Path, index: usize) -> Result<Vec<u8>, NoMem
     Ok(Vec::from_slice(alloc, b"now")?)
 }
 
-// The row of a stage.
+// The row of a stage, which begins with its name.
 fn row<S: MemberSet>(
     alloc: Global,
     ids: &S,

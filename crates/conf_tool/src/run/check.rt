@@ -1,5 +1,16 @@
-//! The mode `check`: a script is run, and each directive whose actual output differs from the expected one is reported,
-//! with the counts at the end.
+//! The mode `check`: a script is run, and each directive whose actual output differs from the expected one is reported.
+//! The counts come at the end:
+//!
+//! ```text
+//! 1: simple
+//! - voters=(1)
+//! - 1: StateProbe match=0 next=5
+//! + voters=(1)
+//! + 1: StateProbe match=0 next=1
+//! 2 directives, 1 mismatches
+//! ```
+//!
+//! A script with an error is reported up to the error, without the counts. The report is own.
 ghost use Rattle.std.specs.Prelude.{◌≡◌, ◌<◌, ◌+◌, ◌^◌, ◌++◌, ℕ, List, [], Option, OnOk, IfOk, IsOkUnless, if◌then◌else◌};
 ghost use Rattle.dd_file.specs.Rewritten.{entry, is_directive};
 ghost use Rattle.conf_tool.specs.Outputs.{checked_script};
@@ -19,17 +30,17 @@ use dd_file::writing::write_all;
 use quorum_sets::NoMemory;
 use std::alloc::Global;
 
-/// The session that runs the items of a script, and the counts so far.
+/// The state of the mode: the session that runs the directives, and the counts so far.
 #[derive(Drop)]
 pub(super) struct Checking {
     session: Session,
     counts: Counts,
-    /// The report on the last item.
+    /// The report on the last item, empty if its output did not differ.
     text: Vec<u8>,
 }
 
 impl Checking {
-    /// A new session, with these options.
+    /// The mode before its first item, with a new session. It fails only if memory runs out.
     pub(super) fn new(alloc: Global, options: Options) -> Result<Checking, ToolFault>
         ensures unwritten { IfOk result (λ mode. (buffered : Option (List ℕ)) → ⟦<Checking as PartByPart<Item>>⟧.HasAnswered mode (checked_script options.history options.floor) [] buffered buffered) }
         ensures memory { IsOkUnless result OutOfMemory }
@@ -41,7 +52,7 @@ impl Checking {
         })
     }
 
-    /// Runs an item that is a directive, counts it, and makes the report on it.
+    /// Runs an item that is a directive, counts it, and builds the report on it. There are fewer than 2^30 directives.
     fn check_item(&mut self, item: &Item) -> Result<(), NoMemory>
         requires { self.old.counts.directives < 2 ^ 30 }
         ensures session { OnOk result (self.new.session ≡ session_after self.old.session item.now) }
@@ -74,12 +85,14 @@ impl PartByPart<Item> for Checking {
 
     ghost HasAnswered = { λ s. HasChecked s.session s.counts.directives s.counts.mismatches };
 
+    // Prints the report on the item, if its output differs.
     fn answer<W: Sink>(&mut self, item: &Item, writer: &mut W) -> Result<(), ToolFault> {
         self.check_item(item)?;
         write_all(writer, self.text.as_slice())?;
         Ok(())
     }
 
+    // Prints the counts, unless the script has an error: then they would not be those of the whole script.
     fn end<W: Sink>(
         &mut self,
         fault: Option<FileFault>,

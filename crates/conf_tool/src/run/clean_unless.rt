@@ -1,4 +1,4 @@
-//! The result of a run that only an error in its input can spoil.
+//! The result of a run that only an error in its input can spoil, as those of `lines` and `rewrite` are.
 ghost use Rattle.std.specs.Prelude.{◌≡◌};
 ghost use Rattle.conf_tool.specs.Outputs.{clean_unless};
 
@@ -6,7 +6,7 @@ use crate::status::Status;
 use crate::tool_fault::ToolFault;
 use dd_file::fault::FileFault;
 
-/// The error in the input if there is one, and otherwise `Clean`.
+/// `Clean`, unless the input has this error.
 pub(super) fn clean_unless(fault: Option<FileFault>) -> Result<Status, ToolFault>
     ensures { result ≡ clean_unless fault }
 {

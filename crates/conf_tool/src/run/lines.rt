@@ -1,4 +1,15 @@
-//! The mode `lines`: each line of the input is a change; the reply is the configuration after it, or why it is refused.
+//! The mode `lines`: each line of the input is one change, and the reply is the configuration after it, or why the
+//! change is refused. It begins with the empty configuration:
+//!
+//! ```text
+//! v1         voters=(1)
+//! l2         voters=(1) learners=(2)
+//! r1         removed all voters
+//! v3 v4      one change expected
+//! x5         unknown input: x5
+//! ```
+//!
+//! A refused line changes nothing. The changes and the refusals are those of etcd; the mode is own.
 ghost use Rattle.std.specs.Prelude.{◌≡◌, ℕ, List, [], Option, IfOk, IsOkUnless};
 ghost use Rattle.conf_change.specs.Configuration.{empty_configuration};
 ghost use Rattle.conf_tool.specs.Outputs.{lined_from};
@@ -17,7 +28,7 @@ use dd_file::line::Line;
 use dd_file::writing::write_all;
 use std::alloc::Global;
 
-/// The changer that makes the changes of the lines.
+/// The state of the mode: the changer that makes the change of each line.
 #[derive(Drop)]
 pub(super) struct LineByLine {
     changer: Changer<SessionIds>,
@@ -26,7 +37,7 @@ pub(super) struct LineByLine {
 }
 
 impl LineByLine {
-    /// Begins with an empty configuration.
+    /// The mode before its first line, with an empty configuration.
     pub(super) fn new(alloc: Global) -> LineByLine
         ensures { (buffered : Option (List ℕ)) → ⟦<LineByLine as PartByPart<Line>>⟧.HasAnswered result (lined_from empty_configuration) [] buffered buffered }
     {
@@ -47,6 +58,7 @@ impl PartByPart<Line> for LineByLine {
 
     ghost HasAnswered = { λ s total. WrotePrefix total (lined_from s.changer.tracker.config) };
 
+    // Replies to a line with the configuration after its change, or with the reason why the change is refused.
     fn answer<W: Sink>(&mut self, line: &Line, writer: &mut W) -> Result<(), ToolFault> {
         self.text.clear();
         answer_line(&mut self.changer, line.as_slice(), &mut self.text)?;
@@ -54,6 +66,7 @@ impl PartByPart<Line> for LineByLine {
         Ok(())
     }
 
+    // Nothing is printed at the end.
     fn end<W: Sink>(
         &mut self,
         fault: Option<FileFault>,

@@ -1,4 +1,14 @@
-//! The loop of all modes: the input is read part by part, and the reply to each part is written before the next is read.
+//! The loop of all modes: the input is read part by part, a line or an item of a script at a time, and the reply to
+//! each part is written before more input is waited for.
+//!
+//! ```text
+//! input         part 1    part 2    part 3    the end, or an error
+//! output        reply 1   reply 2   reply 3   reply to the end
+//! ```
+//!
+//! The output of a mode is defined for a whole input (`specs/Outputs.antt`), but a run knows only the parts so far. So
+//! each mode states what it has written after some parts ([`PartByPart`]'s `HasAnswered`), and the loop is proved once
+//! for all of them: what is written at any time is a prefix of the output, whatever input follows.
 ghost use Rattle.std.specs.Prelude.{◌≡◌, ◌<◌, ◌^◌, ◌||◌, ℕ, List, [], ◌∷◌, ◌++◌, length, Option, Err, false, is_err, OnOk, OnErr, IfErr, IfOk, IfSome};
 ghost use Rattle.std.specs.Io.KnownBytes.{Keeps};
 ghost use Rattle.dd_file.specs.Device.{AppendsPart, LosesPrefix};
@@ -18,14 +28,16 @@ use crate::tool_fault::ToolFault;
 use dd_file::device::{Sink, Source};
 use dd_file::fault::{FileFault, WriteFault};
 
-/// What a mode writes for a part of its input, and what at the end.
+/// A mode: the state that it keeps between parts, what it writes for a part, and what at the end. An error ends the
+/// run.
 pub(super) trait PartByPart<P> {
+    /// The name of the mode, which decides its statuses and its errors.
     ghost mode: { ModeName };
 
-    /// The replies to these parts were written: they took the writer's bytes from the former to the latter.
+    /// The replies to these parts were written; the writer's bytes grew by them, from the former to the latter.
     ghost HasAnswered: { Self → (ScriptOf P → Output) → List P → Option (List ℕ) → Option (List ℕ) → Type 0 };
 
-    /// Writes the reply to a part, before which there were fewer than 2^30.
+    /// Writes the reply to a part. There are fewer than 2^30 parts, since an input has fewer bytes.
     fn answer<W: Sink>(&mut self, part: &P, writer: &mut W) -> Result<(), ToolFault>
         requires { (total : ScriptOf P → Output) × (parts : List P) × (before : Option (List ℕ)) × HasAnswered self.old total parts before (W.contents writer.old) × (length parts < 2 ^ 30) }
         ensures answered { OnOk result ((total : ScriptOf P → Output) (parts : List P) (before : Option (List ℕ)) →
@@ -36,7 +48,7 @@ pub(super) trait PartByPart<P> {
         ensures kinds { IfErr result (λ stop. IsStop mode stop ((total : ScriptOf P → Output) (parts more : List P) (fault : Option ReadFault) (before : Option (List ℕ)) →
             HasAnswered self.old total parts before (W.contents writer.old) → Wrote (total (script (parts ++ part.now ∷ more) fault)) (Err stop) before (W.contents writer.new))) };
 
-    /// Writes the reply to the end of the input, or to the error in it.
+    /// Writes the reply to the end of the input, or to the error in it, and returns the status of the run.
     fn end<W: Sink>(
         &mut self,
         fault: Option<FileFault>,
@@ -58,7 +70,8 @@ pub(super) trait PartByPart<P> {
         HasAnswered m total parts before after → AppendsPart before after (total (script (parts ++ more) fault)).text };
 }
 
-/// The next part. If none is buffered, the output is flushed before the reader is called.
+/// The next part. If none is buffered, the output is flushed first: the reader may be a user or a program that waits
+/// for the replies before it sends more.
 fn next_part<P, S: Parts<P>, R: Source, W: Sink>(
     parts: &mut S,
     reader: &mut R,
@@ -78,7 +91,8 @@ fn next_part<P, S: Parts<P>, R: Source, W: Sink>(
     Ok(parts.read(reader, writer))
 }
 
-/// Replies to the parts of an input in turn, to its end or to an error.
+/// Runs a mode over an input, to its end or to an error. An error in the input is replied to by the mode; after a
+/// failed read, a failed write or `NoMemory` nothing more is written.
 pub(super) fn run_by_part<P: Drop, S: Parts<P> + Drop, M: PartByPart<P> + Drop, R: Source, W: Sink>(
     mut parts: S,
     mut mode: M,

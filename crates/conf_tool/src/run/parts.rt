@@ -1,4 +1,5 @@
-//! The parts of an input that a mode replies to one by one: lines, or the items of a script.
+//! The parts of an input that a mode replies to one by one: lines for `lines` and `plan`, items of a script for the
+//! other modes. Either can be returned without a read if it is buffered, and the modes need nothing else of them.
 ghost use Rattle.std.specs.Prelude.{◌≡◌, ℕ, List, Bool};
 ghost use Rattle.dd_file.specs.Position.{Position};
 ghost use Rattle.dd_file.specs.Grammar.{Next, script_from, followed};
@@ -14,25 +15,25 @@ use dd_file::line::Line;
 use dd_file::lines::Lines;
 use dd_file::reader::Reader;
 
-/// Reads the parts of an input.
+/// A reader of the parts of an input.
 pub(super) trait Parts<P> {
-    /// The next part of an input, from a position on.
+    /// What part comes next in an input, from a position on.
     ghost coming: { Position → List ℕ → Next P };
 
-    /// The errors in an input, from a position on.
+    /// The errors that reading from a position on may have.
     ghost IsFault: { Position → ReadFault → Type 0 };
 
-    /// Whether a whole part is buffered, by the position and the buffered bytes.
+    /// Whether all of a part is buffered, by the position and the buffered bytes.
     ghost is_buffered: { Position → List ℕ → Bool };
 
-    /// The reader's state.
+    /// The state that the part's reader is in: its buffer, its position and its error.
     ghost reader_state: { Self → ReaderState };
 
-    /// The next part, if all of it is buffered. The reader is not called.
+    /// The next part, if all of it is buffered. Nothing is read.
     fn buffered<R: Source>(&mut self, reader: &R) -> Option<Result<Option<P>, FileFault>>
         ensures { BufferedReadsOn R.remaining R.has_failed (λ part. part) coming IsFault is_buffered (reader_state self.old) (reader_state self.new) reader.now result };
 
-    /// The next part; none at the end. The output is flushed before this call, which may wait for the reader.
+    /// The next part; `None` at the end. This call may wait for input, so the output is to be flushed before it.
     fn read<R: Source, W: Sink>(
         &mut self,
         reader: &mut R,
@@ -41,7 +42,7 @@ pub(super) trait Parts<P> {
         requires { W.reached writer.now ≡ W.contents writer.now }
         ensures { ReadsOn R.remaining R.has_failed (λ part. part) coming IsFault (reader_state self.old) (reader_state self.new) reader.old reader.new result };
 
-    /// Takes a part back, to reuse its memory for a later one.
+    /// Takes back a part that was replied to, so that a later one reuses its buffer.
     fn take_back(&mut self, part: P)
         ensures { reader_state self.new ≡ reader_state self.old };
 

@@ -1,5 +1,16 @@
-//! The mode `plan`: the input is pairs of lines, each line a configuration. At the second line of a pair, the plan from the
-//! first to the second is written.
+//! The mode `plan`: the input is pairs of lines, each line a configuration. The first line of a pair is the current
+//! configuration and the second the target, and the reply to the second is the path between them:
+//!
+//! ```text
+//! # replace 1 and 2 by 4 and 5
+//! Voters:[1 2 3] ..           ->
+//! Voters:[3 4 5] ..           ->    enter-joint autoleave=false r1 r2 v4 v5
+//!                                   leave-joint
+//! ```
+//!
+//! Blank lines and comments are skipped, and still counted in the line numbers of errors. Between the replies to two
+//! pairs comes an empty line, but none in JSON. The first line with an error ends the run. The form of the input is
+//! own.
 ghost use Rattle.std.specs.Prelude.{◌≡◌, ℕ, ◌+◌, ◌<◌, ◌^◌, ◌||◌, List, [], ◌∷◌, ◌++◌, Option, Some, Ok, true, nat_lt, IfOk, IfErr, IfSome, OnOk, OnErr, IsOkUnless, if◌then◌else◌};
 ghost use Rattle.std.specs.Io.KnownBytes.{Appends};
 ghost use Rattle.dd_file.specs.Device.{AppendsPart};
@@ -25,23 +36,23 @@ use dd_file::line::Line;
 use dd_file::writing::write_all;
 use std::alloc::Global;
 
-/// How far the pairs have been read.
+/// The state of the mode: the pair that is being read, and how the pairs before it ended.
 #[derive(Drop)]
 pub(super) struct Planning {
     alloc: Global,
     options: PlanOptions,
-    /// How many lines were read.
+    /// How many lines were read, with those that were skipped.
     lines: usize,
     /// The number of the current pair, counted from 1.
     pair: u64,
-    /// The first configuration of that pair, once it is read.
+    /// The first configuration of that pair, if it was read.
     now: Option<Config<SessionIds>>,
-    /// The worst status of the previous pairs.
+    /// The worst status of the pairs before it.
     status: Status,
 }
 
 impl Planning {
-    /// Before the first line.
+    /// The mode before its first line.
     pub(super) fn new(alloc: Global, options: PlanOptions) -> Planning
         ensures { (buffered : Option (List ℕ)) → ⟦<Planning as PartByPart<Line>>⟧.HasAnswered result (planned_script options) [] buffered buffered }
     {
@@ -55,7 +66,7 @@ impl Planning {
         }
     }
 
-    /// Writes the output of a pair.
+    /// Writes the reply to a pair, and begins the next one.
     fn write_pair<W: Sink>(
         &mut self,
         now: &Config<SessionIds>,
@@ -80,7 +91,7 @@ impl Planning {
     }
 }
 
-// The worse of two statuses.
+// The worse of two statuses: a run is `Different` if one of its pairs is.
 fn worse(former: Status, latter: Status) -> Status
     ensures { Ok result ≡ worse_of former (Ok latter) }
 {
@@ -90,7 +101,7 @@ fn worse(former: Status, latter: Status) -> Status
     }
 }
 
-// The text of the pair with this number, and its status.
+// The reply to the pair with this number, and its status.
 fn pair_answer(
     alloc: Global,
     options: &PlanOptions,
@@ -110,14 +121,14 @@ fn pair_answer(
     Ok((text, status))
 }
 
-// The text before the output of the pair with this number.
+// The text before the reply to the pair with this number: nothing before the first.
 fn separator_before(number: u64, output: PlanOutput) -> &'static [u8]
     ensures { result.now ≡ (if nat_lt 1 number then separator output else []) }
 {
     if number > 1 { separator(output) } else { b"" }
 }
 
-// The text between the outputs of two pairs.
+// The text between the replies to two pairs: an empty line, but none in JSON, where each object is a line.
 fn separator(output: PlanOutput) -> &'static [u8]
     ensures { result.now ≡ separator output }
 {
@@ -136,6 +147,8 @@ impl PartByPart<Line> for Planning {
 
     ghost HasAnswered = { λ s. HasPlanned s.options s.lines s.pair s.now s.status };
 
+    // Keeps the first line of a pair, and replies to the second. Blank lines and comments are skipped. A line that is
+    // not a valid configuration ends the run.
     fn answer<W: Sink>(&mut self, line: &Line, writer: &mut W) -> Result<(), ToolFault> {
         self.lines += 1;
         if is_passed_over(line.as_slice()) {
@@ -151,6 +164,7 @@ impl PartByPart<Line> for Planning {
         }
     }
 
+    // An input without a pair, and one that ends after the first line of a pair, is an error.
     fn end<W: Sink>(
         &mut self,
         fault: Option<FileFault>,

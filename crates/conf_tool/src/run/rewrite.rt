@@ -1,4 +1,15 @@
-//! The mode `rewrite`: a script is run, and printed again with the actual output of each directive.
+//! The mode `rewrite`: a script is run, and printed again with the actual output of each directive, as `go test
+//! -rewrite` does with datadriven's files:
+//!
+//! ```text
+//! simple        ->    simple
+//! v1                  v1
+//! ----                ----
+//!                     voters=(1)
+//!                     1: StateProbe match=0 next=1
+//! ```
+//!
+//! A script with an error is printed up to the error.
 ghost use Rattle.std.specs.Prelude.{◌≡◌, ◌||◌, ℕ, List, [], Option, true, false, IfOk, IfErr, OnOk, OnErr, IsOkUnless};
 ghost use Rattle.dd_file.specs.Rewritten.{entry_text, has_blank_line, is_output};
 ghost use Rattle.dd_file.specs.RewriterState.{Continues, BreaksOff};
@@ -21,8 +32,8 @@ use dd_file::stage::Stage;
 use quorum_sets::NoMemory;
 use std::alloc::Global;
 
-/// Runs an item that is a directive, and returns its actual output, which is empty for other items. On `NoMemory` the
-/// session is unchanged.
+/// Runs an item that is a directive, and returns its actual output. Other items have none, and change nothing. On
+/// `NoMemory` the session is unchanged.
 pub(super) fn run_item(
     alloc: Global,
     session: &mut Session,
@@ -40,7 +51,7 @@ pub(super) fn run_item(
     }
 }
 
-/// Writes an item with its actual output.
+/// Writes an item with its actual output, which has no blank line: no command of a session prints one.
 fn write_entry<W: Sink>(
     rewriter: &mut Rewriter,
     writer: &mut W,
@@ -53,7 +64,7 @@ fn write_entry<W: Sink>(
     ensures written { OnOk result (Continues rewriter.old.newlines rewriter.new.newlines (W.contents writer.old) (W.contents writer.new) (entry_text item.now actual.now)) }
     ensures part { OnErr result (BreaksOff rewriter.old.newlines (W.contents writer.old) (W.contents writer.new) (entry_text item.now actual.now)) }
     ensures stage { OnOk result (rewriter.new.stage ≡ Stage.Ready) }
-    // On an error the writer has failed, and otherwise no write of this call has.
+    // After an error the writer has failed; without one no write failed in this call.
     ensures failed { OnErr result (W.has_failed writer.new ≡ true) }
     ensures sound { OnOk result (W.has_failed writer.new ≡ W.has_failed writer.old) }
 {
@@ -64,7 +75,7 @@ fn write_entry<W: Sink>(
     }
 }
 
-/// Runs an item, and writes it with its actual output. On `NoMemory` nothing is written.
+/// Runs an item, and writes it with its actual output. On `NoMemory` nothing is written of it.
 pub(super) fn rewrite_item<W: Sink>(
     alloc: Global,
     session: &mut Session,
@@ -85,7 +96,7 @@ pub(super) fn rewrite_item<W: Sink>(
     Ok(())
 }
 
-/// The session that runs the items of a script, and the writer of the items.
+/// The state of the mode: the session that runs the directives, and the rewriter of the items.
 #[derive(Drop)]
 pub(super) struct Rewriting {
     alloc: Global,
@@ -94,7 +105,7 @@ pub(super) struct Rewriting {
 }
 
 impl Rewriting {
-    /// A new session, with these options.
+    /// The mode before its first item, with a new session. It fails only if memory runs out.
     pub(super) fn new(alloc: Global, options: Options) -> Result<Rewriting, ToolFault>
         ensures unwritten { IfOk result (λ mode. (buffered : Option (List ℕ)) → ⟦<Rewriting as PartByPart<Item>>⟧.HasAnswered mode (rewritten_script options.history options.floor) [] buffered buffered) }
         ensures memory { IsOkUnless result OutOfMemory }
@@ -116,6 +127,7 @@ impl PartByPart<Item> for Rewriting {
 
     ghost HasAnswered = { λ s. HasRewritten s.session s.rewriter };
 
+    // Prints the item with its actual output.
     fn answer<W: Sink>(&mut self, item: &Item, writer: &mut W) -> Result<(), ToolFault> {
         rewrite_item(
             self.alloc,
@@ -126,6 +138,7 @@ impl PartByPart<Item> for Rewriting {
         )
     }
 
+    // Ends what is printed, also after an error: it is then the script up to the error.
     fn end<W: Sink>(
         &mut self,
         fault: Option<FileFault>,

@@ -1,4 +1,19 @@
-//! The mode `undo`: a script is run, and then a second script is printed that undoes its last changes.
+//! The mode `undo`: a script is run, and then a second script is printed, which undoes the last changes of the first.
+//!
+//! ```text
+//! simple         ->    simple
+//! v1                   r2
+//! ----                 ----
+//!                      voters=(1)
+//! simple               1: StateProbe match=0 next=1
+//! v2
+//! ----
+//! ```
+//!
+//! The steps are those of the plan to the configuration from before the last changes. The session runs them after the
+//! first script, so their outputs are those of one session that runs both scripts. The mode is own.
+//!
+//! If there is no step, the second script is a comment: `# nothing to do`, or `# no plan: ` and the reason.
 ghost use Rattle.std.specs.Prelude.{◌≡◌, ◌≤◌, ◌||◌, ℕ, List, [], ◌∷◌, Option, Ok, IfOk, IfErr, OnOk, OnErr, IsOkUnless};
 ghost use Rattle.dd_file.specs.RewriterState.{Continues, BreaksOff};
 ghost use Rattle.conf_tool.specs.Outputs.{undone_script, undo_status};
@@ -24,18 +39,19 @@ use dd_file::rewriter::Rewriter;
 use dd_file::stage::Stage;
 use std::alloc::Global;
 
-/// The session that runs the items of a script, how many of its changes to undo, and the writer of the undoing items.
+/// The state of the mode: the session that runs both scripts, and the rewriter of the second one.
 #[derive(Drop)]
 pub(super) struct Undoing {
     alloc: Global,
     session: Session,
     rewriter: Rewriter,
+    /// How many changes are undone, from 1 to 1000.
     steps: usize,
     ghost some: { 1 ≤ steps },
 }
 
 impl Undoing {
-    /// A new session, with these options, which undo at least one change.
+    /// The mode before its first item, with a new session. It fails only if memory runs out.
     pub(super) fn new(alloc: Global, options: Options) -> Result<Undoing, ToolFault>
         requires { 1 ≤ options.steps }
         ensures unwritten { IfOk result (λ mode. (buffered : Option (List ℕ)) → ⟦<Undoing as PartByPart<Item>>⟧.HasAnswered mode (undone_script options.history options.floor options.steps) [] buffered buffered) }
@@ -49,7 +65,7 @@ impl Undoing {
         })
     }
 
-    /// Runs and writes the steps that undo the changes, or writes why they cannot be undone.
+    /// Runs and writes the directives that undo the changes, or writes a comment with the reason why there is no plan.
     fn write_undo<W: Sink>(&mut self, writer: &mut W) -> Result<Status, ToolFault>
         requires { self.old.rewriter.stage ≡ Stage.Ready }
         ensures status { IfOk result (λ status. status ≡ undo_status (undo_plan_of self.old.session self.old.steps)) }
@@ -77,7 +93,7 @@ impl Undoing {
         }
     }
 
-    /// Takes and writes the steps of a plan, or writes the comment `nothing to do`.
+    /// Runs and writes the steps of a plan, each as a directive, or writes the comment `# nothing to do`.
     fn write_plan<W: Sink>(&mut self, plan: &Plan, writer: &mut W) -> Result<(), ToolFault>
         requires { self.old.rewriter.stage ≡ Stage.Ready }
         ensures written { OnOk result (Continues self.old.rewriter.newlines self.new.rewriter.newlines (W.contents writer.old) (W.contents writer.new)
@@ -100,7 +116,7 @@ impl Undoing {
         Ok(())
     }
 
-    /// Writes a comment with this text.
+    /// Writes a comment: `# ` and this text.
     fn write_comment<W: Sink>(&mut self, text: &[u8], writer: &mut W) -> Result<(), ToolFault>
         requires { self.old.rewriter.stage ≡ Stage.Ready }
         ensures written { OnOk result (Continues self.old.rewriter.newlines self.new.rewriter.newlines (W.contents writer.old) (W.contents writer.new)
@@ -115,7 +131,7 @@ impl Undoing {
         self.write_item(item, writer)
     }
 
-    /// Runs an item, and writes it with its actual output.
+    /// Runs an item of the second script, and writes it with its actual output.
     fn write_item<W: Sink>(&mut self, item: Item, writer: &mut W) -> Result<(), ToolFault>
         requires { self.old.rewriter.stage ≡ Stage.Ready }
         ensures session { OnOk result (self.new.session ≡ session_after self.old.session item) }
@@ -148,13 +164,14 @@ impl PartByPart<Item> for Undoing {
 
     ghost HasAnswered = { λ s. HasRun s.session s.rewriter s.steps };
 
-    // The expected output is ignored, and nothing is written yet.
+    // Nothing is written of the first script, and its expected outputs are ignored.
     fn answer<W: Sink>(&mut self, item: &Item, writer: &mut W) -> Result<(), ToolFault> {
         let _ = &*writer;
         run_item(self.alloc, &mut self.session, item)?;
         Ok(())
     }
 
+    // Prints the second script. If the first one has an error, its last changes are not known, and nothing is printed.
     fn end<W: Sink>(
         &mut self,
         fault: Option<FileFault>,
