@@ -19,10 +19,10 @@ is_comma byte = byte == 44
 
 -- the ids that some texts denote, if each of them is an id
 >>>>>>> .merge_file_Ff52xC
-abbrev pub ids_in_pieces : List (List ℕ) → Option (List ℕ)
-ids_in_pieces [] = Some []
-ids_in_pieces (full_line ∷ full_lines) = and_number (id_in full_line) (ids_in_pieces full_lines)
+abbrev pub ids_in_parts : List (List ℕ) → Option (List ℕ)
+ids_in_parts [] = Some []
+ids_in_parts (full_line ∷ full_lines) = and_number (id_in full_line) (ids_in_parts full_lines)
 
 -- the ids that a text denotes if it is split at each comma, if each part is an id; an empty part is not
 abbrev pub ids_listed : List ℕ → Option (List ℕ)
-ids_listed text = ids_in_pieces (slice_split is_comma text)
+ids_listed text = ids_in_parts (slice_split is_comma text)

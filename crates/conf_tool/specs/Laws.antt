@@ -78,10 +78,10 @@ texts_from options number [] = []
 texts_from options number (pair ∷ pairs) = plan_text_between options number pair.0 pair.1 ∷ texts_from options (number + 1) pairs
 
 -- texts with a separator between each two
-abbrev pub parted_by : List ℕ → List (List ℕ) → List ℕ
-parted_by part [] = []
-parted_by part (text ∷ []) = text
-parted_by part (text ∷ next ∷ texts) = text ++ (part ++ parted_by part (next ∷ texts))
+abbrev pub separated_by : List ℕ → List (List ℕ) → List ℕ
+separated_by part [] = []
+separated_by part (text ∷ []) = text
+separated_by part (text ∷ next ∷ texts) = text ++ (part ++ separated_by part (next ∷ texts))
 
 -- the text is that of the best plan from the first configuration of a pair to the second, if both have a voter
 abbrev pub IsBestPlan : Configuration × Configuration → List ℕ → Type 0
@@ -91,7 +91,7 @@ IsBestPlan pair text = has_voter pair.0 ≡ true → has_voter pair.1 ≡ true �
 -- one pair nothing else is printed, and the run ends clean if no ids are down.
 pub record PrintedPlanIsBest : Type 0 where
   pub each : (options : PlanOptions) (input : List ℕ) → options.strategy ≡ Shortest → options.output ≡ Steps →
-      (texts : List (List ℕ)) × ((planned_output options input).text ≡ parted_by newline texts) × AllZip IsBestPlan (pairs_in input) texts
+      (texts : List (List ℕ)) × ((planned_output options input).text ≡ separated_by newline texts) × AllZip IsBestPlan (pairs_in input) texts
   pub alone : (options : PlanOptions) (input : List ℕ) (first second : NumberedLine) (now target : Configuration) → options.strategy ≡ Shortest → options.output ≡ Steps → options.down ≡ None →
       (listing_of input).fault ≡ None → configuration_lines (numbered 1 (listing_of input).items) ≡ first ∷ second ∷ [] → configuration_at first ≡ Ok now → configuration_at second ≡ Ok target →
       has_voter now ≡ true → has_voter target ≡ true → (steps : List Step) × (planned_output options input ≡ record { text = plan_text steps; outcome = Ok Clean }) × IsBest now steps target
@@ -106,4 +106,4 @@ IsServingPath strategy pair text =
 -- path that keeps what the strategy promises.
 abbrev pub PrintedPathServes : Type 0
 PrintedPathServes = (options : PlanOptions) (input : List ℕ) → options.output ≡ Steps →
-    (texts : List (List ℕ)) × ((planned_output options input).text ≡ parted_by newline texts) × AllZip (IsServingPath options.strategy) (pairs_in input) texts
+    (texts : List (List ℕ)) × ((planned_output options input).text ≡ separated_by newline texts) × AllZip (IsServingPath options.strategy) (pairs_in input) texts

@@ -41,12 +41,12 @@ clean_unless None = Ok Clean
 clean_unless (Some fault) = Err (ScriptFault fault)
 
 -- the output of `lines` from a configuration on: the replies to the lines, up to an error
-abbrev pub lined_from : Configuration → Script (List ℕ) → Output
-lined_from c listing = record { text = line_replies c listing.items; outcome = clean_unless listing.fault }
+abbrev pub lines_output_from : Configuration → Script (List ℕ) → Output
+lines_output_from c listing = record { text = line_replies c listing.items; outcome = clean_unless listing.fault }
 
 -- the output of `lines`, which begins with the empty configuration
-abbrev pub lined : List ℕ → Output
-lined input = lined_from empty_configuration (listing_of input)
+abbrev pub lines_output : List ℕ → Output
+lines_output input = lines_output_from empty_configuration (listing_of input)
 
 -- the status of `check`: different if a directive differs
 abbrev pub check_status : Bool → Status
@@ -160,7 +160,7 @@ planned_output options input = planned_script options (listing_of input)
 
 -- the output of a mode, by its options
 abbrev pub output_of : Mode → Options → List ℕ → Output
-output_of Lines options input = lined input
+output_of Lines options input = lines_output input
 output_of Check options input = checked input options.history options.floor
 output_of Rewrite options input = rewritten input options.history options.floor
 output_of Undo options input = undone_output input options.history options.floor options.steps

@@ -27,12 +27,12 @@ numbered number [] = []
 numbered number (line ∷ lines) = record { number = number; text = line } ∷ numbered (number + 1) lines
 
 -- whether a line is skipped: it is blank or a comment, as in a script
-abbrev pub is_passed_over : List ℕ → Bool
-is_passed_over line = is_blank line || is_comment line
+abbrev pub is_skipped : List ℕ → Bool
+is_skipped line = is_blank line || is_comment line
 
 -- the lines that are not skipped: each has to be a configuration
 abbrev pub configuration_lines : List NumberedLine → List NumberedLine
-configuration_lines lines = filter (λ line. not (is_passed_over line.text)) lines
+configuration_lines lines = filter (λ line. not (is_skipped line.text)) lines
 
 -- a configuration, or what is wrong with it as the error of the line of this number
 abbrev pub at_line : ℕ → Result Configuration ConfigurationFault → Result Configuration ConfigurationsFault

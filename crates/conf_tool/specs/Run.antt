@@ -78,12 +78,12 @@ CanBeFaulty Undo fault = IsScriptFault fault
 CanBeFaulty Plan fault = IsInputTooLong fault
 
 -- whether a mode reads configurations: only `plan` does
-abbrev pub WantsConfigurations : Mode → Type 0
-WantsConfigurations Lines = ⊥
-WantsConfigurations Check = ⊥
-WantsConfigurations Rewrite = ⊥
-WantsConfigurations Undo = ⊥
-WantsConfigurations Plan = ⊤
+abbrev pub ReadsConfigurations : Mode → Type 0
+ReadsConfigurations Lines = ⊥
+ReadsConfigurations Check = ⊥
+ReadsConfigurations Rewrite = ⊥
+ReadsConfigurations Undo = ⊥
+ReadsConfigurations Plan = ⊤
 
 -- the statuses that a mode has: `lines` and `rewrite` have nothing to compare, and end clean
 abbrev pub CanBe : Mode → Status → Type 0
@@ -98,7 +98,7 @@ CanBe Plan Different = ⊤
 abbrev pub CanAnswer : Mode → Result Status ToolFault → Type 0
 CanAnswer mode (Ok status) = CanBe mode status
 CanAnswer mode (Err (Script fault)) = CanBeFaulty mode fault
-CanAnswer mode (Err (Configurations fault)) = WantsConfigurations mode
+CanAnswer mode (Err (Configurations fault)) = ReadsConfigurations mode
 CanAnswer mode (Err Read) = ⊤
 CanAnswer mode (Err Write) = ⊤
 CanAnswer mode (Err NoMemory) = ⊤
@@ -107,7 +107,7 @@ CanAnswer mode (Err NoMemory) = ⊤
 -- output was written, whatever input follows.
 abbrev pub IsStop : Mode → ToolFault → Type 0 → Type 0
 IsStop mode (Script fault) IsWhole = ⊥
-IsStop mode (Configurations fault) IsWhole = WantsConfigurations mode × IsWhole
+IsStop mode (Configurations fault) IsWhole = ReadsConfigurations mode × IsWhole
 IsStop mode Read IsWhole = ⊥
 IsStop mode Write IsWhole = ⊤
 IsStop mode NoMemory IsWhole = ⊤
@@ -131,13 +131,13 @@ is_write_failure (Err Write) = true
 is_write_failure (Err NoMemory) = false
 
 -- whether a result means that the whole output was written: a status, or an error in the input
-abbrev pub stands_for_whole : Result Status ToolFault → Bool
-stands_for_whole (Ok status) = true
-stands_for_whole (Err (Script fault)) = true
-stands_for_whole (Err (Configurations fault)) = true
-stands_for_whole (Err Read) = false
-stands_for_whole (Err Write) = false
-stands_for_whole (Err NoMemory) = false
+abbrev pub is_whole_output : Result Status ToolFault → Bool
+is_whole_output (Ok status) = true
+is_whole_output (Err (Script fault)) = true
+is_whole_output (Err (Configurations fault)) = true
+is_whole_output (Err Read) = false
+is_whole_output (Err Write) = false
+is_whole_output (Err NoMemory) = false
 
 -- What a result means for whether the writer has failed, before and after. After a failed read or `NoMemory`, the flush
 -- at the end may have failed too.

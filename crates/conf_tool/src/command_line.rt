@@ -1,7 +1,7 @@
 //! The arguments of the command line.
 ghost use Rattle.std.specs.Prelude.{◌≡◌, ◌≤◌, ◌<◌, ◌^◌, [], Some, true, false, map, codes, option_map, MatchResult, IfOk, IfErr};
 ghost use Rattle.clap.specs.Words.{app_of, fault_of, first_of, found_of, kind_of, new_app, new_rule, rows_of, rule_of, subcommand_of, subcommand_rows_of};
-ghost use Rattle.conf_tool.specs.Program.{program as the_program, OfProgram, wants_mode, with_version, with_mode, mode_command, script_command, undo_command, plan_command, number_rule, names_rule, text_rule, asked_mode, mode_named, asked_text, asked_floor, floor_named, asked_strategy, strategy_named, asked_output, output_named, asked_down, IsAsked, IsInvocation, IsIdsFault, IsRefusal};
+ghost use Rattle.conf_tool.specs.Program.{program as the_program, OfProgram, requires_mode, with_version, with_mode, mode_command, script_command, undo_command, plan_command, number_rule, names_rule, text_rule, asked_mode, mode_named, asked_text, asked_floor, floor_named, asked_strategy, strategy_named, asked_output, output_named, asked_down, IsAsked, IsInvocation, IsIdsFault, IsRefusal};
 ghost use Rattle.conf_tool.specs.Ranges.{IsInRange};
 
 use crate::argument_fault::ArgumentFault;
@@ -270,7 +270,7 @@ fn program<'a>(alloc: Global, names: OptionNames<'a>) -> Result<Command<'a>, Err
 
 // The program without its modes.
 fn without_modes<'a>(alloc: Global) -> Command<'a>
-    ensures { app_of result ≡ wants_mode (with_version (new_app (codes "confscript"))) }
+    ensures { app_of result ≡ requires_mode (with_version (new_app (codes "confscript"))) }
 {
     Command::new(alloc, "confscript")
         .about("Simulates membership changes of etcd's raft library")

@@ -2,7 +2,7 @@
 ghost use Rattle.std.specs.Prelude.{◌≡◌, true, Ok, IfOk, IfErr};
 ghost use Rattle.conf_change.specs.Configuration.{is_valid};
 ghost use Rattle.conf_change.specs.Violation.{valid_of, configuration_in};
-ghost use Rattle.conf_tool.specs.Pairs.{is_passed_over, is_json, saved_in_json, at_line, at_json, configuration_at, IsFaultOf};
+ghost use Rattle.conf_tool.specs.Pairs.{is_skipped, is_json, saved_in_json, at_line, at_json, configuration_at, IsFaultOf};
 
 use crate::configurations_fault::ConfigurationsFault;
 use crate::tool_fault::ToolFault;
@@ -13,8 +13,8 @@ use raft_json::{JsonFault, read_conf_state_json};
 use std::alloc::Global;
 
 /// Whether the line is blank or a comment, as in a script.
-pub(crate) fn is_passed_over(line: &[u8]) -> bool
-    ensures { result ≡ is_passed_over line.now }
+pub(crate) fn is_skipped(line: &[u8]) -> bool
+    ensures { result ≡ is_skipped line.now }
 {
     is_blank(line) || trimmed(line).starts_with(b"#")
 }

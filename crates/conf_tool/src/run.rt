@@ -1,10 +1,10 @@
 //! Running a mode, over any reader and writer.
 ghost use Rattle.std.specs.Prelude.{◌≡◌, ◌||◌, true, false};
 ghost use Rattle.dd_file.specs.Device.{LosesPrefix};
-ghost use Rattle.dd_file.specs.Gathered.{gathering_writer, NothingWaits};
+ghost use Rattle.dd_file.specs.Gathered.{buffered_writer, NothingBuffered};
 ghost use Rattle.conf_tool.specs.Outputs.{output_of};
 ghost use Rattle.conf_tool.specs.Ranges.{IsInRange};
-ghost use Rattle.conf_tool.specs.Run.{Answers, CanAnswer, ReportsWrite, is_read_failure, is_write_failure, stands_for_whole};
+ghost use Rattle.conf_tool.specs.Run.{Answers, CanAnswer, ReportsWrite, is_read_failure, is_write_failure, is_whole_output};
 
 mod check;
 mod clean_unless;
@@ -92,7 +92,7 @@ pub fn run_and_flush<R: Source, W: Sink>(
     writer: &mut Blocks<W>,
 ) -> Result<Status, ToolFault>
     requires range { IsInRange options }
-    requires empty { NothingWaits writer.old }
+    requires empty { NothingBuffered writer.old }
 
     // The blocks (what their writer has, and what is buffered) have the output, or a prefix of it, for each input that
     // agrees with what was read, ..
@@ -100,17 +100,17 @@ pub fn run_and_flush<R: Source, W: Sink>(
         (⟦<Blocks<W> as Sink>⟧.contents writer.old) (⟦<Blocks<W> as Sink>⟧.contents writer.new) result }
 
     // .. and their writer has all of it, if the result means that the output is whole.
-    ensures whole { stands_for_whole result ≡ true → NothingWaits writer.new ×
+    ensures whole { is_whole_output result ≡ true → NothingBuffered writer.new ×
         Answers (output_of mode options) (R.remaining reader.old) (R.remaining reader.new)
-        (W.contents (gathering_writer writer.old)) (W.contents (gathering_writer writer.new)) result }
+        (W.contents (buffered_writer writer.old)) (W.contents (buffered_writer writer.new)) result }
 
     // Nothing is left in the buffer, unless the writer has failed.
-    ensures flushed { W.has_failed (gathering_writer writer.new) ≡ false → NothingWaits writer.new }
+    ensures flushed { W.has_failed (buffered_writer writer.new) ≡ false → NothingBuffered writer.new }
     ensures taken { LosesPrefix (R.remaining reader.old) (R.remaining reader.new) }
 
     // A failed read and `NoMemory` take precedence over a failed write.
     ensures read { R.has_failed reader.new ≡ (R.has_failed reader.old || is_read_failure result) }
-    ensures write { ReportsWrite (W.has_failed (gathering_writer writer.old)) (W.has_failed (gathering_writer writer.new)) result }
+    ensures write { ReportsWrite (W.has_failed (buffered_writer writer.old)) (W.has_failed (buffered_writer writer.new)) result }
     ensures kinds { CanAnswer mode result }
 {
     let outcome = run(alloc, mode, options, reader, writer);
@@ -123,7 +123,7 @@ pub fn run_and_flush<R: Source, W: Sink>(
 
 /// Whether a result means that the output is whole: a status, or an error in the input.
 fn is_whole(outcome: &Result<Status, ToolFault>) -> bool
-    ensures { result ≡ stands_for_whole outcome.now }
+    ensures { result ≡ is_whole_output outcome.now }
 {
     matches!(
         outcome,

@@ -31,14 +31,14 @@ pub struct Blocks<W> {
 }
 
 impl<W: Sink> Blocks<W> {
-    ghost use Rattle.dd_file.specs.Gathered.{gathering_writer, waiting_bytes, NothingWaits};
+    ghost use Rattle.dd_file.specs.Gathered.{buffered_writer, buffered_output, NothingBuffered};
 
     /// A sink with an empty block, over this writer. If memory runs out, the writer is dropped (own).
     pub fn new(alloc: Global, writer: W) -> Result<Blocks<W>, AllocError>
     where
         W: Drop,
-        ensures writer { IfOk result (λ blocks. gathering_writer blocks ≡ writer) }
-        ensures empty { IfOk result (λ blocks. NothingWaits blocks) }
+        ensures writer { IfOk result (λ blocks. buffered_writer blocks ≡ writer) }
+        ensures empty { IfOk result (λ blocks. NothingBuffered blocks) }
     {
         let block = Vec::with_capacity(alloc, BLOCK_BYTES)?;
         Ok(Blocks {
@@ -51,11 +51,11 @@ impl<W: Sink> Blocks<W> {
     /// Writes the block to the writer and empties it. The writer itself may still buffer the bytes.
     fn flush_block(&mut self) -> Result<(), DeviceFault>
         ensures bytes { Keeps (⟦<Blocks<W> as Sink>⟧.contents self.old) (⟦<Blocks<W> as Sink>⟧.contents self.new) }
-        ensures ok { OnOk result (NothingWaits self.new) }
-        ensures part { AppendsPart (W.contents (gathering_writer self.old)) (W.contents (gathering_writer self.new)) (waiting_bytes self.old) }
+        ensures ok { OnOk result (NothingBuffered self.new) }
+        ensures part { AppendsPart (W.contents (buffered_writer self.old)) (W.contents (buffered_writer self.new)) (buffered_output self.old) }
         ensures room { OnOk result (vec_len self.new.block ≡ 0) }
-        ensures again { W.has_failed (gathering_writer self.old) ≡ true → IsErr result × (self.new ≡ self.old) }
-        ensures failed { W.has_failed (gathering_writer self.new) ≡ (W.has_failed (gathering_writer self.old) || is_err result) }
+        ensures again { W.has_failed (buffered_writer self.old) ≡ true → IsErr result × (self.new ≡ self.old) }
+        ensures failed { W.has_failed (buffered_writer self.new) ≡ (W.has_failed (buffered_writer self.old) || is_err result) }
     {
         if self.writer.failed() {
             return Err(DeviceFault);
@@ -79,7 +79,7 @@ impl<W: Sink> Blocks<W> {
         requires { 0 < length bytes.now }
         ensures bound { WritesAtMost result bytes.now }
         ensures bytes { WriteAppends (⟦<Blocks<W> as Sink>⟧.contents self.old) (⟦<Blocks<W> as Sink>⟧.contents self.new) result bytes.now }
-        ensures failed { W.has_failed (gathering_writer self.new) ≡ (W.has_failed (gathering_writer self.old) || is_failed_write result bytes.now) }
+        ensures failed { W.has_failed (buffered_writer self.new) ≡ (W.has_failed (buffered_writer self.old) || is_failed_write result bytes.now) }
     {
         if self.block.len() == BLOCK_BYTES {
             self.flush_block()?;
@@ -95,13 +95,13 @@ impl<W: Sink> Blocks<W> {
     /// Writes the buffered bytes to the writer. It fails if the writer fails, or has failed before (own).
     pub fn flush(&mut self) -> Result<(), WriteFault>
         ensures bytes { Keeps (⟦<Blocks<W> as Sink>⟧.contents self.old) (⟦<Blocks<W> as Sink>⟧.contents self.new) }
-        ensures ok { OnOk result (NothingWaits self.new) }
+        ensures ok { OnOk result (NothingBuffered self.new) }
         // The writer got a prefix of the bytes that were buffered.
-        ensures part { AppendsPart (W.contents (gathering_writer self.old)) (W.contents (gathering_writer self.new)) (waiting_bytes self.old) }
+        ensures part { AppendsPart (W.contents (buffered_writer self.old)) (W.contents (buffered_writer self.new)) (buffered_output self.old) }
         // An error is permanent, and the writer is not called again.
-        ensures again { W.has_failed (gathering_writer self.old) ≡ true → IsErr result × (self.new ≡ self.old) }
+        ensures again { W.has_failed (buffered_writer self.old) ≡ true → IsErr result × (self.new ≡ self.old) }
         // The writer has failed exactly if it had failed before, or an error is returned.
-        ensures failed { W.has_failed (gathering_writer self.new) ≡ (W.has_failed (gathering_writer self.old) || is_err result) }
+        ensures failed { W.has_failed (buffered_writer self.new) ≡ (W.has_failed (buffered_writer self.old) || is_err result) }
     {
         match self.flush_block() {
             Ok(()) => Ok(()),
@@ -111,8 +111,8 @@ impl<W: Sink> Blocks<W> {
 
     /// The writer. Bytes that are still buffered are lost: call `flush` before (own).
     pub fn into_inner(self) -> W
-        ensures writer { result ≡ gathering_writer self }
-        ensures part { Appends (W.contents result) (⟦<Blocks<W> as Sink>⟧.contents self) (waiting_bytes self) }
+        ensures writer { result ≡ buffered_writer self }
+        ensures part { Appends (W.contents result) (⟦<Blocks<W> as Sink>⟧.contents self) (buffered_output self) }
     {
         let Blocks {
             writer,
@@ -124,7 +124,7 @@ impl<W: Sink> Blocks<W> {
 }
 
 impl<W: Sink> Sink for Blocks<W> {
-    ghost use Rattle.dd_file.specs.Gathered.{gathering_writer, gathered_bytes};
+    ghost use Rattle.dd_file.specs.Gathered.{buffered_writer, gathered_bytes};
 
     ghost contents = { gathered_bytes W.contents };
 

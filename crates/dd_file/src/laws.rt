@@ -4,7 +4,7 @@
 //! that was rewritten reads as the script that it was, with its actual outputs as the expected ones. The last ones put
 //! the contracts of two calls together, for crates that read and write in loops.
 ghost use Rattle.std.specs.Prelude.{◌≡◌};
-ghost use Rattle.dd_file.specs.Gathered.{gathering_writer, NothingWaits};
+ghost use Rattle.dd_file.specs.Gathered.{buffered_writer, NothingBuffered};
 ghost use Rattle.dd_file.specs.InTurn.{ConsumedInTurn, ReadInTurn, AppendedInTurn, PartInFirst, PartInSecond, ContinuesInTurn, BreaksInFirst, BreaksInSecond};
 ghost use Rattle.dd_file.specs.Laws.{ItemsByNext, LinesByNext, WrittenItem, ItemsAreWellFormed, DirectiveIsWellFormed, WrittenScript, ItemsHaveKeys, CompleteByFirst, JoinedItems};
 
@@ -85,5 +85,5 @@ pub fn rewritten_in_turn()
 
 /// Once the blocks are flushed, their writer has all bytes that were written to them (own).
 pub fn nothing_waits<W: Sink>()
-    ensures { (blocks : Blocks W) → NothingWaits blocks → ⟦<Blocks<W> as Sink>⟧.contents blocks ≡ W.contents (gathering_writer blocks) }
+    ensures { (blocks : Blocks W) → NothingBuffered blocks → ⟦<Blocks<W> as Sink>⟧.contents blocks ≡ W.contents (buffered_writer blocks) }
 {}

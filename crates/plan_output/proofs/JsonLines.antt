@@ -11,15 +11,15 @@ use Rattle.serde_json.specs.Written.{has_float, members_have_float}
 use Rattle.raft_json.specs.Proposal.{proposed_changes, transition_of}
 use Rattle.raft_json.proofs.Offered.{has_float-conf_change_json, has_float-conf_state_json, has_float-ids_json}
 use Rattle.plan_output.specs.Stages.{StageState, stages, stage_may_be_down, until_then}
-use Rattle.plan_output.specs.Json.{count_json, step_members, step_json, steps_json, value_line, json_text}
+use Rattle.plan_output.specs.Json.{count_json, step_keys, step_json, steps_json, value_line, json_text}
 
 -- ---- an object of a step has no float
 has_float-count_json : (count : Option ℕ) → has_float (count_json count) ≡ false
 has_float-count_json None = refl
 has_float-count_json (Some n) = refl
 
-step_members-no_float : (plan count number : ℕ) (before : StageState) (step : Step) (after : StageState) → members_have_float (step_members plan count number before step after) ≡ false
-step_members-no_float plan count number before step after =
+step_keys-no_float : (plan count number : ℕ) (before : StageState) (step : Step) (after : StageState) → members_have_float (step_keys plan count number before step after) ≡ false
+step_keys-no_float plan count number before step after =
     rw (
       has_float-conf_change_json (transition_of step) (proposed_changes before.config step),
       has_float-conf_state_json (lists_of after.config),
@@ -30,9 +30,9 @@ step_members-no_float plan count number before step after =
 pub has_float-step_json : (down : Option Ids) (plan count number : ℕ) (before : StageState) (step : Step) (after : StageState)
     → has_float (step_json down plan count number before step after) ≡ false
 has_float-step_json None plan count number before step after =
-    rw (has_float-ids_json (ascending after.catching_up)) (step_members-no_float plan count number before step after)
+    rw (has_float-ids_json (ascending after.catching_up)) (step_keys-no_float plan count number before step after)
 has_float-step_json (Some down) plan count number before step after =
-    rw (has_float-ids_json (ascending after.catching_up)) (step_members-no_float plan count number before step after)
+    rw (has_float-ids_json (ascending after.catching_up)) (step_keys-no_float plan count number before step after)
 
 -- ---- the lines of the steps from one on
 abbrev pub lines : Option Ids → ℕ → ℕ → ℕ → List StageState → List Step → List ℕ

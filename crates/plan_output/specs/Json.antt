@@ -24,8 +24,8 @@ with_commits (Some down) stage others = member (codes "commits") (boolean (commi
 
 -- The keys of an object from `conf_change` on: what is proposed for the step, where it leads, what may be down there,
 -- and which step of how many it is.
-abbrev pub step_members : ℕ → ℕ → ℕ → StageState → Step → StageState → Members
-step_members plan count number_of before step after =
+abbrev pub step_keys : ℕ → ℕ → ℕ → StageState → Step → StageState → Members
+step_keys plan count number_of before step after =
     member (codes "conf_change") (conf_change_json (transition_of step) (proposed_changes before.config step))
     (member (codes "conf_state") (conf_state_json (lists_of after.config))
     (member (codes "stage_may_be_down") (count_json (stage_may_be_down after))
@@ -38,7 +38,7 @@ step_members plan count number_of before step after =
 abbrev pub step_json : Option Ids → ℕ → ℕ → ℕ → StageState → Step → StageState → Data
 step_json down plan count number_of before step after =
     object (member (codes "catch_up") (ids_json (ascending after.catching_up))
-    (with_commits down after (step_members plan count number_of before step after)))
+    (with_commits down after (step_keys plan count number_of before step after)))
 
 -- the objects of steps, the first of which has this number, each between its two stages
 abbrev pub steps_json : Option Ids → ℕ → ℕ → ℕ → List StageState → List Step → List Data

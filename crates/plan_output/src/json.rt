@@ -159,7 +159,7 @@ fn step_value<S: MemberSet>(
     ensures { IfOk result (λ v. view v
         ≡ step_json (option_map S.ids (option_copied down.entry)) number.plan number.steps number.step before.now step.now after.now) }
 {
-    let mut members = step_members(alloc, number, before, step, after)?;
+    let mut members = step_keys(alloc, number, before, step, after)?;
     if let Some(down) = down {
         put(
             &mut members,
@@ -174,7 +174,7 @@ fn step_value<S: MemberSet>(
 }
 
 // The keys `conf_change` to `until_then`, which every object of a step has.
-fn step_members<S: MemberSet>(
+fn step_keys<S: MemberSet>(
     alloc: Global,
     number: Number,
     before: &Stage<S>,
@@ -182,7 +182,7 @@ fn step_members<S: MemberSet>(
     after: &Stage<S>,
 ) -> Result<Map<String, Value>, NoMemory>
     ensures { IfOk result (λ members. members_view members.entries
-        ≡ spec.step_members number.plan number.steps number.step before.now step.now after.now) }
+        ≡ spec.step_keys number.plan number.steps number.step before.now step.now after.now) }
 {
     let conf_change = conf_change_value(alloc, before.config(), step)?;
     let state = conf_state(alloc, after.config())?;

@@ -6,7 +6,7 @@ use Rattle.std.proofs.lemmas.List.{take_all, drop-drop, length-drop}
 use Rattle.std.proofs.lemmas.List.Splits.{slice_split_none, slice_split_first}
 use Rattle.std.proofs.lemmas.List.Sums.{fails_before_first}
 use Rattle.dd_file.specs.DirectiveLine.{is_comma}
-use Rattle.conf_tool.specs.IdList.{ids_in_pieces, ids_listed}
+use Rattle.conf_tool.specs.IdList.{ids_in_parts, ids_listed}
 
 -- ids that were read, before those of the pieces that are left
 abbrev pub onto_ids : List ℕ → Option (List ℕ) → Option (List ℕ)

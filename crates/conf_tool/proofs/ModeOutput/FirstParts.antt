@@ -11,7 +11,7 @@ use Rattle.dd_file.proofs.Offered.{appends-append, part-part, append-part}
 use Rattle.conf_tool.specs.Answered.{script, prepended, with_prefix, WrotePrefix}
 use Rattle.conf_change.specs.Configuration.{Configuration}
 use Rattle.conf_tool.specs.LineReply.{line_reply}
-use Rattle.conf_tool.specs.Outputs.{Output, ends, clean_unless, lined_from}
+use Rattle.conf_tool.specs.Outputs.{Output, ends, clean_unless, lines_output_from}
 use Rattle.conf_tool.specs.Run.{Wrote, Means}
 use Rattle.conf_tool.specs.declared.tool_fault.ToolFault.{ToolFault}
 use Rattle.conf_tool.specs.declared.status.Status.{Status}
@@ -90,18 +90,18 @@ clean-means output (Some fault) before after wrote = wrote
 -- ---- the mode `lines`
 -- what a line leaves
 lines-part : (c d : Configuration) (line : List ℕ) → d ≡ (line_reply c line).after → (rest : Script (List ℕ)) →
-    lined_from c (prepended (line ∷ []) rest) ≡ with_prefix ((line_reply c line).text ++ newline) (lined_from d rest)
-lines-part c d line is rest = ap (λ e. with_prefix ((line_reply c line).text ++ newline) (lined_from e rest)) (sym is)
+    lines_output_from c (prepended (line ∷ []) rest) ≡ with_prefix ((line_reply c line).text ++ newline) (lines_output_from d rest)
+lines-part c d line is rest = ap (λ e. with_prefix ((line_reply c line).text ++ newline) (lines_output_from e rest)) (sym is)
 
-pub lined-part : (c d : Configuration) (line : List ℕ) (total : Script (List ℕ) → Output) (parts : List (List ℕ)) (bytes : List ℕ) (before mid new : Option (List ℕ)) →
-    WrotePrefix total (lined_from c) parts before mid → d ≡ (line_reply c line).after → bytes ≡ (line_reply c line).text ++ newline → Appends mid new bytes →
-    WrotePrefix total (lined_from d) (parts ++ line ∷ []) before new
-lined-part c d line total parts bytes before mid new prefix is same appends =
-    wrote-part total (lined_from c) (lined_from d) parts line ((line_reply c line).text ++ newline) bytes before mid new prefix (lines-part c d line is) same appends
+pub lines_output-part : (c d : Configuration) (line : List ℕ) (total : Script (List ℕ) → Output) (parts : List (List ℕ)) (bytes : List ℕ) (before mid new : Option (List ℕ)) →
+    WrotePrefix total (lines_output_from c) parts before mid → d ≡ (line_reply c line).after → bytes ≡ (line_reply c line).text ++ newline → Appends mid new bytes →
+    WrotePrefix total (lines_output_from d) (parts ++ line ∷ []) before new
+lines_output-part c d line total parts bytes before mid new prefix is same appends =
+    wrote-part total (lines_output_from c) (lines_output_from d) parts line ((line_reply c line).text ++ newline) bytes before mid new prefix (lines-part c d line is) same appends
 
-pub lined-broken : (c : Configuration) (line : List ℕ) (total : Script (List ℕ) → Output) (parts more : List (List ℕ)) (fault : Option FileFault) (bytes : List ℕ) (before mid new : Option (List ℕ)) →
-    WrotePrefix total (lined_from c) parts before mid → bytes ≡ (line_reply c line).text ++ newline → AppendsPart mid new bytes →
+pub lines_output-broken : (c : Configuration) (line : List ℕ) (total : Script (List ℕ) → Output) (parts more : List (List ℕ)) (fault : Option FileFault) (bytes : List ℕ) (before mid new : Option (List ℕ)) →
+    WrotePrefix total (lines_output_from c) parts before mid → bytes ≡ (line_reply c line).text ++ newline → AppendsPart mid new bytes →
     AppendsPart before new (total (script (parts ++ line ∷ more) fault)).text
-lined-broken c line total parts more fault bytes before mid new prefix same cut =
-    wrote-broken total (lined_from c) (lined_from (line_reply c line).after) parts line ((line_reply c line).text ++ newline) bytes before mid new prefix
+lines_output-broken c line total parts more fault bytes before mid new prefix same cut =
+    wrote-broken total (lines_output_from c) (lines_output_from (line_reply c line).after) parts line ((line_reply c line).text ++ newline) bytes before mid new prefix
     (lines-part c (line_reply c line).after line refl) same cut more fault

@@ -8,7 +8,7 @@ use Rattle.dd_file.specs.declared.fault.FileFault.{FileFault}
 use Rattle.conf_change.specs.Configuration.{Configuration, is_valid}
 use Rattle.conf_tool.specs.Answered.{script, prepended, with_prefix, HasPlanned, pairs_within, pairs_left, with_status, plan_left}
 use Rattle.conf_tool.specs.Outputs.{Output, ends, pair_text, worse_of, pair_then, ends_within, planned_pairs, planned_script}
-use Rattle.conf_tool.specs.Pairs.{NumberedLine, numbered, is_passed_over, configuration_lines, configuration_at, both_of, IsFaultOf}
+use Rattle.conf_tool.specs.Pairs.{NumberedLine, numbered, is_skipped, configuration_lines, configuration_at, both_of, IsFaultOf}
 use Rattle.conf_tool.specs.Run.{Wrote, IsStop}
 use Rattle.conf_tool.specs.declared.mode.Mode.TheVariants.{Plan as OfPlan}
 use Rattle.conf_tool.specs.PlanAnswer.{plan_status}
@@ -59,14 +59,14 @@ worse_of-clean Clean = refl
 worse_of-clean Different = refl
 
 -- ---- the lines that are not passed over
-configuration_lines-passed : (line : NumberedLine) (lines : List NumberedLine) → is_passed_over line.text ≡ true → configuration_lines (line ∷ lines) ≡ configuration_lines lines
+configuration_lines-passed : (line : NumberedLine) (lines : List NumberedLine) → is_skipped line.text ≡ true → configuration_lines (line ∷ lines) ≡ configuration_lines lines
 configuration_lines-passed line lines passed = simp passed refl
 
-configuration_lines-kept : (line : NumberedLine) (lines : List NumberedLine) → is_passed_over line.text ≡ false → configuration_lines (line ∷ lines) ≡ line ∷ configuration_lines lines
+configuration_lines-kept : (line : NumberedLine) (lines : List NumberedLine) → is_skipped line.text ≡ false → configuration_lines (line ∷ lines) ≡ line ∷ configuration_lines lines
 configuration_lines-kept line lines kept = simp kept refl
 
 -- ---- what a line leaves
-pub plan_left-passed : (options : PlanOptions) (count number : ℕ) (now : Option Configuration) (status : Status) (line : List ℕ) → is_passed_over line ≡ true → (rest : Script (List ℕ)) →
+pub plan_left-passed : (options : PlanOptions) (count number : ℕ) (now : Option Configuration) (status : Status) (line : List ℕ) → is_skipped line ≡ true → (rest : Script (List ℕ)) →
     plan_left options count number now status (prepended (line ∷ []) rest) ≡ with_prefix [] (plan_left options (count + 1) number now status rest)
 plan_left-passed options count number now status line passed rest =
     ap (λ lines. with_status status (pairs_left options number now lines rest.fault)) (configuration_lines-passed (record { number = count + 1; text = line }) (numbered (count + 1 + 1) rest.items) passed)
@@ -82,7 +82,7 @@ pairs_within-bad options number bad (second ∷ lines) fault = refl
 
 -- the first line of a pair
 pub plan_left-first : (options : PlanOptions) (count number : ℕ) (status : Status) (line : List ℕ) (first : Configuration) →
-    is_passed_over line ≡ false → configuration_at (record { number = count + 1; text = line }) ≡ Ok first → (rest : Script (List ℕ)) →
+    is_skipped line ≡ false → configuration_at (record { number = count + 1; text = line }) ≡ Ok first → (rest : Script (List ℕ)) →
     plan_left options count number None status (prepended (line ∷ []) rest) ≡ with_prefix [] (plan_left options (count + 1) number (Some first) status rest)
 plan_left-first options count number status line first kept is rest =
     let at : NumberedLine = record { number = count + 1; text = line } in
@@ -92,7 +92,7 @@ plan_left-first options count number status line first kept is rest =
 
 -- .. and the second
 pub plan_left-second : (options : PlanOptions) (count number : ℕ) (now target : Configuration) (status after : Status) (line : List ℕ) →
-    is_passed_over line ≡ false → configuration_at (record { number = count + 1; text = line }) ≡ Ok target → ◌≡◌ {A = Result Status ToolFault} (Ok after) (worse_of status (Ok (plan_status options now target))) → (rest : Script (List ℕ)) →
+    is_skipped line ≡ false → configuration_at (record { number = count + 1; text = line }) ≡ Ok target → ◌≡◌ {A = Result Status ToolFault} (Ok after) (worse_of status (Ok (plan_status options now target))) → (rest : Script (List ℕ)) →
     plan_left options count number (Some now) status (prepended (line ∷ []) rest) ≡ with_prefix (pair_text options number now target) (plan_left options (count + 1) (number + 1) None after rest)
 plan_left-second options count number now target status after line kept is worse rest =
     let at : NumberedLine = record { number = count + 1; text = line } in
@@ -104,7 +104,7 @@ plan_left-second options count number now target status after line kept is worse
 
 -- a line that names no configuration ends the output
 pub plan_left-bad : (options : PlanOptions) (count number : ℕ) (now : Option Configuration) (status : Status) (line : List ℕ) (bad : ConfigurationsFault) →
-    is_passed_over line ≡ false → configuration_at (record { number = count + 1; text = line }) ≡ Err bad → (rest : Script (List ℕ)) →
+    is_skipped line ≡ false → configuration_at (record { number = count + 1; text = line }) ≡ Err bad → (rest : Script (List ℕ)) →
     plan_left options count number now status (prepended (line ∷ []) rest) ≡ ends (Err (Configurations bad))
 plan_left-bad options count number None status line bad kept is rest =
     let at : NumberedLine = record { number = count + 1; text = line } in
@@ -167,14 +167,14 @@ planned-part options count count_after number number_after now now_after status 
 
 -- a line that is passed over
 pub planned-passed : (options : PlanOptions) (count number : ℕ) (now : Option Configuration) (status : Status) (line : List ℕ) (total : Script (List ℕ) → Output) (parts : List (List ℕ)) (before mid : Option (List ℕ)) →
-    is_passed_over line ≡ true → HasPlanned options count number now status total parts before mid → HasPlanned options (count + 1) number now status total (parts ++ line ∷ []) before mid
+    is_skipped line ≡ true → HasPlanned options count number now status total parts before mid → HasPlanned options (count + 1) number now status total (parts ++ line ∷ []) before mid
 planned-passed options count number now status line total parts before mid passed planned =
     planned-part options count (count + 1) number number now now status status line [] [] total parts before mid mid planned
     (plan_left-passed options count number now status line passed) refl (omega arith) planned.valid refl (appends-nothing mid)
 
 -- the first line of a pair
 pub planned-first : (options : PlanOptions) (count number : ℕ) (now : Option Configuration) (status : Status) (line : List ℕ) (first : Configuration) (total : Script (List ℕ) → Output) (parts : List (List ℕ)) (before mid : Option (List ℕ)) →
-    now ≡ None → is_passed_over line ≡ false → configuration_at (record { number = count + 1; text = line }) ≡ Ok first → is_valid first ≡ true →
+    now ≡ None → is_skipped line ≡ false → configuration_at (record { number = count + 1; text = line }) ≡ Ok first → is_valid first ≡ true →
     HasPlanned options count number now status total parts before mid → HasPlanned options (count + 1) number (Some first) status total (parts ++ line ∷ []) before mid
 planned-first options count number now status line first total parts before mid none kept is valid planned =
     planned-part options count (count + 1) number number None (Some first) status status line [] [] total parts before mid mid (subst (λ n. HasPlanned options count number n status total parts before mid) none planned)
@@ -183,7 +183,7 @@ planned-first options count number now status line first total parts before mid 
 -- the second line
 pub planned-second : (options options_after : PlanOptions) (count count_after number number_after : ℕ) (now now_after : Option Configuration) (status status_after : Status) (line : List ℕ) (first second : Configuration)
     (total : Script (List ℕ) → Output) (parts : List (List ℕ)) (before mid new : Option (List ℕ)) →
-    now ≡ Some first → is_passed_over line ≡ false → configuration_at (record { number = count + 1; text = line }) ≡ Ok second →
+    now ≡ Some first → is_skipped line ≡ false → configuration_at (record { number = count + 1; text = line }) ≡ Ok second →
     options_after ≡ options → count_after ≡ count + 1 → number_after ≡ number + 1 → now_after ≡ None →
     ◌≡◌ {A = Result Status ToolFault} (Ok status_after) (worse_of status (Ok (plan_status options first second))) → Appends mid new (pair_text options number first second) →
     HasPlanned options count number now status total parts before mid → HasPlanned options_after count_after number_after now_after status_after total (parts ++ line ∷ []) before new
@@ -196,7 +196,7 @@ planned-second options options_after count count_after number number_after now n
 -- .. whose output is broken off
 pub planned-broken : (options : PlanOptions) (count number : ℕ) (now : Option Configuration) (status : Status) (line : List ℕ) (first second : Configuration)
     (total : Script (List ℕ) → Output) (parts more : List (List ℕ)) (fault : Option FileFault) (before mid new : Option (List ℕ)) →
-    now ≡ Some first → is_passed_over line ≡ false → configuration_at (record { number = count + 1; text = line }) ≡ Ok second → AppendsPart mid new (pair_text options number first second) →
+    now ≡ Some first → is_skipped line ≡ false → configuration_at (record { number = count + 1; text = line }) ≡ Ok second → AppendsPart mid new (pair_text options number first second) →
     HasPlanned options count number now status total parts before mid → AppendsPart before new (total (script (parts ++ line ∷ more) fault)).text
 planned-broken options count number now status line first second total parts more fault before mid new there kept is cut planned =
     wrote-broken total (plan_left options count number (Some first) status) (plan_left options (count + 1) (number + 1) None (worse status (plan_status options first second))) parts line
@@ -205,7 +205,7 @@ planned-broken options count number now status line first second total parts mor
 
 -- a line that names no configuration stops the run
 pub planned-stop : (options : PlanOptions) (count number : ℕ) (now : Option Configuration) (status : Status) (line : List ℕ) (stop : ToolFault) (mid : Option (List ℕ)) →
-    is_passed_over line ≡ false → IsFaultOf (configuration_at (record { number = count + 1; text = line })) stop →
+    is_skipped line ≡ false → IsFaultOf (configuration_at (record { number = count + 1; text = line })) stop →
     IsStop OfPlan stop ((total : Script (List ℕ) → Output) (parts more : List (List ℕ)) (fault : Option FileFault) (before : Option (List ℕ)) →
     HasPlanned options count number now status total parts before mid → Wrote (total (script (parts ++ line ∷ more) fault)) (Err stop) before mid)
 planned-stop options count number now status line stop mid kept (inl memory) = subst (λ s. IsStop OfPlan s (Whole s)) (sym memory) tt

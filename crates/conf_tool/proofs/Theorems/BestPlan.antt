@@ -9,7 +9,7 @@ use Rattle.conf_plan.specs.PathBy.{has_path, path_by}
 use Rattle.conf_plan.specs.Planned.{planned}
 use Rattle.conf_plan.specs.PlanText.{plan_text}
 use Rattle.conf_plan.specs.Run.{IsValidWithVoter}
-use Rattle.conf_tool.specs.Laws.{PrintedPlanIsBest, IsBestPlan, pairs_in, texts_from, parted_by}
+use Rattle.conf_tool.specs.Laws.{PrintedPlanIsBest, IsBestPlan, pairs_in, texts_from, separated_by}
 use Rattle.conf_tool.specs.Outputs.{separator, worse_of, pair_then, ends_before, planned_pairs}
 use Rattle.conf_tool.specs.Pairs.{numbered, configuration_lines, both_of}
 use Rattle.conf_tool.specs.PlanAnswer.{text_as, path_status, plan_text_between, plan_status}
@@ -52,7 +52,7 @@ pub printed-best : AreBest → PrintedPlanIsBest
 printed-best best = record {
   each = λ options input shortest steps. (
     texts_from options 1 (pairs_in input),
-    planned-text options input ∙ ap (λ output. parted_by (separator output) (texts_from options 1 (pairs_in input))) steps,
+    planned-text options input ∙ ap (λ output. separated_by (separator output) (texts_from options 1 (pairs_in input))) steps,
     each-named IsBestPlan options (pair-best best options shortest steps) 1 (configuration_lines (numbered 1 (listing_of input).items)),
   );
   alone = λ options input first second now target shortest steps none whole lines first_is second_is voter_now voter_target. (

@@ -10,7 +10,7 @@ use Rattle.conf_change.specs.ConfState.{ConfStateLists}
 use Rattle.conf_change.specs.Violation.{valid_of, configuration_in}
 use Rattle.conf_change.specs.declared.configuration_line.ConfigurationFault.{ConfigurationFault}
 use Rattle.conf_change.proofs.Offered.{is_valid-from_configuration_in, is_valid-from_valid_of}
-use Rattle.conf_tool.specs.Laws.{pair_before, named_pairs, pairs_in, texts_from, parted_by}
+use Rattle.conf_tool.specs.Laws.{pair_before, named_pairs, pairs_in, texts_from, separated_by}
 use Rattle.conf_tool.specs.Outputs.{separator, pair_text, pair_then, ends_within, planned_pairs, planned_output}
 use Rattle.conf_tool.specs.Pairs.{NumberedLine, numbered, configuration_lines, is_json, saved_in_json, at_line, at_json, configuration_at, both_of}
 use Rattle.conf_tool.specs.PlanAnswer.{plan_text_between}
@@ -72,13 +72,13 @@ each-named R options holds number (first ∷ second ∷ lines) = by_pair (both_o
 -- texts behind others, if the first has a number above 1
 abbrev behind : List ℕ → ℕ → List (List ℕ) → List ℕ
 behind part number [] = []
-behind part number (text ∷ texts) = (if nat_lt 1 number then part else []) ++ parted_by part (text ∷ texts)
+behind part number (text ∷ texts) = (if nat_lt 1 number then part else []) ++ separated_by part (text ∷ texts)
 
-then-behind : (part prefix text : List ℕ) (number : ℕ) (texts : List (List ℕ)) → 1 ≤ number → (prefix ++ text) ++ behind part (number + 1) texts ≡ prefix ++ parted_by part (text ∷ texts)
+then-behind : (part prefix text : List ℕ) (number : ℕ) (texts : List (List ℕ)) → 1 ≤ number → (prefix ++ text) ++ behind part (number + 1) texts ≡ prefix ++ separated_by part (text ∷ texts)
 then-behind part prefix text number [] some = append-nil (prefix ++ text)
 then-behind part prefix text number (next ∷ texts) some =
     let second : nat_lt 1 (number + 1) ≡ true = lt-ltb 1 (number + 1) (omega (arith, some)) in
-    ap (λ b. (prefix ++ text) ++ (cond b part [] ++ parted_by part (next ∷ texts))) second ∙ append_assoc prefix text (part ++ parted_by part (next ∷ texts))
+    ap (λ b. (prefix ++ text) ++ (cond b part [] ++ separated_by part (next ∷ texts))) second ∙ append_assoc prefix text (part ++ separated_by part (next ∷ texts))
 
 half-text : (first : Found) (fault : Option FileFault) → (ends_within first fault).text ≡ []
 half-text (Err bad) fault = refl
@@ -101,11 +101,11 @@ pairs-text options number (first ∷ second ∷ lines) fault some = by_pair (bot
         ∙ then-behind (separator options.output) (if nat_lt 1 number then separator options.output else []) (plan_text_between options number pair.0 pair.1) number
         (texts_from options (number + 1) (named_pairs lines)) some
 
-from-first : (part : List ℕ) (texts : List (List ℕ)) → behind part 1 texts ≡ parted_by part texts
+from-first : (part : List ℕ) (texts : List (List ℕ)) → behind part 1 texts ≡ separated_by part texts
 from-first part [] = refl
 from-first part (text ∷ texts) = refl
 
-pub planned-text : (options : PlanOptions) (input : List ℕ) → (planned_output options input).text ≡ parted_by (separator options.output) (texts_from options 1 (pairs_in input))
+pub planned-text : (options : PlanOptions) (input : List ℕ) → (planned_output options input).text ≡ separated_by (separator options.output) (texts_from options 1 (pairs_in input))
 planned-text options input =
     pairs-text options 1 (configuration_lines (numbered 1 (listing_of input).items)) (listing_of input).fault (omega arith)
     ∙ from-first (separator options.output) (texts_from options 1 (pairs_in input))

@@ -6,7 +6,7 @@ use Rattle.conf_change.specs.Configuration.{Configuration, has_voter}
 use Rattle.conf_plan.specs.PathBy.{has_path, path_by, Serves}
 use Rattle.conf_plan.specs.Run.{IsValidWithVoter}
 use Rattle.conf_plan.specs.declared.strategy.Strategy.{Strategy}
-use Rattle.conf_tool.specs.Laws.{PrintedPathServes, IsServingPath, pairs_in, texts_from, parted_by}
+use Rattle.conf_tool.specs.Laws.{PrintedPathServes, IsServingPath, pairs_in, texts_from, separated_by}
 use Rattle.conf_tool.specs.Outputs.{separator}
 use Rattle.conf_tool.specs.Pairs.{numbered, configuration_lines}
 use Rattle.conf_tool.specs.PlanAnswer.{text_as, path_text, path_status, plan_text_between, plan_status}
@@ -37,6 +37,6 @@ pair-serves serve options steps number pair valid = λ voter_now voter_target pa
 pub printed-serves : AllServe → PrintedPathServes
 printed-serves serve options input steps = (
   texts_from options 1 (pairs_in input),
-  planned-text options input ∙ ap (λ output. parted_by (separator output) (texts_from options 1 (pairs_in input))) steps,
+  planned-text options input ∙ ap (λ output. separated_by (separator output) (texts_from options 1 (pairs_in input))) steps,
   each-named (IsServingPath options.strategy) options (pair-serves serve options steps) 1 (configuration_lines (numbered 1 (listing_of input).items)),
 )

@@ -12,7 +12,7 @@
 //! A refused line changes nothing. The changes and the refusals are those of etcd; the mode is own.
 ghost use Rattle.std.specs.Prelude.{◌≡◌, ℕ, List, [], Option, IfOk, IsOkUnless};
 ghost use Rattle.conf_change.specs.Configuration.{empty_configuration};
-ghost use Rattle.conf_tool.specs.Outputs.{lined_from};
+ghost use Rattle.conf_tool.specs.Outputs.{lines_output_from};
 ghost use Rattle.conf_tool.specs.declared.tool_fault.ToolFault.TheVariants.{NoMemory as OutOfMemory};
 
 use super::clean_unless::clean_unless;
@@ -39,7 +39,7 @@ pub(super) struct LineByLine {
 impl LineByLine {
     /// The mode before its first line, with an empty configuration.
     pub(super) fn new(alloc: Global) -> LineByLine
-        ensures { (buffered : Option (List ℕ)) → ⟦<LineByLine as PartByPart<Line>>⟧.HasAnswered result (lined_from empty_configuration) [] buffered buffered }
+        ensures { (buffered : Option (List ℕ)) → ⟦<LineByLine as PartByPart<Line>>⟧.HasAnswered result (lines_output_from empty_configuration) [] buffered buffered }
     {
         LineByLine {
             changer: Changer::new(alloc, 0),
@@ -50,13 +50,13 @@ impl LineByLine {
 
 impl PartByPart<Line> for LineByLine {
     ghost use Rattle.conf_tool.specs.Answered.{WrotePrefix};
-    ghost use Rattle.conf_tool.specs.Outputs.{lined_from};
+    ghost use Rattle.conf_tool.specs.Outputs.{lines_output_from};
     ghost use Rattle.conf_tool.specs.declared.mode.Mode.TheVariants.{Lines as OfLines};
     ghost use Rattle.conf_tool.specs.AnsweredLaws.{kept-prefix, wrote-prefix};
 
     ghost mode = { OfLines };
 
-    ghost HasAnswered = { λ s total. WrotePrefix total (lined_from s.changer.tracker.config) };
+    ghost HasAnswered = { λ s total. WrotePrefix total (lines_output_from s.changer.tracker.config) };
 
     // Replies to a line with the configuration after its change, or with the reason why the change is refused.
     fn answer<W: Sink>(&mut self, line: &Line, writer: &mut W) -> Result<(), ToolFault> {
@@ -76,7 +76,7 @@ impl PartByPart<Line> for LineByLine {
         clean_unless(fault)
     }
 
-    ghost stays = { λ s total. kept-prefix total (lined_from s.changer.tracker.config) };
+    ghost stays = { λ s total. kept-prefix total (lines_output_from s.changer.tracker.config) };
 
-    ghost prefix = { λ s total. wrote-prefix total (lined_from s.changer.tracker.config) };
+    ghost prefix = { λ s total. wrote-prefix total (lines_output_from s.changer.tracker.config) };
 }

@@ -23,7 +23,7 @@ ghost use Rattle.conf_tool.specs.declared.tool_fault.ToolFault.TheVariants.{NoMe
 use super::part_by_part::PartByPart;
 use crate::configurations_fault::ConfigurationsFault;
 use crate::plan_answer::plan_answer;
-use crate::plan_line::{configuration_at, is_passed_over};
+use crate::plan_line::{configuration_at, is_skipped};
 use crate::plan_options::{PlanOptions, PlanOutput};
 use crate::status::Status;
 use crate::tool_fault::ToolFault;
@@ -151,7 +151,7 @@ impl PartByPart<Line> for Planning {
     // not a valid configuration ends the run.
     fn answer<W: Sink>(&mut self, line: &Line, writer: &mut W) -> Result<(), ToolFault> {
         self.lines += 1;
-        if is_passed_over(line.as_slice()) {
+        if is_skipped(line.as_slice()) {
             return Ok(());
         }
         let config = configuration_at(self.alloc, self.lines, line.as_slice())?;
