@@ -1,8 +1,4 @@
-<<<<<<< HEAD
-/* Plans the change that puts 5 in the place of 1, applies the plan, and counts what is committed then. README says how this is built. */
-=======
 /* Plans the change that replaces 1 by 5, applies the plan, and computes the committed index afterwards. README says how to build it. */
->>>>>>> e56c06fef8653c98ac445e7b532c261606e166f4
 #include <stdio.h>
 #include <string.h>
 

@@ -52,11 +52,7 @@ static void report(const char *name, int holds, struct confscript_answer got) {
 
 static const uint8_t *bytes(const char *text) { return (const uint8_t *)text; }
 
-<<<<<<< HEAD
-/* Whether the buffer begins with the text, and is as it was after it. */
-=======
 /* Whether the buffer begins with the text, and is unchanged after it. */
->>>>>>> e56c06fef8653c98ac445e7b532c261606e166f4
 static int holds_text(const char *text) {
     size_t len = strlen(text);
     if (memcmp(out, text, len) != 0) return 0;

@@ -1,12 +1,6 @@
-<<<<<<< HEAD
-/* Loaded before the C library (LD_PRELOAD), it refuses one call of the program that it is loaded into: the one that the variable
-   REFUSE_ALLOCATION, REFUSE_READ or REFUSE_WRITE counts, from 1. A refused allocation returns NULL, a refused read or write fails with EIO.
-   Later calls work as ever, so a call that is tried again shows. The file that REFUSED names is made where a call was refused. */
-=======
 /* Loaded before the C library (LD_PRELOAD), this refuses one call of a program: the one whose number, from 1, is in the variable
    REFUSE_ALLOCATION, REFUSE_READ or REFUSE_WRITE. An allocation returns NULL, and a read or write fails with EIO. Later calls
    succeed, so that a program which tries a call again is noticed. If a call was refused, the file that REFUSED names is created. */
->>>>>>> e56c06fef8653c98ac445e7b532c261606e166f4
 #define _GNU_SOURCE
 #include <dlfcn.h>
 #include <errno.h>
