@@ -295,8 +295,3 @@ planned-leads_back law earlier session count steps is some made =
 
 pub same-some : (a b : Configuration) → ◌≡◌ {A = Option Configuration} (Some a) (Some b) → a ≡ b
 same-some a b e = cc
-
--- a test that cannot fail
-pub must-be : (b : Bool) → (b ≡ false → ⊥) → b ≡ true
-must-be true h = refl
-must-be false h = absurd (h refl)

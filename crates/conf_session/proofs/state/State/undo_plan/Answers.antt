@@ -1,10 +1,11 @@
 use Rattle.std.proofs.Common.{◌≡◌, sym, ap, subst, ◌∙◌}
 use Rattle.std.specs.Prelude.{Err, option_copied}
+use Rattle.std.proofs.lemmas.Bool.{true_from_ne_false}
 use Rattle.conf_change.specs.Configuration.{Configuration, has_voter}
 use Rattle.conf_plan.specs.Best.{IsBest}
 use Rattle.conf_plan.specs.Planned.{planned}
 use Rattle.conf_session.specs.SessionState.{current}
-use Rattle.conf_session.proofs.Kept.{valid-older, plan-is, must-be, same-some}
+use Rattle.conf_session.proofs.Kept.{valid-older, plan-is, same-some}
 use Rattle.conf_session.proofs.state.State.undo_plan.Goals as goal
 
 pub plan-requires-clause-valid_target : goal.plan-requires-clause-valid_target
@@ -25,7 +26,7 @@ returns-in-Ok-clause-planned c =
     let kept = sym c.kept_at.ensures ∙ ap option_copied c.in-Some.is in
     let earlier = c.kept_lead_to_now.ensures c.args.self.now c.args.count c.in-Some.older.now c.is_session.ensures c.requires kept in
     let some = ap has_voter c.current-now.ensures ∙ earlier.voter in
-    let voter = must-be (has_voter c.in-Some.older.now) (λ none. let refused = c.plan.ensures.no_voter_target.1 (some, none) in let made = c.in-Ok.is in cc) in
+    let voter = true_from_ne_false (has_voter c.in-Some.older.now) (λ none. let refused = c.plan.ensures.no_voter_target.1 (some, none) in let made = c.in-Ok.is in cc) in
     plan-is c.args.self.now c.args.count c.in-Some.older.now c.in-Ok.plan kept voter
     (c.in-Ok.ensures.planned ∙ ap (λ (now : Configuration). planned now c.in-Some.older.now) c.current-now.ensures)
 
