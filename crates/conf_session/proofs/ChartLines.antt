@@ -1,9 +1,11 @@
 -- A chart, a committed index and the result of a vote are reply lines.
-use Rattle.std.proofs.Common.{◌≡◌, ℕ, zero, suc, ◌-◌, Bool, true, false, cond, ◌||◌, List, [], ◌∷◌, ◌++◌, length, map, refl, sym, ap, ◌∙◌, subst, arith}
+use Rattle.std.proofs.Common.{◌≡◌, ℕ, zero, suc, ◌-◌, Bool, true, false, cond, List, [], ◌∷◌, ◌++◌, length, map, refl, sym, ap, ◌∙◌, subst, arith}
 use Rattle.std.specs.Prelude.{nat_eq, Option, Some, None, unwrap_or, codes, decimal, flat_map, replicate}
 use Rattle.std.specs.FinMap as finite
-use Rattle.std.specs.List.{list_all, list_any}
+use Rattle.std.specs.List.{list_all}
+use Rattle.std.proofs.lemmas.Bool.{or_right}
 use Rattle.std.proofs.lemmas.List.{append_assoc}
+use Rattle.std.proofs.lemmas.List.Folds.{list_any-append}
 use Rattle.quorum_sets.specs.Chart.{bar_text, bar_width, in_five_columns, row_text, chart_row, chart_text}
 use Rattle.quorum_sets.specs.Committed.{Acks, greatest_index}
 use Rattle.quorum_sets.specs.declared.voting.VoteResult.{VoteResult}
@@ -15,15 +17,8 @@ use Rattle.conf_session.specs.ReplyLines.{is_line_byte, is_reply_line, IsReplyTe
 use Rattle.conf_session.proofs.ReplyLines.{and-both, all-append, is_mark, IsBytes, IsLine, IsTail, ◌▸◌, ◌▹◌, IsLine-from_mark, IsLine-in_lines, IsTail-from_bytes, IsTail-number, decimal-high, decimal-bytes, high-mark, line-in_lines, reply_text-append}
 
 -- ---- a line with its mark at the end
-any-back : (xs ys : List ℕ) → list_any is_mark ys ≡ true → list_any is_mark (xs ++ ys) ≡ true
-any-back [] ys h = h
-any-back (x ∷ xs) ys h = either (is_mark x) (any-back xs ys h) where
-  either : (this : Bool) {rest : Bool} → rest ≡ true → (this || rest) ≡ true
-  either true e = refl
-  either false e = e
-
 leads : {front back : List ℕ} → IsTail front → IsLine back → IsLine (front ++ back)
-leads {front} {back} h k = record { mark = any-back front back k.mark; bytes = all-append is_line_byte front back h.tail k.bytes }
+leads {front} {back} h k = record { mark = list_any-append is_mark front back ∙ or_right _ _ k.mark; bytes = all-append is_line_byte front back h.tail k.bytes }
 
 -- ---- the lines of a chart
 same-bytes : (n b : ℕ) → is_line_byte b ≡ true → IsBytes (replicate n b)

@@ -37,14 +37,22 @@ use Rattle.conf_session.proofs.ReplyLines.{and-first}
 -- laws of conf_change
 pub record ChangeLaws : Type 0 where
   pub step : (before : ChangerState) (step : Step) (after : Configuration) → IsSound before.tracker → outcome before.tracker.config step ≡ Ok after → IsSound (moved_to before step after).tracker
-  pub voter : (before after : Configuration) (step : Step) → is_restorable before ≡ true → outcome before step ≡ Ok after → has_voter after ≡ true
   pub begun : (floor : Floor) (last_index : ℕ) (c : Configuration) → is_restorable c ≡ true → IsSound (begun_with floor last_index c).tracker
   pub acknowledged : (before : ChangerState) (id index : ℕ) (p : Progress) → IsSound before.tracker → ack_answer before.tracker id index ≡ Ok p → IsSound (changer_with_progress before id p).tracker
   pub accepted : (before after : ChangerState) (step : Step) → (Accepts before step after) ↔ (changer_after before step ≡ Ok after)
   pub described : (saved : ConfStateLists) (c : Configuration) → (restored saved ≡ Some c) ↔ (Describes saved c × (is_restorable c ≡ true))
 
--- laws of conf_plan
+-- after an accepted step from a configuration that can be restored there is a voter: a law of conf_change
+abbrev pub VoterLaw : Type 0
+VoterLaw = (before after : Configuration) (step : Step) → is_restorable before ≡ true → outcome before step ≡ Ok after → has_voter after ≡ true
+
+-- the kept configurations of a session are earlier ones: this crate's own law
+abbrev pub EarlierLaw : Type 0
+EarlierLaw = (session : SessionState) (count : ℕ) (older : Configuration) → IsSession session → 1 ≤ count → slice_get session.kept (count - 1) ≡ Some older → IsEarlier session count older
+
+-- that law, and laws of conf_plan
 pub record PlanLaws : Type 0 where
+  pub earlier : EarlierLaw
   pub back : (before after : Configuration) (steps : List Step) → IsValidWithVoter before → IsRun before steps after → IsRun after (planned after before) before
   pub taken : (before after : ChangerState) (steps : List Step) → (Takes before steps after) ↔ (after_steps before steps ≡ Some after)
   pub run : (before : ChangerState) (steps : List Step) (target : Configuration) → IsRun before.tracker.config steps target
@@ -77,12 +85,12 @@ led-run now (c ∷ kept) (suc place) older led e =
       counted = let n = length-append rest.steps (led.1.step ∷ []) in let m = rest.counted in omega arith;
     }
 
-kept-voter : ChangeLaws → (now : Configuration) (kept : List Configuration) (place : ℕ) (older : Configuration) → LedTo now kept → slice_get kept place ≡ Some older → has_voter now ≡ true
-kept-voter laws now [] place older led e = cc
-kept-voter laws now (c ∷ kept) place older led e = laws.voter c now led.1.step led.0 led.1.gives
+kept-voter : VoterLaw → (now : Configuration) (kept : List Configuration) (place : ℕ) (older : Configuration) → LedTo now kept → slice_get kept place ≡ Some older → has_voter now ≡ true
+kept-voter law now [] place older led e = cc
+kept-voter law now (c ∷ kept) place older led e = law c now led.1.step led.0 led.1.gives
 
-pub is-earlier : ChangeLaws → (session : SessionState) (count : ℕ) (older : Configuration) → IsSession session → 1 ≤ count → slice_get session.kept (count - 1) ≡ Some older → IsEarlier session count older
-is-earlier laws session count older is some e =
+pub is-earlier : VoterLaw → EarlierLaw
+is-earlier law session count older is some e =
     let led = led-run (current session) session.kept (count - 1) older is.led e in
     let n = led.counted in
     record {
@@ -90,7 +98,7 @@ is-earlier laws session count older is some e =
       steps = led.steps;
       run = led.run;
       counted = omega arith;
-      voter = kept-voter laws (current session) session.kept (count - 1) older is.led e;
+      voter = kept-voter law (current session) session.kept (count - 1) older is.led e;
     }
 
 valid : (c : Configuration) → is_restorable c ≡ true → has_voter c ≡ true → IsValidWithVoter c
@@ -166,29 +174,29 @@ taken-sound laws before (step ∷ steps) after taken sound =
 
 -- where the plan leads
 pub record Arrives (session : SessionState) (older : Configuration) : Type 0 where
-  pub sound : IsSound (undone_changer session (planned (current session) older)).tracker
+  pub taken : after_steps session.changer (planned (current session) older) ≡ Some (undone_changer session (planned (current session) older))
   pub there : (undone_changer session (planned (current session) older)).tracker.config ≡ older
 
-pub Arrives-planned : ChangeLaws → PlanLaws → (session : SessionState) (count : ℕ) (older : Configuration) → IsSession session → 1 ≤ count → slice_get session.kept (count - 1) ≡ Some older → has_voter older ≡ true →
-    Arrives session older
-Arrives-planned laws plans session count older is some e voter =
-    let earlier = is-earlier laws session count older is some e in
+pub Arrives-planned : PlanLaws → (session : SessionState) (count : ℕ) (older : Configuration) → IsSession session → 1 ≤ count → slice_get session.kept (count - 1) ≡ Some older → has_voter older ≡ true → Arrives session older
+Arrives-planned plans session count older is some e voter =
+    let earlier = plans.earlier session count older is some e in
     let steps = planned (current session) older in
     let back = plans.back older (current session) earlier.steps (valid older earlier.restorable voter) earlier.run in
     let reached = plans.run session.changer steps older back in
     let same : undone_changer session steps ≡ reached.0 = ap (λ o. unwrap_or o session.changer) reached.1 in
-    let Sound : ChangerState → Type 0 = λ c. IsSound c.tracker in
     record {
-      sound = subst Sound (sym same) (taken-sound laws session.changer steps reached.0 ((plans.taken session.changer reached.0 steps).1 reached.1) is.sound);
+      taken = reached.1 ∙ ap Some (sym same);
       there = ap (λ (c : ChangerState). c.tracker.config) same ∙ reached.2;
     }
 
 voter-due : ChangeLaws → PlanLaws → (session : SessionState) (count : ℕ) (older : Configuration) (voter : Bool) → IsSession session → 1 ≤ count → slice_get session.kept (count - 1) ≡ Some older → has_voter older ≡ voter →
     IsDue session (after_planned session count (plan_back session (Some older))).effect
 voter-due laws plans session count older true is some e voter =
-    let there = Arrives-planned laws plans session count older is some e voter in
+    let steps = planned (current session) older in
+    let arrives = Arrives-planned plans session count older is some e voter in
+    let sound = taken-sound laws session.changer steps (undone_changer session steps) ((plans.taken session.changer (undone_changer session steps) steps).1 arrives.taken) is.sound in
     let Due : Bool → Type 0 = λ b. IsDue session (after_planned session count (cond b (Ok (planned (current session) older)) (Err NoVoterTarget))).effect in
-    subst Due (sym voter) (some, there.sound, e ∙ ap Some (sym there.there))
+    subst Due (sym voter) (some, sound, e ∙ ap Some (sym arrives.there))
 voter-due laws plans session count older false is some e voter =
     let Due : Bool → Type 0 = λ b. IsDue session (after_planned session count (cond b (Ok (planned (current session) older)) (Err NoVoterTarget))).effect in
     subst Due (sym voter) tt
@@ -250,18 +258,18 @@ pub record UndoLaw : Type 0 where
   pub at_most_four : (before after : Configuration) (steps : List Step) → IsValidWithVoter before → IsRun before steps after → length (planned after before) ≤ 4
   pub at_most_three : (before after : Configuration) (steps : List Step) → IsValidWithVoter before → IsRun before steps after → length steps ≡ 1 → length (planned after before) ≤ 3
 
-pub leads-back : UndoLaw → (session : SessionState) (count : ℕ) (older : Configuration) (plan : List Step) → slice_get session.kept (count - 1) ≡ Some older → has_voter older ≡ true → IsEarlier session count older →
+leads-back : UndoLaw → (session : SessionState) (count : ℕ) (older : Configuration) (plan : List Step) → slice_get session.kept (count - 1) ≡ Some older → has_voter older ≡ true → IsEarlier session count older →
     plan ≡ planned (current session) older → LeadsBack session count plan
 leads-back law session count older plan kept voter earlier same =
-    let settled = valid older earlier.restorable voter in
+    let is_valid = valid older earlier.restorable voter in
     let now = current session in
     let Back : List Step → Type 0 = λ steps. LeadsBack session count steps in
     subst Back (sym same) (record {
       older = older;
       is_kept = kept;
-      run = law.back older now earlier.steps settled earlier.run;
-      at_most_four = law.at_most_four older now earlier.steps settled earlier.run;
-      at_most_three = λ one. law.at_most_three older now earlier.steps settled earlier.run (earlier.counted ∙ one);
+      run = law.back older now earlier.steps is_valid earlier.run;
+      at_most_four = law.at_most_four older now earlier.steps is_valid earlier.run;
+      at_most_three = λ one. law.at_most_three older now earlier.steps is_valid earlier.run (earlier.counted ∙ one);
     })
 
 abbrev Planned : Type 0
@@ -280,15 +288,10 @@ planned-by_kept : UndoLaw → (session : SessionState) (count : ℕ) (steps : Li
 planned-by_kept law session count steps None kept earlier made = let bad : ⊥ = cc in absurd bad
 planned-by_kept law session count steps (Some older) kept earlier made = planned-by_voter law session count older steps (has_voter older) kept (earlier older kept) refl made
 
-pub planned-leads_back : UndoLaw → ((session : SessionState) (count : ℕ) (older : Configuration) → IsSession session → 1 ≤ count → slice_get session.kept (count - 1) ≡ Some older → IsEarlier session count older)
+pub planned-leads_back : UndoLaw → EarlierLaw
     → (session : SessionState) (count : ℕ) (steps : List Step) → IsSession session → 1 ≤ count → undo_plan_of session count ≡ Ok steps → LeadsBack session count steps
 planned-leads_back law earlier session count steps is some made =
     planned-by_kept law session count steps (slice_get session.kept (count - 1)) refl (λ older kept. earlier session count older is some kept) made
 
 pub same-some : (a b : Configuration) → ◌≡◌ {A = Option Configuration} (Some a) (Some b) → a ≡ b
 same-some a b e = cc
-
--- a test that cannot fail
-pub must-be : (b : Bool) → (b ≡ false → ⊥) → b ≡ true
-must-be true h = refl
-must-be false h = absurd (h refl)

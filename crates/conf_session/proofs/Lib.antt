@@ -8,6 +8,7 @@ mod InputLines
 mod SameAnswer
 mod Kept
 mod EachOnce
+mod Temporary
 mod IndexRows
 mod QuorumValues
 mod ReadValues

@@ -4,6 +4,7 @@ use Rattle.std.specs.Prelude.{◌==◌, nat_eq}
 use Rattle.std.specs.List.{list_all, list_any, ends_with}
 use Rattle.std.specs.Cmp.Lexicographic.{pointwise}
 use Rattle.std.proofs.lemmas.List.{append-nil}
+use Rattle.std.proofs.lemmas.Bool.{not-true, or_right}
 use Rattle.std.proofs.lemmas.Bool.Decides.{nat_tests}
 use Rattle.ascii_text.specs.Lines.{newline, full_lines, line_of, text_of, without_last, before_first_line}
 use Rattle.ascii_text.specs.WhiteSpace.{is_blank}
@@ -13,15 +14,11 @@ use Rattle.conf_session.specs.ReplyTexts.{line}
 use Rattle.conf_session.specs.ReplyLines.{is_line_byte, is_reply_line, IsReplyText, IsValidOutput}
 use Rattle.conf_session.proofs.ReplyLines.{and-first, and-second, and-both, reply_line-bytes}
 
-no : (b : Bool) → not b ≡ true → b ≡ false
-no true e = cc
-no false e = refl
-
 -- ---- the pieces of such a text
 full_lines-line : (bytes rest : List ℕ) → list_all is_line_byte bytes ≡ true → full_lines (line bytes ++ rest) ≡ line bytes ∷ full_lines rest
 full_lines-line [] rest h = refl
 full_lines-line (b ∷ bytes) rest h =
-    ap (λ t. cond t (newline ∷ full_lines (line bytes ++ rest)) (before_first_line b (full_lines (line bytes ++ rest)))) (no _ (and-first _ _ (and-first _ _ h)))
+    ap (λ t. cond t (newline ∷ full_lines (line bytes ++ rest)) (before_first_line b (full_lines (line bytes ++ rest)))) (not-true _ (and-first _ _ (and-first _ _ h)))
     ∙ ap (before_first_line b) (full_lines-line bytes rest (and-second _ _ h))
 
 full_lines-lines : (lines : List (List ℕ)) → list_all is_reply_line lines ≡ true → full_lines (text_of lines) ≡ map line lines
@@ -35,7 +32,7 @@ without_newline (x ∷ y ∷ bytes) = ap (λ rest. x ∷ rest) (without_newline 
 
 without_return : (bytes : List ℕ) → list_all is_line_byte bytes ≡ true → without_last 13 bytes ≡ bytes
 without_return [] h = refl
-without_return (x ∷ []) h = ap (λ t. cond t [] (x ∷ [])) (no _ (and-second _ _ (and-first _ _ h)))
+without_return (x ∷ []) h = ap (λ t. cond t [] (x ∷ [])) (not-true _ (and-second _ _ (and-first _ _ h)))
 without_return (x ∷ y ∷ bytes) h = ap (λ rest. x ∷ rest) (without_return (y ∷ bytes) (and-second _ _ h))
 
 -- ---- the end of a text
@@ -74,7 +71,7 @@ neither true b h = cc
 neither false b h = (refl, h)
 
 is_none : (bytes : List ℕ) → is_reply_line bytes ≡ true → (is_blank bytes ≡ false) × (is_dashes bytes ≡ false)
-is_none bytes h = neither _ _ (no (is_blank bytes || is_dashes bytes) (and-first _ _ h))
+is_none bytes h = neither _ _ (not-true (is_blank bytes || is_dashes bytes) (and-first _ _ h))
 
 no_dashes : (bytes : List ℕ) → is_reply_line bytes ≡ true → is_dashes bytes ≡ false
 no_dashes bytes h = (is_none bytes h).1
@@ -100,16 +97,12 @@ text-ends : (lines : List (List ℕ)) → 0 < length lines → list_all is_reply
 text-ends [] some h = absurd (omega arith)
 text-ends (bytes ∷ lines) some h = ends-text bytes lines h
 
-or-right : (a b : Bool) → b ≡ true → (a || b) ≡ true
-or-right true b e = refl
-or-right false b e = e
-
 pub reply_text-valid_output : (text : List ℕ) → IsReplyText text → IsValidOutput text
 reply_text-valid_output text t =
     let ends : ends_with nat_eq text newline ≡ true = ap (λ x. ends_with nat_eq x newline) t.whole ∙ text-ends t.lines t.some t.valid in
     let cut : full_lines text ≡ map line t.lines = ap full_lines t.whole ∙ full_lines-lines t.lines t.valid in
     record {
-      output = and-both _ _ (or-right _ _ ends) (ap (list_all (λ piece. is_output_line (without_last 10 piece))) cut ∙ output-lines t.lines t.valid);
+      output = and-both _ _ (or_right _ _ ends) (ap (list_all (λ piece. is_output_line (without_last 10 piece))) cut ∙ output-lines t.lines t.valid);
       ended = ends;
       full = ap (λ ps. list_any is_blank (map line_of ps)) cut ∙ no_blank-lines t.lines t.valid;
     }

@@ -67,11 +67,3 @@ new-there ids i id e none =
 pub old-there : (ids : List ℕ) (i id : ℕ) → slice_get ids i ≡ Some id → list_any (λ other. id == other) (take i ids) ≡ true → each_once (take i ids) ≡ each_once (take (i + 1) ids)
 old-there ids i id e some =
     sym (ap each_once (take-one_more ids i id e) ∙ once-more (take i ids) id ∙ ap (λ b. each_once (take i ids) ++ cond b [] (id ∷ [])) some ∙ append-nil (each_once (take i ids)))
-
-pub not-one : (b : Bool) → not b ≡ true → b ≡ false
-not-one true e = cc
-not-one false e = refl
-
-pub not-none : (b : Bool) → not b ≡ false → b ≡ true
-not-none true e = refl
-not-none false e = cc

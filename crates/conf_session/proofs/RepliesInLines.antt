@@ -2,13 +2,13 @@
 use Rattle.std.proofs.Common.{◌≡◌, ℕ, Bool, true, false, cond, not, List, [], ◌∷◌, ◌++◌, filter, refl, sym, ap, ◌∙◌, subst, arith}
 use Rattle.std.specs.Prelude.{◌==◌, Option, Some, None, Result, Ok, Err, codes}
 use Rattle.std.specs.List.{list_all, slice_split, onto_first}
-use Rattle.std.proofs.lemmas.Bool.{eqb-true}
+use Rattle.std.proofs.lemmas.Bool.{eqb-true, false_from_ne_true, not_from_false}
 use Rattle.std.proofs.lemmas.Bool.Decides.{nat_tests}
 use Rattle.quorum_sets.specs.Committed.{joint_committed_index}
 use Rattle.quorum_sets.specs.Ids.{ascending, union}
 use Rattle.quorum_sets.specs.Votes.{joint_vote_result}
 use Rattle.dd_file.specs.DirectiveText.{DirectiveText}
-use Rattle.dd_file.specs.DirectiveLine.{ArgumentText, is_key, is_key_byte}
+use Rattle.dd_file.specs.DirectiveLine.{ArgumentText, has_keys, is_key, is_key_byte}
 use Rattle.conf_change.specs.ChangerState.{ChangerState}
 use Rattle.conf_change.specs.Acknowledgement.{ack_answer}
 use Rattle.conf_change.specs.Configuration.{Configuration}
@@ -39,7 +39,6 @@ use Rattle.conf_session.specs.Values.{Values, values_in, values_read, read_argum
 use Rattle.conf_session.specs.ReplyTexts.{line}
 use Rattle.conf_session.specs.Commands.{row_of, after_step, after_restored, after_planned, after_ack, committed_by, if_read, reply_of, reply_to}
 use Rattle.conf_session.specs.ReplyLines.{is_line_byte, is_reply_line, IsReplyText}
-use Rattle.dd_file.specs.DirectiveLine.{has_keys}
 use Rattle.conf_session.specs.declared.parameter.Parameter.{Parameter}
 use Rattle.conf_session.specs.declared.parameter.Parameter.TheVariants.{AutoLeave, Transition, Steps, Id, Index, Incoming, Outgoing, Indexes, Votes}
 use Rattle.conf_session.specs.declared.input.InputKind.{InputKind}
@@ -47,7 +46,7 @@ use Rattle.conf_session.specs.declared.input.InputKind.TheVariants.{Changes, NoC
 use Rattle.conf_session.specs.declared.commands.Command.{Command}
 use Rattle.conf_session.specs.declared.commands.Command.TheVariants.{Simple, EnterJoint, LeaveJoint, ConfChange, ConfState, Restore, Undo, Ack, CommitIndex, Committed, Vote, Unknown}
 use Rattle.conf_session.proofs.ChartLines.{chart-in_lines, index-in_lines, vote-in_lines}
-use Rattle.conf_session.proofs.ReplyLines.{and-first, and-second, and-both, reply_line-append, progress-in_lines, refused-in_lines, undo_fault-in_lines, conf_state-in_lines, line-in_lines, reply_text-append, plan-in_lines, tracker-in_lines}
+use Rattle.conf_session.proofs.ReplyLines.{and-first, and-second, and-both, all-weaker, reply_line-append, progress-in_lines, refused-in_lines, undo_fault-in_lines, conf_state-in_lines, line-in_lines, reply_text-append, plan-in_lines, tracker-in_lines}
 
 abbrev HasReplyText : Reply → Type 0
 HasReplyText reply = IsReplyText reply.actual
@@ -58,11 +57,7 @@ replied_line-in_lines text h = line-in_lines text h
 no_input-in_lines : IsReplyText no_input_line
 no_input-in_lines = line-in_lines (codes "this command takes no input") refl
 
--- ---- the words of an input
-unequal : (b : Bool) → (b ≡ true → ⊥) → not b ≡ true
-unequal true h = absurd (h refl)
-unequal false h = refl
-
+-- ---- the tokens of an input
 abbrev has_no_white : List ℕ → Bool
 has_no_white token = list_all (λ b. not (is_space b)) token
 
@@ -96,23 +91,19 @@ among (w ∷ before) token after h = among before token after (and-second _ _ h)
 byte-black : (b : ℕ) → not (is_space b) ≡ true → is_line_byte b ≡ true
 byte-black b h = grind (arith, nat_tests)
 
-bytes-black : (token : List ℕ) → has_no_white token ≡ true → list_all is_line_byte token ≡ true
-bytes-black [] h = refl
-bytes-black (b ∷ token) h = and-both _ _ (byte-black b (and-first _ _ h)) (bytes-black token (and-second _ _ h))
-
 token-in_lines : (bad : BadToken) → list_all is_line_byte (token_of bad) ≡ true → is_reply_line (bad_token_text bad) ≡ true
 token-in_lines (unknown_token token) h = reply_line-append (codes "unknown token ") token refl refl h
 token-in_lines (unknown_input token) h = reply_line-append (codes "unknown input: ") token refl refl h
 token-in_lines (bad_number token) h = reply_line-append (codes "bad number: ") token refl refl h
 
--- the first bad token of a text is one of its words
+-- the first bad token of a text is one of its tokens
 abbrev FirstBads : Type 0
 FirstBads = (text : List ℕ) (bad : BadToken) → changes_in text ≡ Err bad → IsFirstBad (tokens_in text) bad
 
 bad-in_lines : FirstBads → (text : List ℕ) (bad : BadToken) → changes_in text ≡ Err bad → is_reply_line (bad_token_text bad) ≡ true
 bad-in_lines first_bads text bad e =
     let is : IsFirstBad (tokens_in text) bad = first_bads text bad e in
-    token-in_lines bad (bytes-black (token_of bad) (among is.before (token_of bad) is.after (ap (list_all has_no_white) (sym is.position) ∙ tokens_in-whole text)))
+    token-in_lines bad (all-weaker _ is_line_byte byte-black (token_of bad) (among is.before (token_of bad) is.after (ap (list_all has_no_white) (sym is.position) ∙ tokens_in-whole text)))
 
 input-in_lines : FirstBads → (kind : InputKind) (text actual : List ℕ) → read_input kind text ≡ Err actual → IsReplyText actual
 input-in_lines first_bads Changes text actual e = at (changes_in text) refl e where
@@ -133,23 +124,16 @@ input-in_lines first_bads Nothing (b ∷ text) actual e = let same : no_input_li
 
 -- ---- the arguments
 apart : (b n : ℕ) → is_key_byte n ≡ false → is_key_byte b ≡ true → not (b == n) ≡ true
-apart b n e h = unequal (b == n) (λ same. let f : is_key_byte b ≡ is_key_byte n = ap is_key_byte (eqb-true b n same) in cc)
+apart b n e h = not_from_false (b == n) (false_from_ne_true (b == n) (λ same. let f : is_key_byte b ≡ is_key_byte n = ap is_key_byte (eqb-true b n same) in cc))
 
 byte-key : (b : ℕ) → is_key_byte b ≡ true → is_line_byte b ≡ true
 byte-key b h = and-both _ _ (apart b 10 refl h) (apart b 13 refl h)
-
-bytes-key : (key : List ℕ) → list_all is_key_byte key ≡ true → list_all is_line_byte key ≡ true
-bytes-key [] h = refl
-bytes-key (b ∷ key) h = and-both _ _ (byte-key b (and-first _ _ h)) (bytes-key key (and-second _ _ h))
-
-abbrev are_keys : List ArgumentText → Bool
-are_keys arguments = list_all (λ argument. is_key argument.key) arguments
 
 bad-step : (argument : ArgumentText) (rest : Option (List ℕ)) (good : Bool) (key : List ℕ) → is_key argument.key ≡ true → (rest ≡ Some key → is_key key ≡ true) → cond good rest (Some argument.key) ≡ Some key → is_key key ≡ true
 bad-step argument rest true key h k e = k e
 bad-step argument rest false key h k e = let same : argument.key ≡ key = cc in ap is_key (sym same) ∙ h
 
-bad-key : (parameters : List Parameter) (before arguments : List ArgumentText) (key : List ℕ) → are_keys arguments ≡ true → first_bad parameters before arguments ≡ Some key → is_key key ≡ true
+bad-key : (parameters : List Parameter) (before arguments : List ArgumentText) (key : List ℕ) → has_keys arguments ≡ true → first_bad parameters before arguments ≡ Some key → is_key key ≡ true
 bad-key parameters before [] key h e = cc
 bad-key parameters before (argument ∷ arguments) key h e =
     bad-step argument (first_bad parameters (before ++ argument ∷ []) arguments) (is_good parameters before argument) key (and-first _ _ h) (bad-key parameters (before ++ argument ∷ []) arguments key (and-second _ _ h)) e
@@ -168,13 +152,13 @@ parameter-bytes Votes = refl
 values-in_lines : (bad : Option (List ℕ)) (missing : Option Parameter) (values : Values) (actual : List ℕ) → ((key : List ℕ) → bad ≡ Some key → is_key key ≡ true) → values_read bad missing values ≡ Err actual → IsReplyText actual
 values-in_lines (Some key) missing values actual h e =
     let same : line (codes "bad argument: " ++ key) ≡ actual = cc in
-    subst IsReplyText same (line-in_lines (codes "bad argument: " ++ key) (reply_line-append (codes "bad argument: ") key refl refl (bytes-key key (and-second _ _ (h key refl)))))
+    subst IsReplyText same (line-in_lines (codes "bad argument: " ++ key) (reply_line-append (codes "bad argument: ") key refl refl (all-weaker is_key_byte is_line_byte byte-key key (and-second _ _ (h key refl)))))
 values-in_lines None (Some parameter) values actual h e =
     let same : line (codes "missing argument: " ++ key_of parameter) ≡ actual = cc in
     subst IsReplyText same (line-in_lines (codes "missing argument: " ++ key_of parameter) (reply_line-append (codes "missing argument: ") (key_of parameter) refl refl (parameter-bytes parameter)))
 values-in_lines None None values actual h e = cc
 
-arguments-in_lines : (parameters : Option (List Parameter)) (arguments : List ArgumentText) (actual : List ℕ) → are_keys arguments ≡ true → read_arguments parameters arguments ≡ Err actual → IsReplyText actual
+arguments-in_lines : (parameters : Option (List Parameter)) (arguments : List ArgumentText) (actual : List ℕ) → has_keys arguments ≡ true → read_arguments parameters arguments ≡ Err actual → IsReplyText actual
 arguments-in_lines None arguments actual keys e = cc
 arguments-in_lines (Some parameters) arguments actual keys e =
     values-in_lines (bad_argument parameters arguments) (missing_argument parameters arguments) (values_in arguments) actual (λ key bad. bad-key parameters [] arguments key keys bad) e

@@ -6,6 +6,7 @@ use Rattle.std.specs.Fmt.{digit_glyph, digits_onto, digits}
 use Rattle.std.specs.FinMap as finite
 use Rattle.std.specs.Str.Parse.{AllDigits}
 use Rattle.std.proofs.lemmas.List.{append_assoc, append-nil, length-append}
+use Rattle.std.proofs.lemmas.List.Folds.{list_all-append, list_any-append}
 use Rattle.std.proofs.lemmas.Bool.Decides.{nat_tests}
 use Rattle.std.proofs.lemmas.Slice.Eq.{bytes_eq-Decides}
 use Rattle.std.proofs.lemmas.Str.Parse.{digit_at}
@@ -48,8 +49,11 @@ and-both true b p q = q
 and-both false b p q = cc
 
 pub all-append : {X : Type 0} (p : X → Bool) (xs ys : List X) → list_all p xs ≡ true → list_all p ys ≡ true → list_all p (xs ++ ys) ≡ true
-all-append p [] ys h k = k
-all-append p (x ∷ xs) ys h k = and-both _ _ (and-first _ _ h) (all-append p xs ys (and-second _ _ h) k)
+all-append p xs ys h k = list_all-append p xs ys ∙ and-both _ _ h k
+
+pub all-weaker : {X : Type 0} (p q : X → Bool) → ((x : X) → p x ≡ true → q x ≡ true) → (xs : List X) → list_all p xs ≡ true → list_all q xs ≡ true
+all-weaker p q weaker [] h = refl
+all-weaker p q weaker (x ∷ xs) h = and-both _ _ (weaker x (and-first _ _ h)) (all-weaker p q weaker xs (and-second _ _ h))
 
 abbrev pub IsBytes : List ℕ → Type 0
 IsBytes text = list_all is_line_byte text ≡ true
@@ -61,13 +65,8 @@ reply_line-bytes text h = and-second (not (is_blank text || is_dashes text)) _ h
 abbrev pub is_mark : ℕ → Bool
 is_mark b = not (is_space b || b == 45)
 
-any-step : (this some more : Bool) → (this || some) ≡ true → (some ≡ true → more ≡ true) → (this || more) ≡ true
-any-step true some more h k = refl
-any-step false some more h k = k h
-
 any-front : {X : Type 0} (p : X → Bool) (xs ys : List X) → list_any p xs ≡ true → list_any p (xs ++ ys) ≡ true
-any-front p [] ys h = cc
-any-front p (x ∷ xs) ys h = any-step (p x) (list_any p xs) (list_any p (xs ++ ys)) h (any-front p xs ys)
+any-front p xs ys h = list_any-append p xs ys ∙ ap (λ found. found || list_any p ys) h
 
 space-step : (space dash some all : Bool) → (not (space || dash) || some) ≡ true → (some ≡ true → all ≡ false) → (space && all) ≡ false
 space-step true dash some all h k = k h
@@ -98,10 +97,6 @@ where-bytes false text h = refl
 byte-high : (b : ℕ) → nat_le 48 b ≡ true → is_line_byte b ≡ true
 byte-high b h = grind (arith, nat_tests)
 
-bytes-high : (bs : List ℕ) → list_all (nat_le 48) bs ≡ true → IsBytes bs
-bytes-high [] h = refl
-bytes-high (b ∷ bs) h = and-both _ _ (byte-high b (and-first _ _ h)) (bytes-high bs (and-second _ _ h))
-
 glyph-high : (d : ℕ) → nat_le 48 (digit_glyph false d) ≡ true
 glyph-high d = grind (arith, nat_tests)
 
@@ -119,7 +114,7 @@ high-mark (b ∷ bs) h = ap (λ t. t || list_any is_mark bs) (mark-high b (and-f
 
 high-bytes : (bs : List ℕ) → is_high bs ≡ true → IsBytes bs
 high-bytes [] h = cc
-high-bytes (b ∷ bs) h = bytes-high (b ∷ bs) h
+high-bytes (b ∷ bs) h = all-weaker (nat_le 48) is_line_byte byte-high (b ∷ bs) h
 
 pub is_high-either : (b : Bool) (xs ys : List ℕ) → is_high xs ≡ true → is_high ys ≡ true → is_high (cond b xs ys) ≡ true
 is_high-either true xs ys h k = h
@@ -302,20 +297,20 @@ kind-bytes Update = refl
 change-bytes : (change : Change) → IsBytes (change_text change)
 change-bytes change = all-append is_line_byte (letter_of change.kind ∷ []) (decimal change.id) (kind-bytes change.kind) (decimal-bytes change.id)
 
--- words with one space between
-pub spaced-tokens_in : (tokens_in : List (List ℕ)) → list_all (λ token. list_all is_line_byte token) tokens_in ≡ true → IsBytes (join_with_byte 32 tokens_in)
+-- tokens with one space between
+pub spaced-tokens_in : (tokens : List (List ℕ)) → list_all (λ token. list_all is_line_byte token) tokens ≡ true → IsBytes (join_with_byte 32 tokens)
 spaced-tokens_in [] h = refl
 spaced-tokens_in (token ∷ []) h = and-first _ _ h
-spaced-tokens_in (token ∷ next ∷ tokens_in) h = all-append is_line_byte token (32 ∷ join_with_byte 32 (next ∷ tokens_in)) (and-first _ _ h) (spaced-tokens_in (next ∷ tokens_in) (and-second _ _ h))
+spaced-tokens_in (token ∷ next ∷ tokens) h = all-append is_line_byte token (32 ∷ join_with_byte 32 (next ∷ tokens)) (and-first _ _ h) (spaced-tokens_in (next ∷ tokens) (and-second _ _ h))
 
 pub changes-tokens_in : (changes : List Change) → list_all (λ token. list_all is_line_byte token) (map change_text changes) ≡ true
 changes-tokens_in [] = refl
 changes-tokens_in (change ∷ changes) = and-both _ _ (change-bytes change) (changes-tokens_in changes)
 
--- a word, and others after it
-tokens_in-line : (token : List ℕ) (tokens_in : List (List ℕ)) → IsLine token → list_all (λ w. list_all is_line_byte w) tokens_in ≡ true → IsLine (join_with_byte 32 (token ∷ tokens_in))
+-- a token, and others after it
+tokens_in-line : (token : List ℕ) (tokens : List (List ℕ)) → IsLine token → list_all (λ w. list_all is_line_byte w) tokens ≡ true → IsLine (join_with_byte 32 (token ∷ tokens))
 tokens_in-line token [] h k = h
-tokens_in-line token (next ∷ tokens_in) h k = h ▸ IsTail-from_bytes (32 ∷ join_with_byte 32 (next ∷ tokens_in)) (spaced-tokens_in (next ∷ tokens_in) k)
+tokens_in-line token (next ∷ tokens) h k = h ▸ IsTail-from_bytes (32 ∷ join_with_byte 32 (next ∷ tokens)) (spaced-tokens_in (next ∷ tokens) k)
 
 flag-bytes : (auto_leave : Bool) → IsBytes (flag_token auto_leave)
 flag-bytes true = refl

@@ -21,7 +21,7 @@ has_key arguments key = list_any (λ argument. bytes_eq argument.key key) argume
 abbrev pub is_good : List Parameter → List ArgumentText → ArgumentText → Bool
 is_good parameters before argument = is_allowed parameters argument && not (has_key before argument.key)
 
--- the key of the first argument that is not good, after the ones before
+-- the key of the first argument that is not good, if those of `before` come before them
 abbrev pub first_bad : List Parameter → List ArgumentText → List ArgumentText → Option (List ℕ)
 first_bad parameters before [] = None
 first_bad parameters before (argument ∷ arguments) =

@@ -22,7 +22,7 @@ use Rattle.conf_session.specs.SessionState.{SessionState, after_directive}
 use Rattle.conf_session.specs.Input.{Input, read_input}
 use Rattle.conf_session.specs.Values.{Values, read_arguments}
 use Rattle.conf_session.specs.Quorum.{index_text, committed_reply, vote_reply}
-use Rattle.conf_session.specs.Reply.{Reply, replied, replied_line, stepped, begun_again, acknowledged_by}
+use Rattle.conf_session.specs.Reply.{Reply, replied, replied_line, stepped, restored_with, acknowledged_by}
 use Rattle.conf_session.specs.Undo.{undo_plan_of, undo_fault_text, undone}
 use Rattle.conf_session.specs.declared.input.InputKind.{InputKind}
 use Rattle.conf_session.specs.declared.input.InputKind.TheVariants.{Changes, NoChange, ConfStateLine, Nothing}
@@ -42,7 +42,7 @@ pub record Row : Type 0 where
 abbrev pub row_with : Command → InputKind → Option (List Parameter) → Row
 row_with command input parameters = record { command = command; input = input; parameters = parameters }
 
--- the row of a name
+-- the table of commands: the row of a name
 abbrev pub row_of : List ℕ → Row
 row_of name =
     if bytes_eq name (codes "simple") then row_with Simple Changes None
@@ -58,7 +58,7 @@ row_of name =
     else (if bytes_eq name (codes "vote") then row_with Vote Nothing (Some (Incoming ∷ Outgoing ∷ Votes ∷ []))
     else row_with Unknown Changes None))))))))))
 
--- a step that is accepted, or refused
+-- the reply to a change: the configuration after it, or why it is refused
 abbrev pub after_step : Result ChangerState Refused → Reply
 after_step (Ok after) = stepped after
 after_step (Err refused) = replied_line (refused_text refused)
@@ -66,10 +66,10 @@ after_step (Err refused) = replied_line (refused_text refused)
 abbrev pub on_step : ChangerState → Step → Reply
 on_step changer step = after_step (changer_after changer step)
 
--- a saved form that is restored, or describes no configuration
+-- the reply to `restore`: the restored configuration, or that the saved lists describe none
 abbrev pub after_restored : ChangerState → Option Configuration → Reply
 after_restored changer None = replied_line (codes "not a configuration")
-after_restored changer (Some c) = begun_again (begun_with changer.tracker.floor changer.last_index c)
+after_restored changer (Some c) = restored_with (begun_with changer.tracker.floor changer.last_index c)
 
 -- the reply to `undo` with this plan, or with the reason why there is none
 abbrev pub after_planned : SessionState → ℕ → Result (List Step) UndoFault → Reply
@@ -79,7 +79,7 @@ after_planned session count (Err fault) = replied_line (undo_fault_text fault)
 abbrev pub undo_last : SessionState → ℕ → Reply
 undo_last session count = after_planned session count (undo_plan_of session count)
 
--- a member's progress after an acknowledgement, or why it is refused
+-- the reply to `ack`: the member's progress after the acknowledgement, or why it is refused
 abbrev pub after_ack : ChangerState → ℕ → Result Progress AckFault → Reply
 after_ack changer id (Ok p) = acknowledged_by (changer_with_progress changer id p) id p
 after_ack changer id (Err NotMember) = replied_line (codes "not a member")

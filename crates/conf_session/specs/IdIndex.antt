@@ -13,7 +13,7 @@ pub record IsFirstIndex (ids : List ℕ) (id index : ℕ) : Type 0 where
   pub there : slice_get ids index ≡ Some id
   pub none_before : (k : ℕ) → k < index → slice_get ids k ≢ Some id
 
--- each row is an id of the list with its index, and each id has a row for each index
+-- each row is an id of the list with one of its indexes, and each index of the list has a row
 pub record HasRows (ids : List ℕ) (rows : List (ℕ × ℕ)) : Type 0 where
   pub true_rows : All (λ row. slice_get ids row.1 ≡ Some row.0) rows
   pub all_rows : (index id : ℕ) → slice_get ids index ≡ Some id → Contains rows (id, index)

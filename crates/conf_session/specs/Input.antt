@@ -9,7 +9,7 @@ use Rattle.conf_session.specs.ReplyTexts.{line}
 use Rattle.conf_session.specs.declared.input.InputKind.{InputKind}
 use Rattle.conf_session.specs.declared.input.InputKind.TheVariants.{Changes, NoChange, ConfStateLine, Nothing}
 
--- the changes of an input, or its saved configuration; the other is empty
+-- what an input is read as: changes, or a saved configuration; the other is empty
 pub record Input : Type 0 where
   pub changes : List Change
   pub saved : ConfStateLists
@@ -22,7 +22,7 @@ nothing_saved = record { voters = []; voters_outgoing = []; learners = []; learn
 abbrev pub of_changes : List Change → Input
 of_changes changes = record { changes = changes; saved = nothing_saved }
 
--- the reply to a command that takes no input
+-- the error of a command that takes no input but has one
 abbrev pub no_input_line : List ℕ
 no_input_line = line (codes "this command takes no input")
 

@@ -21,11 +21,11 @@ abbrev pub each_once : List ℕ → List ℕ
 each_once [] = []
 each_once (id ∷ ids) = id ∷ filter (λ other. not (other == id)) (each_once ids)
 
--- the ids that have values: those of the first set, then those of the second
+-- the ids that have values: those of the first set, then the further ones of the second
 abbrev pub ids_named : Values → List ℕ
 ids_named values = each_once (values.incoming ++ values.outgoing)
 
--- a map by id in which one id has this value, or none where it is not known
+-- the map with the value of one more id, or without the id if its value is unknown
 abbrev pub with_value : {V : Type 0} → finite.FinMap nat_cmp V → ℕ → Option V → finite.FinMap nat_cmp V
 with_value map id None = finite.remove map id
 with_value map id (Some value) = finite.insert map id value
@@ -36,7 +36,7 @@ values_by_id [] values = finite.empty
 values_by_id (id ∷ ids) [] = finite.empty
 values_by_id (id ∷ ids) (value ∷ values) = with_value (values_by_id ids values) id value
 
--- the map that a value of the type denotes
+-- the map that the code's lists denote
 abbrev pub map_of : {V : Type 0} → ValuesById V → finite.FinMap nat_cmp V
 map_of by_id = values_by_id by_id.ids by_id.values.now
 
@@ -44,7 +44,7 @@ map_of by_id = values_by_id by_id.ids by_id.values.now
 abbrev pub is_one_each : {V : Type 0} → List ℕ → List (Option V) → Bool
 is_one_each ids values = nat_eq (length values) (length ids)
 
--- a committed index; the greatest is written as infinity
+-- a committed index; the greatest, which a quorum without voters commits, is written `∞`
 abbrev pub index_text : ℕ → List ℕ
 index_text index = if nat_eq index greatest_index then 226 ∷ 136 ∷ 158 ∷ [] else decimal index
 
@@ -60,9 +60,13 @@ vote_text VoteLost = codes "VoteLost"
 vote_text VoteWon = codes "VoteWon"
 
 -- ---- the replies of the commands that name a quorum
--- the text if there is one value for each id, else an error
+-- the error if there is not one value for each id
+abbrev pub wrong_number_text : List ℕ
+wrong_number_text = codes "wrong number of values"
+
+-- the text if there is one value for each id, else that error
 abbrev pub with_one_each : {V : Type 0} → List ℕ → List (Option V) → List ℕ → List ℕ
-with_one_each ids values text = if is_one_each ids values then text else codes "wrong number of values"
+with_one_each ids values text = if is_one_each ids values then text else wrong_number_text
 
 -- `committed`: the chart and the committed index of the named quorum
 abbrev pub committed_reply : Values → List ℕ

@@ -15,7 +15,7 @@ pub record Reply : Type 0 where
   pub actual : List ℕ
   pub effect : SessionChange
 
--- the same as the code has it: an effect tells whether the next changer replaces the current one
+-- what the code returns for a reply: its effect names the changer that the session has afterwards, current or next
 pub record ReplyParts : Type 0 where
   pub actual : List ℕ
   pub effect : Effect
@@ -24,7 +24,7 @@ pub record ReplyParts : Type 0 where
 abbrev pub after_acknowledgement : ChangerState → ℕ → ℕ → ChangerState
 after_acknowledgement changer id index = unwrap_or (option_map (changer_with_progress changer id) (result_ok (ack_answer changer.tracker id index))) changer
 
--- how a session with this changer and this next one changes by an effect
+-- how an effect changes a session that has this changer, where `next` is the next one
 abbrev pub session_change : ChangerState → ChangerState → Effect → SessionChange
 session_change changer next effect.Nothing = Nothing
 session_change changer next (effect.Acknowledged id index) = Acknowledged (after_acknowledgement changer id index)
@@ -32,7 +32,7 @@ session_change changer next effect.Stepped = Stepped next
 session_change changer next effect.Restored = Restored next
 session_change changer next (effect.Undone count) = Undone next count
 
--- the reply that the code's parts denote
+-- the reply that the returned parts denote
 abbrev pub reply_in : ChangerState → ChangerState → ReplyParts → Reply
 reply_in changer next parts = record { actual = parts.actual; effect = session_change changer next parts.effect }
 
@@ -48,9 +48,9 @@ replied_line text = replied (line text)
 abbrev pub stepped : ChangerState → Reply
 stepped after = record { actual = tracker_text after.tracker; effect = Stepped after }
 
--- a restored configuration, with the changer that has it
-abbrev pub begun_again : ChangerState → Reply
-begun_again after = record { actual = tracker_text after.tracker; effect = Restored after }
+-- a restored configuration, with the changer that begins with it
+abbrev pub restored_with : ChangerState → Reply
+restored_with after = record { actual = tracker_text after.tracker; effect = Restored after }
 
 -- an acknowledged index, with the progress of its member
 abbrev pub acknowledged_by : ChangerState → ℕ → Progress → Reply

@@ -39,31 +39,31 @@ pub data SessionChange : Type 0 where
   Undone : ChangerState → ℕ → SessionChange
 
 -- the changer afterwards
-abbrev pub changer_left : SessionState → SessionChange → ChangerState
-changer_left session Nothing = session.changer
-changer_left session (Acknowledged after) = after
-changer_left session (Stepped after) = after
-changer_left session (Restored after) = after
-changer_left session (Undone after count) = after
+abbrev pub changer_afterwards : SessionState → SessionChange → ChangerState
+changer_afterwards session Nothing = session.changer
+changer_afterwards session (Acknowledged after) = after
+changer_afterwards session (Stepped after) = after
+changer_afterwards session (Restored after) = after
+changer_afterwards session (Undone after count) = after
 
 -- The configurations that are kept afterwards: the one before an accepted change is the newest, and the oldest is dropped
 -- if there would be too many.
-abbrev pub kept_after : SessionState → SessionChange → List Configuration
-kept_after session Nothing = session.kept
-kept_after session (Acknowledged after) = session.kept
-kept_after session (Stepped after) = take session.history (current session ∷ session.kept)
-kept_after session (Restored after) = []
-kept_after session (Undone after count) = drop count session.kept
+abbrev pub kept_afterwards : SessionState → SessionChange → List Configuration
+kept_afterwards session Nothing = session.kept
+kept_afterwards session (Acknowledged after) = session.kept
+kept_afterwards session (Stepped after) = take session.history (current session ∷ session.kept)
+kept_afterwards session (Restored after) = []
+kept_afterwards session (Undone after count) = drop count session.kept
 
 -- the last index after one more directive
 abbrev pub index_after : ℕ → ℕ
 index_after index = min (index + 1) (2 ^ 64 - 1)
 
--- the session after a directive that changes it so: the last index rises
+-- the session after a directive that changes it so; the last index also rises
 abbrev pub after_directive : SessionState → SessionChange → SessionState
 after_directive session effect =
-    let left = changer_left session effect in
-    record { changer = with_last_index left (index_after left.last_index); history = session.history; kept = kept_after session effect }
+    let left = changer_afterwards session effect in
+    record { changer = with_last_index left (index_after left.last_index); history = session.history; kept = kept_afterwards session effect }
 
 -- ---- what holds of every session
 -- one accepted step leads from the one configuration to the other
@@ -71,7 +71,7 @@ pub record Leads (before after : Configuration) : Type 0 where
   pub step : Step
   pub gives : outcome before step ≡ Ok after
 
--- each of the kept configurations can be restored, and one accepted step leads from it to the next newer one, from the newest to this one
+-- each of the kept configurations can be restored, and one accepted step leads from it to the next newer one, and from the newest to `now`
 abbrev pub LedTo : Configuration → List Configuration → Type 0
 LedTo now [] = ⊤
 LedTo now (older ∷ kept) = (is_restorable older ≡ true) × Leads older now × LedTo older kept

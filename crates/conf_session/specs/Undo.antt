@@ -21,7 +21,7 @@ plan_back session (Some older) = if has_voter older then Ok (planned (current se
 abbrev pub undo_plan_of : SessionState → ℕ → Result (List Step) UndoFault
 undo_plan_of session count = plan_back session (slice_get session.kept (count - 1))
 
--- the message of an error; a session is never refused a plan for lack of memory
+-- the message of an error; `undo_plan_of` never gives `NoMemory`, which is an error of the code alone
 abbrev pub undo_fault_text : UndoFault → List ℕ
 undo_fault_text (NotKept kept) = codes "no plan: " ++ decimal kept ++ codes " earlier configurations are kept"
 undo_fault_text NoVoterTarget = codes "no plan: the earlier configuration has no voter"
@@ -31,7 +31,7 @@ undo_fault_text NoMemory = codes "out of memory"
 abbrev pub undone_changer : SessionState → List Step → ChangerState
 undone_changer session steps = unwrap_or (after_steps session.changer steps) session.changer
 
--- the plan, and the changer after it; the configurations before the undone changes are dropped
+-- the reply: the text of the plan and of the changer after it; the configurations before the undone changes are no longer kept
 abbrev pub undone_by : ChangerState → ℕ → List Step → Reply
 undone_by after count steps = record { actual = plan_text steps ++ tracker_text after.tracker; effect = Undone after count }
 

@@ -1,11 +1,12 @@
-//! The arguments of a directive, compared with the parameters of its command.
+//! The arguments of a directive, compared with the parameters of its command: an argument belongs to the parameter with
+//! its key, as `autoleave=true` to `autoleave`.
 ghost use Rattle.std.specs.Prelude.{◌≡◌, option_copied};
 ghost use Rattle.conf_session.specs.Arguments as spec;
 
 use crate::parameter::Parameter;
 use dd_file::item::Argument;
 
-/// The parameter of an argument.
+/// The parameter that the argument belongs to.
 pub(crate) fn parameter_of<'a>(
     parameters: &'a [Parameter],
     argument: &Argument,
@@ -17,7 +18,7 @@ pub(crate) fn parameter_of<'a>(
         .find(|parameter| argument.key() == parameter.key())
 }
 
-/// The first required parameter that has no argument.
+/// The first required parameter that has no argument, in the order of the command's row.
 pub(crate) fn missing_argument<'a>(
     parameters: &'a [Parameter],
     arguments: &[Argument],
@@ -28,7 +29,7 @@ pub(crate) fn missing_argument<'a>(
         && !has_key(arguments, parameter.key()))
 }
 
-/// Whether one of the arguments has the key.
+/// Whether one of the arguments has the key. It also finds repeated arguments.
 pub(crate) fn has_key(arguments: &[Argument], key: &[u8]) -> bool
     ensures { result ≡ spec.has_key arguments.now key.now }
 {

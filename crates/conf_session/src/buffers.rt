@@ -1,23 +1,23 @@
-//! Buffers that are reused between directives.
+//! Buffers that are reused between directives: they grow with the longest directive, and are then not allocated again.
 use crate::input::Input;
 use crate::session_ids::SessionIds;
 use crate::values::Values;
 use conf_change::Changer;
 use std::alloc::Global;
 
-/// What a directive writes before the session changes. No directive reads what another left here.
+/// What a directive writes before the session changes. Each directive overwrites it before it reads it.
 #[derive(Drop)]
 pub(crate) struct Buffers {
-    /// The changer after an accepted change.
+    /// The changer that an accepted command leads to. `State::apply` swaps it with the current one.
     pub(crate) next: Changer<SessionIds>,
-    /// What the input is read as.
+    /// The changes or the saved configuration of the input.
     pub(crate) input: Input,
-    /// What the arguments are read as.
+    /// The values of the arguments.
     pub(crate) values: Values,
 }
 
 impl Buffers {
-    /// Empty buffers. They take no memory yet.
+    /// Empty buffers.
     pub(crate) fn new(alloc: Global) -> Buffers {
         Buffers {
             next: Changer::new(alloc, 0),

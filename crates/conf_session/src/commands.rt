@@ -1,17 +1,16 @@
 //! The commands of a script. Each is a row of a table: its name, the kind of its input, and its parameters. A directive's
-//! input is read first, then its arguments, and then the command is run. It does not change the session: its effect is
-//! part of the reply.
+//! input is read first, then its arguments, and then the command is run. So errors of input and arguments are found here,
+//! in one place, and a command gets values. It does not change the session: its effect is part of the reply.
 ghost use Rattle.std.specs.Prelude.{◌≡◌, ◌≤◌, option_map, IfOk};
 ghost use Rattle.conf_session.specs.Reply.{reply_in};
 ghost use Rattle.conf_session.specs.ReplyLines.{IsValidOutput};
 ghost use Rattle.conf_session.specs.Commands as spec;
 
 mod ack;
-mod committed;
+mod quorums;
 mod restore;
 mod step;
 mod undo;
-mod vote;
 
 use crate::buffers::Buffers;
 use crate::input::{Input, InputKind};
@@ -27,20 +26,29 @@ use dd_file::item::{Argument, Directive};
 use quorum_sets::NoMemory;
 use std::alloc::Global;
 
-/// The command of a directive.
+/// The command of a directive. The changes are those of etcd's package `confchange`; `ConfChange` makes the one of them that
+/// etcd's `ConfChangeV2` stands for.
 #[derive(Clone, Copy)]
 pub(crate) enum Command {
     Simple,
     EnterJoint,
     LeaveJoint,
     ConfChange,
+    /// Prints the current configuration as it is saved.
     ConfState,
+    /// Begins again from a saved configuration.
     Restore,
+    /// Takes the plan back to an earlier configuration.
     Undo,
+    /// Lets a member acknowledge an index.
     Ack,
+    /// Prints what the current configuration commits.
     CommitIndex,
+    /// Prints what a quorum in the arguments commits.
     Committed,
+    /// Prints what a quorum in the arguments votes.
     Vote,
+    /// Any other name. Its input is still read as changes, as in etcd's tests.
     Unknown,
 }
 
@@ -69,7 +77,7 @@ impl Row {
     }
 }
 
-// The row of a name.
+// The table of commands: the row of a name.
 fn row_of(name: &[u8]) -> Row
     ensures command { result.command ≡ (spec.row_of name.now).command }
     ensures input { result.input ≡ (spec.row_of name.now).input }
@@ -122,7 +130,7 @@ fn row_of(name: &[u8]) -> Row
     }
 }
 
-/// Runs a directive. If it leads to another changer, that one is the next one in the buffers.
+/// Runs a directive. If it leads to another changer, that one is `next` in the buffers afterwards.
 pub(crate) fn run_directive(
     alloc: Global,
     session: &State,
@@ -144,7 +152,7 @@ pub(crate) fn run_directive(
     )
 }
 
-// Reads what the row takes, and runs its command.
+// Reads the input and the arguments by their row, and runs its command, or reports the first error.
 fn run_row(
     alloc: Global,
     session: &State,
@@ -170,7 +178,7 @@ fn run_row(
     run_command(alloc, session, next, row.command, input, values)
 }
 
-// Runs a command.
+// Runs a command whose input and arguments are valid.
 fn run_command(
     alloc: Global,
     session: &State,
@@ -206,13 +214,13 @@ fn run_command(
                 changes,
             )
         }
-        Command::ConfState => Ok(Reply::of_text(conf_state_line(alloc, tracker.config())?)),
+        Command::ConfState => Ok(Reply::of_text(conf_state_line(alloc, session.current())?)),
         Command::Restore => restore::run(alloc, changer, next, &input.saved),
         Command::Undo => undo::run(alloc, session, next, values.steps as usize),
         Command::Ack => ack::run(alloc, changer, values.id, values.index),
-        Command::CommitIndex => Ok(Reply::of_text(committed::commit_index(alloc, tracker)?)),
-        Command::Committed => Ok(Reply::of_text(committed::committed(alloc, values)?)),
-        Command::Vote => Ok(Reply::of_text(vote::vote(alloc, values)?)),
+        Command::CommitIndex => Ok(Reply::of_text(quorums::commit_index(alloc, tracker)?)),
+        Command::Committed => Ok(Reply::of_text(quorums::committed(alloc, values)?)),
+        Command::Vote => Ok(Reply::of_text(quorums::vote(alloc, values)?)),
         Command::Unknown => Ok(Reply::of_text(line_of(alloc, b"unknown command", b"")?)),
     }
 }

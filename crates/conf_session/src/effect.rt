@@ -1,17 +1,21 @@
 //! The effect of a command on the session.
+//!
+//! A command does not alter the session. It writes its output, and the next changer if there is one, and returns what is to
+//! be done. Applying that cannot fail, so a command that runs out of memory leaves the session as it was.
 
-/// How the session changes after a command.
+/// How the session changes after a command. The next changer is in the buffers.
 #[derive(Clone, Copy)]
 pub(crate) enum Effect {
-    /// It does not.
+    /// Not at all: the command was a question, or was refused.
     Nothing,
     /// The member of this id acknowledged this index.
     Acknowledged(u64, u64),
-    /// A change was accepted: the next changer replaces the current one, whose configuration is kept.
+    /// A change was accepted: the next changer replaces the current one, whose configuration is kept for `undo`.
     Stepped,
-    /// The next changer replaces the current one, and no earlier configuration is kept.
+    /// A saved configuration was restored: the next changer replaces the current one. Since no change led to it, no earlier
+    /// configuration is kept.
     Restored,
-    /// This many changes were undone: the next changer replaces the current one, and the configurations before
-    /// those changes are dropped.
+    /// This many changes were undone: the next changer replaces the current one, and the configurations before those
+    /// changes are no longer kept. So `undo` after `undo` goes further back.
     Undone(usize),
 }

@@ -1,4 +1,4 @@
-//! The configurations before the accepted changes of a session.
+//! The configurations before the accepted changes of a session, to which `undo` can lead back.
 ghost use Rattle.std.specs.Prelude.{◌≡◌, [], length, option_copied, slice_get, IfOk};
 ghost use Rattle.conf_session.specs.History.{with_newer, without_newest};
 
@@ -10,7 +10,7 @@ use std::collections::VecDeque;
 use std::marker::Model;
 
 /// Configurations, the newest first, and how many are kept at most. Memory for that many is reserved, so that keeping one
-/// takes none.
+/// cannot fail: a change has been answered by then.
 #[derive(Drop)]
 pub(crate) struct History {
     most: usize,
@@ -49,7 +49,7 @@ impl History {
         self.kept.len()
     }
 
-    /// The configuration at an index; the newest is at 0.
+    /// The configuration at an index. The newest, before the last change, is at 0.
     pub(crate) fn get(&self, index: usize) -> Option<&Config<SessionIds>>
         ensures { option_copied result ≡ slice_get self.now.kept index }
     {
@@ -68,7 +68,7 @@ impl History {
         self.kept.push_front_reserved(config);
     }
 
-    /// Drops the `count` newest.
+    /// Drops the `count` newest, whose changes were undone.
     pub(crate) fn forget(&mut self, count: usize)
         ensures { self.new ≡ without_newest self.old count }
     {
@@ -78,7 +78,7 @@ impl History {
         self.kept.truncate(left);
     }
 
-    /// Drops all.
+    /// Drops all, since a restored configuration has no earlier ones.
     pub(crate) fn clear(&mut self)
         ensures { self.new ≡ record { most = self.old.most; kept = [] } }
     {

@@ -1,4 +1,4 @@
-//! At which index a list of ids has an id.
+//! At which index a list of ids has an id. The ids of a quorum are asked for one by one, and may be many.
 ghost use Rattle.std.specs.Prelude.{◌≡◌, [], OnOk};
 ghost use Rattle.conf_session.specs.IdIndex.{HasRows};
 
@@ -10,7 +10,7 @@ use std::marker::Model;
 #[derive(Drop)]
 pub(crate) struct IdIndex {
     ids: Vec<u64>,
-    // Each id with its index, in ascending order.
+    // Each id with its index, in ascending order: by id, and for a repeated id by index.
     rows: Vec<(u64, usize)>,
 }
 
@@ -30,7 +30,7 @@ impl IdIndex {
     ghost use Rattle.std.specs.List.{list_any};
     ghost use Rattle.conf_session.specs.IdIndex.{IsAbsent, IsFirstIndex};
 
-    /// The index of a list.
+    /// Builds the sorted rows of a list.
     pub(crate) fn new(alloc: Global, ids: Vec<u64>) -> Result<IdIndex, NoMemory>
         ensures { IfOk result (λ index. index ≡ ids.items) }
     {
@@ -40,14 +40,14 @@ impl IdIndex {
         Ok(IdIndex { ids, rows })
     }
 
-    /// The ids.
+    /// The list of ids.
     pub(crate) fn ids(&self) -> &[u64]
         ensures { result.now ≡ self.now }
     {
         self.ids.as_slice()
     }
 
-    /// The index at which the id comes first.
+    /// The index at which the id comes first. The rows of an id are side by side, the one with the least index in front.
     pub(crate) fn first(&self, id: u64) -> Option<usize>
         ensures { MatchOption result (IsAbsent self.now id) (IsFirstIndex self.now id) }
     {
@@ -59,7 +59,7 @@ impl IdIndex {
         }
     }
 
-    /// Whether the id at an index comes first there.
+    /// Whether the id at an index comes first there, and is not repeated from before.
     pub(crate) fn is_first(&self, index: usize, id: u64) -> bool
         requires { slice_get self.now index ≡ Some id }
         ensures { result ≡ not (list_any (λ other. id == other) (take index self.now)) }
@@ -71,7 +71,7 @@ impl IdIndex {
     }
 }
 
-// Adds a row for each id.
+// Adds a row for each id. They are sorted afterwards, at once.
 fn push_rows(rows: &mut Vec<(u64, usize)>, ids: &[u64]) -> Result<(), NoMemory>
     requires { rows.old.items ≡ [] }
     ensures { OnOk result (HasRows ids.now rows.new.items) }

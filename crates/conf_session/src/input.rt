@@ -1,4 +1,5 @@
-//! The input of a directive.
+//! The input of a directive: the lines between it and the separator. It is looked at before the arguments, so a command that
+//! takes no input reports one first.
 ghost use Rattle.std.specs.Prelude.{◌≡◌, [], Ok, Err, IfOk, MatchResult};
 ghost use Rattle.conf_session.specs.Input as spec;
 
@@ -10,14 +11,14 @@ use quorum_sets::NoMemory;
 use std::alloc::Global;
 use std::marker::Model;
 
-/// What the input of a command is.
+/// What the input of a command is read as.
 #[derive(Clone, Copy)]
 pub(crate) enum InputKind {
-    /// A list of changes.
+    /// A list of changes, as `v1 l2 r3`.
     Changes,
-    /// An empty list of changes.
+    /// A list of changes that must be empty, for `leave-joint`: a bad token is reported as such, and white space is allowed.
     NoChange,
-    /// The ConfState line of a saved configuration.
+    /// The ConfState line of a saved configuration, as `conf-state` prints it.
     ConfStateLine,
     /// Nothing, not even white space.
     Nothing,
@@ -42,7 +43,7 @@ impl Input {
     ghost use Rattle.std.specs.Prelude.{◌≡◌, Ok, Err, IfOk, MatchResult};
     ghost use Rattle.conf_session.specs.Input as spec;
 
-    /// An empty input. It takes no memory.
+    /// An empty input.
     pub(crate) fn new(alloc: Global) -> Input {
         Input {
             changes: Vec::new(alloc),
@@ -50,7 +51,7 @@ impl Input {
         }
     }
 
-    /// Reads an input over the previous one, or gives the line that reports its fault.
+    /// Reads an input over the previous one, or returns the line that reports its error.
     pub(crate) fn read(
         &mut self,
         kind: InputKind,
@@ -83,6 +84,7 @@ fn empty_conf_state(alloc: Global) -> ConfState
     }
 }
 
+// Reads a list of changes.
 fn read_change_list(
     alloc: Global,
     changes: &mut Vec<Change>,
@@ -97,6 +99,7 @@ fn read_change_list(
     }
 }
 
+// Reads a list of changes that must be empty.
 fn read_no_change(
     alloc: Global,
     changes: &mut Vec<Change>,
@@ -104,14 +107,14 @@ fn read_no_change(
 ) -> Result<Result<(), Vec<u8>>, NoMemory>
     ensures { IfOk result (λ read. MatchResult read (λ _. spec.read_input InputKind.NoChange text.now ≡ Ok (spec.of_changes changes.new.items)) (λ actual. spec.read_input InputKind.NoChange text.now ≡ Err actual.items)) }
 {
-    match read_changes_into(changes, text) {
-        Ok(()) if changes.is_empty() => Ok(Ok(())),
-        Ok(()) => Ok(Err(no_input_line(alloc)?)),
-        Err(TokenFault::NoMemory) => Err(NoMemory),
-        Err(fault) => Ok(Err(bad_token_line(alloc, fault)?)),
+    let read = read_change_list(alloc, changes, text)?;
+    if read.is_ok() && !changes.is_empty() {
+        return Ok(Err(no_input_line(alloc)?));
     }
+    Ok(read)
 }
 
+// Reads a ConfState line. Whether it describes a configuration is for `restore` to say.
 fn read_saved(
     alloc: Global,
     saved: &mut ConfState,
@@ -129,6 +132,7 @@ fn read_saved(
     }
 }
 
+// Accepts an empty input alone.
 fn read_nothing(alloc: Global, text: &[u8]) -> Result<Result<(), Vec<u8>>, NoMemory>
     ensures { IfOk result (λ read. MatchResult read (λ _. spec.read_input InputKind.Nothing text.now ≡ Ok (spec.of_changes [])) (λ actual. spec.read_input InputKind.Nothing text.now ≡ Err actual.items)) }
 {
@@ -139,7 +143,7 @@ fn read_nothing(alloc: Global, text: &[u8]) -> Result<Result<(), Vec<u8>>, NoMem
     }
 }
 
-// The line that reports that the command takes no input.
+// The error of a command that takes no input but has one.
 fn no_input_line(alloc: Global) -> Result<Vec<u8>, NoMemory>
     ensures { IfOk result (λ actual. actual.items ≡ spec.no_input_line) }
 {

@@ -1,4 +1,5 @@
-//! Laws of this crate's definitions, each the contract of a function that does nothing.
+//! Laws of this crate's definitions, each the contract of a function that does nothing. A caller calls such a function to
+//! use its law in a proof.
 ghost use Rattle.std.specs.Prelude.{◌≡◌, ◌-◌, ◌≤◌, ℕ, List, Some, Ok, true, length, slice_get};
 ghost use Rattle.dd_file.specs.DirectiveText.{DirectiveText};
 ghost use Rattle.dd_file.specs.DirectiveLine.{has_keys};
@@ -30,22 +31,22 @@ pub fn kept_lead_to_now()
     ensures { (session : SessionState) (count : ℕ) (older : Configuration) → IsSession session → 1 ≤ count → slice_get session.kept (count - 1) ≡ Some older → IsEarlier session count older }
 {
     trackers_stay_sound();
-    one_changer_after_a_step();
-    restored_is_described();
 }
 
-/// What holds of every session holds of it after each answer.
+/// What holds of every session (`IsSession`) still holds after each answer, whatever the directive is: the members fit the
+/// configuration, and accepted steps lead from each kept configuration to the next newer one.
 pub fn answer_keeps_session()
     ensures { (session : SessionState) (directive : DirectiveText) → IsSession session → IsSession (answer session directive).session }
 {
     trackers_stay_sound();
     one_changer_after_a_step();
     restored_is_described();
+    kept_lead_to_now();
     undo_of_run();
     one_changer_after_steps();
 }
 
-/// What holds of every session holds of it after any directives in turn, so of each session on the way from a new one.
+/// It holds after any directives in turn, so of every session that began as a new one.
 pub fn answers_keep_session()
     ensures kept { (session : SessionState) (directives : List DirectiveText) → IsSession session → IsSession (after_answers session directives) }
     ensures from_new { (history : ℕ) (floor : Floor) (directives : List DirectiveText) → IsSession (after_answers (new_session history floor) directives) }
@@ -68,9 +69,7 @@ pub fn undo_brings_back()
     ensures { (session : SessionState) (count : ℕ) (older : Configuration) → IsSession session → 1 ≤ count → slice_get session.kept (count - 1) ≡ Some older → has_voter older ≡ true
         → (undone_changer session (planned (current session) older)).tracker.config ≡ older }
 {
-    trackers_stay_sound();
-    one_changer_after_a_step();
-    restored_is_described();
+    kept_lead_to_now();
     undo_of_run();
     one_changer_after_steps();
 }

@@ -1,7 +1,9 @@
 //! Sessions: a configuration on which the directives of a script act, one after another.
 //!
 //! A directive's command is a change (`simple`, `enter-joint`, `leave-joint`, `conf-change`, `restore`, `ack`, `undo`) or a
-//! question (`conf-state`, `commit-index`, `committed`, `vote`). The reply is what the script file expects below `----`:
+//! question (`conf-state`, `commit-index`, `committed`, `vote`). Most are those of the tests of etcd's packages `confchange`
+//! and `quorum`, or call what etcd's raft does elsewhere; `undo` is own. The reply is what the script file expects below
+//! `----`:
 //!
 //! ```text
 //! simple
@@ -14,7 +16,14 @@
 //! A command reads its input first and then its arguments, and the first error is the reply. A refused change replies with
 //! the refusal and alters nothing but the last index, which rises by one after every directive.
 //!
-//! A session keeps the configurations before its last accepted changes. `undo` plans the way back to one of them and takes it.
+//! A session keeps the configurations before its last accepted changes. `undo` plans the way back to one of them and takes
+//! it. That configuration and the newer ones are then no longer kept:
+//!
+//! ```text
+//! current (1 2 3)   kept, the newest first: (1 2), (1)
+//! undo steps=1
+//! current (1 2)     kept: (1)
+//! ```
 #![tactic(auto)]
 
 mod arguments;

@@ -1,4 +1,5 @@
-//! The parameters of commands: their keys, and what values their arguments may have.
+//! The parameters of commands: their keys, and what values their arguments may have. `cfg`, `cfgj`, `idx` and `votes` are
+//! those of etcd's tests of `quorum`, `autoleave` is of those of `confchange`, and the others are own.
 ghost use Rattle.std.specs.Prelude.{◌≡◌};
 ghost use Rattle.conf_session.specs.Parameter as spec;
 
@@ -9,23 +10,23 @@ use dd_file::item::Argument;
 /// A parameter of a command.
 #[derive(Clone, Copy)]
 pub(crate) enum Parameter {
-    /// `autoleave`: `true` or `false`.
+    /// `autoleave`: `true` or `false`, whether the joint configuration is to be left without a further command.
     AutoLeave,
-    /// `transition`: `auto`, `implicit` or `explicit`.
+    /// `transition`: `auto`, `implicit` or `explicit`, as in etcd's `ConfChangeTransition`.
     Transition,
-    /// `steps`: a number from 1.
+    /// `steps`: how many changes to undo, a number from 1.
     Steps,
-    /// `id`: a number from 1.
+    /// `id`: the member that acknowledges, a number from 1.
     Id,
-    /// `index`: a number.
+    /// `index`: the index of the log that it acknowledges, a number.
     Index,
-    /// `cfg`: ids.
+    /// `cfg`: the ids of the incoming voters.
     Incoming,
-    /// `cfgj`: ids, or `zero` for none.
+    /// `cfgj`: the ids of the outgoing voters, or `zero` for none.
     Outgoing,
-    /// `idx`: numbers from 1, and `_` if unknown.
+    /// `idx`: what each id has acknowledged, a number from 1, or `_` if unknown.
     Indexes,
-    /// `votes`: `y` and `n`, and `_` if unknown.
+    /// `votes`: what each id has voted, `y` or `n`, or `_` if unknown.
     Votes,
 }
 
@@ -33,7 +34,7 @@ impl Parameter {
     ghost use Rattle.std.specs.Prelude.{◌≡◌};
     ghost use Rattle.conf_session.specs.Parameter as spec;
 
-    /// The key of its argument.
+    /// The key of its argument: what is before `=`.
     pub(crate) fn key(self) -> &'static [u8]
         ensures { result.now ≡ spec.key_of self }
     {
@@ -50,7 +51,7 @@ impl Parameter {
         }
     }
 
-    /// Whether a command needs its argument.
+    /// Whether a command needs its argument. Each other one has a default.
     pub(crate) fn is_required(self) -> bool
         ensures { result ≡ spec.is_required self }
     {
@@ -58,7 +59,7 @@ impl Parameter {
     }
 }
 
-/// Whether the argument has this value and no other.
+/// Whether the argument has this value and no other. `steps=2` and `steps=(2)` are alike.
 pub(crate) fn has_only(argument: &Argument, value: &[u8]) -> bool
     ensures { result ≡ spec.has_only value.now argument.now.values }
 {
@@ -113,19 +114,19 @@ pub(crate) fn number_from(least: u64, argument: &Argument) -> Option<u64>
     Some(number)
 }
 
-/// A value of a list.
+/// The type of the values in a list, as those of `cfg=(1,2,3)`.
 pub(crate) trait Listed: Copy + Drop {
     ghost use Rattle.std.specs.Prelude.{◌≡◌, ℕ, List, Option};
 
-    /// What a value denotes, if it is valid.
+    /// What the text of a value denotes, if it is valid.
     ghost reads: { List ℕ → Option Self };
 
-    /// Parses a value.
+    /// Parses the text of a value.
     fn read(value: &[u8]) -> Option<Self>
         ensures { result ≡ reads value.now };
 }
 
-/// An id.
+/// An id. 0 is etcd's `raft.None`, which names no member.
 impl Listed for u64 {
     ghost use Rattle.conf_session.specs.Parameter.{id_in};
 
@@ -139,7 +140,7 @@ impl Listed for u64 {
     }
 }
 
-/// An acknowledged index, if it is known.
+/// An acknowledged index, if it is known. 0 is not a value, since an unknown index counts as 0.
 impl Listed for Option<u64> {
     ghost use Rattle.conf_session.specs.Parameter.{index_in};
 
@@ -175,7 +176,7 @@ impl Listed for Option<bool> {
     }
 }
 
-// Whether the value is `_`, for what is not known.
+// Whether the value is `_`, which etcd's tests write for what is not known.
 fn is_unknown(value: &[u8]) -> bool
     ensures { result ≡ spec.is_unknown value.now }
 {

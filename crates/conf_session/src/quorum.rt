@@ -1,14 +1,16 @@
-//! The quorum that the arguments of a command name.
+//! The quorum that the arguments of `committed` and `vote` name.
 ghost use Rattle.std.specs.Prelude.{◌≡◌, [], OnOk};
 ghost use Rattle.conf_session.specs.Quorum.{each_once};
 
 use crate::id_index::IdIndex;
 use crate::session_ids::SessionIds;
+use crate::values::Values;
 use crate::values_by_id::ValuesById;
 use quorum_sets::{MemberSet, NoMemory};
 use std::alloc::Global;
 
-/// Both sets of a quorum, and the values of their ids.
+/// Two sets of ids, of which each decides by its majority, and what each id has voted or acknowledged. The second set is
+/// empty unless the quorum is joint.
 #[derive(Drop)]
 pub(crate) struct Quorum<'a, V: Drop> {
     pub(crate) incoming: SessionIds,
@@ -17,23 +19,23 @@ pub(crate) struct Quorum<'a, V: Drop> {
 }
 
 impl<'a, V: Copy + Drop> Quorum<'a, V> {
-    ghost use Rattle.std.specs.Prelude.{◌≡◌, ◌++◌, is_some, IfOk, IfSome};
-    ghost use Rattle.quorum_sets.specs.Ids.{ids_of};
-    ghost use Rattle.conf_session.specs.Quorum.{each_once, is_one_each, map_of, values_by_id};
+    ghost use Rattle.std.specs.Prelude.{◌≡◌, is_some, IfOk, IfSome};
+    ghost use Rattle.quorum_sets.specs.Voters.{pair};
+    ghost use Rattle.conf_session.specs.Quorum.{ids_named, is_one_each, map_of, values_by_id, voters_named};
 
-    /// The quorum of these lists. The values are those of the ids of the first list, then of the second, of each id once.
-    /// None if there are more or fewer values than ids.
+    /// The quorum of the ids of `cfg` and `cfgj`. The first values are those of the ids of `cfg`, then come those of the
+    /// further ids of `cfgj`: an id in both has one value, as in etcd's tests. `None` if there are more or fewer values.
     pub(crate) fn of(
         alloc: Global,
-        incoming: &[u64],
-        outgoing: &[u64],
+        arguments: &Values,
         values: &'a [Option<V>],
     ) -> Result<Option<Quorum<'a, V>>, NoMemory>
-        ensures one_each { IfOk result (λ quorum. is_some quorum ≡ is_one_each (each_once (incoming.now ++ outgoing.now)) values.now) }
-        ensures incoming { IfOk result (λ quorum. IfSome quorum (λ q. q.incoming ≡ ids_of incoming.now)) }
-        ensures outgoing { IfOk result (λ quorum. IfSome quorum (λ q. q.outgoing ≡ ids_of outgoing.now)) }
-        ensures values { IfOk result (λ quorum. IfSome quorum (λ q. map_of q.values ≡ values_by_id (each_once (incoming.now ++ outgoing.now)) values.now)) }
+        ensures one_each { IfOk result (λ quorum. is_some quorum ≡ is_one_each (ids_named arguments.now) values.now) }
+        ensures voters { IfOk result (λ quorum. IfSome quorum (λ q. pair q.incoming q.outgoing ≡ voters_named arguments.now)) }
+        ensures values { IfOk result (λ quorum. IfSome quorum (λ q. map_of q.values ≡ values_by_id (ids_named arguments.now) values.now)) }
     {
+        let incoming = arguments.incoming.as_slice();
+        let outgoing = arguments.outgoing.as_slice();
         let mut both = Vec::with_capacity(alloc, incoming.len().saturating_add(outgoing.len()))?;
         both.extend_from_slice(incoming)?;
         both.extend_from_slice(outgoing)?;
@@ -50,7 +52,7 @@ impl<'a, V: Copy + Drop> Quorum<'a, V> {
     }
 }
 
-// Pushes the ids, each once, in the order in which they come first.
+// Pushes the ids, each once, in the order in which they come first. That is the order in which ids are given values.
 fn push_each_once(each: &mut Vec<u64>, index: &IdIndex) -> Result<(), NoMemory>
     requires { each.old.items ≡ [] }
     ensures { OnOk result (each.new.items ≡ each_once index.now) }

@@ -5,7 +5,7 @@ ghost use Rattle.conf_session.specs.Reply as spec;
 use crate::effect::Effect;
 use std::marker::Model;
 
-/// The output of a command, and its effect on the session.
+/// The output of a command, and its effect on the session. `State::apply` applies the effect.
 #[derive(Drop)]
 pub(crate) struct Reply {
     actual: Vec<u8>,
@@ -21,14 +21,14 @@ impl Model for Reply {
 }
 
 impl Reply {
-    /// An output with an effect.
+    /// The reply of a command that was accepted.
     pub(crate) fn new(actual: Vec<u8>, effect: Effect) -> Reply
         ensures { result ≡ record { actual = actual.items; effect = effect } }
     {
         Reply { actual, effect }
     }
 
-    /// An output with no effect.
+    /// The reply to a question, or to a command that was refused: the session stays as it is.
     pub(crate) fn of_text(actual: Vec<u8>) -> Reply
         ensures { result ≡ record { actual = actual.items; effect = Effect.Nothing } }
     {

@@ -1,4 +1,5 @@
-//! The outputs of a session, each in whole lines.
+//! The outputs of a session, each in whole lines. The texts of configurations, members, refusals, charts and votes are
+//! those that etcd prints; the errors of input and arguments are own.
 ghost use Rattle.std.specs.Prelude.{◌≡◌, ◌≢◌, ◌++◌, IfOk, OnOk, IsSomeAnd};
 ghost use Rattle.quorum_sets.specs.Voters.{pair};
 ghost use Rattle.conf_change.specs.ChangeList.{bad_token};
@@ -21,7 +22,7 @@ use conf_change::{
 use quorum_sets::{MemberSet, NoMemory, VoteResult, joint_chart, joint_committed, joint_vote};
 use std::alloc::Global;
 
-// Adds the newline of the last line.
+// Ends a text that has no newline yet.
 fn end_line(text: Vec<u8>) -> Result<Vec<u8>, NoMemory>
     ensures { IfOk result (λ whole. whole.items ≡ line text.items) }
 {
@@ -30,7 +31,7 @@ fn end_line(text: Vec<u8>) -> Result<Vec<u8>, NoMemory>
     Ok(ended)
 }
 
-/// A line of two parts.
+/// A line of a fixed text and what follows it, as `bad argument: ` and a key.
 pub(crate) fn line_of(alloc: Global, front: &[u8], back: &[u8]) -> Result<Vec<u8>, NoMemory>
     ensures { IfOk result (λ text. text.items ≡ line (front.now ++ back.now)) }
 {
@@ -41,10 +42,10 @@ pub(crate) fn line_of(alloc: Global, front: &[u8], back: &[u8]) -> Result<Vec<u8
     end_line(text)
 }
 
-// How much memory a line of one error, one number or one member usually needs.
+// How many bytes a line of one error, one number or one member usually has.
 const USUAL_LINE_ROOM: usize = 64;
 
-/// The error of a token that is not a change.
+/// The error of a token of the input that is not a change.
 pub(crate) fn bad_token_line(alloc: Global, fault: TokenFault<'_>) -> Result<Vec<u8>, NoMemory>
     ensures { IfOk result (λ text. IsSomeAnd (bad_token fault.entry) (λ bad. text.items ≡ line (bad_token_text bad))) }
 {
@@ -53,7 +54,7 @@ pub(crate) fn bad_token_line(alloc: Global, fault: TokenFault<'_>) -> Result<Vec
     end_line(text)
 }
 
-/// Why a change was refused, other than for lack of memory.
+/// Why a change was refused. Running out of memory is not a refusal that a script sees.
 pub(crate) fn refused_line(alloc: Global, refused: Refused) -> Result<Vec<u8>, NoMemory>
     requires { refused ≢ Refused.NoMemory }
     ensures { IfOk result (λ text. text.items ≡ line (refused_text refused)) }
@@ -63,10 +64,10 @@ pub(crate) fn refused_line(alloc: Global, refused: Refused) -> Result<Vec<u8>, N
     end_line(text)
 }
 
-// How much memory the ConfState of a small configuration needs.
+// How many bytes the ConfState line of a small configuration has.
 const USUAL_STATE_ROOM: usize = 128;
 
-/// The ConfState line of a configuration.
+/// The ConfState line of a configuration, which `restore` reads.
 pub(crate) fn conf_state_line(
     alloc: Global,
     config: &Config<SessionIds>,
@@ -79,14 +80,14 @@ pub(crate) fn conf_state_line(
     end_line(text)
 }
 
-/// Why there is no plan, as a line.
+/// Why changes cannot be undone.
 pub(crate) fn undo_fault_line(alloc: Global, fault: UndoFault) -> Result<Vec<u8>, NoMemory>
     ensures { IfOk result (λ text. text.items ≡ line (spec.undo_fault_text fault)) }
 {
     end_line(undo_fault_text(alloc, fault)?)
 }
 
-/// A committed index; 2^64-1 is written as infinity.
+/// A committed index. 2^64-1 is written `∞`, as in etcd, since a quorum without voters commits every index.
 pub(crate) fn index_line(alloc: Global, index: u64) -> Result<Vec<u8>, NoMemory>
     ensures { IfOk result (λ text. text.items ≡ line (index_text index)) }
 {
@@ -95,7 +96,7 @@ pub(crate) fn index_line(alloc: Global, index: u64) -> Result<Vec<u8>, NoMemory>
     end_line(text)
 }
 
-/// The chart of the ids of both sets, and the index that they commit.
+/// The chart of the ids of both sets, a line for each, and then the index that they commit.
 pub(crate) fn committed_lines(
     alloc: Global,
     incoming: &SessionIds,
@@ -123,7 +124,7 @@ pub(crate) fn vote_line(
     line_of(alloc, b"", vote_name(joint_vote(incoming, outgoing, votes)))
 }
 
-// The name of a result.
+// The name of a result in etcd's package `quorum`.
 fn vote_name(vote: VoteResult) -> &'static [u8]
     ensures { result.now ≡ vote_text vote }
 {
@@ -134,7 +135,7 @@ fn vote_name(vote: VoteResult) -> &'static [u8]
     }
 }
 
-// How much memory the chart of few ids needs, so that the text rarely has to grow.
+// How many bytes the chart of few ids has, so that the text rarely has to grow.
 fn usual_chart_room(incoming: &SessionIds, outgoing: &SessionIds) -> usize {
     let ids = incoming.len().saturating_add(outgoing.len());
     ids.min(16).saturating_mul(48).saturating_add(64)
@@ -152,7 +153,7 @@ fn append_index(text: &mut Vec<u8>, index: u64) -> Result<(), NoMemory>
     Ok(())
 }
 
-/// A configuration, then each member with its progress, in ascending order of the ids.
+/// A configuration, then a line for each member with its progress: what an accepted change prints.
 pub(crate) fn tracker_lines(
     alloc: Global,
     tracker: &Tracker<SessionIds>,
@@ -164,7 +165,7 @@ pub(crate) fn tracker_lines(
     Ok(text)
 }
 
-/// Appends the same, or on `NoMemory` a part of it.
+/// Appends these lines, or on `NoMemory` a part of them.
 pub(crate) fn append_tracker(
     text: &mut Vec<u8>,
     tracker: &Tracker<SessionIds>,
@@ -177,12 +178,12 @@ pub(crate) fn append_tracker(
     append_members(tracker, text)
 }
 
-/// How much memory this text usually needs, so that it rarely has to grow.
+/// How many bytes these lines usually have, so that a text rarely has to grow.
 pub(crate) fn usual_room(tracker: &Tracker<SessionIds>) -> usize {
     tracker.member_count().saturating_mul(64).saturating_add(64)
 }
 
-// Appends each member with its progress, or on `NoMemory` some of them.
+// Appends a line for each member, in ascending order of the ids, or on `NoMemory` some of them.
 fn append_members(tracker: &Tracker<SessionIds>, text: &mut Vec<u8>) -> Result<(), NoMemory>
     ensures { OnOk result (text.new.items ≡ text.old.items ++ member_lines tracker.now) }
 {
@@ -194,7 +195,7 @@ fn append_members(tracker: &Tracker<SessionIds>, text: &mut Vec<u8>) -> Result<(
     Ok(())
 }
 
-/// A member with its progress.
+/// The line of a member: what an acknowledgement prints.
 pub(crate) fn member_line(alloc: Global, id: u64, progress: Progress) -> Result<Vec<u8>, NoMemory>
     ensures { IfOk result (λ text. text.items ≡ line (progress_text id progress)) }
 {
@@ -203,7 +204,7 @@ pub(crate) fn member_line(alloc: Global, id: u64, progress: Progress) -> Result<
     Ok(text)
 }
 
-// Appends a member with its progress, as a line.
+// Appends the line of a member, as `1: StateProbe match=0 next=1`.
 fn append_member(text: &mut Vec<u8>, id: u64, progress: Progress) -> Result<(), NoMemory>
     ensures { OnOk result (text.new.items ≡ text.old.items ++ line (progress_text id progress)) }
 {

@@ -12,7 +12,7 @@ ghost use Rattle.conf_session.specs.declared.undo_fault.UndoFault.{UndoFault as 
 
 use crate::buffers::Buffers;
 use crate::commands::run_directive;
-use crate::laws::answer_keeps_session;
+use crate::laws::{answer_keeps_session, undo_plan_leads_back};
 use crate::session_ids::SessionIds;
 use crate::state::State;
 use crate::undo_fault::UndoFault;
@@ -23,7 +23,8 @@ use quorum_sets::NoMemory;
 use std::alloc::Global;
 use std::marker::Model;
 
-/// A changer that directives act on, and the configurations before its last accepted changes.
+/// A configuration with the progress of its members, on which directives act, and the configurations before its last accepted
+/// changes. It answers the directives of one script, as etcd's test runners hold one `Changer` for each script file.
 #[derive(Drop)]
 pub struct Session {
     state: State,
@@ -42,15 +43,16 @@ impl Model for Session {
 }
 
 impl Session {
-    /// A session with an empty configuration, last index 0 and floor one. It keeps `history` earlier configurations at
-    /// most, and allocates the memory for them.
+    /// A session with an empty configuration, last index 0 and floor one. `history` is how many earlier configurations it
+    /// keeps at most. Their memory is allocated here.
     pub fn new(alloc: Global, history: usize) -> Result<Session, NoMemory>
         ensures { IfOk result (λ session. session ≡ new_session history One) }
     {
         Session::with_floor(alloc, history, Floor::One)
     }
 
-    /// The same with this floor of initial next indexes, which never changes.
+    /// A session that gives fresh members a next index from this floor on. With floor zero it answers as etcd's tests, whose
+    /// first member has next 0.
     pub fn with_floor(alloc: Global, history: usize, floor: Floor) -> Result<Session, NoMemory>
         ensures { IfOk result (λ session. session ≡ new_session history floor) }
     {
@@ -61,7 +63,7 @@ impl Session {
         })
     }
 
-    /// The changer.
+    /// The changer: the current configuration, the progress of its members, and the last index.
     pub fn changer(&self) -> &Changer<SessionIds>
         ensures changer { result.now ≡ self.now.changer }
         ensures sound { IsSound self.now.changer.tracker }
@@ -70,7 +72,7 @@ impl Session {
         self.state.changer()
     }
 
-    /// How many earlier configurations are kept. It takes no memory.
+    /// How many earlier configurations are kept, and so how many changes can be undone at once.
     pub fn kept(&self) -> usize
         ensures kept { result ≡ length self.now.kept }
         ensures few { result ≤ self.now.history }
@@ -78,17 +80,18 @@ impl Session {
         self.state.kept()
     }
 
-    /// The configuration before an accepted change; the one before the last change is at index 0. It takes no memory.
+    /// The configuration before an accepted change. The one before the last change is at index 0.
     pub fn kept_at(&self, index: usize) -> Option<&Config<SessionIds>>
         ensures { option_copied result ≡ slice_get self.now.kept index }
     {
         self.state.kept_at(index)
     }
 
-    /// The plan that undoes the last `count` accepted changes (own). It leads to the configuration before them.
+    /// The plan that undoes the last `count` accepted changes (own). It is the best plan to the configuration before
+    /// them: the fewest steps, then the most progress preserved, then the fewest changes.
     ///
-    /// No other plan to that configuration is better. It is refused with `NotKept` if fewer configurations are kept, else
-    /// with `NoVoterTarget` if that configuration has no voter.
+    /// It is refused with `NotKept` if fewer configurations are kept, else with `NoVoterTarget` if that configuration has no
+    /// voter.
     pub fn undo_plan(&self, count: usize) -> Result<Plan, UndoFault>
         requires { 1 ≤ count }
         ensures planned { IfOk result (λ plan. undo_plan_of self.now count ≡ Ok plan) }
@@ -96,11 +99,13 @@ impl Session {
         ensures back { IfOk result (LeadsBack self.now count) }
         ensures best { IfOk result (λ plan. (older : Configuration) → slice_get self.now.kept (count - 1) ≡ Some older → IsBest (current self.now) plan older) }
     {
+        self.state.is_session();
+        undo_plan_leads_back();
         self.state.undo_plan(self.alloc, count)
     }
 
-    /// Runs a directive and returns its output: one line or more, none of them blank. The last index rises by one after
-    /// each directive, refused ones too, and stays at the greatest. On `NoMemory` the session is unchanged.
+    /// Runs a directive and returns its output, which a script expects below the separator. The last index rises by one after
+    /// each directive, refused ones too. etcd's tests do so after a change; that a question counts is own.
     pub fn step(&mut self, directive: &Directive) -> Result<Vec<u8>, NoMemory>
         ensures actual { IfOk result (λ actual. actual.items ≡ (answer self.old directive.now).actual) }
         ensures valid_output { IfOk result (λ actual. IsValidOutput actual.items) }

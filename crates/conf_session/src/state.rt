@@ -1,11 +1,11 @@
-//! What a session holds from one directive to the next.
+//! What a session holds from one directive to the next. The buffers, which hold nothing from one to the next, are beside it.
 ghost use Rattle.std.specs.Prelude.{◌≡◌, ◌≢◌, ◌↔◌, ◌≤◌, ◌-◌, Some, Ok, Err, IfOk, length, option_copied, slice_get};
 ghost use Rattle.conf_change.specs.Changer.{IsSound};
 ghost use Rattle.conf_change.specs.Configuration.{Configuration};
 ghost use Rattle.conf_plan.specs.Best.{IsBest};
 ghost use Rattle.conf_session.specs.SessionState.{IsSession, new_session, current, after_directive};
 ghost use Rattle.conf_session.specs.Reply.{session_change};
-ghost use Rattle.conf_session.specs.Undo.{LeadsBack, undo_plan_of};
+ghost use Rattle.conf_session.specs.Undo.{undo_plan_of};
 ghost use Rattle.conf_session.specs.declared.undo_fault.UndoFault.{UndoFault as WhyNot};
 
 use crate::effect::Effect;
@@ -14,14 +14,14 @@ use crate::laws::kept_lead_to_now;
 use crate::session_ids::SessionIds;
 use crate::undo_fault::UndoFault;
 use conf_change::{Changer, Config, Floor};
-use conf_plan::laws::undo_of_run;
 use conf_plan::{Plan, PlanFault, plan};
 use quorum_sets::NoMemory;
 use std::alloc::Global;
 use std::marker::Model;
 use std::mem::swap;
 
-/// The changer, and the configurations before its last accepted changes.
+/// The changer, and the configurations before its last accepted changes. Accepted steps lead from each of these to the next
+/// newer one and from the newest to the current one, so a plan leads back (`kept_lead_to_now`).
 #[derive(Drop)]
 pub(crate) struct State {
     changer: Changer<SessionIds>,
@@ -41,7 +41,7 @@ impl Model for State {
 }
 
 impl State {
-    /// An empty configuration, last index 0, this floor, and no earlier configuration of `history` at most.
+    /// The state of a new session: an empty configuration, last index 0, and no earlier configuration.
     pub(crate) fn new(alloc: Global, history: usize, floor: Floor) -> Result<State, NoMemory>
         ensures { IfOk result (λ state. state ≡ new_session history floor) }
     {
@@ -51,7 +51,7 @@ impl State {
         })
     }
 
-    /// Every state is sound.
+    /// Does nothing. Its contract is what holds of every state, for the proof of a caller.
     pub(crate) fn is_session(&self)
         ensures { IsSession self.now }
     {
@@ -67,7 +67,15 @@ impl State {
         &self.changer
     }
 
-    /// How many earlier configurations are kept.
+    /// The current configuration.
+    pub(crate) fn current(&self) -> &Config<SessionIds>
+        ensures { result.now ≡ current self.now }
+    {
+        self.changer.tracker().config()
+    }
+
+    /// How many earlier configurations are kept: as many changes were accepted since the session was new or restored, or
+    /// fewer if the oldest had to be dropped or changes were undone.
     pub(crate) fn kept(&self) -> usize
         ensures kept { result ≡ length self.now.kept }
         ensures few { result ≤ self.now.history }
@@ -75,24 +83,24 @@ impl State {
         self.history.len()
     }
 
-    /// An earlier configuration, the newest at index 0.
+    /// An earlier configuration. The newest, before the last change, is at index 0.
     pub(crate) fn kept_at(&self, index: usize) -> Option<&Config<SessionIds>>
         ensures { option_copied result ≡ slice_get self.now.kept index }
     {
         self.history.get(index)
     }
 
-    /// The plan that undoes the last `count` accepted changes.
+    /// The plan that undoes the last `count` accepted changes. The current configuration has a voter, since a change led to
+    /// it; the earlier one may be empty.
     pub(crate) fn undo_plan(&self, alloc: Global, count: usize) -> Result<Plan, UndoFault>
         requires { 1 ≤ count }
         ensures planned { IfOk result (λ plan. undo_plan_of self.now count ≡ Ok plan) }
         ensures refused { (fault : WhyNot) → fault ≢ UndoFault.NoMemory → ((result ≡ Err fault) ↔ (undo_plan_of self.now count ≡ Err fault)) }
-        ensures back { IfOk result (LeadsBack self.now count) }
         ensures best { IfOk result (λ plan. (older : Configuration) → slice_get self.now.kept (count - 1) ≡ Some older → IsBest (current self.now) plan older) }
     {
+        self.is_session();
         kept_lead_to_now();
-        undo_of_run();
-        let now = self.changer().tracker().config();
+        let now = self.current();
         let Some(older) = self.kept_at(count - 1) else {
             return Err(UndoFault::NotKept(self.kept()));
         };
@@ -104,7 +112,8 @@ impl State {
         }
     }
 
-    /// Applies the effect of a directive, which may swap the current changer with the next one. It takes no memory.
+    /// Applies the effect of a directive, then counts the directive in the last index. A replaced changer is left in `next`, to
+    /// be overwritten; only its configuration is taken out of it, if it is kept.
     pub(crate) fn apply(&mut self, effect: Effect, next: &mut Changer<SessionIds>)
         requires { IsSession (after_directive self.old (session_change self.old.changer next.old effect)) }
         ensures { self.new ≡ after_directive self.old (session_change self.old.changer next.old effect) }

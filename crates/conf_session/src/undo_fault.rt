@@ -1,4 +1,4 @@
-//! Why changes of a session cannot be undone.
+//! Why the changes of a session cannot be undone. `undo` and the mode `undo` of the program report the same texts.
 ghost use Rattle.std.specs.Prelude.{◌≡◌, IfOk};
 ghost use Rattle.conf_session.specs.Undo as spec;
 
@@ -18,19 +18,21 @@ const OUT_OF_MEMORY: &str = "out of memory";
 /// Why there is no plan that undoes changes.
 #[derive(Clone, Copy, Debug, PartialEq, Eq, Error)]
 pub enum UndoFault {
-    /// Only this many earlier configurations are kept.
+    /// The configuration before those changes is not kept; this many are.
     #[error("{front}{0}{back}", front = NO_PLAN, back = ARE_KEPT)]
     NotKept(usize),
+    /// The earlier configuration is the empty one of a new session. No change leads there, since a change never removes the
+    /// last voter.
     #[error("{front}{why}", front = NO_PLAN, why = NO_VOTER)]
     NoVoterTarget,
     #[error("{}", OUT_OF_MEMORY)]
     NoMemory,
 }
 
-// How much memory the text needs.
+// Bytes that each of the texts fits into.
 const FAULT_ROOM: usize = 64;
 
-/// The message of an error.
+/// The message of an error. It is not written by `Display`, of whose text no contract speaks.
 pub fn undo_fault_text(alloc: Global, fault: UndoFault) -> Result<Vec<u8>, NoMemory>
     ensures { IfOk result (λ text. text.items ≡ spec.undo_fault_text fault) }
 {

@@ -1,4 +1,5 @@
-//! The values of a directive's arguments.
+//! The values of a directive's arguments. They are read before the command runs, which then gets numbers and lists, never
+//! text, and does not ask whether an argument was there.
 ghost use Rattle.std.specs.Prelude.{◌≡◌, true, ◌++◌, filter_map, is_some, unwrap_or, IfOk};
 ghost use Rattle.conf_session.specs.Parameter.{allows, all_read, id_in};
 ghost use Rattle.conf_session.specs.Values as spec;
@@ -12,22 +13,27 @@ use quorum_sets::NoMemory;
 use std::alloc::Global;
 use std::marker::Model;
 
-/// The value of each argument, or its default if the argument is missing.
+/// The value of each argument, or its default if the argument is missing. One type serves all commands: each looks at the
+/// values of its own parameters.
 #[derive(Drop)]
 pub(crate) struct Values {
-    /// False by default.
+    /// Of `autoleave`; false by default.
     pub(crate) auto_leave: bool,
-    /// Auto by default.
+    /// Of `transition`; auto by default.
     pub(crate) transition: Transition,
-    /// At least 1, the default.
+    /// Of `steps`; at least 1, the default.
     pub(crate) steps: u64,
+    /// Of `id`, which `ack` requires.
     pub(crate) id: u64,
+    /// Of `index`, which `ack` requires.
     pub(crate) index: u64,
-    /// The ids of `cfg`.
+    /// The ids of `cfg`, with repeated ones.
     pub(crate) incoming: Vec<u64>,
-    /// The ids of `cfgj`.
+    /// The ids of `cfgj`, with repeated ones.
     pub(crate) outgoing: Vec<u64>,
+    /// Of `idx`; `None` for `_`.
     pub(crate) indexes: Vec<Option<u64>>,
+    /// Of `votes`; `None` for `_`.
     pub(crate) votes: Vec<Option<bool>>,
 }
 
@@ -55,7 +61,7 @@ impl Values {
     ghost use Rattle.conf_session.specs.Parameter.{allows};
     ghost use Rattle.conf_session.specs.Values as spec;
 
-    /// The values if no argument is there. They take no memory.
+    /// The values if no argument is there.
     pub(crate) fn new(alloc: Global) -> Values
         ensures { result ≡ spec.values_in [] }
     {
@@ -72,8 +78,9 @@ impl Values {
         }
     }
 
-    /// Reads the arguments of a command that has these parameters over the previous values, or gives the line that reports
-    /// a fault: the first bad argument, or else the first that is missing. Without parameters they are not looked at.
+    /// Reads the arguments of a command that has these parameters, over the previous values, or returns the line that reports
+    /// an error: the first bad argument, or else the first that is missing. Commands without parameters (`simple`,
+    /// `leave-joint`, unknown ones) ignore their arguments, as etcd's tests do.
     pub(crate) fn read_arguments(
         &mut self,
         parameters: Option<&[Parameter]>,
@@ -96,7 +103,7 @@ impl Values {
         Ok(Ok(()))
     }
 
-    // The values if no argument is there, in the same memory.
+    // Becomes the values if no argument is there. The lists keep their memory.
     fn clear(&mut self)
         ensures { self.new ≡ spec.values_in [] }
     {
@@ -112,7 +119,7 @@ impl Values {
     }
 
     // Reads the arguments, and returns the key of the first bad one: it has no parameter, its values are not valid, or its
-    // key came before.
+    // key came before. The values of the others are then of no use.
     fn read<'a>(
         &mut self,
         parameters: &[Parameter],
@@ -130,7 +137,7 @@ impl Values {
         Ok(None)
     }
 
-    // Reads an argument, and returns whether it has a parameter and valid values.
+    // Reads an argument, and returns whether it has a parameter and valid values. Its key has not come before.
     fn take(&mut self, parameters: &[Parameter], argument: &Argument) -> Result<bool, NoMemory>
         ensures allowed { IfOk result (λ good. good ≡ is_allowed parameters.now argument.now) }
         ensures values { IfOk result (λ good. good ≡ true → spec.HasMore self.old parameters.now argument.now self.new) }
@@ -141,7 +148,7 @@ impl Values {
         }
     }
 
-    // Reads the values of an argument, and returns whether they are valid.
+    // Reads the values of a parameter's argument into its field, and returns whether they are valid.
     fn put(&mut self, parameter: Parameter, argument: &Argument) -> Result<bool, NoMemory>
         ensures allowed { IfOk result (λ good. good ≡ allows parameter argument.now.values) }
         ensures values { IfOk result (λ good. good ≡ true → self.new ≡ spec.with_more self.old parameter argument.now.values) }
@@ -160,7 +167,7 @@ impl Values {
     }
 }
 
-// Sets the value, and returns whether there is one.
+// Sets a field to a value that was read, and returns whether there is one.
 fn set<T: Copy + Drop>(slot: &mut T, read: Option<T>) -> bool
     ensures read { result ≡ is_some read }
     ensures set { slot.new ≡ unwrap_or read slot.old }
@@ -174,7 +181,7 @@ fn set<T: Copy + Drop>(slot: &mut T, read: Option<T>) -> bool
     }
 }
 
-// Reads a list of ids, and returns whether each value is valid; `zero` is an empty list.
+// Reads the ids of `cfgj`, and returns whether each value is valid. `zero` alone is the empty list, as in etcd's tests.
 fn read_list_or_zero(list: &mut Vec<u64>, argument: &Argument) -> Result<bool, NoMemory>
     ensures all { IfOk result (λ all. all ≡ allows Parameter.Outgoing argument.now.values) }
     ensures list { IfOk result (λ all. all ≡ true → list.new.items ≡ list.old.items ++ filter_map id_in argument.now.values) }
@@ -186,7 +193,7 @@ fn read_list_or_zero(list: &mut Vec<u64>, argument: &Argument) -> Result<bool, N
     }
 }
 
-// Appends the values of an argument to a list, and returns whether each of them is valid.
+// Appends the values of an argument to a list, and returns whether each of them is valid. It stops at one that is not.
 fn read_list<T: Listed>(list: &mut Vec<T>, argument: &Argument) -> Result<bool, NoMemory>
     ensures all { IfOk result (λ all. all ≡ all_read T.reads argument.now.values) }
     ensures list { IfOk result (λ all. all ≡ true → list.new.items ≡ list.old.items ++ filter_map T.reads argument.now.values) }

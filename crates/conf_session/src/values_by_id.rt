@@ -1,8 +1,9 @@
-//! The values that a command names for the ids of a quorum: votes, or acknowledged indexes.
+//! The values that a command names for the ids of a quorum: votes, or acknowledged indexes. The calls of `quorum_sets` ask
+//! for them id by id.
 use crate::id_index::IdIndex;
 use quorum_sets::{AckSource, VoteSource};
 
-/// Ids, and the value of each, if it is known.
+/// A map from ids to values: a value belongs to the id at the same index of the list. It is `None` for `_`, an unknown one.
 #[derive(Drop)]
 pub(crate) struct ValuesById<'a, V: Drop> {
     ids: IdIndex,
@@ -14,14 +15,14 @@ impl<'a, V: Copy + Drop> ValuesById<'a, V> {
     ghost use Rattle.std.specs.FinMap as finite;
     ghost use Rattle.conf_session.specs.Quorum.{map_of, values_by_id};
 
-    /// Each of the ids has the value at its index.
+    /// The map of two lists.
     pub(crate) fn new(ids: IdIndex, values: &'a [Option<V>]) -> ValuesById<'a, V>
         ensures { map_of result ≡ values_by_id ids values.now }
     {
         ValuesById { ids, values }
     }
 
-    /// The value of the id, if it is known.
+    /// The value of the id, if it is known. An id that the command does not name has none.
     fn value_of(&self, id: u64) -> Option<V>
         ensures { result ≡ finite.get (map_of self.now) id }
     {

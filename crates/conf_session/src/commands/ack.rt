@@ -1,4 +1,5 @@
-//! `ack`: a member acknowledges an index of the log.
+//! `ack`: a member acknowledges an index of the log, as the leader learns from its `MsgAppResp` in etcd's raft
+//! (`Progress.MaybeUpdate`).
 ghost use Rattle.std.specs.Prelude.{◌≡◌, IfOk};
 ghost use Rattle.conf_change.specs.ChangerState.{ChangerState};
 ghost use Rattle.conf_session.specs.Reply.{reply_in};
@@ -12,7 +13,8 @@ use conf_change::{AckFault, Changer};
 use quorum_sets::NoMemory;
 use std::alloc::Global;
 
-/// Prints the member's progress after the acknowledgement.
+/// Prints the member's progress after the acknowledgement, or why there is none. The progress itself is altered when the
+/// effect is applied.
 pub(super) fn run(
     alloc: Global,
     changer: &Changer<SessionIds>,

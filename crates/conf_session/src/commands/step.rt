@@ -1,4 +1,4 @@
-//! The commands that take a step.
+//! `simple`, `enter-joint`, `leave-joint` and `conf-change`: the changes of etcd's package `confchange`.
 ghost use Rattle.std.specs.Prelude.{◌≡◌, IfOk};
 ghost use Rattle.conf_change.specs.Transition.{step_of};
 ghost use Rattle.conf_session.specs.Reply.{reply_in};
@@ -12,7 +12,8 @@ use conf_change::{Change, Changer, Refused, StepKind};
 use quorum_sets::NoMemory;
 use std::alloc::Global;
 
-/// Takes the step in the next changer and prints it, or prints why the step is refused.
+/// Takes the step in the next changer and prints the configuration after it, or why the step is refused. After a refusal the
+/// next changer is of no use, and the effect does not name it.
 pub(super) fn run(
     alloc: Global,
     changer: &Changer<SessionIds>,

@@ -1,4 +1,5 @@
-//! `undo`: undoes the last accepted changes, by the steps of a plan.
+//! `undo`: undoes the last accepted changes, by the steps of a plan (own). Changes are not made backwards one by one: the
+//! plan is the best one to the earlier configuration, whatever lies between.
 ghost use Rattle.std.specs.Prelude.{◌≡◌, ◌≤◌, ◌++◌, Ok, IfOk};
 ghost use Rattle.conf_plan.specs.PlanText.{plan_text};
 ghost use Rattle.conf_session.specs.Commands.{undo_last};
@@ -37,7 +38,7 @@ pub(super) fn run(
     }
 }
 
-// Takes the steps of the plan.
+// Takes the steps of the plan in a copy of the current changer.
 fn take_steps(
     alloc: Global,
     session: &State,
@@ -55,12 +56,12 @@ fn take_steps(
             let actual = undone_text(alloc, plan, next.tracker())?;
             Ok(Reply::new(actual, Effect::Undone(count)))
         }
-        // Each step of a plan is accepted, so nothing else can be refused.
+        // Each step of a plan is accepted, so only memory can run out.
         Err(_) => Err(NoMemory),
     }
 }
 
-// How much memory the text of a plan usually needs.
+// How many bytes the text of a plan usually has.
 const USUAL_PLAN_ROOM: usize = 128;
 
 // The steps of the plan, then the configuration that they lead to.

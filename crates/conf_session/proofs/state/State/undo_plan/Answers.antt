@@ -1,56 +1,38 @@
 use Rattle.std.proofs.Common.{◌≡◌, sym, ap, subst, ◌∙◌}
 use Rattle.std.specs.Prelude.{Err, option_copied}
-use Rattle.conf_change.specs.Changer.{ChangerState, TrackerState}
+use Rattle.std.proofs.lemmas.Bool.{true_from_ne_false}
 use Rattle.conf_change.specs.Configuration.{Configuration, has_voter}
 use Rattle.conf_plan.specs.Best.{IsBest}
 use Rattle.conf_plan.specs.Planned.{planned}
 use Rattle.conf_session.specs.SessionState.{current}
-use Rattle.conf_session.proofs.Kept.{UndoLaw, valid-older, plan-is, leads-back, must-be, same-some}
+use Rattle.conf_session.proofs.Kept.{valid-older, plan-is, same-some}
 use Rattle.conf_session.proofs.state.State.undo_plan.Goals as goal
 
 pub plan-requires-clause-valid_target : goal.plan-requires-clause-valid_target
 plan-requires-clause-valid_target c =
     let kept = sym c.kept_at.ensures ∙ ap option_copied c.in-Some.is in
-    let earlier = c.kept_lead_to_now.ensures c.args.self.now c.args.count c.in-Some.older.now c.changer.ensures.session c.requires kept in
+    let earlier = c.kept_lead_to_now.ensures c.args.self.now c.args.count c.in-Some.older.now c.is_session.ensures c.requires kept in
     valid-older c.args.self.now c.args.count c.in-Some.older.now earlier
 
 pub unreachable-requires : goal.unreachable-requires
 unreachable-requires c =
     let kept = sym c.kept_at.ensures ∙ ap option_copied c.in-Some.is in
-    let earlier = c.kept_lead_to_now.ensures c.args.self.now c.args.count c.in-Some.older.now c.changer.ensures.session c.requires kept in
-    let there : c.config-now.result.now ≡ current c.args.self.now =
-    c.config-now.ensures ∙ ap (λ (t : TrackerState). t.config) (c.tracker.ensures.tracker ∙ ap (λ (changer : ChangerState). changer.tracker) c.changer.ensures.changer) in
+    let earlier = c.kept_lead_to_now.ensures c.args.self.now c.args.count c.in-Some.older.now c.is_session.ensures c.requires kept in
     let none = c.plan.ensures.no_voter_now.0 (c.in-Err-NoVoterNow.is ∙ ap Err c.in-Err-NoVoterNow.field-0-is) in
-    let some = ap has_voter there ∙ earlier.voter in cc
+    let some = ap has_voter c.current-now.ensures ∙ earlier.voter in cc
 
 pub returns-in-Ok-clause-planned : goal.returns-in-Ok-clause-planned
 returns-in-Ok-clause-planned c =
     let kept = sym c.kept_at.ensures ∙ ap option_copied c.in-Some.is in
-    let earlier = c.kept_lead_to_now.ensures c.args.self.now c.args.count c.in-Some.older.now c.changer.ensures.session c.requires kept in
-    let there : c.config-now.result.now ≡ current c.args.self.now =
-    c.config-now.ensures ∙ ap (λ (t : TrackerState). t.config) (c.tracker.ensures.tracker ∙ ap (λ (changer : ChangerState). changer.tracker) c.changer.ensures.changer) in
-    let some = ap has_voter there ∙ earlier.voter in
-    let voter = must-be (has_voter c.in-Some.older.now) (λ none. let refused = c.plan.ensures.no_voter_target.1 (some, none) in let made = c.in-Ok.is in cc) in
+    let earlier = c.kept_lead_to_now.ensures c.args.self.now c.args.count c.in-Some.older.now c.is_session.ensures c.requires kept in
+    let some = ap has_voter c.current-now.ensures ∙ earlier.voter in
+    let voter = true_from_ne_false (has_voter c.in-Some.older.now) (λ none. let refused = c.plan.ensures.no_voter_target.1 (some, none) in let made = c.in-Ok.is in cc) in
     plan-is c.args.self.now c.args.count c.in-Some.older.now c.in-Ok.plan kept voter
-    (c.in-Ok.ensures.planned ∙ ap (λ (now : Configuration). planned now c.in-Some.older.now) there)
-
-pub returns-in-Ok-clause-back : goal.returns-in-Ok-clause-back
-returns-in-Ok-clause-back c =
-    let kept = sym c.kept_at.ensures ∙ ap option_copied c.in-Some.is in
-    let earlier = c.kept_lead_to_now.ensures c.args.self.now c.args.count c.in-Some.older.now c.changer.ensures.session c.requires kept in
-    let there : c.config-now.result.now ≡ current c.args.self.now =
-    c.config-now.ensures ∙ ap (λ (t : TrackerState). t.config) (c.tracker.ensures.tracker ∙ ap (λ (changer : ChangerState). changer.tracker) c.changer.ensures.changer) in
-    let some = ap has_voter there ∙ earlier.voter in
-    let voter = must-be (has_voter c.in-Some.older.now) (λ none. let refused = c.plan.ensures.no_voter_target.1 (some, none) in let made = c.in-Ok.is in cc) in
-    let law : UndoLaw = record { back = c.undo_of_run.ensures.back; at_most_four = c.undo_of_run.ensures.at_most_four; at_most_three = c.undo_of_run.ensures.at_most_three } in
-    leads-back law c.args.self.now c.args.count c.in-Some.older.now c.in-Ok.plan kept voter earlier
-    (c.in-Ok.ensures.planned ∙ ap (λ (now : Configuration). planned now c.in-Some.older.now) there)
+    (c.in-Ok.ensures.planned ∙ ap (λ (now : Configuration). planned now c.in-Some.older.now) c.current-now.ensures)
 
 pub returns-in-Ok-clause-best : goal.returns-in-Ok-clause-best
 returns-in-Ok-clause-best c = λ older is.
     let kept = sym c.kept_at.ensures ∙ ap option_copied c.in-Some.is in
-    let there : c.config-now.result.now ≡ current c.args.self.now =
-    c.config-now.ensures ∙ ap (λ (t : TrackerState). t.config) (c.tracker.ensures.tracker ∙ ap (λ (changer : ChangerState). changer.tracker) c.changer.ensures.changer) in
     let Target : Configuration → Type 0 = λ d. IsBest (current c.args.self.now) c.in-Ok.plan d in
     let Now : Configuration → Type 0 = λ d. IsBest d c.in-Ok.plan c.in-Some.older.now in
-    subst Target (same-some _ _ (sym kept ∙ is)) (subst Now there c.in-Ok.ensures.best)
+    subst Target (same-some _ _ (sym kept ∙ is)) (subst Now c.current-now.ensures c.in-Ok.ensures.best)
