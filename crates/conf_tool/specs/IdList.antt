@@ -10,7 +10,7 @@ is_comma byte = byte == 44
 -- the ids that the parts denote, if each is one
 abbrev pub ids_in_pieces : List (List ℕ) → Option (List ℕ)
 ids_in_pieces [] = Some []
-ids_in_pieces (full_line ∷ full_lines) = and_number (id_in full_line) (ids_in_pieces full_lines)
+ids_in_pieces (part ∷ parts) = and_number (id_in part) (ids_in_pieces parts)
 
 -- the ids of a text that is split at each comma, if each part is one; an empty part is none
 abbrev pub ids_listed : List ℕ → Option (List ℕ)
