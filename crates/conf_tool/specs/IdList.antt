@@ -9,7 +9,7 @@ use Rattle.std.specs.Prelude.{ℕ, List, [], ◌∷◌, Option, Some}
 
 abbrev pub ids_in_parts : List (List ℕ) → Option (List ℕ)
 ids_in_parts [] = Some []
-ids_in_parts (full_line ∷ full_lines) = and_number (id_in full_line) (ids_in_parts full_lines)
+ids_in_parts (part ∷ parts) = and_number (id_in part) (ids_in_parts parts)
 
 -- the ids that a text denotes if it is split at each comma, if each part is an id; an empty part is not
 abbrev pub ids_listed : List ℕ → Option (List ℕ)

@@ -1,6 +1,7 @@
 pub mod IdList
 pub mod Ranges
 pub mod Program
+pub mod CommandLine
 pub mod LineReply
 pub mod Reports
 pub mod UndoScript

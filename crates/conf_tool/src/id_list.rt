@@ -10,19 +10,20 @@ use ascii_text::position::position_of;
 use quorum_sets::NoMemory;
 use std::alloc::Global;
 
-/// The ids of a list, if it is one: numbers from 1 to 2^64-1 with one comma between, at least one. They may repeat.
+/// The ids of a list: one or more numbers from 1 to 2^64-1, with one comma between two. They may repeat. Any other text is
+/// not a list.
 pub(crate) fn ids_listed(alloc: Global, text: &[u8]) -> Result<Option<Vec<u64>>, NoMemory>
     ensures { IfOk result (λ read. option_map (λ ids. ids.items) read ≡ ids_listed text.now) }
 {
     let mut ids = Vec::new(alloc);
     let mut rest = text;
     loop {
-        let (full_line, behind) = first_part(rest);
-        let Some(id) = read_id(full_line) else {
+        let (part, after) = first_part(rest);
+        let Some(id) = read_id(part) else {
             return Ok(None);
         };
         ids.push(id)?;
-        let [_, next @ ..] = behind else {
+        let [_, next @ ..] = after else {
             return Ok(Some(ids));
         };
         rest = next;

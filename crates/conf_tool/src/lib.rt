@@ -25,6 +25,7 @@ pub mod options;
 mod plan_answer;
 mod plan_line;
 pub mod plan_options;
+mod program;
 mod report;
 pub mod run;
 pub mod status;

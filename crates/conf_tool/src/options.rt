@@ -7,13 +7,16 @@ ghost use Rattle.conf_tool.specs.declared.plan_options.PlanOutput.TheVariants.{S
 use crate::plan_options::PlanOptions;
 use conf_change::Floor;
 
-/// How many earlier configurations are kept, from 0 to 1000, how many changes are undone, from 1 to 1000, the initial next
-/// index, and the options of `plan`.
+/// The options of all modes. A mode reads only its own.
 #[derive(Drop)]
 pub struct Options {
+    /// How many earlier configurations a script's session keeps, from 0 to 1000.
     pub history: usize,
+    /// How many changes `undo` undoes, from 1 to 1000.
     pub steps: usize,
+    /// The initial next index of a script's members.
     pub floor: Floor,
+    /// What only `plan` reads.
     pub plan: PlanOptions,
 }
 

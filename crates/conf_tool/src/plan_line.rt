@@ -43,7 +43,7 @@ fn is_json(line: &[u8]) -> bool
     trimmed(line).starts_with(b"{")
 }
 
-// The valid configuration of which the line with this number is the JSON.
+// The valid configuration in the JSON on the line with this number.
 fn json_at(alloc: Global, number: usize, line: &[u8]) -> Result<Config<SessionIds>, ToolFault>
     ensures configuration { IfOk result (λ c. at_json number (saved_in_json line.now) ≡ Ok c) }
     ensures valid { IfOk result (λ c. is_valid c ≡ true) }
@@ -58,7 +58,7 @@ fn json_at(alloc: Global, number: usize, line: &[u8]) -> Result<Config<SessionId
     }
 }
 
-// The valid configuration that the saved form of the line with this number describes.
+// The valid configuration that a saved one describes, which was read from the line with this number.
 fn valid_at(
     alloc: Global,
     number: usize,

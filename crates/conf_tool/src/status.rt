@@ -5,6 +5,6 @@
 pub enum Status {
     /// Everything is as expected: exit status 0.
     Clean,
-    /// Something differs, or there is no plan: exit status 1.
+    /// Something differs, there is no plan, or a plan stalls: exit status 1.
     Different,
 }

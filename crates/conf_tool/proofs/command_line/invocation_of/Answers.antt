@@ -6,7 +6,7 @@ use Rattle.clap.specs.declared.parser.matches.ArgMatches.{ArgMatches}
 use Rattle.clap.specs.declared.parser.matches.ArgMatches.TheViews.{out-ArgMatches, out-SubCommand}
 use Rattle.conf_tool.specs.declared.mode.Mode.{Mode}
 use Rattle.conf_tool.specs.declared.mode.Mode.TheVariants.{Lines}
-use Rattle.conf_tool.specs.Program.{mode_named, asked_mode}
+use Rattle.conf_tool.specs.CommandLine.{mode_named, asked_mode}
 use Rattle.conf_tool.proofs.command_line.invocation_of.Goals as goal
 
 -- a mode by the name alone

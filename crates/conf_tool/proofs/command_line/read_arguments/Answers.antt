@@ -1,14 +1,14 @@
 use Rattle.std.proofs.Common.{List, [], ap, refl, true, map, ◌≡◌, ◌∙◌, sym, subst}
 use Rattle.std.specs.Prelude.{Result, Ok, Err, MatchResult, IfErr, codes}
-use Rattle.std.proofs.lemmas.Result.{IfOk-weaker}
-use Rattle.std.proofs.lemmas.Result.{err_from_is_err_and}
+use Rattle.std.proofs.lemmas.Result.{IfOk-weaker, err_from_is_err_and}
 use Rattle.clap.specs.Words.{App, Text, is_simple, subcommand_of, is_simple_and_free, fault_of, takes, HasKind}
 use Rattle.clap.proofs.OnLiterals.{clap_on_literals}
-use Rattle.conf_tool.specs.Program.{program, asked_text, IsInvocation, IsIdsFault, IsRefusal}
+use Rattle.conf_tool.specs.Program.{program}
+use Rattle.conf_tool.specs.CommandLine.{asked_text, IsInvocation, IsIdsFault, IsRefusal}
 use Rattle.conf_tool.specs.declared.argument_fault.ArgumentFault.{ArgumentFault}
 use Rattle.conf_tool.specs.declared.argument_fault.ArgumentFault.TheVariants.{Clap, BadIds, NoMemory}
 use Rattle.conf_tool.specs.declared.invocation.Invocation.{Invocation}
-use Rattle.conf_tool.specs.declared.command_line.OptionNames.{OptionNames}
+use Rattle.conf_tool.specs.declared.program.OptionNames.{OptionNames}
 use Rattle.conf_tool.proofs.command_line.read_arguments.Goals as goal
 
 simple : (names : OptionNames) → is_simple (program names) ≡ true
@@ -19,7 +19,7 @@ is_free : (names : OptionNames) → is_simple_and_free (program names) ≡ true
 unfolding clap_on_literals
 is_free names = refl
 
--- `clap` takes the words, and the ids that are down may be no list of ids
+-- `clap` accepts the arguments, and the ids that are down may not be a list of ids
 refused-by_ids : (r : Result Invocation ArgumentFault) (app : App) (texts : List Text) → fault_of app texts ≡ [] → IfErr r (IsIdsFault (asked_text (codes "down") (subcommand_of app texts))) →
     MatchResult r (λ _. fault_of app texts ≡ []) (IsRefusal app texts)
 refused-by_ids (Ok invocation) app texts none fault = none

@@ -1,0 +1,90 @@
+-- What the arguments of the command line ask for.
+use Rattle.std.specs.Prelude.{◌≡◌, ℕ, ◌≤◌, true, ⊤, Option, Some, None, option_map, List, [], codes, bytes_eq, if◌then◌else◌}
+use Rattle.std.specs.Str.Parse.{IsNumeral, digits_value, without_leading_plus}
+use Rattle.clap.specs.Words.{App, HasKind, Row, Text, fault_of, first_of, kind_of, subcommand_of, takes}
+use Rattle.clap.specs.declared.error.kind.ErrorKind.TheVariants.{OutOfMemory}
+use Rattle.quorum_sets.specs.Ids.{Ids, ids_of}
+use Rattle.conf_change.specs.declared.floor.Floor.{Floor}
+use Rattle.conf_change.specs.declared.floor.Floor.TheVariants.{Zero, One}
+use Rattle.conf_plan.specs.declared.strategy.Strategy.{Strategy}
+use Rattle.conf_plan.specs.declared.strategy.Strategy.TheVariants.{Shortest, LearnersFirst, OneAtATime}
+use Rattle.conf_tool.specs.IdList.{ids_listed}
+use Rattle.conf_tool.specs.Ranges.{IsInRange}
+use Rattle.conf_tool.specs.declared.argument_fault.ArgumentFault.{ArgumentFault}
+use Rattle.conf_tool.specs.declared.argument_fault.ArgumentFault.TheVariants.{Clap, BadIds, NoMemory}
+use Rattle.conf_tool.specs.declared.invocation.Invocation.{Invocation}
+use Rattle.conf_tool.specs.declared.mode.Mode.{Mode}
+use Rattle.conf_tool.specs.declared.mode.Mode.TheVariants.{Lines, Check, Rewrite, Undo, Plan}
+use Rattle.conf_tool.specs.declared.plan_options.PlanOutput.{PlanOutput}
+use Rattle.conf_tool.specs.declared.plan_options.PlanOutput.TheVariants.{Steps, Table, Json}
+
+-- the mode of a name; `lines` unless it is another's
+abbrev pub mode_named : Text → Mode
+mode_named name =
+    if bytes_eq name (codes "check") then Check
+    else (if bytes_eq name (codes "rewrite") then Rewrite
+    else (if bytes_eq name (codes "undo") then Undo
+    else (if bytes_eq name (codes "plan") then Plan
+    else Lines)))
+
+-- the mode and the options of a parsed subcommand
+abbrev pub asked_mode : Option (Text × List Row) → Mode
+asked_mode None = Lines
+asked_mode (Some matches) = mode_named matches.0
+
+-- the value that it gives an argument
+abbrev pub asked_text : Text → Option (Text × List Row) → Option Text
+asked_text id None = None
+asked_text id (Some matches) = first_of id matches.1
+
+-- the initial next index of a name: 1 if none is given
+abbrev pub asked_floor : Option Text → Floor
+asked_floor None = One
+asked_floor (Some name) = if bytes_eq name (codes "0") then Zero else One
+
+-- the strategy of a name: the shortest plan if none is given
+abbrev pub asked_strategy : Option Text → Strategy
+asked_strategy None = Shortest
+asked_strategy (Some name) = if bytes_eq name (codes "learners-first") then LearnersFirst else (if bytes_eq name (codes "one-at-a-time") then OneAtATime else Shortest)
+
+-- the output of a name: steps if none is given
+abbrev pub asked_output : Option Text → PlanOutput
+asked_output None = Steps
+asked_output (Some name) = if bytes_eq name (codes "table") then Table else (if bytes_eq name (codes "json") then Json else Steps)
+
+-- the ids that are down, if the option is given; none if its text is not a list of ids
+abbrev pub asked_down : Option Text → Option (Option Ids)
+asked_down None = Some None
+asked_down (Some text) = option_map (λ ids. Some (ids_of ids)) (ids_listed text)
+
+-- the ids that are down are not a list of ids, or memory ran out
+abbrev pub IsIdsFault : Option Text → ArgumentFault → Type 0
+IsIdsFault text (Clap error) = ⊥
+IsIdsFault text BadIds = asked_down text ≡ None
+IsIdsFault text NoMemory = ⊤
+
+-- The arguments are refused for this reason: that of `clap`, or that the ids that are down are not a list of ids.
+abbrev pub IsRefusal : App → List Text → ArgumentFault → Type 0
+IsRefusal app arguments (Clap error) = HasKind (fault_of app arguments) error × (takes app arguments ≡ true → kind_of error ≡ OutOfMemory)
+IsRefusal app arguments BadIds = (fault_of app arguments ≡ []) × (asked_down (asked_text (codes "down") (subcommand_of app arguments)) ≡ None)
+IsRefusal app arguments NoMemory = ⊤
+
+-- The number of an option: the default if it is left out, otherwise the one that its text denotes. If that is not from the
+-- least to the most, the arguments are refused.
+abbrev pub IsAsked : ℕ → ℕ → ℕ → Option Text → ℕ → Type 0
+IsAsked least most default None number = number ≡ default
+IsAsked least most default (Some text) number =
+    let digits = without_leading_plus text in
+    IsNumeral 10 digits → least ≤ digits_value 10 digits → digits_value 10 digits ≤ most → number ≡ digits_value 10 digits
+
+-- the invocation is that of the parsed subcommand
+pub record IsInvocation (matches : Option (Text × List Row)) (invocation : Invocation) : Type 0 where
+  pub mode : invocation.mode ≡ asked_mode matches
+  pub file : option_map (λ name. name.now) invocation.file ≡ asked_text (codes "FILE") matches
+  pub history : IsAsked 0 1000 100 (asked_text (codes "history") matches) invocation.options.history
+  pub steps : IsAsked 1 1000 1 (asked_text (codes "steps") matches) invocation.options.steps
+  pub floor : invocation.options.floor ≡ asked_floor (asked_text (codes "next-floor") matches)
+  pub strategy : invocation.options.plan.strategy ≡ asked_strategy (asked_text (codes "strategy") matches)
+  pub output : invocation.options.plan.output ≡ asked_output (asked_text (codes "output") matches)
+  pub down : asked_down (asked_text (codes "down") matches) ≡ Some invocation.options.plan.down
+  pub range : IsInRange invocation.options
