@@ -35,8 +35,8 @@ plan_command name names =
     with_rule (with_rule (with_rule (mode_command name) (names_rule (codes "strategy") names.strategies)) (names_rule (codes "output") names.outputs)) (text_rule (codes "down"))
 
 -- the program, where a mode has to be named
-abbrev pub wants_mode : App → App
-wants_mode app = record { top = record app.top { subcommand_required = true }; subs = app.subs }
+abbrev pub requires_mode : App → App
+requires_mode app = record { top = record app.top { subcommand_required = true }; subs = app.subs }
 
 -- the program, where its version can be asked for
 abbrev pub with_version : App → App
@@ -49,7 +49,7 @@ with_mode mode app = with_subcommand app mode.top
 abbrev pub program : OptionNames → App
 program names =
     with_mode (plan_command (codes "plan") names) (with_mode (undo_command (codes "undo") names.floors) (with_mode (script_command (codes "rewrite") names.floors)
-    (with_mode (script_command (codes "check") names.floors) (with_mode (mode_command (codes "lines")) (wants_mode (with_version (new_app (codes "confscript"))))))))
+    (with_mode (script_command (codes "check") names.floors) (with_mode (mode_command (codes "lines")) (requires_mode (with_version (new_app (codes "confscript"))))))))
 
 -- an option has these names, in this order
 abbrev pub AreNames : Bor (List (Bor Text)) → List Text → Type 0

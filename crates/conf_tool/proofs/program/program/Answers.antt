@@ -3,7 +3,7 @@ use Rattle.std.specs.Prelude.{codes}
 use Rattle.std.proofs.lemmas.Bool.{and_parts}
 use Rattle.clap.specs.Words.{App, AddsSubcommand, app_of, new_app, with_subcommand}
 use Rattle.clap.specs.declared.builder.command.Command.{Command}
-use Rattle.conf_tool.specs.Program.{with_mode, wants_mode, with_version}
+use Rattle.conf_tool.specs.Program.{with_mode, requires_mode, with_version}
 use Rattle.conf_tool.proofs.program.program.Goals as goal
 
 third : (a b c d : Bool) → (a && (b && (not c && d))) ≡ true → c ≡ false
@@ -16,7 +16,7 @@ adds_mode old mode new before added adds old_is mode_is plain =
 
 pub returns-clause-app : goal.returns-clause-app
 returns-clause-app c =
-    let begun : app_of c.subcommand_required.result ≡ wants_mode (with_version (new_app (codes "confscript"))) = search rules in
+    let begun : app_of c.subcommand_required.result ≡ requires_mode (with_version (new_app (codes "confscript"))) = search rules in
     let lines_is = adds_mode _ _ _ _ _ c.in_ok-subcommand.ensures begun c.in_ok-lines.ensures.app refl in
     let check_is = adds_mode _ _ _ _ _ c.in_ok-subcommand-2.ensures lines_is c.in_ok-check.ensures.app refl in
     let rewrite_is = adds_mode _ _ _ _ _ c.in_ok-subcommand-3.ensures check_is c.in_ok-rewrite.ensures.app refl in
