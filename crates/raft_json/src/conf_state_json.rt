@@ -92,7 +92,7 @@ fn has_only_keys(members: &Map<String, Value>) -> bool
     members.keys().all(|key| is_key(key.as_str()))
 }
 
-#[tactic(auto, unfolding(crate::specs::ConfStateJson::is_key))]
+#[tactic(auto, unfolding(crate::specs::ConfStateJson::is_conf_state_key))]
 fn is_key(key: &str) -> bool
     ensures { result ≡ spec.is_conf_state_key key.now }
 {
