@@ -10,7 +10,7 @@ use std::collections::VecDeque;
 use std::marker::Model;
 
 /// Configurations, the newest first, and how many are kept at most. Memory for that many is reserved, so that keeping one
-/// cannot fail: a change has been answered by then.
+/// cannot fail after a change was accepted.
 #[derive(Drop)]
 pub(crate) struct History {
     most: usize,

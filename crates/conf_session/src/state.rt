@@ -74,8 +74,8 @@ impl State {
         self.changer.tracker().config()
     }
 
-    /// How many earlier configurations are kept: as many changes were accepted since the session was new or restored, or
-    /// fewer if the oldest had to be dropped or changes were undone.
+    /// How many earlier configurations are kept: one for each change that was accepted since the session was new or restored,
+    /// without those that were dropped as the oldest or undone.
     pub(crate) fn kept(&self) -> usize
         ensures kept { result ≡ length self.now.kept }
         ensures few { result ≤ self.now.history }
