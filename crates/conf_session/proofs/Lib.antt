@@ -8,7 +8,7 @@ mod InputLines
 mod SameAnswer
 mod Kept
 mod EachOnce
-mod Temporary
+mod RankedRows
 mod IndexRows
 mod QuorumValues
 mod ReadValues

@@ -1,4 +1,5 @@
--- temporary copy
+-- Rows that ascend by their first number, and then by their second: where the rows with a first number begin. (Lemmas that
+-- quorum_sets has of the ranking of a chart, and does not offer.)
 use Rattle.std.proofs.Common.{◌≡◌, ℕ, ◌<◌, ◌≤◌, Bool, true, false, cond, List, length, get_or, refl, sym, ap, ◌∙◌, arith, inl, inr, ◌==◌}
 use Rattle.std.specs.Prelude.{nat_lt}
 use Rattle.std.specs.declared.cmp.Ordering.TheVariants.{Less, Equal, Greater}
@@ -25,11 +26,11 @@ row_order rows ascends j k d before within =
     let total = then_total (on_total (λ (r : ℕ × ℕ). r.0) nat_cmp_total) (on_total (λ (r : ℕ × ℕ). r.1) nat_cmp_total) in
     not_less _ _ _ _ (sorted_far _ (ranks_by total (λ r. r)) rows ascends j k d before within)
 
--- the place parts the rows with a smaller index from the others
+-- the position parts the rows with a smaller index from the others
 abbrev pub Parts : ℕ → List (ℕ × ℕ) → ℕ → Type 0
 Parts index rows position = IsPartitionPoint (λ r. nat_lt r.0 index ≡ true) (λ r. nat_lt r.0 index ≡ false) rows position
 
--- what is not before the place has no smaller index
+-- what is not before the position has no smaller index
 from_place : (index : ℕ) (rows : List (ℕ × ℕ)) (position j : ℕ) (d : ℕ × ℕ) → Parts index rows position → j < length rows → index ≤ (get_or rows j d).0 → position ≤ j
 from_place index rows position j d parted within enough = elim (cases_lt j position) [
   | inl before ↦ let less = ltb-true _ index (parted.0 j d (omega arith) before) in absurd (omega arith)
