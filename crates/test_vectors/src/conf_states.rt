@@ -10,6 +10,20 @@ use conf_change::{
 use quorum_sets::{InlineIds, MemberSet, NoMemory, TreeIds};
 use std::alloc::Global;
 
+/// The texts of ten new members.
+pub(crate) const TEN: &[&str] = &[
+    "1: StateProbe match=0 next=1",
+    "2: StateProbe match=0 next=1",
+    "3: StateProbe match=0 next=1",
+    "4: StateProbe match=0 next=1",
+    "5: StateProbe match=0 next=1",
+    "6: StateProbe match=0 next=1",
+    "7: StateProbe match=0 next=1",
+    "8: StateProbe match=0 next=1",
+    "9: StateProbe match=0 next=1",
+    "10: StateProbe match=0 next=1",
+];
+
 // A line, and what is printed of the changer that it restores.
 static RESTORED: [(&str, Shown); 3] = [
     (
@@ -28,21 +42,7 @@ static RESTORED: [(&str, Shown); 3] = [
     ),
     (
         "Voters:[1 2 3 4 5 6 7 8 9 10] VotersOutgoing:[1] Learners:[] LearnersNext:[] AutoLeave:true",
-        (
-            "voters=(1 2 3 4 5 6 7 8 9 10)&&(1) autoleave",
-            &[
-                "1: StateProbe match=0 next=1",
-                "2: StateProbe match=0 next=1",
-                "3: StateProbe match=0 next=1",
-                "4: StateProbe match=0 next=1",
-                "5: StateProbe match=0 next=1",
-                "6: StateProbe match=0 next=1",
-                "7: StateProbe match=0 next=1",
-                "8: StateProbe match=0 next=1",
-                "9: StateProbe match=0 next=1",
-                "10: StateProbe match=0 next=1",
-            ],
-        ),
+        ("voters=(1 2 3 4 5 6 7 8 9 10)&&(1) autoleave", TEN),
     ),
     (
         "Voters:[] VotersOutgoing:[] Learners:[] LearnersNext:[] AutoLeave:false",
@@ -66,6 +66,14 @@ pub(crate) fn restored<S: MemberSet>(
     twice(RestoreFault::NoMemory, || {
         Changer::restore_with_floor(alloc, state, 0, floor)
     })
+}
+
+/// The changer with the configuration of a line.
+pub(crate) fn changer_at<S: MemberSet>(alloc: Global, line: &str) -> Option<Changer<S>> {
+    match read(alloc, line) {
+        Ok(state) => restored(alloc, &state, Floor::One).ok(),
+        Err(_) => None,
+    }
 }
 
 // Whether a configuration is copied and saved again as it was.

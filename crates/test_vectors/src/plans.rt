@@ -1,13 +1,13 @@
-//! Plans: made, taken, printed and read.
+//! Plans: made, applied, printed and read.
 ghost use Rattle.std.specs.Prelude.{◌≡◌, true};
 ghost use Rattle.conf_change.specs.Configuration.{is_valid};
 
 use crate::changers::{Shown, is_shown};
-use crate::conf_states::{read, restored};
+use crate::conf_states::{TEN, changer_at};
 use crate::paths::path_of;
 use crate::texts::appends;
 use crate::twice::twice;
-use conf_change::{Changer, ConfState, Config, Floor, Refused, check};
+use conf_change::{Changer, Config, Refused, check};
 use conf_plan::{
     Path, Plan, PlanFault, PlanTextFault, StepRefused, Strategy, apply_plan, changes_text,
     command_text, plan, print_plan, read_plan,
@@ -24,19 +24,6 @@ struct Row {
     plan: &'static str,
     shown: &'static [Shown],
 }
-
-const TEN: &[&str] = &[
-    "1: StateProbe match=0 next=1",
-    "2: StateProbe match=0 next=1",
-    "3: StateProbe match=0 next=1",
-    "4: StateProbe match=0 next=1",
-    "5: StateProbe match=0 next=1",
-    "6: StateProbe match=0 next=1",
-    "7: StateProbe match=0 next=1",
-    "8: StateProbe match=0 next=1",
-    "9: StateProbe match=0 next=1",
-    "10: StateProbe match=0 next=1",
-];
 
 static ROWS: [Row; 5] = [
     Row {
@@ -216,22 +203,17 @@ fn is_planned<S: MemberSet>(
     answer.is_ok_and(|plan| plan == *expected) & path.is_ok_and(|path| has_steps(&path, expected))
 }
 
-fn leads<S: MemberSet>(
-    alloc: Global,
-    now: &Config<S>,
-    target: &ConfState,
-    expected: &Plan,
-) -> bool {
-    match restored::<S>(alloc, target, Floor::One) {
-        Ok(changer) => {
+fn leads<S: MemberSet>(alloc: Global, now: &Config<S>, target: &str, expected: &Plan) -> bool {
+    match changer_at::<S>(alloc, target) {
+        Some(changer) => {
             let target = changer.tracker().config();
             check(now).is_ok() && check(target).is_ok() && is_planned(alloc, now, target, expected)
         }
-        Err(_) => false,
+        None => false,
     }
 }
 
-// How many steps of a plan a changer takes: all of them, unless memory runs out.
+// How many steps of a plan a changer accepts: all of them, unless memory runs out.
 fn steps_for<S: MemberSet>(changer: &mut Changer<S>, plan: &Plan) -> Option<usize> {
     match apply_plan(changer, plan) {
         Ok(()) => Some(plan.len()),
@@ -257,8 +239,8 @@ fn is_shown_after<S: MemberSet>(
     }
 }
 
-// Whether a changer takes a plan; on `NoMemory` it has taken the steps before, and another changer takes the whole plan.
-fn takes<S: MemberSet>(
+// Whether a plan is applied to a changer; on `NoMemory` the steps before are, and the whole plan is applied to another changer.
+fn is_applied<S: MemberSet>(
     alloc: Global,
     changer: &mut Changer<S>,
     other: &mut Changer<S>,
@@ -267,11 +249,11 @@ fn takes<S: MemberSet>(
 ) -> bool {
     let whole = Some(plan.len());
     let steps = steps_for(changer, plan);
-    let stands = is_shown_after(alloc, changer, steps, shown);
+    let is_so = is_shown_after(alloc, changer, steps, shown);
     if steps == whole {
-        return stands;
+        return is_so;
     }
-    stands & (steps_for(other, plan) == whole) & is_shown_after(alloc, other, whole, shown)
+    is_so & (steps_for(other, plan) == whole) & is_shown_after(alloc, other, whole, shown)
 }
 
 // Whether the members of a changer acknowledge these indexes.
@@ -283,39 +265,29 @@ fn acknowledge<S: MemberSet>(changer: &mut Changer<S>, indexes: &[(u64, u64)]) -
     is_so
 }
 
-fn is_row<S: MemberSet>(
-    alloc: Global,
-    row: &Row,
-    now: &ConfState,
-    target: &ConfState,
-    plan: &Plan,
-) -> bool {
+fn is_row<S: MemberSet>(alloc: Global, row: &Row, plan: &Plan) -> bool {
     match (
-        restored::<S>(alloc, now, Floor::One),
-        restored::<S>(alloc, now, Floor::One),
+        changer_at::<S>(alloc, row.now),
+        changer_at::<S>(alloc, row.now),
     ) {
-        (Ok(mut changer), Ok(mut other)) => {
-            leads(alloc, changer.tracker().config(), target, plan)
+        (Some(mut changer), Some(mut other)) => {
+            leads(alloc, changer.tracker().config(), row.target, plan)
                 & acknowledge(&mut changer, row.acknowledged)
                 & acknowledge(&mut other, row.acknowledged)
-                & takes(alloc, &mut changer, &mut other, plan, row.shown)
+                & is_applied(alloc, &mut changer, &mut other, plan, row.shown)
         }
         _ => false,
     }
 }
 
 fn is_row_of_both(alloc: Global, row: &Row) -> bool {
-    match (
-        read(alloc, row.now),
-        read(alloc, row.target),
-        plan_of(alloc, row.plan),
-    ) {
-        (Ok(now), Ok(target), Ok(plan)) => {
+    match plan_of(alloc, row.plan) {
+        Ok(plan) => {
             appends(alloc, row.plan, |text| print_plan(text, &plan))
-                & is_row::<TreeIds>(alloc, row, &now, &target, &plan)
-                & is_row::<InlineIds>(alloc, row, &now, &target, &plan)
+                & is_row::<TreeIds>(alloc, row, &plan)
+                & is_row::<InlineIds>(alloc, row, &plan)
         }
-        _ => false,
+        Err(_) => false,
     }
 }
 
