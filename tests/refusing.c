@@ -1,6 +1,6 @@
-/* Loaded before the C library (LD_PRELOAD), it refuses one call of the program that it is loaded into: the one that the variable
-   REFUSE_ALLOCATION, REFUSE_READ or REFUSE_WRITE counts, from 1. An allocation is answered with nothing, a read or write with EIO.
-   Later calls are answered as ever, so a call that is tried again shows. The file that REFUSED names is made where a call was refused. */
+/* Loaded before the C library (LD_PRELOAD), this library makes one call of the program fail: the one whose number, counted from 1, is in
+   REFUSE_ALLOCATION, REFUSE_READ or REFUSE_WRITE. An allocation returns NULL, a read or a write fails with EIO. Later calls succeed, so
+   a call that is repeated after a failure is seen to be. If REFUSED names a file, it is created when the call fails. */
 #define _GNU_SOURCE
 #include <dlfcn.h>
 #include <errno.h>
@@ -11,8 +11,8 @@
 static int is_turn(const char *variable, long *calls) {
   const char *turn = getenv(variable);
   if (!turn || ++*calls != atol(turn)) return 0;
-  const char *told = getenv("REFUSED");
-  if (told) close(open(told, O_CREAT | O_WRONLY, 0600));
+  const char *mark = getenv("REFUSED");
+  if (mark) close(open(mark, O_CREAT | O_WRONLY, 0600));
   return 1;
 }
 

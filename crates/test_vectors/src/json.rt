@@ -92,7 +92,7 @@ static PROPOSED: [(&[Change], &str); 2] = [
 ];
 
 fn read_json(alloc: Global, json: &[u8]) -> Result<ConfState, JsonFault> {
-    twice(JsonFault::NoMemory, || read_conf_state_json(alloc, json))
+    twice!(JsonFault::NoMemory, read_conf_state_json(alloc, json))
 }
 
 fn is_read(alloc: Global, json: &str, line: &str) -> bool {
@@ -104,8 +104,16 @@ fn is_read(alloc: Global, json: &str, line: &str) -> bool {
 
 // Whether the JSON of a saved configuration is this text.
 fn is_printed(alloc: Global, state: &ConfState, json: &str) -> bool {
-    match twice(NoMemory, || conf_state_text(alloc, state)) {
+    match twice!(NoMemory, conf_state_text(alloc, state)) {
         Ok(text) => text.as_str() == json,
+        Err(_) => false,
+    }
+}
+
+// Whether the JSON of a line's configuration is this text.
+fn is_line_in_json(alloc: Global, line: &str, json: &str) -> bool {
+    match read(alloc, line) {
+        Ok(state) => is_printed(alloc, &state, json),
         Err(_) => false,
     }
 }
@@ -124,7 +132,7 @@ fn conf_change_text<S: MemberSet>(
 
 // Whether the JSON of what is proposed for a step is this text.
 fn is_proposed<S: MemberSet>(alloc: Global, before: &Config<S>, step: &Step, json: &str) -> bool {
-    match twice(NoMemory, || conf_change_text(alloc, before, step)) {
+    match twice!(NoMemory, conf_change_text(alloc, before, step)) {
         Ok(text) => text.as_str() == json,
         Err(_) => false,
     }
@@ -137,13 +145,15 @@ fn simple_step(alloc: Global, changes: &[Change]) -> Result<Step, NoMemory> {
 
 // Whether this is proposed for a simple step of some changes from five voters.
 fn proposes<S: MemberSet>(alloc: Global, changes: &[Change], json: &str) -> bool {
-    match (
-        changer_at::<S>(alloc, FIVE),
-        twice(NoMemory, || simple_step(alloc, changes)),
-    ) {
-        (Some(five), Ok(step)) => is_proposed(alloc, five.tracker().config(), &step, json),
-        _ => false,
+    let five = changer_at::<S>(alloc, FIVE);
+    match twice!(NoMemory, simple_step(alloc, changes)) {
+        Ok(step) => is_proposed(alloc, five.tracker().config(), &step, json),
+        Err(_) => false,
     }
+}
+
+fn is_bad(alloc: Global, json: &[u8]) -> bool {
+    read_json(alloc, json).err() == Some(JsonFault::BadJson)
 }
 
 #[test]
@@ -151,29 +161,23 @@ fn saved_configurations_in_json(rt: HostRuntime) {
     for (json, line) in &READ {
         assert!(rt; is_read(rt.alloc(), *json, *line), "{}", *json);
     }
-    for json in &BAD {
-        assert!(rt;
-            read_json(rt.alloc(), json.as_bytes()).err() == Some(JsonFault::BadJson),
-            "{}",
-            *json
-        );
-    }
-    let no_text = b"{\"voters\":[1],\"\xff\":null}";
-    assert!(rt; read_json(rt.alloc(), no_text).err() == Some(JsonFault::BadJson));
+    assert!(rt; is_line_in_json(rt.alloc(), JOINT, READ[2].0));
 }
 
 #[test]
-fn printed_json(rt: HostRuntime) {
-    let joint = read(rt.alloc(), JOINT);
-    assert!(rt; joint.is_ok_and(|state| is_printed(rt.alloc(), &state, READ[2].0)));
+fn bad_json(rt: HostRuntime) {
+    for json in &BAD {
+        assert!(rt; is_bad(rt.alloc(), json.as_bytes()), "{}", *json);
+    }
+    assert!(rt; is_bad(rt.alloc(), b"{\"voters\":[1],\"\xff\":null}"));
+}
+
+#[test]
+fn proposed_changes(rt: HostRuntime) {
     for (changes, json) in &PROPOSED {
         assert!(rt;
-            proposes::<TreeIds>(rt.alloc(), *changes, *json),
-            "{}",
-            *json
-        );
-        assert!(rt;
-            proposes::<InlineIds>(rt.alloc(), *changes, *json),
+            proposes::<TreeIds>(rt.alloc(), *changes, *json)
+                & proposes::<InlineIds>(rt.alloc(), *changes, *json),
             "{}",
             *json
         );

@@ -319,7 +319,7 @@ fn down_of(alloc: Global, ids: &[u64]) -> Result<Option<SessionIds>, NoMemory> {
     if ids.is_empty() {
         Ok(None)
     } else {
-        Ok(Some(twice(NoMemory, || SessionIds::of_list(alloc, ids))?))
+        Ok(Some(twice!(NoMemory, SessionIds::of_list(alloc, ids))?))
     }
 }
 
@@ -410,10 +410,7 @@ fn options_of_plan(rt: HostRuntime) {
 fn blocks_for(alloc: Global, output: &'static [u8]) -> Result<Blocks<ToWrite<Matching>>, AllocError>
     ensures { IfOk result (λ blocks. NothingWaits blocks) }
 {
-    match Blocks::new(alloc, ToWrite::new(Matching::with(output))) {
-        Err(_) => Blocks::new(alloc, ToWrite::new(Matching::with(output))),
-        blocks => blocks,
-    }
+    twice!(_, Blocks::new(alloc, ToWrite::new(Matching::with(output))))
 }
 
 // How a run over blocks ends, and their writer.

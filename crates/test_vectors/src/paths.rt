@@ -188,10 +188,7 @@ pub(crate) fn path_of<S: MemberSet>(
     requires now { is_valid now.now ≡ true }
     requires target { is_valid target.now ≡ true }
 {
-    match plan_by(alloc, strategy, now, target) {
-        Err(NoPath::NoMemory) => plan_by(alloc, strategy, now, target),
-        path => path,
-    }
+    twice!(NoPath::NoMemory, plan_by(alloc, strategy, now, target))
 }
 
 /// The path by a strategy between valid configurations, if there is one.
@@ -209,10 +206,7 @@ pub(crate) fn path_between<S: MemberSet>(
 }
 
 fn is_accepted<S: MemberSet>(changer: &mut Changer<S>, step: &Step) -> bool {
-    match changer.step(step) {
-        Err(Refused::NoMemory) => changer.step(step).is_ok(),
-        answer => answer.is_ok(),
-    }
+    twice!(Refused::NoMemory, changer.step(step)).is_ok()
 }
 
 // Whether these ids have to catch up after a step.
@@ -223,8 +217,10 @@ fn catch_up<S: MemberSet>(
     after: &Config<S>,
     expected: &[u64],
 ) -> bool {
-    let ids = twice(NoMemory, || catching_up(alloc, before, step, after));
-    ids.is_ok_and(|ids| has_ids(&ids, expected))
+    match twice!(NoMemory, catching_up(alloc, before, step, after)) {
+        Ok(ids) => has_ids(&ids, expected),
+        Err(_) => false,
+    }
 }
 
 // Whether the changer accepts a step, and these ids have to catch up then.
@@ -234,13 +230,17 @@ fn is_step<S: MemberSet>(
     step: &Step,
     expected: &[u64],
 ) -> bool {
-    match twice(NoMemory, || changer.tracker().config().try_clone()) {
+    match twice!(NoMemory, changer.tracker().config().try_clone()) {
         Ok(before) => {
             is_accepted(changer, step)
                 & catch_up(alloc, &before, step, changer.tracker().config(), expected)
         }
         Err(_) => false,
     }
+}
+
+fn is_printed(alloc: Global, path: &Path, expected: &str) -> bool {
+    appends!(alloc, expected, |text| print_path(text, path))
 }
 
 // Whether a path is printed as its text, and the changer accepts its steps.
@@ -251,7 +251,7 @@ fn has_steps<S: MemberSet>(
     expected: &Expected,
 ) -> bool {
     let (_, text, ids) = expected;
-    let mut is_so = (path.len() == ids.len()) & appends(alloc, *text, |end| print_path(end, path));
+    let mut is_so = (path.len() == ids.len()) & is_printed(alloc, path, *text);
     for (index, ids) in ids.iter().enumerate() {
         is_so &= match path.step(index) {
             Some(step) => is_step(alloc, changer, step, *ids),
@@ -276,12 +276,9 @@ fn leads<S: MemberSet>(
 }
 
 fn is_path<S: MemberSet>(alloc: Global, row: &Row, expected: &Expected) -> bool {
-    match (changer_at::<S>(alloc, row.0), changer_at::<S>(alloc, row.1)) {
-        (Some(mut changer), Some(other)) => {
-            leads(alloc, &mut changer, other.tracker().config(), expected)
-        }
-        _ => false,
-    }
+    let mut changer = changer_at::<S>(alloc, row.0);
+    let other = changer_at::<S>(alloc, row.1);
+    leads(alloc, &mut changer, other.tracker().config(), expected)
 }
 
 #[test]
@@ -289,11 +286,8 @@ fn paths(rt: HostRuntime) {
     for (index, row) in ROWS.iter().enumerate() {
         for expected in row.2 {
             assert!(rt;
-                is_path::<TreeIds>(rt.alloc(), row, expected),
-                "row {index}"
-            );
-            assert!(rt;
-                is_path::<InlineIds>(rt.alloc(), row, expected),
+                is_path::<TreeIds>(rt.alloc(), row, expected)
+                    & is_path::<InlineIds>(rt.alloc(), row, expected),
                 "row {index}"
             );
         }

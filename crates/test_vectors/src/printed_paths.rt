@@ -74,7 +74,7 @@ static ROWS: [Row; 13] = [
         ),
         stalls: false,
     },
-    // Nothing commits until one of the new voters has caught up, also with nobody down.
+    // Nothing commits until one of the new voters has caught up, also with all ids up.
     Row {
         now: "Voters:[1 2 3] VotersOutgoing:[] Learners:[] LearnersNext:[] AutoLeave:false",
         target: "Voters:[3 4 5] VotersOutgoing:[] Learners:[] LearnersNext:[] AutoLeave:false",
@@ -198,6 +198,38 @@ static ROWS: [Row; 13] = [
     },
 ];
 
+fn has_table<S: MemberSet>(
+    alloc: Global,
+    now: &Config<S>,
+    path: &Path,
+    down: Option<&S>,
+    expected: &str,
+) -> bool
+    requires { is_restorable now.now ≡ true }
+{
+    appends!(
+        alloc,
+        expected,
+        |text| add_table(alloc, text, now, path, down)
+    )
+}
+
+fn has_json_lines<S: MemberSet>(
+    alloc: Global,
+    now: &Config<S>,
+    path: &Path,
+    down: Option<&S>,
+    expected: &str,
+) -> bool
+    requires { is_restorable now.now ≡ true }
+{
+    appends!(
+        alloc,
+        expected,
+        |text| add_json_lines(alloc, text, 1, now, path, down)
+    )
+}
+
 // Whether a path is printed so, and stalls as expected.
 fn is_printed<S: MemberSet>(
     alloc: Global,
@@ -214,18 +246,10 @@ fn is_printed<S: MemberSet>(
         Some(down)
     };
     let prints = match row.printed {
-        Printed::Table(table) => appends(
-            alloc,
-            table,
-            |text| add_table(alloc, text, now, path, named),
-        ),
-        Printed::Json(lines) => appends(
-            alloc,
-            lines,
-            |text| add_json_lines(alloc, text, 1, now, path, named),
-        ),
+        Printed::Table(table) => has_table(alloc, now, path, named, table),
+        Printed::Json(lines) => has_json_lines(alloc, now, path, named, lines),
     };
-    prints & (twice(NoMemory, || stalls(alloc, now, path, down)) == Ok(row.stalls))
+    prints & (twice!(NoMemory, stalls(alloc, now, path, down)) == Ok(row.stalls))
 }
 
 fn is_row<S: MemberSet>(
@@ -244,33 +268,41 @@ fn is_row<S: MemberSet>(
 }
 
 fn is_row_over<S: MemberSet>(alloc: Global, row: &Row) -> bool {
-    match (
-        changer_at::<S>(alloc, row.now),
-        changer_at::<S>(alloc, row.target),
-        twice(NoMemory, || S::of_list(alloc, row.down)),
-    ) {
-        (Some(now), Some(target), Ok(down)) => is_row(
+    let now = changer_at::<S>(alloc, row.now);
+    let target = changer_at::<S>(alloc, row.target);
+    match twice!(NoMemory, S::of_list(alloc, row.down)) {
+        Ok(down) => is_row(
             alloc,
             row,
             now.tracker().config(),
             target.tracker().config(),
             &down,
         ),
-        _ => false,
+        Err(_) => false,
     }
+}
+
+fn is_no_plan_line(alloc: Global, number: u64, why: &str, expected: &str) -> bool {
+    appends!(
+        alloc,
+        expected,
+        |text| add_no_plan_line(alloc, text, number, why)
+    )
 }
 
 #[test]
 fn printed_paths(rt: HostRuntime) {
     for (index, row) in ROWS.iter().enumerate() {
-        assert!(rt; is_row_over::<TreeIds>(rt.alloc(), row), "row {index}");
-        assert!(rt; is_row_over::<InlineIds>(rt.alloc(), row), "row {index}");
+        assert!(rt;
+            is_row_over::<TreeIds>(rt.alloc(), row) & is_row_over::<InlineIds>(rt.alloc(), row),
+            "row {index}"
+        );
     }
-    let no_plan = "{\"no_plan\":\"the target is joint\",\"plan\":7}\n";
-    let is_printed = appends(
-        rt.alloc(),
-        no_plan,
-        |text| add_no_plan_line(rt.alloc(), text, 7, "the target is joint"),
-    );
-    assert!(rt; is_printed);
+}
+
+#[test]
+fn lines_without_a_path(rt: HostRuntime) {
+    let why = "the target is joint";
+    let expected = "{\"no_plan\":\"the target is joint\",\"plan\":7}\n";
+    assert!(rt; is_no_plan_line(rt.alloc(), 7, why, expected));
 }

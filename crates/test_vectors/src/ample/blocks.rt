@@ -15,7 +15,7 @@ fn write_parts<W: Sink>(writer: &mut W) -> bool {
 }
 
 // Whether a writer gets this many bytes in three calls, one for each block, and an error is reported if it stops early.
-fn takes(rt: &impl Runtime, room: usize, stop: Stop) -> bool {
+fn is_written(rt: &impl Runtime, room: usize, stop: Stop) -> bool {
     let device = limited(rt.alloc(), 80_000, room, stop);
     let mut blocks = Blocks::new(rt.alloc(), device).expect(rt, "a block");
     let was_reported = write_parts(&mut blocks);
@@ -32,17 +32,17 @@ fn takes(rt: &impl Runtime, room: usize, stop: Stop) -> bool {
 
 #[test]
 fn writes_a_block_at_a_time(rt: HostRuntime) {
-    assert!(rt; takes(&rt, 42_000, Stop::Fault));
+    assert!(rt; is_written(&rt, 42_000, Stop::Fault));
 }
 
 #[test]
-fn nothing_is_written_after_a_fault(rt: HostRuntime) {
-    assert!(rt; takes(&rt, 20_000, Stop::Fault));
-    assert!(rt; takes(&rt, 20_000, Stop::AcceptsNone));
+fn nothing_is_written_after_an_error(rt: HostRuntime) {
+    assert!(rt; is_written(&rt, 20_000, Stop::Fault));
+    assert!(rt; is_written(&rt, 20_000, Stop::AcceptsNone));
 }
 
 // Whether two buffered bytes reach the writer on a flush, and the writer is flushed too.
-fn writes_on(rt: &impl Runtime) -> bool {
+fn is_flushed(rt: &impl Runtime) -> bool {
     let device = limited(rt.alloc(), 20, 20, Stop::Fault);
     let mut blocks = Blocks::new(rt.alloc(), device).expect(rt, "a block");
     let was_reported = write_all(&mut blocks, b"12").is_err();
@@ -56,6 +56,6 @@ fn writes_on(rt: &impl Runtime) -> bool {
 }
 
 #[test]
-fn what_waits_is_written_on(rt: HostRuntime) {
-    assert!(rt; writes_on(&rt));
+fn buffered_bytes_are_flushed(rt: HostRuntime) {
+    assert!(rt; is_flushed(&rt));
 }

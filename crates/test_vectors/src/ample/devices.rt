@@ -97,7 +97,12 @@ impl Write for LimitedWriter {
 }
 
 /// A writer that accepts at most this many bytes per call, and stops once, when it has this many.
-pub(crate) fn limited(alloc: Global, at_once: usize, room: usize, stop: Stop) -> ToWrite<LimitedWriter> {
+pub(crate) fn limited(
+    alloc: Global,
+    at_once: usize,
+    room: usize,
+    stop: Stop,
+) -> ToWrite<LimitedWriter> {
     ToWrite::new(LimitedWriter {
         written: Vec::new(alloc),
         flushed: 0,
