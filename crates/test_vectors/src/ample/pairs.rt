@@ -287,16 +287,11 @@ fn are_pairs(rt: &impl Runtime, graph: &Graph, from: usize, now: &Config<TreeIds
     is_so
 }
 
-// Of configurations that are equal up to renaming their ids, one is enough to begin with.
-fn is_begun_with(code: usize) -> bool {
-    code % 6 <= code / 6 % 6 && code / 6 % 6 <= code / 36
-}
-
 #[test]
 fn pairs_of_configurations(rt: HostRuntime) {
     let graph = graph_of_all(&rt);
     for (code, now) in graph.configs.iter().enumerate() {
-        if is_begun_with(code) && check(now).is_ok() && now.incoming.len() != 0 {
+        if check(now).is_ok() && now.incoming.len() != 0 {
             assert!(rt; are_pairs(&rt, &graph, code, now), "from {code}");
         }
     }
