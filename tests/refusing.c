@@ -11,8 +11,8 @@
 static int is_turn(const char *variable, long *calls) {
   const char *turn = getenv(variable);
   if (!turn || ++*calls != atol(turn)) return 0;
-  const char *told = getenv("REFUSED");
-  if (told) close(open(told, O_CREAT | O_WRONLY, 0600));
+  const char *mark = getenv("REFUSED");
+  if (mark) close(open(mark, O_CREAT | O_WRONLY, 0600));
   return 1;
 }
 

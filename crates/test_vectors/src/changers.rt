@@ -3,8 +3,8 @@ use crate::sets::{has_ids, ids};
 use crate::texts::appends;
 use crate::twice::twice;
 use conf_change::{
-    Change, Changer, Changes, Refused, Step, StepKind, TokenFault, Transition, read_changes, taken,
-    union, write_config, write_progress, write_refused, write_token_fault,
+    Change, Changer, Changes, Config, Progress, Refused, Step, StepKind, TokenFault, Transition,
+    read_changes, taken, union, write_config, write_progress, write_refused, write_token_fault,
 };
 use quorum_sets::{InlineIds, MemberSet, NoMemory, TreeIds};
 use std::alloc::Global;
@@ -81,7 +81,7 @@ static MANY: [Row; 4] = [
     ),
 ];
 
-static TAKEN: [Row; 9] = [
+static CHANGED: [Row; 9] = [
     (Call::Change(Transition::Auto), b"v1", Ok(ONE)),
     (
         Call::Change(Transition::Auto),
@@ -216,17 +216,23 @@ pub(crate) fn is_same<S: MemberSet>(changer: &Changer<S>, other: &Changer<S>) ->
     is_so
 }
 
+fn has_text<S: MemberSet>(alloc: Global, config: &Config<S>, expected: &str) -> bool {
+    appends!(alloc, expected, |text| write_config(text, config))
+}
+
+fn is_member(alloc: Global, id: u64, progress: Progress, expected: &str) -> bool {
+    appends!(alloc, expected, |text| write_progress(text, id, progress))
+}
+
 /// Whether a changer is printed as this text.
 pub(crate) fn is_shown<S: MemberSet>(alloc: Global, changer: &Changer<S>, shown: Shown) -> bool {
     let tracker = changer.tracker();
     let (config, members) = shown;
-    let mut is_so = appends(alloc, config, |text| write_config(text, tracker.config()))
+    let mut is_so = has_text(alloc, tracker.config(), config)
         & (tracker.member_count() == members.len());
     for (index, member) in members.iter().enumerate() {
         is_so &= match tracker.member_at(index) {
-            Some((id, progress)) => {
-                appends(alloc, *member, |text| write_progress(text, id, progress))
-            }
+            Some((id, progress)) => is_member(alloc, id, progress, *member),
             None => false,
         };
     }
@@ -270,9 +276,9 @@ fn is_stepped<S: MemberSet>(
     (answer.err() == refused) & is_same(changer, after)
 }
 
-// Whether another changer is overwritten with the one after a step, and is empty once its configuration is taken out.
+// Whether another changer is overwritten with the one after a step, and is empty once its configuration is moved out.
 fn becomes<S: MemberSet>(
-    mut other: Changer<S>,
+    other: &mut Changer<S>,
     before: &Changer<S>,
     step: &Step,
     after: &Changer<S>,
@@ -282,7 +288,7 @@ fn becomes<S: MemberSet>(
     if answer == Err(Refused::NoMemory) {
         answer = other.become_next(before, step.kind(), step.changes());
     }
-    let is_next = refused.is_some() || is_same(&other, after);
+    let is_next = refused.is_some() || is_same(other, after);
     let config = other.take_config();
     (answer.err() == refused)
         & is_next
@@ -294,24 +300,33 @@ fn becomes<S: MemberSet>(
 fn is_row<S: MemberSet>(
     alloc: Global,
     changer: &mut Changer<S>,
-    mut copy: Changer<S>,
+    copy: &mut Changer<S>,
     row: &Row,
     step: &Step,
 ) -> bool {
     let refused = row.2.err();
-    let is_made = is_changed(alloc, changer, &copy, row, step.changes());
+    let is_made = is_changed(alloc, changer, copy, row, step.changes());
     is_made
-        & becomes(Changer::new(alloc, 9), &copy, step, changer, refused)
-        & is_stepped(&mut copy, step, changer, refused)
+        & becomes(&mut Changer::new(alloc, 9), copy, step, changer, refused)
+        & is_stepped(copy, step, changer, refused)
+}
+
+fn is_made_by<S: MemberSet>(
+    alloc: Global,
+    changer: &mut Changer<S>,
+    row: &Row,
+    step: &Step,
+) -> bool {
+    match twice!(NoMemory, changer.try_clone()) {
+        Ok(mut copy) => is_row(alloc, changer, &mut copy, row, step),
+        Err(_) => false,
+    }
 }
 
 fn is_made<S: MemberSet>(alloc: Global, changer: &mut Changer<S>, row: &Row) -> bool {
-    match (
-        twice(NoMemory, || changer.try_clone()),
-        twice(NoMemory, || step(alloc, row.0, row.1)),
-    ) {
-        (Ok(copy), Ok(step)) => is_row(alloc, changer, copy, row, &step),
-        _ => false,
+    match twice!(NoMemory, step(alloc, row.0, row.1)) {
+        Ok(step) => is_made_by(alloc, changer, row, &step),
+        Err(_) => false,
     }
 }
 
@@ -327,52 +342,59 @@ fn are_made<S: MemberSet>(alloc: Global, rows: &[Row]) -> bool {
     is_so
 }
 
+fn are_all_made<S: MemberSet>(alloc: Global) -> bool {
+    are_made::<S>(alloc, &ENTERED) & are_made::<S>(alloc, &MANY) & are_made::<S>(alloc, &CHANGED)
+}
+
 #[test]
 fn changes_over_trees(rt: HostRuntime) {
-    assert!(rt; are_made::<TreeIds>(rt.alloc(), &ENTERED));
-    assert!(rt; are_made::<TreeIds>(rt.alloc(), &MANY));
-    assert!(rt; are_made::<TreeIds>(rt.alloc(), &TAKEN));
+    assert!(rt; are_all_made::<TreeIds>(rt.alloc()));
 }
 
 #[test]
 fn changes_over_lists(rt: HostRuntime) {
-    assert!(rt; are_made::<InlineIds>(rt.alloc(), &ENTERED));
-    assert!(rt; are_made::<InlineIds>(rt.alloc(), &MANY));
-    assert!(rt; are_made::<InlineIds>(rt.alloc(), &TAKEN));
+    assert!(rt; are_all_made::<InlineIds>(rt.alloc()));
+}
+
+fn is_union<S: MemberSet>(odd: &S, even: &S) -> bool {
+    match twice!(NoMemory, union(odd, even)) {
+        Ok(both) => has_ids(
+            &both,
+            &[1, 2, 3, 4, 5, 6, 7, 8, 9, 10, 11, 12, 13, 14, 15, 16, 17],
+        ),
+        Err(_) => false,
+    }
 }
 
 // Whether the union of two sets is right.
 fn are_together<S: MemberSet>(alloc: Global) -> bool {
-    match (
-        ids::<S>(alloc, &[1, 3, 5, 7, 9, 11, 13, 15, 17]),
-        ids::<S>(alloc, &[2, 3, 4, 6, 8, 10, 12, 14, 16]),
-    ) {
-        (Ok(odd), Ok(even)) => twice(NoMemory, || union(&odd, &even)).is_ok_and(|both| has_ids(
-            &both,
-            &[1, 2, 3, 4, 5, 6, 7, 8, 9, 10, 11, 12, 13, 14, 15, 16, 17],
-        )),
-        _ => false,
-    }
+    let odd: S = ids(alloc, &[1, 3, 5, 7, 9, 11, 13, 15, 17]);
+    let even: S = ids(alloc, &[2, 3, 4, 6, 8, 10, 12, 14, 16]);
+    is_union(&odd, &even)
 }
 
 #[test]
 fn unions(rt: HostRuntime) {
-    assert!(rt; are_together::<TreeIds>(rt.alloc()));
-    assert!(rt; are_together::<InlineIds>(rt.alloc()));
+    assert!(rt; are_together::<TreeIds>(rt.alloc()) & are_together::<InlineIds>(rt.alloc()));
+}
+
+fn is_refusal_written(alloc: Global) -> bool {
+    appends!(
+        alloc,
+        "removed all voters",
+        |text| write_refused(text, Refused::RemovedAllVoters),
+    )
+}
+
+fn is_fault_written(alloc: Global) -> bool {
+    appends!(
+        alloc,
+        "bad number: v1x",
+        |text| write_token_fault(text, TokenFault::BadNumber(b"v1x")),
+    )
 }
 
 #[test]
 fn texts_of_faults(rt: HostRuntime) {
-    let refused = appends(
-        rt.alloc(),
-        "removed all voters",
-        |text| write_refused(text, Refused::RemovedAllVoters),
-    );
-    assert!(rt; refused);
-    let bad_number = appends(
-        rt.alloc(),
-        "bad number: v1x",
-        |text| write_token_fault(text, TokenFault::BadNumber(b"v1x")),
-    );
-    assert!(rt; bad_number);
+    assert!(rt; is_refusal_written(rt.alloc()) & is_fault_written(rt.alloc()));
 }

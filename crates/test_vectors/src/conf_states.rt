@@ -10,6 +10,20 @@ use conf_change::{
 use quorum_sets::{InlineIds, MemberSet, NoMemory, TreeIds};
 use std::alloc::Global;
 
+/// The texts of ten new members.
+pub(crate) const TEN: &[&str] = &[
+    "1: StateProbe match=0 next=1",
+    "2: StateProbe match=0 next=1",
+    "3: StateProbe match=0 next=1",
+    "4: StateProbe match=0 next=1",
+    "5: StateProbe match=0 next=1",
+    "6: StateProbe match=0 next=1",
+    "7: StateProbe match=0 next=1",
+    "8: StateProbe match=0 next=1",
+    "9: StateProbe match=0 next=1",
+    "10: StateProbe match=0 next=1",
+];
+
 // A line, and what is printed of the changer that it restores.
 static RESTORED: [(&str, Shown); 3] = [
     (
@@ -28,21 +42,7 @@ static RESTORED: [(&str, Shown); 3] = [
     ),
     (
         "Voters:[1 2 3 4 5 6 7 8 9 10] VotersOutgoing:[1] Learners:[] LearnersNext:[] AutoLeave:true",
-        (
-            "voters=(1 2 3 4 5 6 7 8 9 10)&&(1) autoleave",
-            &[
-                "1: StateProbe match=0 next=1",
-                "2: StateProbe match=0 next=1",
-                "3: StateProbe match=0 next=1",
-                "4: StateProbe match=0 next=1",
-                "5: StateProbe match=0 next=1",
-                "6: StateProbe match=0 next=1",
-                "7: StateProbe match=0 next=1",
-                "8: StateProbe match=0 next=1",
-                "9: StateProbe match=0 next=1",
-                "10: StateProbe match=0 next=1",
-            ],
-        ),
+        ("voters=(1 2 3 4 5 6 7 8 9 10)&&(1) autoleave", TEN),
     ),
     (
         "Voters:[] VotersOutgoing:[] Learners:[] LearnersNext:[] AutoLeave:false",
@@ -52,9 +52,10 @@ static RESTORED: [(&str, Shown); 3] = [
 
 /// The saved configuration of a line.
 pub(crate) fn read(alloc: Global, line: &str) -> Result<ConfState, ConfStateFault> {
-    twice(ConfStateFault::NoMemory, || {
+    twice!(
+        ConfStateFault::NoMemory,
         read_conf_state(alloc, line.as_bytes())
-    })
+    )
 }
 
 /// The changer with a saved configuration.
@@ -63,37 +64,66 @@ pub(crate) fn restored<S: MemberSet>(
     state: &ConfState,
     floor: Floor,
 ) -> Result<Changer<S>, RestoreFault> {
-    twice(RestoreFault::NoMemory, || {
+    twice!(
+        RestoreFault::NoMemory,
         Changer::restore_with_floor(alloc, state, 0, floor)
-    })
+    )
+}
+
+// The changer with a saved configuration, or an empty one.
+fn restored_or_empty<S: MemberSet>(alloc: Global, state: &ConfState) -> Changer<S> {
+    match restored(alloc, state, Floor::One) {
+        Ok(changer) => changer,
+        Err(_) => Changer::new(alloc, 0),
+    }
+}
+
+/// The changer with the configuration of a line; an empty one if the line has none, so that its row fails without a branch
+/// for it.
+pub(crate) fn changer_at<S: MemberSet>(alloc: Global, line: &str) -> Changer<S> {
+    match read(alloc, line) {
+        Ok(state) => restored_or_empty(alloc, &state),
+        Err(_) => Changer::new(alloc, 0),
+    }
+}
+
+fn is_cloned<S: MemberSet>(config: &Config<S>) -> bool {
+    match twice!(NoMemory, config.try_clone()) {
+        Ok(copy) => copy.same(config),
+        Err(_) => false,
+    }
 }
 
 // Whether a configuration is copied and saved again as it was.
 fn is_saved<S: MemberSet>(alloc: Global, config: &Config<S>, state: &ConfState) -> bool {
-    let is_copied = twice(NoMemory, || config.try_clone()).is_ok_and(|copy| copy.same(config));
-    let is_saved = twice(NoMemory, || conf_state(alloc, config)).is_ok_and(|saved| saved == *state);
-    is_copied & is_saved & check(config).is_ok()
+    let saves = match twice!(NoMemory, conf_state(alloc, config)) {
+        Ok(saved) => saved == *state,
+        Err(_) => false,
+    };
+    saves & is_cloned(config) & check(config).is_ok()
 }
 
 // Whether a saved form describes a configuration.
 fn is_described<S: MemberSet>(alloc: Global, state: &ConfState, config: &Config<S>) -> bool {
-    twice(RestoreFault::NoMemory, || described::<S>(alloc, state)).is_ok_and(|found| found.same(
-        config,
-    ))
+    match twice!(RestoreFault::NoMemory, described::<S>(alloc, state)) {
+        Ok(found) => found.same(config),
+        Err(_) => false,
+    }
 }
 
 // Whether a changer and its copy are equal and printed as this text.
 fn is_copied<S: MemberSet>(alloc: Global, changer: &Changer<S>, shown: Shown) -> bool {
-    match twice(NoMemory, || changer.try_clone()) {
+    match twice!(NoMemory, changer.try_clone()) {
         Ok(copy) => is_same(&copy, changer) & is_shown(alloc, &copy, shown),
         Err(_) => false,
     }
 }
 
 fn is_restored<S: MemberSet>(alloc: Global, state: &ConfState, shown: Shown) -> bool {
-    match twice(RestoreFault::NoMemory, || {
+    match twice!(
+        RestoreFault::NoMemory,
         Changer::<S>::restore(alloc, state, 0)
-    }) {
+    ) {
         Ok(changer) => {
             is_saved(alloc, changer.tracker().config(), state)
                 & is_described(alloc, state, changer.tracker().config())
@@ -103,12 +133,13 @@ fn is_restored<S: MemberSet>(alloc: Global, state: &ConfState, shown: Shown) -> 
     }
 }
 
+fn is_printed(alloc: Global, state: &ConfState, line: &str) -> bool {
+    appends!(alloc, line, |text| write_conf_state(text, state))
+}
+
 fn is_line<S: MemberSet>(alloc: Global, line: &str, shown: Shown) -> bool {
     match read(alloc, line) {
-        Ok(state) => {
-            appends(alloc, line, |text| write_conf_state(text, &state))
-                & is_restored::<S>(alloc, &state, shown)
-        }
+        Ok(state) => { is_printed(alloc, &state, line) & is_restored::<S>(alloc, &state, shown) }
         Err(_) => false,
     }
 }
@@ -123,17 +154,29 @@ fn is_refused<S: MemberSet>(alloc: Global, line: &str) -> bool {
     }
 }
 
+fn is_no_line(alloc: Global, line: &str) -> bool {
+    read(alloc, line).err() == Some(ConfStateFault::BadConfState)
+}
+
 #[test]
 fn saved_configurations(rt: HostRuntime) {
-    for (line, shown) in &RESTORED {
-        assert!(rt; is_line::<TreeIds>(rt.alloc(), *line, *shown));
-        assert!(rt; is_line::<InlineIds>(rt.alloc(), *line, *shown));
+    for (index, (line, shown)) in RESTORED.iter().enumerate() {
+        assert!(rt;
+            is_line::<TreeIds>(rt.alloc(), *line, *shown)
+                & is_line::<InlineIds>(rt.alloc(), *line, *shown),
+            "row {index}"
+        );
     }
+}
+
+#[test]
+fn lines_that_are_refused(rt: HostRuntime) {
     let no_configuration =
         "Voters:[1 2 3] VotersOutgoing:[1 2 4 6] Learners:[5] LearnersNext:[7] AutoLeave:false";
-    assert!(rt; is_refused::<InlineIds>(rt.alloc(), no_configuration));
-    let no_line = read(rt.alloc(), "Voters:[1 2 3] VotersOutgoing:[1 2 x]");
-    assert!(rt; no_line.err() == Some(ConfStateFault::BadConfState));
+    assert!(rt;
+        is_refused::<InlineIds>(rt.alloc(), no_configuration)
+            & is_no_line(rt.alloc(), "Voters:[1 2 3] VotersOutgoing:[1 2 x]")
+    );
 }
 
 // A line, and why it is not a valid configuration.
@@ -158,9 +201,10 @@ static FAULTY: [(&str, ConfigurationFault); 4] = [
 
 // Why a line is not a valid configuration, if it is not.
 fn fault_of<S: MemberSet>(alloc: Global, line: &str) -> Option<ConfigurationFault> {
-    twice(ConfigurationFault::NoMemory, || {
+    twice!(
+        ConfigurationFault::NoMemory,
         read_configuration::<S>(alloc, line.as_bytes())
-    })
+    )
     .err()
 }
 
@@ -169,23 +213,37 @@ fn is_named<S: MemberSet>(alloc: Global, line: &str) -> bool {
     let Ok(state) = read(alloc, line) else {
         return false;
     };
-    match twice(ConfigurationFault::NoMemory, || {
+    match twice!(
+        ConfigurationFault::NoMemory,
         valid_configuration::<S>(alloc, &state)
-    }) {
+    ) {
         Ok(config) => is_described(alloc, &state, &config) & fault_of::<S>(alloc, line).is_none(),
         Err(_) => false,
     }
 }
 
+fn is_faulty<S: MemberSet>(alloc: Global, line: &str, fault: ConfigurationFault) -> bool {
+    fault_of::<S>(alloc, line) == Some(fault)
+}
+
 #[test]
 fn lines_of_configurations(rt: HostRuntime) {
-    for (line, _) in &RESTORED {
-        assert!(rt; is_named::<TreeIds>(rt.alloc(), *line));
-        assert!(rt; is_named::<InlineIds>(rt.alloc(), *line));
+    for (index, (line, _)) in RESTORED.iter().enumerate() {
+        assert!(rt;
+            is_named::<TreeIds>(rt.alloc(), *line) & is_named::<InlineIds>(rt.alloc(), *line),
+            "row {index}"
+        );
     }
-    for (line, fault) in &FAULTY {
-        assert!(rt; fault_of::<TreeIds>(rt.alloc(), *line) == Some(*fault));
-        assert!(rt; fault_of::<InlineIds>(rt.alloc(), *line) == Some(*fault));
+}
+
+#[test]
+fn lines_of_no_configurations(rt: HostRuntime) {
+    for (index, (line, fault)) in FAULTY.iter().enumerate() {
+        assert!(rt;
+            is_faulty::<TreeIds>(rt.alloc(), *line, *fault)
+                & is_faulty::<InlineIds>(rt.alloc(), *line, *fault),
+            "row {index}"
+        );
     }
 }
 
@@ -223,10 +281,18 @@ fn begins_with_zero<S: MemberSet>(alloc: Global, state: &ConfState) -> bool {
     }
 }
 
+fn both_begin_with_zero(alloc: Global, line: &str) -> bool {
+    match read(alloc, line) {
+        Ok(state) => {
+            begins_with_zero::<TreeIds>(alloc, &state)
+                & begins_with_zero::<InlineIds>(alloc, &state)
+        }
+        Err(_) => false,
+    }
+}
+
 #[test]
 fn acknowledgements(rt: HostRuntime) {
     let line = "Voters:[3] VotersOutgoing:[] Learners:[1] LearnersNext:[] AutoLeave:false";
-    let state = read(rt.alloc(), line).expect(&rt, "a saved configuration");
-    assert!(rt; begins_with_zero::<TreeIds>(rt.alloc(), &state));
-    assert!(rt; begins_with_zero::<InlineIds>(rt.alloc(), &state));
+    assert!(rt; both_begin_with_zero(rt.alloc(), line));
 }

@@ -46,8 +46,8 @@ fn next_line<R: Source>(lines: &mut Lines, source: &mut R) -> Result<Option<Line
 }
 
 // Whether an item is rewritten so, with `a` as actual output, or that and a blank line. This does not allocate.
-fn is_written(item: &Item, is_double: bool, wanted: &'static [u8]) -> bool {
-    let mut writer = ToWrite::new(Matching::with(wanted));
+fn is_written(item: &Item, is_double: bool, text: &'static [u8]) -> bool {
+    let mut writer = ToWrite::new(Matching::with(text));
     let mut rewriter = Rewriter::new();
     let mut is_kept = rewriter.keep(&mut writer, item).is_ok();
     if let Item::Directive(_) = item {
@@ -61,12 +61,12 @@ fn is_written(item: &Item, is_double: bool, wanted: &'static [u8]) -> bool {
     is_kept & rewriter.end(&mut writer).is_ok() & writer.into_inner().is_whole()
 }
 
-fn is_item(item: &Item, wanted: &'static [u8], expected: &[u8]) -> bool {
+fn is_item(item: &Item, text: &'static [u8], expected: &[u8]) -> bool {
     let expects = match item {
         Item::Directive(directive) => directive.expected() == expected,
         _ => expected.is_empty(),
     };
-    expects & is_written(item, false, wanted)
+    expects & is_written(item, false, text)
 }
 
 // Whether a reader gives these items until memory runs out, and whether it does. Each is given back, so that the next one
@@ -75,10 +75,10 @@ fn gives_items(reader: &mut Reader) -> (bool, bool) {
     let mut source = FromRead::new(SCRIPT);
     let mut is_so = true;
     let mut has_memory = true;
-    for (wanted, expected) in &ITEMS {
+    for (text, expected) in &ITEMS {
         match next_item(reader, &mut source) {
             Ok(Some(item)) => {
-                is_so &= has_memory & is_item(&item, *wanted, *expected);
+                is_so &= has_memory & is_item(&item, *text, *expected);
                 reader.reuse(item);
             }
             Err(FileFault::NoMemory) => has_memory = false,
@@ -101,8 +101,8 @@ fn reads_items(reader: &mut Reader, other: &mut Reader) -> bool {
 
 fn items(alloc: Global) -> bool {
     match (
-        twice(FileFault::NoMemory, || Reader::new(alloc)),
-        twice(FileFault::NoMemory, || Reader::new(alloc)),
+        twice!(FileFault::NoMemory, Reader::new(alloc)),
+        twice!(FileFault::NoMemory, Reader::new(alloc)),
     ) {
         (Ok(mut reader), Ok(mut other)) => reads_items(&mut reader, &mut other),
         _ => false,
@@ -118,9 +118,9 @@ fn gives_lines(lines: &mut Lines) -> (bool, bool) {
     let mut source = FromRead::new(INPUT);
     let mut is_so = true;
     let mut has_memory = true;
-    for wanted in &LINES {
+    for text in &LINES {
         match next_line(lines, &mut source) {
-            Ok(Some(line)) => is_so &= has_memory & (line.as_slice() == *wanted),
+            Ok(Some(line)) => is_so &= has_memory & (line.as_slice() == *text),
             Err(FileFault::NoMemory) => has_memory = false,
             _ => is_so = false,
         }
@@ -140,8 +140,8 @@ fn reads_lines(lines: &mut Lines, other: &mut Lines) -> bool {
 
 fn lines(alloc: Global) -> bool {
     match (
-        twice(FileFault::NoMemory, || Lines::new(alloc)),
-        twice(FileFault::NoMemory, || Lines::new(alloc)),
+        twice!(FileFault::NoMemory, Lines::new(alloc)),
+        twice!(FileFault::NoMemory, Lines::new(alloc)),
     ) {
         (Ok(mut lines), Ok(mut other)) => reads_lines(&mut lines, &mut other),
         _ => false,
@@ -150,8 +150,7 @@ fn lines(alloc: Global) -> bool {
 
 #[test]
 fn script_files(rt: HostRuntime) {
-    assert!(rt; lines(rt.alloc()));
-    assert!(rt; items(rt.alloc()));
+    assert!(rt; lines(rt.alloc()) & items(rt.alloc()));
 }
 
 // A comment of one line.
@@ -164,16 +163,23 @@ fn made_directive(alloc: Global) -> Result<Option<Item>, AllocError> {
     Item::directive(alloc, b"simple x=(1,2)".to_vec(alloc)?, &[])
 }
 
-#[test]
-fn made_items(rt: HostRuntime) {
-    let comment = twice(AllocError, || made_comment(rt.alloc()));
-    assert!(rt; comment.is_ok_and(|item| is_written(&item, false, b"# a\n")));
-    let directive = twice(AllocError, || made_directive(rt.alloc()));
-    let is_made = match directive {
+fn is_comment_written(alloc: Global) -> bool {
+    match twice!(AllocError, made_comment(alloc)) {
+        Ok(item) => is_written(&item, false, b"# a\n"),
+        Err(_) => false,
+    }
+}
+
+fn is_directive_written(alloc: Global) -> bool {
+    match twice!(AllocError, made_directive(alloc)) {
         Ok(Some(item)) => is_written(&item, false, b"simple x=(1,2)\n----\na\n"),
         _ => false,
-    };
-    assert!(rt; is_made);
+    }
+}
+
+#[test]
+fn made_items(rt: HostRuntime) {
+    assert!(rt; is_comment_written(rt.alloc()) & is_directive_written(rt.alloc()));
 }
 
 /// The item that a text begins with.
@@ -182,18 +188,18 @@ pub(crate) fn first_item(alloc: Global, text: &[u8]) -> Result<Option<Item>, Fil
     reader.next(&mut FromRead::new(text))
 }
 
-#[test]
-fn rewritten_directives(rt: HostRuntime) {
-    let found = twice(
-        FileFault::NoMemory,
-        || first_item(rt.alloc(), b"vote\n\n----\n"),
-    );
-    let is_so = match found {
+// Whether a directive with a blank line before its separator is written in both forms.
+fn is_written_twice(alloc: Global) -> bool {
+    match twice!(FileFault::NoMemory, first_item(alloc, b"vote\n\n----\n")) {
         Ok(Some(item)) => {
             is_written(&item, false, b"vote\n\n----\na\n")
                 & is_written(&item, true, b"vote\n\n----\n----\na\n\n----\n----\n")
         }
         _ => false,
-    };
-    assert!(rt; is_so);
+    }
+}
+
+#[test]
+fn rewritten_directives(rt: HostRuntime) {
+    assert!(rt; is_written_twice(rt.alloc()));
 }

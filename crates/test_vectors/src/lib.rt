@@ -27,11 +27,11 @@ mod paths;
 #[cfg(test)]
 mod plans;
 #[cfg(test)]
+mod printed_paths;
+#[cfg(test)]
 mod sessions;
 #[cfg(test)]
 mod sets;
-#[cfg(test)]
-mod tables;
 #[cfg(test)]
 mod texts;
 #[cfg(test)]

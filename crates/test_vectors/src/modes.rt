@@ -1,9 +1,18 @@
 //! The modes of the program, over a reader and a writer that do not allocate.
+ghost use Rattle.std.specs.Prelude.{IfOk};
+ghost use Rattle.dd_file.specs.Gathered.{NothingWaits};
+ghost use Rattle.conf_tool.specs.Ranges.{IsInRange};
+
 use crate::matching::Matching;
+use crate::twice::twice;
+use conf_change::{ConfigurationFault, Floor, Violation};
+use conf_plan::Strategy;
+use conf_session::SessionIds;
 use conf_tool::run::{run, run_and_flush};
-use conf_tool::{Mode, Options, Status, ToolFault};
+use conf_tool::{ConfigurationsFault, Mode, Options, PlanOptions, PlanOutput, Status, ToolFault};
 use dd_file::blocks::Blocks;
-use dd_file::device::{FromRead, ToWrite};
+use dd_file::device::{FromRead, Sink, Source, ToWrite};
+use quorum_sets::{MemberSet, NoMemory};
 use std::alloc::{AllocError, Global};
 
 const CHANGES: &[u8] = b"v1\nv2\nl3\nr1\nr2\n";
@@ -106,90 +115,346 @@ const PAIRS: &[u8] = b"# first\n\
 
 const PLANS: &[u8] = b"simple v2\n\n# no plan: the target has no voter\n\nsimple l2\n";
 
-/// A mode, its input and its output, and how it ends.
-pub(crate) type Case = (Mode, &'static [u8], &'static [u8], Status);
+// Pairs whose targets replace a voter, and remove one; the second is in JSON.
+const REPLACED: &[u8] =
+    b"Voters:[1 2 3] VotersOutgoing:[] Learners:[] LearnersNext:[] AutoLeave:false\n\
+    Voters:[1 2 4] VotersOutgoing:[] Learners:[] LearnersNext:[] AutoLeave:false\n\
+    {\"voters\":[1,2]}\n{\"voters\":[1]}\n";
 
-pub(crate) static CASES: [Case; 14] = [
-    (Mode::Lines, CHANGES, ANSWERS, Status::Clean),
-    (Mode::Check, CUT, NONE_DIFFERS, Status::Clean),
-    (Mode::Check, BARE, BARE_REPORT, Status::Different),
-    (Mode::Rewrite, CUT, WHOLE, Status::Clean),
-    (Mode::Rewrite, BARE, WHOLE, Status::Clean),
-    (Mode::Rewrite, OLD, REWRITTEN, Status::Clean),
+const LEARNERS_FIRST: &[u8] =
+    b"simple l4\nenter-joint autoleave=false r3 v4\nleave-joint\n\nsimple r2\n";
+
+const ONE_AT_A_TIME: &[u8] = b"simple l4\nsimple v4\nsimple r3\n\nsimple r2\n";
+
+const TABLES: &[u8] =
+    b"step                                 1 2 3 4  majority           may be down  catch up  until then\n\
+    now                                  V V V .  2 of 3             1\n\
+    1 enter-joint autoleave=false r3 v4  V V - +  2 of 3 and 2 of 3  1            4         0\n\
+    2 leave-joint                        V V . V  2 of 3             1\n\
+    \n\
+    step         1 2  majority  may be down  catch up  until then\n\
+    now          V V  2 of 2    0\n\
+    1 simple r2  V .  1 of 1    0\n";
+
+// One pair, its table with an id down that stays and one that is removed, and the object of its step.
+const REMOVED: &[u8] =
+    b"Voters:[1 2] VotersOutgoing:[] Learners:[] LearnersNext:[] AutoLeave:false\n{\"voters\":[1]}";
+
+const STALLED: &[u8] =
+    b"step         1 2  majority  may be down  catch up  until then  with 1 down\n\
+    now          V V  2 of 2    0                                  stalls\n\
+    1 simple r2  V .  1 of 1    0                                  stalls\n";
+
+const STALLED_AT_FIRST: &[u8] =
+    b"step         1 2  majority  may be down  catch up  until then  with 2 down\n\
+    now          V V  2 of 2    0                                  stalls\n\
+    1 simple r2  V .  1 of 1    0                                  commits\n";
+
+const OBJECT: &[u8] = b"{\"catch_up\":[],\"commits\":true,\
+    \"conf_change\":{\"changes\":[{\"node_id\":2,\"type\":\"ConfChangeRemoveNode\"}],\"transition\":\"ConfChangeTransitionAuto\"},\
+    \"conf_state\":{\"auto_leave\":false,\"learners\":[],\"learners_next\":[],\"voters\":[1],\"voters_outgoing\":[]},\
+    \"may_be_down\":0,\"plan\":1,\"step\":1,\"steps\":1,\"until_then\":0}\n";
+
+// A pair with a path, one with nothing to do, and two without a path one at a time.
+const FOUR_PAIRS: &[u8] = b"{\"voters\":[1,2]}\n{\"voters\":[1]}\n\
+    # the same\n\
+    {\"voters\":[1]}\nVoters:[1] VotersOutgoing:[] Learners:[] LearnersNext:[] AutoLeave:false\n\
+    {\"voters\":[1]}\n{\"voters\":[2],\"voters_outgoing\":[1]}\n\
+    {\"voters\":[1]}\n{\"learners\":[1]}\n";
+
+const OBJECTS: &[u8] = b"{\"catch_up\":[],\
+    \"conf_change\":{\"changes\":[{\"node_id\":2,\"type\":\"ConfChangeRemoveNode\"}],\"transition\":\"ConfChangeTransitionAuto\"},\
+    \"conf_state\":{\"auto_leave\":false,\"learners\":[],\"learners_next\":[],\"voters\":[1],\"voters_outgoing\":[]},\
+    \"may_be_down\":0,\"plan\":1,\"step\":1,\"steps\":1,\"until_then\":0}\n\
+    {\"plan\":2,\"steps\":0}\n\
+    {\"no_plan\":\"the target is joint\",\"plan\":3}\n\
+    {\"no_plan\":\"the target has no voter\",\"plan\":4}\n";
+
+// A pair, and the first line of another; and a pair, and a last line that is not a configuration.
+const HALF: &[u8] = b"{\"voters\":[1,2]}\n{\"voters\":[1]}\n{\"voters\":[1]}\n";
+
+const BAD_JSON: &[u8] = b"{\"voters\":[1,2]}\n{\"voters\":[1,2]}\n\n{\"voters\":[1.0]}";
+
+const TWICE: &[u8] = b"{\"voters\":[1,2]}\n\
+    Voters:[1 1] VotersOutgoing:[] Learners:[] LearnersNext:[] AutoLeave:false";
+
+/// What is run: a mode with its default options, or `plan` with a strategy, an output and the ids that are down.
+#[derive(Clone, Copy)]
+pub(crate) enum Command {
+    Lines,
+    Check,
+    Rewrite,
+    Undo,
+    Plan(Strategy, PlanOutput, &'static [u64]),
+}
+
+const SHORTEST: Command = Command::Plan(Strategy::Shortest, PlanOutput::Steps, &[]);
+
+/// A command, its input and its output, and how it ends.
+pub(crate) type Case = (
+    Command,
+    &'static [u8],
+    &'static [u8],
+    Result<Status, ToolFault>,
+);
+
+const CLEAN: Result<Status, ToolFault> = Ok(Status::Clean);
+
+const DIFFERENT: Result<Status, ToolFault> = Ok(Status::Different);
+
+/// The modes with their default options.
+pub(crate) static MODES: [Case; 14] = [
+    (Command::Lines, CHANGES, ANSWERS, CLEAN),
+    (Command::Check, CUT, NONE_DIFFERS, CLEAN),
+    (Command::Check, BARE, BARE_REPORT, DIFFERENT),
+    (Command::Rewrite, CUT, WHOLE, CLEAN),
+    (Command::Rewrite, BARE, WHOLE, CLEAN),
+    (Command::Rewrite, OLD, REWRITTEN, CLEAN),
     (
-        Mode::Check,
+        Command::Check,
         ENTERED,
         b"2 directives, 0 mismatches\n",
-        Status::Clean,
+        CLEAN,
     ),
-    (Mode::Rewrite, ENTERED, ENTERED, Status::Clean),
-    (Mode::Undo, ENTERED, BACK, Status::Clean),
-    (Mode::Undo, CUT, NO_PLAN, Status::Different),
-    (Mode::Undo, BARE, NO_PLAN, Status::Different),
-    (Mode::Plan, TWO, PLAN, Status::Clean),
-    (Mode::Plan, TO_EMPTY, NO_TARGET, Status::Different),
-    (Mode::Plan, PAIRS, PLANS, Status::Different),
+    (Command::Rewrite, ENTERED, ENTERED, CLEAN),
+    (Command::Undo, ENTERED, BACK, CLEAN),
+    (Command::Undo, CUT, NO_PLAN, DIFFERENT),
+    (Command::Undo, BARE, NO_PLAN, DIFFERENT),
+    (SHORTEST, TWO, PLAN, CLEAN),
+    (SHORTEST, TO_EMPTY, NO_TARGET, DIFFERENT),
+    (SHORTEST, PAIRS, PLANS, DIFFERENT),
 ];
 
-// How a run ends, and what it wrote.
+/// `plan` with its options, and inputs with an error.
+pub(crate) static PLANNED: [Case; 12] = [
+    (
+        Command::Plan(Strategy::LearnersFirst, PlanOutput::Steps, &[]),
+        REPLACED,
+        LEARNERS_FIRST,
+        CLEAN,
+    ),
+    (
+        Command::Plan(Strategy::OneAtATime, PlanOutput::Steps, &[]),
+        REPLACED,
+        ONE_AT_A_TIME,
+        CLEAN,
+    ),
+    (
+        Command::Plan(Strategy::Shortest, PlanOutput::Table, &[]),
+        REPLACED,
+        TABLES,
+        CLEAN,
+    ),
+    (
+        Command::Plan(Strategy::Shortest, PlanOutput::Table, &[1]),
+        REMOVED,
+        STALLED,
+        DIFFERENT,
+    ),
+    (
+        Command::Plan(Strategy::OneAtATime, PlanOutput::Table, &[2, 2]),
+        REMOVED,
+        STALLED_AT_FIRST,
+        DIFFERENT,
+    ),
+    (
+        Command::Plan(Strategy::LearnersFirst, PlanOutput::Json, &[2]),
+        REMOVED,
+        OBJECT,
+        DIFFERENT,
+    ),
+    (
+        Command::Plan(Strategy::OneAtATime, PlanOutput::Json, &[]),
+        FOUR_PAIRS,
+        OBJECTS,
+        DIFFERENT,
+    ),
+    (
+        Command::Plan(Strategy::Shortest, PlanOutput::Steps, &[2]),
+        REMOVED,
+        b"simple r2\n",
+        DIFFERENT,
+    ),
+    (
+        Command::Plan(Strategy::Shortest, PlanOutput::Steps, &[9]),
+        REMOVED,
+        b"simple r2\n",
+        CLEAN,
+    ),
+    (
+        SHORTEST,
+        HALF,
+        b"simple r2\n",
+        Err(ToolFault::Configurations(ConfigurationsFault::NotTwoLines)),
+    ),
+    (
+        Command::Plan(Strategy::Shortest, PlanOutput::Json, &[]),
+        BAD_JSON,
+        b"{\"plan\":1,\"steps\":0}\n",
+        Err(ToolFault::Configurations(ConfigurationsFault::BadJson(4))),
+    ),
+    (
+        Command::Plan(Strategy::LearnersFirst, PlanOutput::Table, &[]),
+        TWICE,
+        b"",
+        Err(ToolFault::Configurations(ConfigurationsFault::BadLine(
+            2,
+            ConfigurationFault::NotAConfiguration(Violation::ListedTwice(1)),
+        ))),
+    ),
+];
+
+fn mode_of(command: Command) -> Mode {
+    match command {
+        Command::Lines => Mode::Lines,
+        Command::Check => Mode::Check,
+        Command::Rewrite => Mode::Rewrite,
+        Command::Undo => Mode::Undo,
+        Command::Plan(_, _, _) => Mode::Plan,
+    }
+}
+
+// The ids that are down, if there are any.
+fn down_of(alloc: Global, ids: &[u64]) -> Result<Option<SessionIds>, NoMemory> {
+    if ids.is_empty() {
+        Ok(None)
+    } else {
+        Ok(Some(twice!(NoMemory, SessionIds::of_list(alloc, ids))?))
+    }
+}
+
+fn plan_options(alloc: Global, command: Command) -> Result<PlanOptions, NoMemory> {
+    match command {
+        Command::Plan(strategy, output, ids) => Ok(PlanOptions {
+            strategy,
+            output,
+            down: down_of(alloc, ids)?,
+        }),
+        _ => Ok(PlanOptions::default()),
+    }
+}
+
+fn options_of(alloc: Global, command: Command) -> Result<Options, NoMemory>
+    ensures { IfOk result (λ options. IsInRange options) }
+{
+    Ok(Options {
+        history: 100,
+        steps: 1,
+        floor: Floor::One,
+        plan: plan_options(alloc, command)?,
+    })
+}
+
+/// Runs a command.
+pub(crate) fn run_command<R: Source, W: Sink>(
+    alloc: Global,
+    command: Command,
+    reader: &mut R,
+    writer: &mut W,
+) -> Result<Status, ToolFault> {
+    let options = options_of(alloc, command)?;
+    run(alloc, mode_of(command), options, reader, writer)
+}
+
+/// Runs a command over blocks, and flushes them.
+pub(crate) fn run_and_flush_command<R: Source, W: Sink>(
+    alloc: Global,
+    command: Command,
+    reader: &mut R,
+    writer: &mut Blocks<W>,
+) -> Result<Status, ToolFault>
+    requires { NothingWaits writer.old }
+{
+    let options = options_of(alloc, command)?;
+    run_and_flush(alloc, mode_of(command), options, reader, writer)
+}
+
+// How a run ends, and its writer.
 fn outcome(alloc: Global, case: Case) -> (Result<Status, ToolFault>, Matching) {
-    let (mode, input, output, _) = case;
-    let mut reader = FromRead::new(input);
+    let (command, input, output, _) = case;
     let mut writer = ToWrite::new(Matching::with(output));
-    let outcome = run(alloc, mode, Options::default(), &mut reader, &mut writer);
+    let outcome = run_command(alloc, command, &mut FromRead::new(input), &mut writer);
     (outcome, writer.into_inner())
 }
 
 // Whether a run ends as expected and writes its output.
 fn is_whole(alloc: Global, case: Case) -> bool {
-    let (found, taken) = outcome(alloc, case);
-    (found == Ok(case.3)) & taken.is_whole()
+    let (result, writer) = outcome(alloc, case);
+    (result == case.3) & writer.is_whole()
 }
 
 // Whether a run does so, or on `NoMemory` writes a prefix of its output, and another run does so.
 fn ends(alloc: Global, case: Case) -> bool {
-    let (found, taken) = outcome(alloc, case);
-    if found == Err(ToolFault::NoMemory) {
-        taken.is_prefix() & is_whole(alloc, case)
+    let (result, writer) = outcome(alloc, case);
+    if result == Err(ToolFault::NoMemory) {
+        writer.is_prefix() & is_whole(alloc, case)
     } else {
-        (found == Ok(case.3)) & taken.is_whole()
+        (result == case.3) & writer.is_whole()
     }
 }
 
 #[test]
 fn modes(rt: HostRuntime) {
-    for case in &CASES {
-        assert!(rt; ends(rt.alloc(), *case));
+    for (index, case) in MODES.iter().enumerate() {
+        assert!(rt; ends(rt.alloc(), *case), "row {index}");
     }
 }
 
-// Whether a run over blocks does so, which are flushed at the end.
-fn gathered_outcome(
-    alloc: Global,
-    case: Case,
-) -> Result<(Result<Status, ToolFault>, Matching), AllocError> {
-    let (mode, input, output, _) = case;
-    let mut reader = FromRead::new(input);
-    let mut blocks = match Blocks::new(alloc, ToWrite::new(Matching::with(output))) {
-        Ok(blocks) => blocks,
-        Err(_) => Blocks::new(alloc, ToWrite::new(Matching::with(output)))?,
-    };
-    let outcome = run_and_flush(alloc, mode, Options::default(), &mut reader, &mut blocks);
-    Ok((outcome, blocks.into_inner().into_inner()))
+#[test]
+fn options_of_plan(rt: HostRuntime) {
+    for (index, case) in PLANNED.iter().enumerate() {
+        assert!(rt; ends(rt.alloc(), *case), "row {index}");
+    }
 }
 
-// Whether a run ends as expected and writes its output, or on `NoMemory` a prefix of it.
-fn gathers(alloc: Global, case: Case) -> bool {
-    match gathered_outcome(alloc, case) {
-        Ok((Err(ToolFault::NoMemory), taken)) => taken.is_prefix(),
-        Ok((found, taken)) => (found == Ok(case.3)) & taken.is_whole(),
+fn blocks_for(alloc: Global, output: &'static [u8]) -> Result<Blocks<ToWrite<Matching>>, AllocError>
+    ensures { IfOk result (λ blocks. NothingWaits blocks) }
+{
+    twice!(_, Blocks::new(alloc, ToWrite::new(Matching::with(output))))
+}
+
+// How a run over blocks ends, and their writer.
+fn outcome_over(
+    alloc: Global,
+    case: Case,
+    mut blocks: Blocks<ToWrite<Matching>>,
+) -> (Result<Status, ToolFault>, Matching)
+    requires { NothingWaits blocks }
+{
+    let (command, input, _, _) = case;
+    let outcome = run_and_flush_command(alloc, command, &mut FromRead::new(input), &mut blocks);
+    (outcome, blocks.into_inner().into_inner())
+}
+
+// Whether a run over blocks ends as expected and writes its output, or on `NoMemory` a prefix of it.
+fn ends_over(alloc: Global, case: Case, blocks: Blocks<ToWrite<Matching>>) -> bool
+    requires { NothingWaits blocks }
+{
+    let (result, writer) = outcome_over(alloc, case, blocks);
+    if result == Err(ToolFault::NoMemory) {
+        writer.is_prefix()
+    } else {
+        (result == case.3) & writer.is_whole()
+    }
+}
+
+fn ends_over_blocks(alloc: Global, case: Case) -> bool {
+    match blocks_for(alloc, case.2) {
+        Ok(blocks) => ends_over(alloc, case, blocks),
         Err(_) => false,
     }
 }
 
 #[test]
 fn modes_over_blocks(rt: HostRuntime) {
-    for case in &CASES {
-        assert!(rt; gathers(rt.alloc(), *case));
+    for (index, case) in MODES.iter().enumerate() {
+        assert!(rt; ends_over_blocks(rt.alloc(), *case), "row {index}");
+    }
+}
+
+#[test]
+fn options_of_plan_over_blocks(rt: HostRuntime) {
+    for (index, case) in PLANNED.iter().enumerate() {
+        assert!(rt; ends_over_blocks(rt.alloc(), *case), "row {index}");
     }
 }

@@ -1,13 +1,13 @@
-//! Plans: made, taken, printed and read.
+//! Plans: made, applied, printed and read.
 ghost use Rattle.std.specs.Prelude.{◌≡◌, true};
 ghost use Rattle.conf_change.specs.Configuration.{is_valid};
 
 use crate::changers::{Shown, is_shown};
-use crate::conf_states::{read, restored};
+use crate::conf_states::{TEN, changer_at};
 use crate::paths::path_of;
 use crate::texts::appends;
 use crate::twice::twice;
-use conf_change::{Changer, ConfState, Config, Floor, Refused, check};
+use conf_change::{Changer, Config, Refused, Step, check};
 use conf_plan::{
     Path, Plan, PlanFault, PlanTextFault, StepRefused, Strategy, apply_plan, changes_text,
     command_text, plan, print_plan, read_plan,
@@ -24,19 +24,6 @@ struct Row {
     plan: &'static str,
     shown: &'static [Shown],
 }
-
-const TEN: &[&str] = &[
-    "1: StateProbe match=0 next=1",
-    "2: StateProbe match=0 next=1",
-    "3: StateProbe match=0 next=1",
-    "4: StateProbe match=0 next=1",
-    "5: StateProbe match=0 next=1",
-    "6: StateProbe match=0 next=1",
-    "7: StateProbe match=0 next=1",
-    "8: StateProbe match=0 next=1",
-    "9: StateProbe match=0 next=1",
-    "10: StateProbe match=0 next=1",
-];
 
 static ROWS: [Row; 5] = [
     Row {
@@ -183,10 +170,7 @@ static ROWS: [Row; 5] = [
 
 /// The plan that a text is parsed as.
 pub(crate) fn plan_of(alloc: Global, text: &str) -> Result<Plan, PlanTextFault> {
-    twice(
-        PlanTextFault::NoMemory,
-        || read_plan(alloc, text.as_bytes()),
-    )
+    twice!(PlanTextFault::NoMemory, read_plan(alloc, text.as_bytes()))
 }
 
 // Whether a path has the steps of a plan.
@@ -208,30 +192,21 @@ fn is_planned<S: MemberSet>(
     requires now { is_valid now.now ≡ true }
     requires target { is_valid target.now ≡ true }
 {
-    let answer = match plan(alloc, now, target) {
-        Err(PlanFault::NoMemory) => plan(alloc, now, target),
-        answer => answer,
-    };
+    let answer = twice!(PlanFault::NoMemory, plan(alloc, now, target));
     let path = path_of(alloc, Strategy::Shortest, now, target);
-    answer.is_ok_and(|plan| plan == *expected) & path.is_ok_and(|path| has_steps(&path, expected))
-}
-
-fn leads<S: MemberSet>(
-    alloc: Global,
-    now: &Config<S>,
-    target: &ConfState,
-    expected: &Plan,
-) -> bool {
-    match restored::<S>(alloc, target, Floor::One) {
-        Ok(changer) => {
-            let target = changer.tracker().config();
-            check(now).is_ok() && check(target).is_ok() && is_planned(alloc, now, target, expected)
-        }
-        Err(_) => false,
+    match (answer, path) {
+        (Ok(plan), Ok(path)) => (plan == *expected) & has_steps(&path, expected),
+        _ => false,
     }
 }
 
-// How many steps of a plan a changer takes: all of them, unless memory runs out.
+fn leads<S: MemberSet>(alloc: Global, now: &Config<S>, target: &str, expected: &Plan) -> bool {
+    let changer = changer_at::<S>(alloc, target);
+    let target = changer.tracker().config();
+    check(now).is_ok() && check(target).is_ok() && is_planned(alloc, now, target, expected)
+}
+
+// How many steps of a plan a changer accepts: all of them, unless memory runs out.
 fn steps_for<S: MemberSet>(changer: &mut Changer<S>, plan: &Plan) -> Option<usize> {
     match apply_plan(changer, plan) {
         Ok(()) => Some(plan.len()),
@@ -251,14 +226,17 @@ fn is_shown_after<S: MemberSet>(
     steps: Option<usize>,
     shown: &[Shown],
 ) -> bool {
-    match steps.and_then(|steps| shown.get(steps)) {
+    let Some(steps) = steps else {
+        return false;
+    };
+    match shown.get(steps) {
         Some(shown) => is_shown(alloc, changer, *shown),
         None => false,
     }
 }
 
-// Whether a changer takes a plan; on `NoMemory` it has taken the steps before, and another changer takes the whole plan.
-fn takes<S: MemberSet>(
+// Whether a plan is applied to a changer; on `NoMemory` the steps before are, and the whole plan is applied to another changer.
+fn is_applied<S: MemberSet>(
     alloc: Global,
     changer: &mut Changer<S>,
     other: &mut Changer<S>,
@@ -267,11 +245,11 @@ fn takes<S: MemberSet>(
 ) -> bool {
     let whole = Some(plan.len());
     let steps = steps_for(changer, plan);
-    let stands = is_shown_after(alloc, changer, steps, shown);
+    let is_so = is_shown_after(alloc, changer, steps, shown);
     if steps == whole {
-        return stands;
+        return is_so;
     }
-    stands & (steps_for(other, plan) == whole) & is_shown_after(alloc, other, whole, shown)
+    is_so & (steps_for(other, plan) == whole) & is_shown_after(alloc, other, whole, shown)
 }
 
 // Whether the members of a changer acknowledge these indexes.
@@ -283,39 +261,27 @@ fn acknowledge<S: MemberSet>(changer: &mut Changer<S>, indexes: &[(u64, u64)]) -
     is_so
 }
 
-fn is_row<S: MemberSet>(
-    alloc: Global,
-    row: &Row,
-    now: &ConfState,
-    target: &ConfState,
-    plan: &Plan,
-) -> bool {
-    match (
-        restored::<S>(alloc, now, Floor::One),
-        restored::<S>(alloc, now, Floor::One),
-    ) {
-        (Ok(mut changer), Ok(mut other)) => {
-            leads(alloc, changer.tracker().config(), target, plan)
-                & acknowledge(&mut changer, row.acknowledged)
-                & acknowledge(&mut other, row.acknowledged)
-                & takes(alloc, &mut changer, &mut other, plan, row.shown)
-        }
-        _ => false,
-    }
+fn is_row<S: MemberSet>(alloc: Global, row: &Row, plan: &Plan) -> bool {
+    let mut changer = changer_at::<S>(alloc, row.now);
+    let mut other = changer_at::<S>(alloc, row.now);
+    leads(alloc, changer.tracker().config(), row.target, plan)
+        & acknowledge(&mut changer, row.acknowledged)
+        & acknowledge(&mut other, row.acknowledged)
+        & is_applied(alloc, &mut changer, &mut other, plan, row.shown)
+}
+
+fn is_printed(alloc: Global, plan: &Plan, expected: &str) -> bool {
+    appends!(alloc, expected, |text| print_plan(text, plan))
 }
 
 fn is_row_of_both(alloc: Global, row: &Row) -> bool {
-    match (
-        read(alloc, row.now),
-        read(alloc, row.target),
-        plan_of(alloc, row.plan),
-    ) {
-        (Ok(now), Ok(target), Ok(plan)) => {
-            appends(alloc, row.plan, |text| print_plan(text, &plan))
-                & is_row::<TreeIds>(alloc, row, &now, &target, &plan)
-                & is_row::<InlineIds>(alloc, row, &now, &target, &plan)
+    match plan_of(alloc, row.plan) {
+        Ok(plan) => {
+            is_printed(alloc, &plan, row.plan)
+                & is_row::<TreeIds>(alloc, row, &plan)
+                & is_row::<InlineIds>(alloc, row, &plan)
         }
-        _ => false,
+        Err(_) => false,
     }
 }
 
@@ -357,31 +323,44 @@ static TOKENS_OF_STEPS: [(&str, &str, &str); 5] = [
     ("simple", "simple", ""),
 ];
 
-// Whether the first step of a plan's text has this command and these changes.
-fn is_worded(alloc: Global, text: &str, command: &str, expected: &str) -> bool {
-    match plan_of(alloc, text) {
-        Ok(plan) => match plan.step(0) {
-            Some(step) => {
-                let changes = step.changes();
-                let list = twice(NoMemory, || changes_text(alloc, changes));
-                (command_text(step) == command.as_bytes())
-                    & list.is_ok_and(|text| text.as_slice() == expected.as_bytes())
-            }
-            None => false,
-        },
+// Whether a step has this command and these changes.
+fn is_step(alloc: Global, step: Option<&Step>, command: &str, changes: &str) -> bool {
+    let Some(step) = step else {
+        return false;
+    };
+    match twice!(NoMemory, changes_text(alloc, step.changes())) {
+        Ok(text) => {
+            (command_text(step) == command.as_bytes()) & (text.as_slice() == changes.as_bytes())
+        }
         Err(_) => false,
     }
 }
 
+// Whether the first step of a plan's text has this command and these changes.
+fn begins_with(alloc: Global, text: &str, command: &str, changes: &str) -> bool {
+    match plan_of(alloc, text) {
+        Ok(plan) => is_step(alloc, plan.step(0), command, changes),
+        Err(_) => false,
+    }
+}
+
+fn is_no_plan(alloc: Global, text: &str, expected: PlanTextFault) -> bool {
+    plan_of(alloc, text).err() == Some(expected)
+}
+
 #[test]
-fn texts_of_plans(rt: HostRuntime) {
+fn texts_of_no_plans(rt: HostRuntime) {
     for (text, expected) in &NO_PLANS {
+        assert!(rt; is_no_plan(rt.alloc(), *text, *expected), "{text}");
+    }
+}
+
+#[test]
+fn steps_of_plans(rt: HostRuntime) {
+    for (text, command, changes) in &TOKENS_OF_STEPS {
         assert!(rt;
-            plan_of(rt.alloc(), *text).err() == Some(*expected),
+            begins_with(rt.alloc(), *text, *command, *changes),
             "{text}"
         );
-    }
-    for (text, command, changes) in &TOKENS_OF_STEPS {
-        assert!(rt; is_worded(rt.alloc(), *text, *command, *changes), "{text}");
     }
 }

@@ -4,6 +4,7 @@ use crate::files::first_item;
 use crate::plans::plan_of;
 use crate::twice::twice;
 use conf_change::Floor;
+use conf_plan::Plan;
 use conf_session::{Session, UndoFault, undo_fault_text};
 use dd_file::fault::FileFault;
 use dd_file::item::{Directive, Item};
@@ -13,7 +14,7 @@ use std::alloc::Global;
 // A directive as it is in a script, and its actual output.
 type Row = (&'static [u8], &'static [u8]);
 
-static JOINT: [Row; 5] = [
+const JOINT: &[Row] = &[
     (b"simple\nv1", b"voters=(1)\n1: StateProbe match=0 next=1\n"),
     (
         b"enter-joint\nr1 r2 r9 v2 v3 v4 v2 v3 v4 l2 l2 r4 r4 l1 l1",
@@ -42,7 +43,7 @@ static JOINT: [Row; 5] = [
     ),
 ];
 
-static UNDONE_TWICE: [Row; 5] = [
+const UNDONE_TWICE: &[Row] = &[
     (b"simple\nv1", b"voters=(1)\n1: StateProbe match=0 next=1\n"),
     (
         b"enter-joint\nr1 v2",
@@ -72,7 +73,7 @@ static UNDONE_TWICE: [Row; 5] = [
     ),
 ];
 
-static SAVED: [Row; 4] = [
+const SAVED: &[Row] = &[
     (
         b"restore\n\
         Voters:[1 2 3] VotersOutgoing:[1 2 4 6] Learners:[5] LearnersNext:[4] AutoLeave:false",
@@ -96,7 +97,7 @@ static SAVED: [Row; 4] = [
     (b"undo", b"no plan: 0 earlier configurations are kept\n"),
 ];
 
-static DECIDED: [Row; 8] = [
+const DECIDED: &[Row] = &[
     (b"committed", b"<empty majority quorum>\xe2\x88\x9e\n"),
     (
         b"committed cfg=(1,2,3,4) idx=(1,2,3,4)",
@@ -121,7 +122,7 @@ static DECIDED: [Row; 8] = [
     (b"frob", b"unknown command\n"),
 ];
 
-static MANY: [Row; 4] = [
+const MANY: &[Row] = &[
     (
         b"conf-change\nv1",
         b"voters=(1)\n1: StateProbe match=0 next=1\n",
@@ -154,7 +155,7 @@ static MANY: [Row; 4] = [
     ),
 ];
 
-static FROM_ZERO: [Row; 2] = [
+const FROM_ZERO: &[Row] = &[
     (
         b"restore\n\
         Voters:[2] VotersOutgoing:[] Learners:[] LearnersNext:[] AutoLeave:false",
@@ -198,12 +199,15 @@ fn follows(copy: &mut Session, directive: &Directive, expected: &[u8]) -> bool {
     if answer.is_err() {
         answer = copy.step(directive);
     }
-    answer.is_ok_and(|found| found.as_slice() == expected)
+    match answer {
+        Ok(found) => found.as_slice() == expected,
+        Err(_) => false,
+    }
 }
 
 fn is_row(alloc: Global, session: &mut Session, copy: &mut Session, row: Row) -> bool {
     let (text, expected) = row;
-    match twice(FileFault::NoMemory, || first_item(alloc, text)) {
+    match twice!(FileFault::NoMemory, first_item(alloc, text)) {
         Ok(Some(Item::Directive(directive))) => {
             is_found(session, copy, &directive, expected)
                 & follows(copy, &directive, expected)
@@ -221,11 +225,17 @@ fn are_found(alloc: Global, session: &mut Session, copy: &mut Session, rows: &[R
     is_so
 }
 
+fn is_plan(alloc: Global, plan: &Plan, text: &str) -> bool {
+    match plan_of(alloc, text) {
+        Ok(expected) => *plan == expected,
+        Err(_) => false,
+    }
+}
+
 // Whether one more undo has this plan, or none for this reason.
 fn is_undone_by(alloc: Global, session: &Session, expected: Result<&str, UndoFault>) -> bool {
-    let answer = twice(UndoFault::NoMemory, || session.undo_plan(1));
-    match (answer, expected) {
-        (Ok(plan), Ok(text)) => plan_of(alloc, text).is_ok_and(|expected| plan == expected),
+    match (twice!(UndoFault::NoMemory, session.undo_plan(1)), expected) {
+        (Ok(plan), Ok(text)) => is_plan(alloc, &plan, text),
         (Err(fault), Err(expected)) => fault == expected,
         _ => false,
     }
@@ -241,36 +251,70 @@ fn begun(alloc: Global, floor: Floor) -> Result<Session, NoMemory> {
 
 // Whether the directives of rows have their outputs, one after another, and what would then be undone.
 fn holds(alloc: Global, floor: Floor, rows: &[Row], undone: Result<&str, UndoFault>) -> bool {
-    match (
-        twice(NoMemory, || begun(alloc, floor)),
-        twice(NoMemory, || Session::with_floor(alloc, 100, floor)),
-    ) {
-        (Ok(mut session), Ok(mut copy)) => {
-            are_found(alloc, &mut session, &mut copy, rows) & is_undone_by(alloc, &session, undone)
+    match twice!(NoMemory, begun(alloc, floor)) {
+        Ok(mut session) => holds_in(alloc, &mut session, floor, rows, undone),
+        Err(_) => false,
+    }
+}
+
+fn holds_in(
+    alloc: Global,
+    session: &mut Session,
+    floor: Floor,
+    rows: &[Row],
+    undone: Result<&str, UndoFault>,
+) -> bool {
+    match twice!(NoMemory, Session::with_floor(alloc, 100, floor)) {
+        Ok(mut copy) => {
+            are_found(alloc, session, &mut copy, rows) & is_undone_by(alloc, session, undone)
         }
-        _ => false,
+        Err(_) => false,
+    }
+}
+
+// An initial next index, directives, and the plan of one more undo, or why there is none.
+type Script = (Floor, &'static [Row], Result<&'static str, UndoFault>);
+
+static SCRIPTS: [Script; 6] = [
+    (
+        Floor::One,
+        JOINT,
+        Ok("leave-joint\nenter-joint autoleave=false v1 r2 r3\nleave-joint\n"),
+    ),
+    (
+        Floor::One,
+        UNDONE_TWICE,
+        Ok("leave-joint\nenter-joint autoleave=false v1 r2\nleave-joint\n"),
+    ),
+    (Floor::One, SAVED, Err(UndoFault::NotKept(0))),
+    (Floor::One, DECIDED, Err(UndoFault::NotKept(0))),
+    (Floor::One, MANY, Err(UndoFault::NoVoterTarget)),
+    (Floor::Zero, FROM_ZERO, Ok("simple r1\n")),
+];
+
+#[test]
+fn sessions(rt: HostRuntime) {
+    for (index, (floor, rows, undone)) in SCRIPTS.iter().enumerate() {
+        assert!(rt; holds(rt.alloc(), *floor, *rows, *undone), "row {index}");
+    }
+}
+
+// Whether the text of an error is this one.
+fn has_text(alloc: Global, fault: UndoFault, expected: &[u8]) -> bool {
+    match twice!(NoMemory, undo_fault_text(alloc, fault)) {
+        Ok(text) => text.as_slice() == expected,
+        Err(_) => false,
     }
 }
 
 #[test]
-fn sessions(rt: HostRuntime) {
-    let nobody = Err(UndoFault::NoVoterTarget);
-    let none = Err(UndoFault::NotKept(0));
-    let left = Ok("leave-joint\nenter-joint autoleave=false v1 r2 r3\nleave-joint\n");
-    let two = Ok("leave-joint\nenter-joint autoleave=false v1 r2\nleave-joint\n");
-    assert!(rt; holds(rt.alloc(), Floor::One, &JOINT, left));
-    assert!(rt; holds(rt.alloc(), Floor::One, &UNDONE_TWICE, two));
-    assert!(rt; holds(rt.alloc(), Floor::One, &SAVED, none));
-    assert!(rt; holds(rt.alloc(), Floor::One, &DECIDED, none));
-    assert!(rt; holds(rt.alloc(), Floor::One, &MANY, nobody));
-    assert!(rt; holds(rt.alloc(), Floor::Zero, &FROM_ZERO, Ok("simple r1\n")));
-}
-
-#[test]
 fn undo_faults(rt: HostRuntime) {
-    let text = twice(NoMemory, || {
-        undo_fault_text(rt.alloc(), UndoFault::NotKept(12))
-    });
-    let expected = b"no plan: 12 earlier configurations are kept".as_slice();
-    assert!(rt; text.is_ok_and(|text| text.as_slice() == expected));
+    let fault = UndoFault::NotKept(12);
+    assert!(rt;
+        has_text(
+            rt.alloc(),
+            fault,
+            b"no plan: 12 earlier configurations are kept"
+        )
+    );
 }

@@ -16,9 +16,12 @@ fn with_ids<S: MemberSet>(alloc: Global, ids: &[u64]) -> Result<S, NoMemory> {
     Ok(set)
 }
 
-/// The set of some ids.
-pub(crate) fn ids<S: MemberSet>(alloc: Global, ids: &[u64]) -> Result<S, NoMemory> {
-    twice(NoMemory, || with_ids(alloc, ids))
+/// The set of some ids; an empty one if memory ran out twice, so that its row fails without a branch for it.
+pub(crate) fn ids<S: MemberSet>(alloc: Global, ids: &[u64]) -> S {
+    match twice!(NoMemory, with_ids(alloc, ids)) {
+        Ok(set) => set,
+        Err(_) => S::empty(alloc),
+    }
 }
 
 /// Whether a set has exactly these ids, which are in ascending order. It does not allocate.
@@ -32,7 +35,7 @@ pub(crate) fn has_ids<S: MemberSet>(set: &S, ids: &[u64]) -> bool {
 
 // Whether the copy of a set equals it.
 fn is_copied<S: MemberSet>(set: &S, ids: &[u64]) -> bool {
-    match twice(NoMemory, || set.try_clone()) {
+    match twice!(NoMemory, set.try_clone()) {
         Ok(copy) => has_ids(&copy, ids) & (symdiff(set, &copy) == 0),
         Err(_) => false,
     }
@@ -50,7 +53,7 @@ fn becomes<S: MemberSet>(copy: &mut S, set: &S, ids: &[u64]) -> bool {
 }
 
 // Whether a new id is inserted; on `NoMemory` the set is unchanged.
-fn takes_in<S: MemberSet>(set: &mut S, before: &[u64], id: u64, after: &[u64]) -> bool {
+fn is_inserted<S: MemberSet>(set: &mut S, before: &[u64], id: u64, after: &[u64]) -> bool {
     let mut answer = set.insert(id);
     let mut stays = true;
     if answer.is_err() {
@@ -61,7 +64,7 @@ fn takes_in<S: MemberSet>(set: &mut S, before: &[u64], id: u64, after: &[u64]) -
 }
 
 // Whether inserting an id again changes nothing, and removing it removes it. Neither allocates.
-fn loses<S: MemberSet>(set: &mut S, id: u64, after: &[u64]) -> bool {
+fn is_removed<S: MemberSet>(set: &mut S, id: u64, after: &[u64]) -> bool {
     let again = set.insert(id);
     let was_there = set.remove(id);
     let is_there = set.remove(id);
@@ -81,16 +84,13 @@ static INSERTED: [(&[u64], u64, &[u64]); 4] = [
 ];
 
 fn is_set<S: MemberSet>(alloc: Global, before: &[u64], id: u64, after: &[u64]) -> bool {
-    match (ids::<S>(alloc, before), ids::<S>(alloc, after)) {
-        (Ok(mut set), Ok(mut copy)) => {
-            is_copied(&set, before)
-                & becomes(&mut copy, &set, before)
-                & takes_in(&mut set, before, id, after)
-                & is_copied(&set, after)
-                & loses(&mut set, id, before)
-        }
-        _ => false,
-    }
+    let mut set: S = ids(alloc, before);
+    let mut copy: S = ids(alloc, after);
+    is_copied(&set, before)
+        & becomes(&mut copy, &set, before)
+        & is_inserted(&mut set, before, id, after)
+        & is_copied(&set, after)
+        & is_removed(&mut set, id, before)
 }
 
 const LIST: [u64; 12] = [9, 1, 8, 2, 7, 3, 6, 4, 5, 1, 9, 5];
@@ -99,18 +99,29 @@ const NINE: &[u64] = &[1, 2, 3, 4, 5, 6, 7, 8, 9];
 
 // Whether the set of a list is made.
 fn is_listed<S: MemberSet>(alloc: Global, list: &[u64]) -> bool {
-    twice(NoMemory, || S::of_list(alloc, list)).is_ok_and(|set| has_ids(&set, NINE))
+    match twice!(NoMemory, S::of_list(alloc, list)) {
+        Ok(set) => has_ids(&set, NINE),
+        Err(_) => false,
+    }
 }
 
 #[test]
-fn sets_of_ids(rt: HostRuntime) {
-    for (before, id, after) in &INSERTED {
-        assert!(rt; is_set::<TreeIds>(rt.alloc(), *before, *id, *after));
-        assert!(rt; is_set::<InlineIds>(rt.alloc(), *before, *id, *after));
+fn inserted_ids(rt: HostRuntime) {
+    for (index, (before, id, after)) in INSERTED.iter().enumerate() {
+        assert!(rt;
+            is_set::<TreeIds>(rt.alloc(), *before, *id, *after)
+                & is_set::<InlineIds>(rt.alloc(), *before, *id, *after),
+            "row {index}"
+        );
     }
+}
+
+#[test]
+fn listed_ids(rt: HostRuntime) {
     for list in [&LIST[..], NINE] {
-        assert!(rt; is_listed::<TreeIds>(rt.alloc(), list));
-        assert!(rt; is_listed::<InlineIds>(rt.alloc(), list));
+        assert!(rt;
+            is_listed::<TreeIds>(rt.alloc(), list) & is_listed::<InlineIds>(rt.alloc(), list)
+        );
     }
 }
 
@@ -125,6 +136,29 @@ struct Acknowledged {
     chart: &'static str,
     joint_chart: &'static str,
 }
+
+// Charts of four ids, of three of which one has acknowledged nothing, and of nine.
+const FOUR_ACKNOWLEDGED: &str = "        idx\n\
+    >         1    (id=1)\n\
+    x>        2    (id=2)\n\
+    xx>       3    (id=3)\n\
+    xxx>      4    (id=4)\n";
+
+const ONE_WITHOUT: &str = "       idx\n\
+    x>       5    (id=1)\n\
+    ?        0    (id=2)\n\
+    xx>      7    (id=3)\n";
+
+const NINE_ACKNOWLEDGED: &str = "             idx\n\
+    >              1    (id=1)\n\
+    x>             2    (id=2)\n\
+    xx>            3    (id=3)\n\
+    xxx>           4    (id=4)\n\
+    xxxx>          5    (id=5)\n\
+    xxxxx>         6    (id=6)\n\
+    xxxxxx>        7    (id=7)\n\
+    xxxxxxx>       8    (id=8)\n\
+    xxxxxxxx>      9    (id=9)\n";
 
 static ACKNOWLEDGED: [Acknowledged; 5] = [
     Acknowledged {
@@ -142,16 +176,8 @@ static ACKNOWLEDGED: [Acknowledged; 5] = [
         acks: &[(1, 1), (2, 2), (3, 3), (4, 4)],
         committed: 2,
         joint_committed: 2,
-        chart: "        idx\n\
-            >         1    (id=1)\n\
-            x>        2    (id=2)\n\
-            xx>       3    (id=3)\n\
-            xxx>      4    (id=4)\n",
-        joint_chart: "        idx\n\
-            >         1    (id=1)\n\
-            x>        2    (id=2)\n\
-            xx>       3    (id=3)\n\
-            xxx>      4    (id=4)\n",
+        chart: FOUR_ACKNOWLEDGED,
+        joint_chart: FOUR_ACKNOWLEDGED,
     },
     Acknowledged {
         incoming: &[1],
@@ -168,14 +194,8 @@ static ACKNOWLEDGED: [Acknowledged; 5] = [
         acks: &[(1, 5), (3, 7)],
         committed: 5,
         joint_committed: 5,
-        chart: "       idx\n\
-            x>       5    (id=1)\n\
-            ?        0    (id=2)\n\
-            xx>      7    (id=3)\n",
-        joint_chart: "       idx\n\
-            x>       5    (id=1)\n\
-            ?        0    (id=2)\n\
-            xx>      7    (id=3)\n",
+        chart: ONE_WITHOUT,
+        joint_chart: ONE_WITHOUT,
     },
     Acknowledged {
         incoming: NINE,
@@ -193,26 +213,8 @@ static ACKNOWLEDGED: [Acknowledged; 5] = [
         ],
         committed: 5,
         joint_committed: 1,
-        chart: "             idx\n\
-            >              1    (id=1)\n\
-            x>             2    (id=2)\n\
-            xx>            3    (id=3)\n\
-            xxx>           4    (id=4)\n\
-            xxxx>          5    (id=5)\n\
-            xxxxx>         6    (id=6)\n\
-            xxxxxx>        7    (id=7)\n\
-            xxxxxxx>       8    (id=8)\n\
-            xxxxxxxx>      9    (id=9)\n",
-        joint_chart: "             idx\n\
-            >              1    (id=1)\n\
-            x>             2    (id=2)\n\
-            xx>            3    (id=3)\n\
-            xxx>           4    (id=4)\n\
-            xxxx>          5    (id=5)\n\
-            xxxxx>         6    (id=6)\n\
-            xxxxxx>        7    (id=7)\n\
-            xxxxxxx>       8    (id=8)\n\
-            xxxxxxxx>      9    (id=9)\n",
+        chart: NINE_ACKNOWLEDGED,
+        joint_chart: NINE_ACKNOWLEDGED,
     },
 ];
 
@@ -228,6 +230,29 @@ pub(crate) fn with_acks(
     Ok(acks)
 }
 
+fn has_chart<S: MemberSet>(
+    alloc: Global,
+    voters: &S,
+    acks: &BTreeMap<u64, u64>,
+    expected: &str,
+) -> bool {
+    appends!(alloc, expected, |text| chart(text, voters, acks))
+}
+
+fn has_joint_chart<S: MemberSet>(
+    alloc: Global,
+    incoming: &S,
+    outgoing: &S,
+    acks: &BTreeMap<u64, u64>,
+    expected: &str,
+) -> bool {
+    appends!(
+        alloc,
+        expected,
+        |text| joint_chart(text, incoming, outgoing, acks)
+    )
+}
+
 // Whether the committed indexes and the charts are those of a row. For up to eight ids an index does not allocate.
 fn commits<S: MemberSet>(
     alloc: Global,
@@ -238,45 +263,41 @@ fn commits<S: MemberSet>(
 ) -> bool {
     let mut one = committed(alloc, incoming, acks);
     let mut both = joint_committed(alloc, incoming, outgoing, acks);
-    if incoming.len() > 8 {
-        one = one.or_else(|_| committed(alloc, incoming, acks));
-        both = both.or_else(|_| joint_committed(alloc, incoming, outgoing, acks));
+    if (incoming.len() > 8) & one.is_err() {
+        one = committed(alloc, incoming, acks);
+    }
+    if (incoming.len() > 8) & both.is_err() {
+        both = joint_committed(alloc, incoming, outgoing, acks);
     }
     (one == Ok(row.committed))
         & (both == Ok(row.joint_committed))
-        & appends(alloc, row.chart, |text| chart(text, incoming, acks))
-        & appends(
-            alloc,
-            row.joint_chart,
-            |text| joint_chart(text, incoming, outgoing, acks),
-        )
+        & has_chart(alloc, incoming, acks, row.chart)
+        & has_joint_chart(alloc, incoming, outgoing, acks, row.joint_chart)
 }
 
 fn is_committed<S: MemberSet>(alloc: Global, row: &Acknowledged) -> bool {
-    match (
-        ids::<S>(alloc, row.incoming),
-        ids::<S>(alloc, row.outgoing),
-        twice(NoMemory, || with_acks(alloc, row.acks)),
-    ) {
-        (Ok(incoming), Ok(outgoing), Ok(acks)) => {
-            commits(alloc, &incoming, &outgoing, &acks, row)
-        }
-        _ => false,
+    let incoming: S = ids(alloc, row.incoming);
+    let outgoing: S = ids(alloc, row.outgoing);
+    match twice!(NoMemory, with_acks(alloc, row.acks)) {
+        Ok(acks) => commits(alloc, &incoming, &outgoing, &acks, row),
+        Err(_) => false,
     }
 }
 
 #[test]
 fn acknowledged_indexes(rt: HostRuntime) {
-    for row in &ACKNOWLEDGED {
-        assert!(rt; is_committed::<TreeIds>(rt.alloc(), row));
-        assert!(rt; is_committed::<InlineIds>(rt.alloc(), row));
+    for (index, row) in ACKNOWLEDGED.iter().enumerate() {
+        assert!(rt;
+            is_committed::<TreeIds>(rt.alloc(), row) & is_committed::<InlineIds>(rt.alloc(), row),
+            "row {index}"
+        );
     }
 }
 
 fn with_votes(alloc: Global, entries: &[(u64, bool)]) -> Result<BTreeMap<u64, bool>, NoMemory> {
     let mut votes = BTreeMap::new(alloc);
-    for (id, says_yes) in entries {
-        votes.insert(*id, *says_yes)?;
+    for (id, vote) in entries {
+        votes.insert(*id, *vote)?;
     }
     Ok(votes)
 }
@@ -293,22 +314,18 @@ fn decides<S: MemberSet>(first: &S, second: &S, votes: &BTreeMap<u64, bool>) -> 
 }
 
 fn is_decided<S: MemberSet>(alloc: Global) -> bool {
-    let votes = twice(
+    let first: S = ids(alloc, &[1, 2, 3]);
+    let second: S = ids(alloc, &[3, 4, 5]);
+    match twice!(
         NoMemory,
-        || with_votes(alloc, &[(1, true), (2, true), (4, false)]),
-    );
-    match (
-        ids::<S>(alloc, &[1, 2, 3]),
-        ids::<S>(alloc, &[3, 4, 5]),
-        votes,
+        with_votes(alloc, &[(1, true), (2, true), (4, false)])
     ) {
-        (Ok(first), Ok(second), Ok(votes)) => decides(&first, &second, &votes),
-        _ => false,
+        Ok(votes) => decides(&first, &second, &votes),
+        Err(_) => false,
     }
 }
 
 #[test]
 fn votes_and_quorums(rt: HostRuntime) {
-    assert!(rt; is_decided::<TreeIds>(rt.alloc()));
-    assert!(rt; is_decided::<InlineIds>(rt.alloc()));
+    assert!(rt; is_decided::<TreeIds>(rt.alloc()) & is_decided::<InlineIds>(rt.alloc()));
 }

@@ -4,40 +4,45 @@ use ascii_text::append::append_number;
 use conf_change::Kind::{Learner, Remove, Update, Voter};
 use conf_change::{Change, TokenFault, read_changes, read_changes_into};
 use quorum_sets::NoMemory;
-use std::alloc::{AllocError, Global};
+use std::alloc::Global;
 
 // The text before a call appends to it.
 const PREFIX: &[u8] = b"front ";
 
-/// Whether a call appends a text; on `NoMemory` it appends nothing.
-pub(crate) fn appends<F: Fn(&mut Vec<u8>) -> Result<(), NoMemory>>(
-    alloc: Global,
-    expected: &str,
-    append: F,
-) -> bool
-    requires { F.IsAlwaysCallable append }
-{
-    match twice(AllocError, || PREFIX.to_vec(alloc)) {
-        Ok(mut text) => is_appended(&mut text, expected, append),
-        Err(_) => false,
+/// A text to which calls append, or an empty one if memory ran out twice.
+pub(crate) fn begun(alloc: Global) -> Vec<u8> {
+    match twice!(_, PREFIX.to_vec(alloc)) {
+        Ok(text) => text,
+        Err(_) => Vec::new(alloc),
     }
 }
 
-fn is_appended<F: Fn(&mut Vec<u8>) -> Result<(), NoMemory>>(
-    text: &mut Vec<u8>,
-    expected: &str,
-    append: F,
-) -> bool
-    requires { F.IsAlwaysCallable append }
-{
-    let mut answer = append(text);
-    let mut stays = true;
-    if answer.is_err() {
-        stays = text.as_slice() == PREFIX;
-        answer = append(text);
-    }
-    stays & answer.is_ok() & (text.as_slice().strip_prefix(PREFIX) == Some(expected.as_bytes()))
+/// Whether nothing has been appended to a text.
+pub(crate) fn is_begun(text: &[u8]) -> bool {
+    text == PREFIX
 }
+
+/// Whether this has been appended to a text.
+pub(crate) fn is_appended(text: &[u8], expected: &str) -> bool {
+    text.strip_prefix(PREFIX) == Some(expected.as_bytes())
+}
+
+/// Whether a call appends a text; on `NoMemory` it appends nothing, and does when it is repeated. A macro, as `twice` is.
+macro_rules! appends {
+    ($alloc:expr, $expected:expr, |$text:ident| $append:expr $(,)?) => {{
+        let mut buffer = $crate::texts::begun($alloc);
+        let $text = &mut buffer;
+        let mut answer = $append;
+        let mut is_unchanged = true;
+        if answer.is_err() {
+            is_unchanged = $crate::texts::is_begun($text.as_slice());
+            answer = $append;
+        }
+        is_unchanged & answer.is_ok() & $crate::texts::is_appended($text.as_slice(), $expected)
+    }};
+}
+
+pub(crate) use appends;
 
 static NUMBERS: [(u64, &str); 4] = [
     (0, "0"),
@@ -51,13 +56,14 @@ fn with_number(text: &mut Vec<u8>, number: u64) -> Result<(), NoMemory> {
     Ok(())
 }
 
+fn is_printed(alloc: Global, number: u64, expected: &str) -> bool {
+    appends!(alloc, expected, |text| with_number(text, number))
+}
+
 #[test]
 fn numbers(rt: HostRuntime) {
     for (number, text) in &NUMBERS {
-        assert!(rt;
-            appends(rt.alloc(), *text, |end| with_number(end, *number)),
-            "{text}"
-        );
+        assert!(rt; is_printed(rt.alloc(), *number, *text), "{text}");
     }
 }
 
@@ -96,31 +102,38 @@ static CHANGES: [(&[u8], &[Change]); 5] = [
     ),
 ];
 
-// Whether the changes of a text are read, into a new list and into one that has others. On `NoMemory` that list is empty.
+// Whether the changes of a text are read into a new list.
 fn are_read(alloc: Global, text: &'static [u8], expected: &[Change]) -> bool {
-    match (
-        twice(TokenFault::NoMemory, || read_changes(alloc, b"v7 l8")),
-        twice(TokenFault::NoMemory, || read_changes(alloc, text)),
-    ) {
-        (Ok(mut list), Ok(changes)) => {
-            let mut answer = read_changes_into(&mut list, text);
-            let mut is_left_empty = true;
-            if answer == Err(TokenFault::NoMemory) {
-                is_left_empty = list.is_empty();
-                answer = read_changes_into(&mut list, text);
-            }
-            is_left_empty
-                & answer.is_ok()
-                & (list.as_slice() == expected)
-                & (changes.as_slice() == expected)
-        }
-        _ => false,
+    match twice!(TokenFault::NoMemory, read_changes(alloc, text)) {
+        Ok(changes) => changes.as_slice() == expected,
+        Err(_) => false,
+    }
+}
+
+// Whether they are read into a list that has others; on `NoMemory` it is left empty.
+fn are_read_into(list: &mut Vec<Change>, text: &'static [u8], expected: &[Change]) -> bool {
+    let mut answer = read_changes_into(list, text);
+    let mut is_left_empty = true;
+    if answer == Err(TokenFault::NoMemory) {
+        is_left_empty = list.is_empty();
+        answer = read_changes_into(list, text);
+    }
+    is_left_empty & answer.is_ok() & (list.as_slice() == expected)
+}
+
+fn are_read_again(alloc: Global, text: &'static [u8], expected: &[Change]) -> bool {
+    match twice!(TokenFault::NoMemory, read_changes(alloc, b"v7 l8")) {
+        Ok(mut list) => are_read_into(&mut list, text, expected),
+        Err(_) => false,
     }
 }
 
 #[test]
 fn lists_of_changes(rt: HostRuntime) {
     for (index, (text, expected)) in CHANGES.iter().enumerate() {
-        assert!(rt; are_read(rt.alloc(), *text, *expected), "row {index}");
+        assert!(rt;
+            are_read(rt.alloc(), *text, *expected) & are_read_again(rt.alloc(), *text, *expected),
+            "row {index}"
+        );
     }
 }

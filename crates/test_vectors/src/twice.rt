@@ -1,15 +1,14 @@
 //! Calls that are repeated if memory ran out.
 
 /// The result of a call; if memory ran out, that of a second call. Only one allocation of a process is refused, so the
-/// second call has enough memory.
-pub(crate) fn twice<T, E: PartialEq + Drop, F: Fn() -> Result<T, E>>(
-    no_memory: E,
-    call: F,
-) -> Result<T, E>
-    requires { F.IsAlwaysCallable call }
-{
-    match call() {
-        Err(fault) if fault == no_memory => call(),
-        answer => answer,
-    }
+/// second call has enough memory. A macro, since a closure would be proved for each call.
+macro_rules! twice {
+    ($no_memory:pat, $call:expr) => {
+        match $call {
+            Err($no_memory) => $call,
+            answer => answer,
+        }
+    };
 }
+
+pub(crate) use twice;

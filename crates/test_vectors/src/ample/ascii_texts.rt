@@ -1,4 +1,4 @@
-//! White space, words, lines and numbers in texts.
+//! White space, tokens, lines and numbers in texts.
 use ascii_text::lines::{first_line_len, is_whole, line_of, next_full_line, without_end};
 use ascii_text::number::read_number;
 use ascii_text::position::{far_position_of, position_of};
@@ -37,19 +37,19 @@ static ENDS: [(&[u8], &[u8], &[u8], &[u8]); 4] = [
 ];
 
 #[test]
-fn takes_white_space_off_the_ends(rt: HostRuntime) {
+fn trims_white_space(rt: HostRuntime) {
     for (index, (text, no_leading, no_trailing, neither)) in ENDS.iter().enumerate() {
-        assert!(rt; without_leading_space(*text) == *no_leading, "row {index}");
         assert!(rt;
-            without_trailing_space(*text) == *no_trailing,
+            (without_leading_space(*text) == *no_leading)
+                & (without_trailing_space(*text) == *no_trailing)
+                & (trimmed(*text) == *neither)
+                & (is_blank(*text) == neither.is_empty()),
             "row {index}"
         );
-        assert!(rt; trimmed(*text) == *neither, "row {index}");
-        assert!(rt; is_blank(*text) == neither.is_empty(), "row {index}");
     }
 }
 
-static TOKENS_OF_STEPS: [(&[u8], Option<(&[u8], &[u8])>); 5] = [
+static FIRST_TOKENS: [(&[u8], Option<(&[u8], &[u8])>); 5] = [
     (b"", None),
     (b" \t\n\x0b\x0c\r", None),
     (b"v1", Some((b"v1", b""))),
@@ -59,12 +59,12 @@ static TOKENS_OF_STEPS: [(&[u8], Option<(&[u8], &[u8])>); 5] = [
 
 #[test]
 fn finds_the_first_token(rt: HostRuntime) {
-    for (index, (text, expected)) in TOKENS_OF_STEPS.iter().enumerate() {
+    for (index, (text, expected)) in FIRST_TOKENS.iter().enumerate() {
         assert!(rt; next_token(*text) == *expected, "row {index}");
     }
 }
 
-static PIECES: [(&[u8], usize, Option<(&[u8], &[u8])>); 5] = [
+static FIRST_LINES: [(&[u8], usize, Option<(&[u8], &[u8])>); 5] = [
     (b"", 0, None),
     (b"a\n\nbc", 2, Some((b"a\n", b"\nbc"))),
     (b"\n", 1, Some((b"\n", b""))),
@@ -73,22 +73,31 @@ static PIECES: [(&[u8], usize, Option<(&[u8], &[u8])>); 5] = [
 ];
 
 #[test]
-fn cuts_texts_behind_newlines(rt: HostRuntime) {
-    for (index, (text, len, expected)) in PIECES.iter().enumerate() {
-        assert!(rt; first_line_len(*text) == *len, "row {index}");
-        assert!(rt; next_full_line(*text) == *expected, "row {index}");
+fn splits_texts_after_newlines(rt: HostRuntime) {
+    for (index, (text, len, expected)) in FIRST_LINES.iter().enumerate() {
+        assert!(rt;
+            (first_line_len(*text) == *len) & (next_full_line(*text) == *expected),
+            "row {index}"
+        );
     }
 }
 
+// A text, a byte, and its first position, or else the length of the text.
+static POSITIONS: [(&[u8], u8, usize); 4] = [
+    (b"a] b]", b']', 1),
+    (b"(1, 22, 333, 4444, 55555)", b')', 24),
+    (b"a", b']', 1),
+    (b"", b']', 0),
+];
+
 #[test]
 fn finds_the_position_of_a_byte(rt: HostRuntime) {
-    assert!(rt; position_of(b"a] b]", b']') == 1);
-    assert!(rt; position_of(b"a", b']') == 1);
-    assert!(rt; position_of(b"", b']') == 0);
-    assert!(rt; far_position_of(b"a] b]", b']') == 1);
-    assert!(rt; far_position_of(b"(1, 22, 333, 4444, 55555)", b')') == 24);
-    assert!(rt; far_position_of(b"a", b']') == 1);
-    assert!(rt; far_position_of(b"", b']') == 0);
+    for (index, (text, byte, position)) in POSITIONS.iter().enumerate() {
+        assert!(rt;
+            (position_of(*text, *byte) == *position) & (far_position_of(*text, *byte) == *position),
+            "row {index}"
+        );
+    }
 }
 
 // A line with its newline, the line without it, and whether it ends in one.
@@ -101,13 +110,21 @@ static LINES: [(&[u8], &[u8], bool); 5] = [
 ];
 
 #[test]
-fn takes_ends_off_lines(rt: HostRuntime) {
+fn trims_the_ends_of_lines(rt: HostRuntime) {
     for (index, (full_line, line, whole)) in LINES.iter().enumerate() {
-        assert!(rt; line_of(*full_line) == *line, "row {index}");
-        assert!(rt; is_whole(*full_line) == *whole, "row {index}");
+        assert!(rt;
+            (line_of(*full_line) == *line) & (is_whole(*full_line) == *whole),
+            "row {index}"
+        );
     }
-    assert!(rt; without_end(b"a\\\\", b'\\') == b"a\\".as_slice());
-    assert!(rt; without_end(b"a", b'\\') == b"a".as_slice());
+}
+
+#[test]
+fn trims_a_backslash(rt: HostRuntime) {
+    assert!(rt;
+        (without_end(b"a\\\\", b'\\') == b"a\\".as_slice())
+            & (without_end(b"a", b'\\') == b"a".as_slice())
+    );
 }
 
 static NUMBERS: [(&[u8], Option<u64>); 7] = [

@@ -1,5 +1,5 @@
 //! Writing whole texts and whole blocks.
-use crate::ample::devices::{Stop, taking};
+use crate::ample::devices::{Stop, limited};
 use crate::ample::runtime::Runtime;
 use dd_file::blocks::Blocks;
 use dd_file::device::Sink;
@@ -15,14 +15,14 @@ fn write_parts<W: Sink>(writer: &mut W) -> bool {
 }
 
 // Whether a writer gets this many bytes in three calls, one for each block, and an error is reported if it stops early.
-fn takes(rt: &impl Runtime, room: usize, stop: Stop) -> bool {
-    let device = taking(rt.alloc(), 80_000, room, stop);
+fn is_written(rt: &impl Runtime, room: usize, stop: Stop) -> bool {
+    let device = limited(rt.alloc(), 80_000, room, stop);
     let mut blocks = Blocks::new(rt.alloc(), device).expect(rt, "a block");
     let was_reported = write_parts(&mut blocks);
     let is_reported = blocks.flush().is_err();
     let failed = blocks.failed();
     let device = blocks.into_inner().into_inner();
-    (device.taken.len() == room)
+    (device.written.len() == room)
         & (device.calls == 3)
         & (device.later_calls == 0)
         & (was_reported == failed)
@@ -32,30 +32,30 @@ fn takes(rt: &impl Runtime, room: usize, stop: Stop) -> bool {
 
 #[test]
 fn writes_a_block_at_a_time(rt: HostRuntime) {
-    assert!(rt; takes(&rt, 42_000, Stop::Fault));
+    assert!(rt; is_written(&rt, 42_000, Stop::Fault));
 }
 
 #[test]
-fn nothing_is_written_after_a_fault(rt: HostRuntime) {
-    assert!(rt; takes(&rt, 20_000, Stop::Fault));
-    assert!(rt; takes(&rt, 20_000, Stop::TakesNone));
+fn nothing_is_written_after_an_error(rt: HostRuntime) {
+    assert!(rt; is_written(&rt, 20_000, Stop::Fault));
+    assert!(rt; is_written(&rt, 20_000, Stop::AcceptsNone));
 }
 
 // Whether two buffered bytes reach the writer on a flush, and the writer is flushed too.
-fn writes_on(rt: &impl Runtime) -> bool {
-    let device = taking(rt.alloc(), 20, 20, Stop::Fault);
+fn is_flushed(rt: &impl Runtime) -> bool {
+    let device = limited(rt.alloc(), 20, 20, Stop::Fault);
     let mut blocks = Blocks::new(rt.alloc(), device).expect(rt, "a block");
     let was_reported = write_all(&mut blocks, b"12").is_err();
     let is_reported = blocks.write_on().is_err();
     let device = blocks.into_inner().into_inner();
     !was_reported
         & !is_reported
-        & (device.taken.len() == 2)
+        & (device.written.len() == 2)
         & (device.calls == 1)
         & (device.flushed == 2)
 }
 
 #[test]
-fn what_waits_is_written_on(rt: HostRuntime) {
-    assert!(rt; writes_on(&rt));
+fn buffered_bytes_are_flushed(rt: HostRuntime) {
+    assert!(rt; is_flushed(&rt));
 }

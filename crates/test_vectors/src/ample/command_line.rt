@@ -1,13 +1,13 @@
-//! The words of the command line.
+//! The arguments of the command line.
 use crate::ample::runtime::Runtime;
+use crate::sets::has_ids;
 use conf_change::Floor;
 use conf_plan::Strategy;
 use conf_session::SessionIds;
 use conf_tool::command_line::command_line;
 use conf_tool::{ArgumentFault, Mode, PlanOutput};
-use quorum_sets::MemberSet;
 
-// Words that are accepted, and the mode, the file and the history that they ask for.
+// Arguments that are accepted, and their mode, file and history.
 static ACCEPTED: [(&[&str], Mode, Option<&str>, usize); 12] = [
     (&["confscript", "lines"], Mode::Lines, None, 100),
     (
@@ -63,7 +63,7 @@ static ACCEPTED: [(&[&str], Mode, Option<&str>, usize); 12] = [
     ),
 ];
 
-// Words for the mode that undoes changes, and the file, the history and the steps that they ask for.
+// Arguments of `undo`, and their file, history and steps.
 static UNDOING: [(&[&str], Option<&str>, usize, usize); 3] = [
     (&["confscript", "undo"], None, 100, 1),
     (
@@ -80,7 +80,7 @@ static UNDOING: [(&[&str], Option<&str>, usize, usize); 3] = [
     ),
 ];
 
-// Words, and the floor that they ask for.
+// Arguments, and their initial next index.
 static FLOORS: [(&[&str], Floor); 6] = [
     (&["confscript", "check"], Floor::One),
     (&["confscript", "check", "--next-floor", "0"], Floor::Zero),
@@ -96,7 +96,7 @@ static FLOORS: [(&[&str], Floor); 6] = [
     (&["confscript", "lines"], Floor::One),
 ];
 
-// Words that are refused as usage faults, and words that ask for help.
+// Arguments that are refused with a usage error or the help, and the exit status.
 static REFUSED: [(&[&str], i32); 36] = [
     (&["confscript"], 2),
     (&["confscript", "check", "a", "b"], 2),
@@ -136,43 +136,43 @@ static REFUSED: [(&[&str], i32); 36] = [
     (&["confscript", "help", "lines"], 0),
 ];
 
-// Whether the words ask for a mode with these options and this file.
-fn asks_for(
+// Whether the arguments are accepted as a mode with these options and this file.
+fn have_mode(
     rt: &impl Runtime,
-    words: &[&str],
+    arguments: &[&str],
     mode: Mode,
     history: usize,
     steps: usize,
     file: Option<&str>,
 ) -> bool {
-    let asked = command_line(rt.alloc(), words).expect(rt, "words that are taken");
-    (asked.mode == mode)
-        & (asked.options.history == history)
-        & (asked.options.steps == steps)
-        & (asked.file == file)
+    let invocation = command_line(rt.alloc(), arguments).expect(rt, "arguments that are accepted");
+    (invocation.mode == mode)
+        & (invocation.options.history == history)
+        & (invocation.options.steps == steps)
+        & (invocation.file == file)
 }
 
 #[test]
 fn accepts_arguments(rt: HostRuntime) {
-    for (words, mode, file, history) in &ACCEPTED {
+    for (arguments, mode, file, history) in &ACCEPTED {
         assert!(rt;
-            asks_for(&rt, *words, *mode, *history, 1, *file),
-            "of {words:?}"
+            have_mode(&rt, *arguments, *mode, *history, 1, *file),
+            "of {arguments:?}"
         );
     }
 }
 
 #[test]
 fn accepts_arguments_of_undo(rt: HostRuntime) {
-    for (words, file, history, steps) in &UNDOING {
+    for (arguments, file, history, steps) in &UNDOING {
         assert!(rt;
-            asks_for(&rt, *words, Mode::Undo, *history, *steps, *file),
-            "of {words:?}"
+            have_mode(&rt, *arguments, Mode::Undo, *history, *steps, *file),
+            "of {arguments:?}"
         );
     }
 }
 
-// Words for the mode that plans, and the strategy, the output and the ids that are down.
+// Arguments of `plan`, and their strategy, output and ids that are down.
 static PLANNING: [(&[&str], Strategy, PlanOutput, Option<&[u64]>); 9] = [
     (
         &["confscript", "plan"],
@@ -230,60 +230,51 @@ static PLANNING: [(&[&str], Strategy, PlanOutput, Option<&[u64]>); 9] = [
     ),
 ];
 
-// Whether a set has just these ids, in ascending order.
-fn has_just(set: &SessionIds, ids: &[u64]) -> bool {
-    let mut is_so = set.len() == ids.len();
-    for (place, id) in ids.iter().enumerate() {
-        is_so &= set.at(place) == Some(*id);
-    }
-    is_so
-}
-
-fn are_down(asked: &Option<SessionIds>, wanted: Option<&[u64]>) -> bool {
-    match (asked, wanted) {
-        (Some(asked), Some(wanted)) => has_just(asked, wanted),
+fn are_down(down: &Option<SessionIds>, expected: Option<&[u64]>) -> bool {
+    match (down, expected) {
+        (Some(down), Some(ids)) => has_ids(down, ids),
         (None, None) => true,
         _ => false,
     }
 }
 
-fn asks_for_plan(
+fn have_plan_options(
     rt: &impl Runtime,
-    words: &[&str],
+    arguments: &[&str],
     strategy: Strategy,
     output: PlanOutput,
     down: Option<&[u64]>,
 ) -> bool {
-    let asked = command_line(rt.alloc(), words).expect(rt, "words that are taken");
-    let plan = &asked.options.plan;
+    let invocation = command_line(rt.alloc(), arguments).expect(rt, "arguments that are accepted");
+    let plan = &invocation.options.plan;
     (plan.strategy == strategy) & (plan.output == output) & are_down(&plan.down, down)
 }
 
 #[test]
 fn accepts_arguments_of_plan(rt: HostRuntime) {
-    for (words, strategy, output, down) in &PLANNING {
+    for (arguments, strategy, output, down) in &PLANNING {
         assert!(rt;
-            asks_for_plan(&rt, *words, *strategy, *output, *down),
-            "of {words:?}"
+            have_plan_options(&rt, *arguments, *strategy, *output, *down),
+            "of {arguments:?}"
         );
     }
 }
 
-fn asks_for_floor(rt: &impl Runtime, words: &[&str], floor: Floor) -> bool {
-    let asked = command_line(rt.alloc(), words).expect(rt, "words that are taken");
-    asked.options.floor == floor
+fn have_floor(rt: &impl Runtime, arguments: &[&str], floor: Floor) -> bool {
+    let invocation = command_line(rt.alloc(), arguments).expect(rt, "arguments that are accepted");
+    invocation.options.floor == floor
 }
 
 #[test]
-fn takes_floors(rt: HostRuntime) {
-    for (words, floor) in &FLOORS {
-        assert!(rt; asks_for_floor(&rt, *words, *floor), "of {words:?}");
+fn accepts_floors(rt: HostRuntime) {
+    for (arguments, floor) in &FLOORS {
+        assert!(rt; have_floor(&rt, *arguments, *floor), "of {arguments:?}");
     }
 }
 
-// The status with which words are refused; none of those that are taken.
-fn status_of(rt: &impl Runtime, words: &[&str]) -> Option<i32> {
-    match command_line(rt.alloc(), words) {
+// The exit status of arguments that are refused.
+fn status_of(rt: &impl Runtime, arguments: &[&str]) -> Option<i32> {
+    match command_line(rt.alloc(), arguments) {
         Err(ArgumentFault::Clap(error)) => Some(error.exit_code()),
         Err(ArgumentFault::BadIds) => Some(2),
         _ => None,
@@ -292,7 +283,10 @@ fn status_of(rt: &impl Runtime, words: &[&str]) -> Option<i32> {
 
 #[test]
 fn refuses_arguments(rt: HostRuntime) {
-    for (words, status) in &REFUSED {
-        assert!(rt; status_of(&rt, *words) == Some(*status), "of {words:?}");
+    for (arguments, status) in &REFUSED {
+        assert!(rt;
+            status_of(&rt, *arguments) == Some(*status),
+            "of {arguments:?}"
+        );
     }
 }

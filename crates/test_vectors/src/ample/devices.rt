@@ -43,14 +43,14 @@ pub(crate) fn byte_by_byte(bytes: &'static [u8], until_fault: usize) -> FromRead
 #[derive(Clone, Copy)]
 pub(crate) enum Stop {
     Fault,
-    TakesNone,
+    AcceptsNone,
 }
 
 /// A writer that accepts a limited number of bytes per call, and stops once, when it is full. It counts its calls, and
 /// passes its bytes on when it is flushed, as a buffered writer does.
 #[derive(Drop)]
-pub(crate) struct Taker {
-    pub(crate) taken: Vec<u8>,
+pub(crate) struct LimitedWriter {
+    pub(crate) written: Vec<u8>,
     /// How many of these bytes it passed on.
     pub(crate) flushed: usize,
     /// How many times it was called to write.
@@ -63,7 +63,7 @@ pub(crate) struct Taker {
     stop: Stop,
 }
 
-impl Taker {
+impl LimitedWriter {
     fn count_later_call(&mut self) {
         self.later_calls = self
             .later_calls
@@ -71,7 +71,7 @@ impl Taker {
     }
 }
 
-impl Write for Taker {
+impl Write for LimitedWriter {
     fn write(&mut self, bytes: &[u8]) -> io::Result<usize> {
         self.calls = self.calls.saturating_add(1);
         self.count_later_call();
@@ -80,26 +80,31 @@ impl Write for Taker {
             self.has_stopped = true;
             return match self.stop {
                 Stop::Fault => Err(ErrorKind::Interrupted.into()),
-                Stop::TakesNone => Ok(0),
+                Stop::AcceptsNone => Ok(0),
             };
         }
         let count = bytes.len().min(self.at_once).min(self.room);
-        self.taken.extend_from_slice(&bytes[..count])?;
+        self.written.extend_from_slice(&bytes[..count])?;
         self.room = self.room.saturating_sub(count);
         Ok(count)
     }
 
     fn flush(&mut self) -> io::Result<()> {
         self.count_later_call();
-        self.flushed = self.taken.len();
+        self.flushed = self.written.len();
         Ok(())
     }
 }
 
 /// A writer that accepts at most this many bytes per call, and stops once, when it has this many.
-pub(crate) fn taking(alloc: Global, at_once: usize, room: usize, stop: Stop) -> ToWrite<Taker> {
-    ToWrite::new(Taker {
-        taken: Vec::new(alloc),
+pub(crate) fn limited(
+    alloc: Global,
+    at_once: usize,
+    room: usize,
+    stop: Stop,
+) -> ToWrite<LimitedWriter> {
+    ToWrite::new(LimitedWriter {
+        written: Vec::new(alloc),
         flushed: 0,
         calls: 0,
         later_calls: 0,

@@ -34,7 +34,7 @@ fn has_multiples<S: MemberSet>(set: &S, count: usize, of: u64) -> bool
 }
 
 // Removes every second id of a set of even numbers, and inserts others that it has already.
-fn takes_half_out<S: MemberSet>(rt: &impl Runtime, set: &mut S, count: u64) -> bool
+fn removes_half<S: MemberSet>(rt: &impl Runtime, set: &mut S, count: u64) -> bool
     requires { count ≤ 10000 }
 {
     let mut is_so = true;
@@ -57,7 +57,7 @@ fn keeps_half<S: MemberSet>(rt: &impl Runtime, count: u64) -> bool
     let is_full = has_multiples(&set, count as usize, 2);
     let copy = set.try_clone().expect(rt, "a copy");
     is_full
-        & takes_half_out(rt, &mut set, count)
+        & removes_half(rt, &mut set, count)
         & has_multiples(&set, (count / 2) as usize, 4)
         & has_multiples(&copy, count as usize, 2)
 }
@@ -80,9 +80,11 @@ fn tree_ids(rt: HostRuntime) {
 fn differences(rt: HostRuntime) {
     let few: InlineIds = evens(&rt, 9);
     let many: InlineIds = evens(&rt, 10_000);
-    assert!(rt; symdiff(&few, &many) == 9_991);
-    assert!(rt; symdiff(&many, &few) == 9_991);
-    assert!(rt; symdiff(&many, &many) == 0);
+    assert!(rt;
+        (symdiff(&few, &many) == 9_991)
+            & (symdiff(&many, &few) == 9_991)
+            & (symdiff(&many, &many) == 0)
+    );
 }
 
 // Makes voters of the ids from 1 to the count.

@@ -78,9 +78,11 @@ static INVARIANTS: [(Invariant, &str); 6] = [
 
 #[test]
 fn sets_and_changes(rt: HostRuntime) {
-    assert!(rt; have_texts(&rt, &[(NoMemory, NO_MEMORY)]));
-    assert!(rt; have_texts(&rt, &REFUSALS));
-    assert!(rt; have_texts(&rt, &INVARIANTS));
+    assert!(rt;
+        have_texts(&rt, &[(NoMemory, NO_MEMORY)])
+            & have_texts(&rt, &REFUSALS)
+            & have_texts(&rt, &INVARIANTS)
+    );
 }
 
 static TOKENS: [(TokenFault<'_>, &str); 5] = [
@@ -133,11 +135,13 @@ static VIOLATIONS: [(Violation, &str); 7] = [
 
 #[test]
 fn texts_of_changes(rt: HostRuntime) {
-    assert!(rt; have_texts(&rt, &TOKENS));
-    assert!(rt; have_texts(&rt, &LINES));
-    assert!(rt; have_texts(&rt, &RESTORED));
-    assert!(rt; have_texts(&rt, &ACKNOWLEDGED));
-    assert!(rt; have_texts(&rt, &VIOLATIONS));
+    assert!(rt;
+        have_texts(&rt, &TOKENS)
+            & have_texts(&rt, &LINES)
+            & have_texts(&rt, &RESTORED)
+            & have_texts(&rt, &ACKNOWLEDGED)
+            & have_texts(&rt, &VIOLATIONS)
+    );
 }
 
 static NO_PLANS: [(PlanFault, &str); 3] = [
@@ -192,10 +196,12 @@ static PLAN_TEXTS: [(PlanTextFault, &str); 4] = [
 
 #[test]
 fn plans(rt: HostRuntime) {
-    assert!(rt; have_texts(&rt, &NO_PLANS));
-    assert!(rt; have_texts(&rt, &NO_PATHS));
-    assert!(rt; have_texts(&rt, &STOPS));
-    assert!(rt; have_texts(&rt, &PLAN_TEXTS));
+    assert!(rt;
+        have_texts(&rt, &NO_PLANS)
+            & have_texts(&rt, &NO_PATHS)
+            & have_texts(&rt, &STOPS)
+            & have_texts(&rt, &PLAN_TEXTS)
+    );
 }
 
 static FILES: [(FileFault, &str); 7] = [
@@ -216,9 +222,11 @@ static FILES: [(FileFault, &str); 7] = [
 
 #[test]
 fn files(rt: HostRuntime) {
-    assert!(rt; have_texts(&rt, &FILES));
-    assert!(rt; have_texts(&rt, &[(DeviceFault, "device fault")]));
-    assert!(rt; have_texts(&rt, &[(WriteFault, "cannot write")]));
+    assert!(rt;
+        have_texts(&rt, &FILES)
+            & have_texts(&rt, &[(DeviceFault, "device fault")])
+            & have_texts(&rt, &[(WriteFault, "cannot write")])
+    );
 }
 
 const BAD_LINE: &str =
@@ -292,7 +300,7 @@ static UNDONE: [(UndoFault, &str); 4] = [
 
 #[test]
 fn sessions_and_runs(rt: HostRuntime) {
-    assert!(rt; have_texts(&rt, &UNDONE));
-    assert!(rt; have_texts(&rt, &CONFIGURATIONS));
-    assert!(rt; have_texts(&rt, &RUNS));
+    assert!(rt;
+        have_texts(&rt, &UNDONE) & have_texts(&rt, &CONFIGURATIONS) & have_texts(&rt, &RUNS)
+    );
 }

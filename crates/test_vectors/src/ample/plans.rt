@@ -41,9 +41,11 @@ fn is_stopped(
 fn stops_at_the_first_step_that_is_refused(rt: HostRuntime) {
     let refused = Refused::NotJoint;
     let stop = Err(StepRefused { step: 2, refused });
-    assert!(rt; is_stopped(&rt, "simple v2\nleave-joint", stop, TWO));
-    assert!(rt; is_stopped(&rt, "simple v2", Ok(()), TWO));
-    assert!(rt; is_stopped(&rt, "nothing to do", Ok(()), ONE));
+    assert!(rt;
+        is_stopped(&rt, "simple v2\nleave-joint", stop, TWO)
+            & is_stopped(&rt, "simple v2", Ok(()), TWO)
+            & is_stopped(&rt, "nothing to do", Ok(()), ONE)
+    );
 }
 
 // Texts, and the lines of the plans that they are parsed as.
@@ -86,12 +88,16 @@ fn is_printed(rt: &impl Runtime, plan: &Plan, expected: &str) -> bool {
     print_plan(&mut text, plan).is_ok() & (text.as_slice() == expected.as_bytes())
 }
 
+// Whether a text's plan is printed as its lines, and equals only the plan at its own index.
+fn is_read(rt: &impl Runtime, index: usize, text: &str, expected: &str) -> bool {
+    let plan = plan_of(rt, text);
+    is_printed(rt, &plan, expected) & equals_only_itself(rt, index, &plan)
+}
+
 #[test]
 fn prints_what_it_reads(rt: HostRuntime) {
     for (index, (text, expected)) in TEXTS.iter().enumerate() {
-        let plan = plan_of(&rt, *text);
-        assert!(rt; is_printed(&rt, &plan, *expected), "row {index}");
-        assert!(rt; equals_only_itself(&rt, index, &plan), "row {index}");
+        assert!(rt; is_read(&rt, index, *text, *expected), "row {index}");
     }
 }
 
@@ -174,7 +180,7 @@ fn is_without_path(
 }
 
 #[test]
-fn goes_nowhere(rt: HostRuntime) {
+fn without_a_path(rt: HostRuntime) {
     for (row, (strategy, now, target, expected)) in NO_PATHS.iter().enumerate() {
         assert!(rt;
             is_without_path(&rt, *strategy, *now, *target, *expected),
@@ -208,13 +214,7 @@ static CATCHING_UP: [(Sets, &str, Sets, &[u64]); 4] = [
     ),
 ];
 
-fn is_waited_for(
-    rt: &impl Runtime,
-    before: Sets,
-    text: &str,
-    after: Sets,
-    expected: &[u64],
-) -> bool {
+fn catch_up(rt: &impl Runtime, before: Sets, text: &str, after: Sets, expected: &[u64]) -> bool {
     let before = config_of(rt, before, false);
     let after = config_of(rt, after, false);
     let plan = plan_of(rt, text);
@@ -224,10 +224,10 @@ fn is_waited_for(
 }
 
 #[test]
-fn waits_for_members_without_progress(rt: HostRuntime) {
+fn members_without_progress_catch_up(rt: HostRuntime) {
     for (row, (before, text, after, expected)) in CATCHING_UP.iter().enumerate() {
         assert!(rt;
-            is_waited_for(&rt, *before, *text, *after, *expected),
+            catch_up(&rt, *before, *text, *after, *expected),
             "row {row}"
         );
     }

@@ -60,11 +60,8 @@ fn failures_that_are_tolerated(rt: HostRuntime) {
         let outgoing = set_of(&rt, *outgoing);
         let uncounted = set_of(&rt, *uncounted);
         assert!(rt;
-            may_be_down((&incoming, &outgoing), &uncounted) == *expected,
-            "row {index}"
-        );
-        assert!(rt;
-            commits_without((&incoming, &outgoing), &uncounted) == expected.is_some(),
+            (may_be_down((&incoming, &outgoing), &uncounted) == *expected)
+                & (commits_without((&incoming, &outgoing), &uncounted) == expected.is_some()),
             "row {index}"
         );
     }
@@ -142,7 +139,7 @@ fn acknowledgements(rt: HostRuntime) {
     }
 }
 
-// Ids in the order of a walk that also goes back, and whether each is one of 2, 4 and 9.
+// Ids in an order that is not ascending throughout, and whether each is one of 2, 4 and 9.
 static LOOKED_UP: [(u64, bool); 8] = [
     (1, false),
     (2, true),

@@ -1,0 +1,308 @@
+//! The tables and the JSON lines of paths, and whether the paths stall.
+ghost use Rattle.std.specs.Prelude.{◌≡◌, true};
+ghost use Rattle.conf_change.specs.Configuration.{is_restorable};
+
+use crate::conf_states::changer_at;
+use crate::paths::{FIVE, TWO_OF_FIVE, path_between};
+use crate::texts::appends;
+use crate::twice::twice;
+use conf_change::Config;
+use conf_plan::{Path, Strategy};
+use plan_output::{add_json_lines, add_no_plan_line, add_table, stalls};
+use quorum_sets::{InlineIds, MemberSet, NoMemory, TreeIds};
+use std::alloc::Global;
+
+// What is printed of a path.
+enum Printed {
+    Table(&'static str),
+    Json(&'static str),
+}
+
+// The current configuration, the target, the strategy of the path, the ids that are down if there are any, what is printed,
+// and whether the path stalls with these ids down.
+struct Row {
+    now: &'static str,
+    target: &'static str,
+    strategy: Strategy,
+    down: &'static [u64],
+    printed: Printed,
+    stalls: bool,
+}
+
+static ROWS: [Row; 13] = [
+    Row {
+        now: FIVE,
+        target: TWO_OF_FIVE,
+        strategy: Strategy::Shortest,
+        down: &[],
+        printed: Printed::Table(
+            "step                                       1 2 3 4 5 6 7  majority           may be down  catch up  until then\n\
+            now                                        V V V V V . .  3 of 5             2\n\
+            1 enter-joint autoleave=false r1 r2 v6 v7  - - V V V + +  3 of 5 and 3 of 5  2            6 7       0\n\
+            2 leave-joint                              . . V V V V V  3 of 5             2\n",
+        ),
+        stalls: false,
+    },
+    Row {
+        now: FIVE,
+        target: TWO_OF_FIVE,
+        strategy: Strategy::LearnersFirst,
+        down: &[],
+        printed: Printed::Table(
+            "step                                       1 2 3 4 5 6 7  majority           may be down  catch up  until then\n\
+            now                                        V V V V V . .  3 of 5             2\n\
+            1 simple l6 l7                             V V V V V L L  3 of 5             2            6 7       2\n\
+            2 enter-joint autoleave=false r1 r2 v6 v7  - - V V V + +  3 of 5 and 3 of 5  2\n\
+            3 leave-joint                              . . V V V V V  3 of 5             2\n",
+        ),
+        stalls: false,
+    },
+    Row {
+        now: FIVE,
+        target: TWO_OF_FIVE,
+        strategy: Strategy::OneAtATime,
+        down: &[],
+        printed: Printed::Table(
+            "step         1 2 3 4 5 6 7  majority  may be down  catch up  until then\n\
+            now          V V V V V . .  3 of 5    2\n\
+            1 simple l6  V V V V V L .  3 of 5    2            6         2\n\
+            2 simple v6  V V V V V V .  4 of 6    2\n\
+            3 simple r1  . V V V V V .  3 of 5    2\n\
+            4 simple l7  . V V V V V L  3 of 5    2            7         2\n\
+            5 simple v7  . V V V V V V  4 of 6    2\n\
+            6 simple r2  . . V V V V V  3 of 5    2\n",
+        ),
+        stalls: false,
+    },
+    // Nothing commits until one of the new voters has caught up, also with all ids up.
+    Row {
+        now: "Voters:[1 2 3] VotersOutgoing:[] Learners:[] LearnersNext:[] AutoLeave:false",
+        target: "Voters:[3 4 5] VotersOutgoing:[] Learners:[] LearnersNext:[] AutoLeave:false",
+        strategy: Strategy::Shortest,
+        down: &[],
+        printed: Printed::Table(
+            "step                                       1 2 3 4 5  majority           may be down  catch up  until then\n\
+            now                                        V V V . .  2 of 3             1\n\
+            1 enter-joint autoleave=false r1 r2 v4 v5  - - V + +  2 of 3 and 2 of 3  1            4 5       stalls\n\
+            2 leave-joint                              . . V V V  2 of 3             1\n",
+        ),
+        stalls: true,
+    },
+    Row {
+        now: FIVE,
+        target: TWO_OF_FIVE,
+        strategy: Strategy::Shortest,
+        down: &[4],
+        printed: Printed::Table(
+            "step                                       1 2 3 4 5 6 7  majority           may be down  catch up  until then  with 4 down\n\
+            now                                        V V V V V . .  3 of 5             2                                  commits\n\
+            1 enter-joint autoleave=false r1 r2 v6 v7  - - V V V + +  3 of 5 and 3 of 5  2            6 7       0           stalls\n\
+            2 leave-joint                              . . V V V V V  3 of 5             2                                  commits\n",
+        ),
+        stalls: true,
+    },
+    // An outgoing voter that will learn; no member has to catch up.
+    Row {
+        now: "Voters:[3] VotersOutgoing:[1] Learners:[2] LearnersNext:[1] AutoLeave:false",
+        target: "Voters:[1] VotersOutgoing:[] Learners:[2 3] LearnersNext:[] AutoLeave:false",
+        strategy: Strategy::Shortest,
+        down: &[],
+        printed: Printed::Table(
+            "step                                 1 2 3  majority           may be down  catch up  until then\n\
+            now                                  ~ L +  1 of 1 and 1 of 1  0\n\
+            1 leave-joint                        L L V  1 of 1             0\n\
+            2 enter-joint autoleave=false v1 l3  + L ~  1 of 1 and 1 of 1  0\n\
+            3 leave-joint                        V L L  1 of 1             0\n",
+        ),
+        stalls: false,
+    },
+    // No step: the headings, and the row of the current configuration. An id that is down and no member counts for nothing, and
+    // one that is named twice counts once.
+    Row {
+        now: FIVE,
+        target: FIVE,
+        strategy: Strategy::LearnersFirst,
+        down: &[9, 4, 9],
+        printed: Printed::Table(
+            "step  1 2 3 4 5  majority  may be down  catch up  until then  with 4 9 down\n\
+            now   V V V V V  3 of 5    2                                  commits\n",
+        ),
+        stalls: false,
+    },
+    // Three of five are down.
+    Row {
+        now: FIVE,
+        target: FIVE,
+        strategy: Strategy::Shortest,
+        down: &[1, 2, 3],
+        printed: Printed::Table(
+            "step  1 2 3 4 5  majority  may be down  catch up  until then  with 1 2 3 down\n\
+            now   V V V V V  3 of 5    2                                  stalls\n",
+        ),
+        stalls: true,
+    },
+    // An id's marks are as wide as the id.
+    Row {
+        now: "Voters:[9 10 18446744073709551615] VotersOutgoing:[] Learners:[] LearnersNext:[] AutoLeave:false",
+        target: "Voters:[9 10 11 18446744073709551615] VotersOutgoing:[] Learners:[] LearnersNext:[] AutoLeave:false",
+        strategy: Strategy::Shortest,
+        down: &[],
+        printed: Printed::Table(
+            "step          9 10 11 18446744073709551615  majority  may be down  catch up  until then\n\
+            now           V  V  .                    V  2 of 3    1\n\
+            1 simple v11  V  V  V                    V  3 of 4    1            11        0\n",
+        ),
+        stalls: false,
+    },
+    Row {
+        now: FIVE,
+        target: TWO_OF_FIVE,
+        strategy: Strategy::LearnersFirst,
+        down: &[],
+        printed: Printed::Json(
+            "{\"catch_up\":[6,7],\"conf_change\":{\"changes\":[{\"node_id\":6,\"type\":\"ConfChangeAddLearnerNode\"},{\"node_id\":7,\"type\":\"ConfChangeAddLearnerNode\"}],\"transition\":\"ConfChangeTransitionAuto\"},\"conf_state\":{\"auto_leave\":false,\"learners\":[6,7],\"learners_next\":[],\"voters\":[1,2,3,4,5],\"voters_outgoing\":[]},\"may_be_down\":2,\"plan\":1,\"step\":1,\"steps\":3,\"until_then\":2}\n\
+            {\"catch_up\":[],\"conf_change\":{\"changes\":[{\"node_id\":1,\"type\":\"ConfChangeRemoveNode\"},{\"node_id\":2,\"type\":\"ConfChangeRemoveNode\"},{\"node_id\":6,\"type\":\"ConfChangeAddNode\"},{\"node_id\":7,\"type\":\"ConfChangeAddNode\"}],\"transition\":\"ConfChangeTransitionJointExplicit\"},\"conf_state\":{\"auto_leave\":false,\"learners\":[],\"learners_next\":[],\"voters\":[3,4,5,6,7],\"voters_outgoing\":[1,2,3,4,5]},\"may_be_down\":2,\"plan\":1,\"step\":2,\"steps\":3,\"until_then\":2}\n\
+            {\"catch_up\":[],\"conf_change\":{\"changes\":[],\"transition\":\"ConfChangeTransitionAuto\"},\"conf_state\":{\"auto_leave\":false,\"learners\":[],\"learners_next\":[],\"voters\":[3,4,5,6,7],\"voters_outgoing\":[]},\"may_be_down\":2,\"plan\":1,\"step\":3,\"steps\":3,\"until_then\":2}\n",
+        ),
+        stalls: false,
+    },
+    // Nothing commits until one of the new voters has caught up.
+    Row {
+        now: "Voters:[1 2 3] VotersOutgoing:[] Learners:[] LearnersNext:[] AutoLeave:false",
+        target: "Voters:[3 4 5] VotersOutgoing:[1 2 3] Learners:[] LearnersNext:[] AutoLeave:true",
+        strategy: Strategy::Shortest,
+        down: &[9],
+        printed: Printed::Json(
+            "{\"catch_up\":[4,5],\"commits\":false,\"conf_change\":{\"changes\":[{\"node_id\":1,\"type\":\"ConfChangeRemoveNode\"},{\"node_id\":2,\"type\":\"ConfChangeRemoveNode\"},{\"node_id\":4,\"type\":\"ConfChangeAddNode\"},{\"node_id\":5,\"type\":\"ConfChangeAddNode\"}],\"transition\":\"ConfChangeTransitionJointImplicit\"},\"conf_state\":{\"auto_leave\":true,\"learners\":[],\"learners_next\":[],\"voters\":[3,4,5],\"voters_outgoing\":[1,2,3]},\"may_be_down\":1,\"plan\":1,\"step\":1,\"steps\":1,\"until_then\":null}\n",
+        ),
+        stalls: true,
+    },
+    // A joint configuration of two equal sets: the change that is proposed names an update of the least voter.
+    Row {
+        now: "Voters:[2 3] VotersOutgoing:[] Learners:[] LearnersNext:[] AutoLeave:false",
+        target: "Voters:[2 3] VotersOutgoing:[2 3] Learners:[] LearnersNext:[] AutoLeave:false",
+        strategy: Strategy::Shortest,
+        down: &[3],
+        printed: Printed::Json(
+            "{\"catch_up\":[],\"commits\":false,\"conf_change\":{\"changes\":[{\"node_id\":2,\"type\":\"ConfChangeUpdateNode\"}],\"transition\":\"ConfChangeTransitionJointExplicit\"},\"conf_state\":{\"auto_leave\":false,\"learners\":[],\"learners_next\":[],\"voters\":[2,3],\"voters_outgoing\":[2,3]},\"may_be_down\":0,\"plan\":1,\"step\":1,\"steps\":1,\"until_then\":0}\n",
+        ),
+        stalls: true,
+    },
+    Row {
+        now: FIVE,
+        target: FIVE,
+        strategy: Strategy::LearnersFirst,
+        down: &[],
+        printed: Printed::Json("{\"plan\":1,\"steps\":0}\n"),
+        stalls: false,
+    },
+];
+
+fn has_table<S: MemberSet>(
+    alloc: Global,
+    now: &Config<S>,
+    path: &Path,
+    down: Option<&S>,
+    expected: &str,
+) -> bool
+    requires { is_restorable now.now ≡ true }
+{
+    appends!(
+        alloc,
+        expected,
+        |text| add_table(alloc, text, now, path, down)
+    )
+}
+
+fn has_json_lines<S: MemberSet>(
+    alloc: Global,
+    now: &Config<S>,
+    path: &Path,
+    down: Option<&S>,
+    expected: &str,
+) -> bool
+    requires { is_restorable now.now ≡ true }
+{
+    appends!(
+        alloc,
+        expected,
+        |text| add_json_lines(alloc, text, 1, now, path, down)
+    )
+}
+
+// Whether a path is printed so, and stalls as expected.
+fn is_printed<S: MemberSet>(
+    alloc: Global,
+    row: &Row,
+    now: &Config<S>,
+    path: &Path,
+    down: &S,
+) -> bool
+    requires { is_restorable now.now ≡ true }
+{
+    let named = if row.down.is_empty() {
+        None
+    } else {
+        Some(down)
+    };
+    let prints = match row.printed {
+        Printed::Table(table) => has_table(alloc, now, path, named, table),
+        Printed::Json(lines) => has_json_lines(alloc, now, path, named, lines),
+    };
+    prints & (twice!(NoMemory, stalls(alloc, now, path, down)) == Ok(row.stalls))
+}
+
+fn is_row<S: MemberSet>(
+    alloc: Global,
+    row: &Row,
+    now: &Config<S>,
+    target: &Config<S>,
+    down: &S,
+) -> bool
+    requires { is_restorable now.now ≡ true }
+{
+    match path_between(alloc, row.strategy, now, target) {
+        Some(path) => is_printed(alloc, row, now, &path, down),
+        None => false,
+    }
+}
+
+fn is_row_over<S: MemberSet>(alloc: Global, row: &Row) -> bool {
+    let now = changer_at::<S>(alloc, row.now);
+    let target = changer_at::<S>(alloc, row.target);
+    match twice!(NoMemory, S::of_list(alloc, row.down)) {
+        Ok(down) => is_row(
+            alloc,
+            row,
+            now.tracker().config(),
+            target.tracker().config(),
+            &down,
+        ),
+        Err(_) => false,
+    }
+}
+
+fn is_no_plan_line(alloc: Global, number: u64, why: &str, expected: &str) -> bool {
+    appends!(
+        alloc,
+        expected,
+        |text| add_no_plan_line(alloc, text, number, why)
+    )
+}
+
+#[test]
+fn printed_paths(rt: HostRuntime) {
+    for (index, row) in ROWS.iter().enumerate() {
+        assert!(rt;
+            is_row_over::<TreeIds>(rt.alloc(), row) & is_row_over::<InlineIds>(rt.alloc(), row),
+            "row {index}"
+        );
+    }
+}
+
+#[test]
+fn lines_without_a_path(rt: HostRuntime) {
+    let why = "the target is joint";
+    let expected = "{\"no_plan\":\"the target is joint\",\"plan\":7}\n";
+    assert!(rt; is_no_plan_line(rt.alloc(), 7, why, expected));
+}
