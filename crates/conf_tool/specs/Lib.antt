@@ -4,6 +4,7 @@ pub mod Program
 pub mod LineReply
 pub mod Reports
 pub mod UndoScript
+pub mod PlanScript
 pub mod Pairs
 pub mod PlanAnswer
 pub mod Outputs

@@ -19,7 +19,7 @@ use Rattle.conf_tool.specs.declared.invocation.Invocation.{Invocation}
 use Rattle.conf_tool.specs.declared.mode.Mode.{Mode}
 use Rattle.conf_tool.specs.declared.mode.Mode.TheVariants.{Lines, Check, Rewrite, Undo, Plan}
 use Rattle.conf_tool.specs.declared.plan_options.PlanOutput.{PlanOutput}
-use Rattle.conf_tool.specs.declared.plan_options.PlanOutput.TheVariants.{Steps, Table, Json}
+use Rattle.conf_tool.specs.declared.plan_options.PlanOutput.TheVariants.{Steps, Script, Table, Json}
 
 -- a mode, with the file to read
 abbrev pub mode_command : Text → App
@@ -75,7 +75,7 @@ AreNames names texts = map (λ name. name.now) names.now ≡ texts
 pub record AreOptionNames (names : OptionNames) : Type 0 where
   pub floors : AreNames names.floors (codes "0" ∷ codes "1" ∷ [])
   pub strategies : AreNames names.strategies (codes "shortest" ∷ codes "learners-first" ∷ codes "one-at-a-time" ∷ [])
-  pub outputs : AreNames names.outputs (codes "steps" ∷ codes "table" ∷ codes "json" ∷ [])
+  pub outputs : AreNames names.outputs (codes "steps" ∷ codes "script" ∷ codes "table" ∷ codes "json" ∷ [])
 
 -- this holds of the program whose options have these names
 abbrev pub OfProgram : (App → Type 0) → Type 0
@@ -118,7 +118,8 @@ asked_strategy (Some text) = strategy_named text
 
 -- the output of an option: steps if it is left out
 abbrev pub output_named : Text → PlanOutput
-output_named text = if bytes_eq text (codes "table") then Table else (if bytes_eq text (codes "json") then Json else Steps)
+output_named text =
+    if bytes_eq text (codes "script") then Script else (if bytes_eq text (codes "table") then Table else (if bytes_eq text (codes "json") then Json else Steps))
 
 abbrev pub asked_output : Option Text → PlanOutput
 asked_output None = Steps

@@ -46,7 +46,7 @@ pub fn command_line<'a, S: AsStr>(
     let names = OptionNames {
         floors: &["0", "1"],
         strategies: &["shortest", "learners-first", "one-at-a-time"],
-        outputs: &["steps", "table", "json"],
+        outputs: &["steps", "script", "table", "json"],
     };
     read_arguments(alloc, arguments, names)
 }
@@ -197,6 +197,7 @@ fn output_named(name: &str) -> PlanOutput
     ensures { result ≡ output_named name.now }
 {
     match name {
+        "script" => PlanOutput::Script,
         "table" => PlanOutput::Table,
         "json" => PlanOutput::Json,
         _ => PlanOutput::Steps,
