@@ -8,8 +8,9 @@ use Rattle.conf_change.specs.ConfStateLine.{conf_state_text}
 use Rattle.conf_tool.specs.PlanScript.{restore_command, restore_directive}
 use Rattle.conf_tool.proofs.run.plan_script.restore_directive.Goals as goal
 
-says-restore : command_of (codes "restore") ≡ Some restore_command
-says-restore = refl
+-- the line parses to the command
+restore-command : command_of (codes "restore") ≡ Some restore_command
+restore-command = refl
 
 pub returns : goal.returns
 returns c = ?

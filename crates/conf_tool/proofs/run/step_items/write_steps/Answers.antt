@@ -1,4 +1,4 @@
-use Rattle.std.proofs.Common.{◌∙◌, sym, subst}
+use Rattle.std.proofs.Common.{◌≡◌, ◌∙◌, length, refl, sym, subst, arith, rules}
 use Rattle.std.proofs.lemmas.Result.{err_from_is_err_and}
 use Rattle.std.proofs.lemmas.Option.{slice_get-get_or}
 use Rattle.dd_file.specs.RewriterState.{Continues, BreaksOff}
@@ -30,10 +30,20 @@ returns-in_err-write_item-clause-part g c =
     rw p.1 (steps-broken _ _ _ _ _ _ _ c.args.steps.now c.loop-step.step-index _ _ (slice_get-get_or _ _ _ c.loop-step-test.true) c.in_ok-directive.ensures c.loop-step.invariant.so_far c.in_err-write_item.ensures.part)
 
 pub returns-then-is_empty-clause-written : goal.returns-then-is_empty-clause-written
-returns-then-is_empty-clause-written g c = ?
+returns-then-is_empty-clause-written g c =
+    let none : length c.args.steps.now ≡ 0 = search rules in
+    ok-by c.write_comment.result
+    (subst (λ items. Continues c.args.rewriter.now.newlines c.write_comment.new.rewriter.newlines (g.W.Sink.contents c.args.writer.now) (g.W.Sink.contents c.write_comment.new.writer) (answered_text c.args.session.now items))
+    (sym (no-steps c.args.steps.now none))) c.write_comment.ensures.written
 
 pub returns-then-is_empty-clause-part : goal.returns-then-is_empty-clause-part
-returns-then-is_empty-clause-part g c = ?
+returns-then-is_empty-clause-part g c =
+    let none : length c.args.steps.now ≡ 0 = search rules in
+    err-by c.write_comment.result
+    (subst (λ items. BreaksOff c.args.rewriter.now.newlines (g.W.Sink.contents c.args.writer.now) (g.W.Sink.contents c.write_comment.new.writer) (answered_text c.args.session.now items))
+    (sym (no-steps c.args.steps.now none))) c.write_comment.ensures.part
 
 pub returns-clause-written : goal.returns-clause-written
-returns-clause-written g c = ?
+returns-clause-written g c =
+    let some : length c.args.steps.now ≡ 0 → ⊥ = search (rules, arith) in
+    steps-over _ _ _ _ _ _ c.args.steps.now c.loop-step.step-index (length c.args.steps.now) refl some c.loop-step-test.false c.loop-step.invariant.so_far
