@@ -1,4 +1,5 @@
-use Rattle.std.proofs.Common.{◌≡◌, ◌∙◌, length, refl, sym, subst, arith, rules}
+use Rattle.std.proofs.Common.{◌≡◌, ◌∙◌, length, refl, sym, ap, subst, arith, rules}
+use Rattle.std.specs.Prelude.{Some}
 use Rattle.std.proofs.lemmas.Result.{err_from_is_err_and}
 use Rattle.std.proofs.lemmas.Option.{slice_get-get_or}
 use Rattle.dd_file.specs.RewriterState.{Continues, BreaksOff}
@@ -13,7 +14,7 @@ pub loop-step-preserved : goal.loop-step-preserved
 loop-step-preserved g c =
     let so_far = c.loop-step.invariant in
     record {
-      so_far = steps-more _ _ _ _ _ _ _ _ _ c.args.steps.now c.loop-step.step-index _ _ (slice_get-get_or _ _ _ c.loop-step-test.true) c.in_ok-directive.ensures so_far.so_far
+      so_far = steps-more _ _ _ _ _ _ _ _ _ c.args.steps.now c.loop-step.step-index _ _ (slice_get-get_or _ _ _ c.loop-step-test.true ∙ ap Some (sym c.step-item.is)) c.in_ok-directive.ensures so_far.so_far
           c.in_ok-write_item.ensures.session c.in_ok-write_item.ensures.written;
       ready = c.in_ok-write_item.ensures.stage;
       unfailed = c.in_ok-write_item.ensures.write ∙ or-false _ ∙ so_far.unfailed;
@@ -27,7 +28,7 @@ returns-in_err-directive-clause-part g c =
 pub returns-in_err-write_item-clause-part : goal.returns-in_err-write_item-clause-part
 returns-in_err-write_item-clause-part g c =
     let p = err_from_is_err_and c.from_residual-in_err-write_item.result c.from_residual-in_err-write_item.ensures.1 in
-    rw p.1 (steps-broken _ _ _ _ _ _ _ c.args.steps.now c.loop-step.step-index _ _ (slice_get-get_or _ _ _ c.loop-step-test.true) c.in_ok-directive.ensures c.loop-step.invariant.so_far c.in_err-write_item.ensures.part)
+    rw p.1 (steps-broken _ _ _ _ _ _ _ c.args.steps.now c.loop-step.step-index _ _ (slice_get-get_or _ _ _ c.loop-step-test.true ∙ ap Some (sym c.step-item.is)) c.in_ok-directive.ensures c.loop-step.invariant.so_far c.in_err-write_item.ensures.part)
 
 pub returns-then-is_empty-clause-written : goal.returns-then-is_empty-clause-written
 returns-then-is_empty-clause-written g c =
