@@ -17,7 +17,7 @@ abbrev pub restore_command : CommandText
 restore_command = record { name = codes "restore"; arguments = [] }
 
 -- the directive that restores a configuration, with no expected output
-abbrev pub restore_directive : Configuration → Item
+unfoldable pub restore_directive : Configuration → Item
 restore_directive c = directive 1 restore_command (codes "restore" ∷ []) (conf_state_text (lists_of c) ∷ []) []
 
 -- it restores the configuration that the steps begin with, and then takes them
@@ -25,7 +25,7 @@ abbrev pub script_items : Configuration → List Step → List Item
 script_items now steps = restore_directive now ∷ step_items steps
 
 -- the session of a script that is run without options
-abbrev pub usual_session : SessionState
+unfoldable pub usual_session : SessionState
 usual_session = new_session 100 One
 
 -- the script with its actual output
