@@ -1,6 +1,6 @@
 -- The script of a path, while it is written.
 use Rattle.std.proofs.Common.{◌≡◌, ℕ, List, [], ◌∷◌, ◌++◌, subst}
-use Rattle.std.specs.Prelude.{Option, Some}
+use Rattle.std.specs.Prelude.{Option}
 use Rattle.std.specs.Io.KnownBytes.{Appends}
 use Rattle.dd_file.specs.Rewritten.{entry_text, rewritten_text, without_double_end}
 use Rattle.dd_file.specs.RewriterState.{HasWritten, Continues, Finishes}
@@ -29,7 +29,3 @@ script-written old new now steps taken s item session_is item_is steps_is wrote 
     subst (λ u. Appends old new (rewritten_text (answered_entries u (restore_directive now ∷ step_items steps)))) session_is
     (subst (λ i. Appends old new (rewritten_text (answered_entries s (i ∷ step_items steps)))) item_is
     (subst (λ xs. Appends old new (rewritten_text (answered_entries s (item ∷ step_items xs)))) steps_is wrote))
-
--- what an empty text grew to
-pub text-appended : (xs text : List ℕ) → Appends (Some []) (Some xs) text → xs ≡ text
-text-appended xs text is = is
