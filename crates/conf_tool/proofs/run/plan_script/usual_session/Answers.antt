@@ -1,4 +1,3 @@
-use Rattle.std.proofs.Common.{rules}
 use Rattle.conf_tool.specs.PlanScript.{usual_session}
 use Rattle.conf_tool.proofs.run.plan_script.usual_session.Goals as goal
 
