@@ -4,3 +4,4 @@ pub mod Check
 pub mod Rewrite
 pub mod Undo
 pub mod Plan
+pub mod PlanScript

@@ -6,3 +6,4 @@ pub mod PairByPair
 pub mod BestPlan
 pub mod UndoneScript
 pub mod ServingPaths
+pub mod PlanScript

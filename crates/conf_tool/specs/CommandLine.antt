@@ -16,7 +16,7 @@ use Rattle.conf_tool.specs.declared.invocation.Invocation.{Invocation}
 use Rattle.conf_tool.specs.declared.mode.Mode.{Mode}
 use Rattle.conf_tool.specs.declared.mode.Mode.TheVariants.{Lines, Check, Rewrite, Undo, Plan}
 use Rattle.conf_tool.specs.declared.plan_options.PlanOutput.{PlanOutput}
-use Rattle.conf_tool.specs.declared.plan_options.PlanOutput.TheVariants.{Steps, Table, Json}
+use Rattle.conf_tool.specs.declared.plan_options.PlanOutput.TheVariants.{Steps, Script, Table, Json}
 
 -- the mode of a name; `lines` unless it is another's
 abbrev pub mode_named : Text → Mode
@@ -50,7 +50,8 @@ asked_strategy (Some name) = if bytes_eq name (codes "learners-first") then Lear
 -- the output of a name: steps if none is given
 abbrev pub asked_output : Option Text → PlanOutput
 asked_output None = Steps
-asked_output (Some name) = if bytes_eq name (codes "table") then Table else (if bytes_eq name (codes "json") then Json else Steps)
+asked_output (Some name) =
+    if bytes_eq name (codes "script") then Script else (if bytes_eq name (codes "table") then Table else (if bytes_eq name (codes "json") then Json else Steps))
 
 -- the ids that are down, if the option is given; none if its text is not a list of ids
 abbrev pub asked_down : Option Text → Option (Option Ids)

@@ -6,6 +6,7 @@ use Rattle.dd_file.specs.Position.{longest_input}
 use Rattle.dd_file.specs.Grammar.{Script, script_of, listing_of}
 use Rattle.dd_file.specs.declared.item.Item.{Item}
 use Rattle.conf_change.specs.declared.floor.Floor.{Floor}
+use Rattle.conf_change.specs.declared.floor.Floor.TheVariants.{One}
 use Rattle.conf_change.specs.Configuration.{Configuration, has_voter}
 use Rattle.conf_change.specs.declared.step.Step.{Step}
 use Rattle.conf_plan.specs.Best.{IsBest}
@@ -16,6 +17,7 @@ use Rattle.conf_session.specs.SessionState.{SessionState, new_session, current}
 use Rattle.conf_session.specs.Undo.{undo_plan_of}
 use Rattle.conf_tool.specs.Pairs.{NumberedLine, numbered, configuration_lines, configuration_at, both_of}
 use Rattle.conf_tool.specs.declared.configurations_fault.ConfigurationsFault.{ConfigurationsFault}
+use Rattle.conf_tool.specs.PlanScript.{script_text}
 use Rattle.conf_tool.specs.PlanAnswer.{plan_text_between}
 use Rattle.conf_tool.specs.declared.plan_options.PlanOptions.{PlanOptions}
 use Rattle.conf_tool.specs.declared.plan_options.PlanOutput.TheVariants.{Steps}
@@ -107,3 +109,8 @@ IsServingPath strategy pair text =
 abbrev pub PrintedPathServes : Type 0
 PrintedPathServes = (options : PlanOptions) (input : List ℕ) → options.output ≡ Steps →
     (texts : List (List ℕ)) × ((planned_output options input).text ≡ separated_by newline texts) × AllZip (IsServingPath options.strategy) (pairs_in input) texts
+
+-- The script of a path checks clean, in the session that `check` has without options.
+abbrev pub PlanScriptClean : Type 0
+PlanScriptClean = (now : Configuration) (steps : List Step) →
+    length (script_text now steps) ≤ longest_input → (checked (script_text now steps) 100 One).outcome ≡ Ok Clean

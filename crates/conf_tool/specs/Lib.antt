@@ -5,6 +5,7 @@ pub mod CommandLine
 pub mod LineReply
 pub mod Reports
 pub mod UndoScript
+pub mod PlanScript
 pub mod Pairs
 pub mod PlanAnswer
 pub mod Outputs

@@ -19,7 +19,7 @@ use Rattle.conf_tool.specs.declared.mode.Mode.TheVariants.{Lines, Check, Rewrite
 use Rattle.conf_tool.specs.declared.options.Options.{Options}
 use Rattle.conf_tool.specs.declared.plan_options.PlanOptions.{PlanOptions}
 use Rattle.conf_tool.specs.declared.plan_options.PlanOutput.{PlanOutput}
-use Rattle.conf_tool.specs.declared.plan_options.PlanOutput.TheVariants.{Steps, Table, Json}
+use Rattle.conf_tool.specs.declared.plan_options.PlanOutput.TheVariants.{Steps, Script as ScriptOutput, Table, Json}
 use Rattle.conf_tool.specs.declared.status.Status.{Status}
 use Rattle.conf_tool.specs.declared.status.Status.TheVariants.{Clean, Different}
 use Rattle.conf_session.specs.declared.undo_fault.UndoFault.{UndoFault}
@@ -111,6 +111,7 @@ ends outcome = record { text = []; outcome = outcome }
 -- the text between the replies to two pairs, by the form of the output
 abbrev pub separator : PlanOutput → List ℕ
 separator Steps = newline
+separator ScriptOutput = newline
 separator Table = newline
 separator Json = []
 

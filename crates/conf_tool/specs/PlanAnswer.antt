@@ -9,15 +9,17 @@ use Rattle.ascii_text.specs.Lines.{newline}
 use Rattle.plan_output.specs.Json.{json_text, value_line, no_plan_json}
 use Rattle.plan_output.specs.Stages.{stalls}
 use Rattle.plan_output.specs.Table.{table_text}
+use Rattle.conf_tool.specs.PlanScript.{script_text}
 use Rattle.conf_tool.specs.declared.plan_options.PlanOptions.{PlanOptions}
 use Rattle.conf_tool.specs.declared.plan_options.PlanOutput.{PlanOutput}
-use Rattle.conf_tool.specs.declared.plan_options.PlanOutput.TheVariants.{Steps, Table, Json}
+use Rattle.conf_tool.specs.declared.plan_options.PlanOutput.TheVariants.{Steps, Script, Table, Json}
 use Rattle.conf_tool.specs.declared.status.Status.{Status}
 use Rattle.conf_tool.specs.declared.status.Status.TheVariants.{Clean, Different}
 
 -- the text of a path in one of three forms, for the pair with this number and with these ids down
 abbrev pub text_as : PlanOutput → ℕ → Option Ids → Configuration → List Step → List ℕ
 text_as Steps number down now steps = plan_text steps
+text_as Script number down now steps = script_text now steps
 text_as Table number down now steps = table_text now steps down
 text_as Json number down now steps = json_text number now steps down
 
@@ -32,6 +34,7 @@ no_plan_comment why = codes "# no plan: " ++ why ++ newline
 -- the reply to the pair with this number if it has no plan: the reason, in the form of the output
 abbrev pub no_plan_text : PlanOutput → ℕ → List ℕ → List ℕ
 no_plan_text Steps number why = no_plan_comment why
+no_plan_text Script number why = no_plan_comment why
 no_plan_text Table number why = no_plan_comment why
 no_plan_text Json number why = value_line (no_plan_json number why)
 

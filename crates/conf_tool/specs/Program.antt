@@ -59,7 +59,7 @@ AreNames names texts = map (λ name. name.now) names.now ≡ texts
 pub record AreOptionNames (names : OptionNames) : Type 0 where
   pub floors : AreNames names.floors (codes "0" ∷ codes "1" ∷ [])
   pub strategies : AreNames names.strategies (codes "shortest" ∷ codes "learners-first" ∷ codes "one-at-a-time" ∷ [])
-  pub outputs : AreNames names.outputs (codes "steps" ∷ codes "table" ∷ codes "json" ∷ [])
+  pub outputs : AreNames names.outputs (codes "steps" ∷ codes "script" ∷ codes "table" ∷ codes "json" ∷ [])
 
 -- a statement about the program holds, whose options have their names
 abbrev pub OfProgram : (App → Type 0) → Type 0

@@ -43,10 +43,14 @@ step_directive step = directive 1 (step_command step) (step_line step ∷ []) (c
 abbrev pub comment : List ℕ → Item
 comment text = Comment ((codes "# " ++ text) ∷ [])
 
--- the items of the script: a directive for each step, or a comment that there is nothing to do, or why there is no plan
+-- the items of the script: a directive for each step, or a comment that there is nothing to do
+abbrev pub step_items : List Step → List Item
+step_items [] = comment (codes "nothing to do") ∷ []
+step_items (step ∷ steps) = map step_directive (step ∷ steps)
+
+-- the directives of the steps, or a comment: why there is no plan
 abbrev pub undo_items : Result (List Step) UndoFault → List Item
-undo_items (Ok []) = comment (codes "nothing to do") ∷ []
-undo_items (Ok (step ∷ steps)) = map step_directive (step ∷ steps)
+undo_items (Ok steps) = step_items steps
 undo_items (Err fault) = comment (undo_fault_text fault) ∷ []
 
 -- ---- its effect

@@ -34,7 +34,7 @@ pub fn command_line<'a, S: AsStr>(
     let names = OptionNames {
         floors: &["0", "1"],
         strategies: &["shortest", "learners-first", "one-at-a-time"],
-        outputs: &["steps", "table", "json"],
+        outputs: &["steps", "script", "table", "json"],
     };
     read_arguments(alloc, arguments, names)
 }
@@ -161,6 +161,7 @@ fn asked_output(name: Option<&str>) -> PlanOutput
     ensures { result ≡ asked_output (option_map (λ text. text.now) name.entry) }
 {
     match name {
+        Some("script") => PlanOutput::Script,
         Some("table") => PlanOutput::Table,
         Some("json") => PlanOutput::Json,
         _ => PlanOutput::Steps,

@@ -150,6 +150,7 @@ Strategies:
 
 Outputs:
   steps   one step a line
+  script  a script that restores the current configuration and takes the steps
   table   who votes and learns at each step, and what the cluster endures there
   json    an object for each step, with what is proposed to etcd for it
 

@@ -1,5 +1,5 @@
 //! Laws of this crate's definitions, each the contract of a function that does nothing.
-ghost use Rattle.conf_tool.specs.Laws.{RewrittenClean, JoinedClean, UndoScriptLeadsBack, PrintedPlanIsBest, PrintedPathServes};
+ghost use Rattle.conf_tool.specs.Laws.{RewrittenClean, JoinedClean, UndoScriptLeadsBack, PrintedPlanIsBest, PrintedPathServes, PlanScriptClean};
 
 use conf_change::laws::one_list_per_text;
 use conf_plan::laws::{one_plan_per_text, paths_serve, planned_is_best};
@@ -58,4 +58,13 @@ pub fn printed_path_serves()
     ensures { PrintedPathServes }
 {
     paths_serve();
+}
+
+/// The script that the mode `plan` prints of a path checks clean, if it is within the input limit (own).
+pub fn plan_script_clean()
+    ensures { PlanScriptClean }
+{
+    actual_output_is_valid();
+    written_script();
+    directive_is_well_formed();
 }

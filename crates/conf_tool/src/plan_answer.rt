@@ -5,6 +5,7 @@ ghost use Rattle.conf_tool.specs.PlanAnswer.{no_plan_comment, no_plan_text, path
 ghost use Rattle.conf_tool.specs.declared.tool_fault.ToolFault.TheVariants.{NoMemory as OutOfMemory};
 
 use crate::plan_options::{PlanOptions, PlanOutput};
+use crate::run::plan_script::script_text;
 use crate::status::Status;
 use crate::tool_fault::ToolFault;
 use conf_change::Config;
@@ -78,6 +79,7 @@ fn path_text(
     let down = options.down.as_ref();
     match options.output {
         PlanOutput::Steps => print_path(&mut text, path)?,
+        PlanOutput::Script => return script_text(alloc, now, path),
         PlanOutput::Table => add_table(alloc, &mut text, now, path, down)?,
         PlanOutput::Json => add_json_lines(alloc, &mut text, number, now, path, down)?,
     }
@@ -125,7 +127,7 @@ fn no_plan_text(
     ensures { IfOk result (λ text. text.items ≡ no_plan_text output number why.now) }
 {
     match output {
-        PlanOutput::Steps | PlanOutput::Table => no_plan_comment(alloc, why),
+        PlanOutput::Steps | PlanOutput::Script | PlanOutput::Table => no_plan_comment(alloc, why),
         PlanOutput::Json => {
             let mut text = Vec::new(alloc);
             add_no_plan_line(alloc, &mut text, number, why)?;

@@ -11,6 +11,8 @@ use conf_session::SessionIds;
 pub enum PlanOutput {
     /// One step a line.
     Steps,
+    /// A script that restores the current configuration and takes the steps from there.
+    Script,
     /// A row for the current configuration and one for each step, with what the cluster endures there.
     Table,
     /// An object for each step, for programs that embed etcd's raft.

@@ -12,7 +12,9 @@ mod lines;
 mod part_by_part;
 mod parts;
 mod plan;
+pub(crate) mod plan_script;
 mod rewrite;
+mod step_items;
 mod undo;
 
 use self::check::Checking;

@@ -17,7 +17,7 @@ use Rattle.conf_change.specs.declared.floor.Floor.{Floor}
 use Rattle.conf_session.specs.SessionState.{SessionState, new_session}
 use Rattle.conf_tool.specs.Reports.{actual_for, session_after, answered_text}
 use Rattle.conf_session.specs.Undo.{undo_plan_of}
-use Rattle.conf_tool.specs.UndoScript.{step_directive, comment, undo_items}
+use Rattle.conf_tool.specs.UndoScript.{step_directive, comment, step_items, undo_items}
 use Rattle.conf_tool.specs.Outputs.{Output, session_after_all, undo_status, undone_with, undone_script}
 use Rattle.conf_tool.specs.Answered.{script, prepended, undo_left, HasRun}
 use Rattle.conf_tool.specs.Run.{Wrote}
@@ -106,7 +106,7 @@ text-rest s plan place = record {
 }
 
 -- a plan with a step has no comment
-some-steps : (plan : List Step) → (length plan ≡ 0 → ⊥) → undo_items (Ok plan) ≡ map step_directive plan
+some-steps : (plan : List Step) → (length plan ≡ 0 → ⊥) → step_items plan ≡ map step_directive plan
 some-steps [] some = absurd (some refl)
 some-steps (first ∷ plan) some = refl
 
@@ -114,20 +114,20 @@ has-step : (plan : List Step) (place : ℕ) (step : Step) → slice_get plan pla
 has-step [] place step here none = cc
 has-step (first ∷ plan) place step here none = omega (arith, none)
 
-pub no-steps : (plan : List Step) → length plan ≡ 0 → undo_items (Ok plan) ≡ comment (codes "nothing to do") ∷ []
+pub no-steps : (plan : List Step) → length plan ≡ 0 → step_items plan ≡ comment (codes "nothing to do") ∷ []
 no-steps [] none = refl
 no-steps (first ∷ plan) none = absurd (omega (arith, none))
 
 -- no step more was written, or a part of one
 pub steps-stopped : (s now : SessionState) (a b : ℕ) (old mid : Option (List ℕ)) (plan : List Step) (place : ℕ) (step : Step) → slice_get plan place ≡ Some step →
-    ItemsWritten s now a b old mid (directives plan place) → BreaksOff a old mid (answered_text s (undo_items (Ok plan)))
+    ItemsWritten s now a b old mid (directives plan place) → BreaksOff a old mid (answered_text s (step_items plan))
 steps-stopped s now a b old mid plan place step here so_far =
     let rest = text-rest s plan place in
     let whole = ap (answered_text s) (some-steps plan (has-step plan place step here)) ∙ rest.is in
     subst (BreaksOff a old mid) (sym whole) (breaks-second a b old mid mid (answered_text s (directives plan place)) rest.rest so_far.written (breaks-nothing b mid rest.rest))
 
 pub steps-broken : (s now : SessionState) (a b : ℕ) (old mid new : Option (List ℕ)) (plan : List Step) (place : ℕ) (step : Step) (item : Item) → slice_get plan place ≡ Some step →
-    item ≡ step_directive step → ItemsWritten s now a b old mid (directives plan place) → BreaksOff b mid new (answered_text now (item ∷ [])) → BreaksOff a old new (answered_text s (undo_items (Ok plan)))
+    item ≡ step_directive step → ItemsWritten s now a b old mid (directives plan place) → BreaksOff b mid new (answered_text now (item ∷ [])) → BreaksOff a old new (answered_text s (step_items plan))
 steps-broken s now a b old mid new plan place step item here is so_far broken =
     let rest = text-rest s plan (place + 1) in
     let prefix = answered_text s (directives plan place) in
@@ -138,7 +138,7 @@ steps-broken s now a b old mid new plan place step item here is so_far broken =
     (breaks-second a b old mid new prefix last so_far.written (subst (λ i. BreaksOff b mid new (answered_text now (i ∷ []))) is broken)))
 
 pub steps-over : (s now : SessionState) (a b : ℕ) (old new : Option (List ℕ)) (plan : List Step) (place n : ℕ) → n ≡ length plan → (n ≡ 0 → ⊥) → n ≤ place →
-    ItemsWritten s now a b old new (directives plan place) → Continues a b old new (answered_text s (undo_items (Ok plan)))
+    ItemsWritten s now a b old new (directives plan place) → Continues a b old new (answered_text s (step_items plan))
 steps-over s now a b old new plan place n is some past so_far =
     let whole = some-steps plan (λ none. some (is ∙ none)) ∙ ap (map step_directive) (sym (take_all place plan (subst (λ k. k ≤ place) is past))) in
     subst (Continues a b old new) (sym (ap (answered_text s) whole)) so_far.written

@@ -88,7 +88,7 @@ clean-script entries None e = record { same = status-clean (list_any differs ent
 clean-script entries (Some fault) e = let bad : ⊥ = cc in absurd bad
 
 -- ---- the items that undo changes are items that the grammar gives
-bytes-line : (text : List ℕ) → list_all is_line_byte text ≡ true → is_line text ≡ true
+pub bytes-line : (text : List ℕ) → list_all is_line_byte text ≡ true → is_line text ≡ true
 bytes-line [] h = refl
 bytes-line (b ∷ text) h = and-both _ _ (and-first _ _ (and-first _ _ h)) (bytes-line text (and-second _ _ h))
 
@@ -130,7 +130,7 @@ steps-given : DirectiveIsWellFormed → (steps : List Step) → AreWellFormed (m
 steps-given given [] = tt
 steps-given given (step ∷ steps) = (step-given given step, steps-given given steps)
 
-undo-given : DirectiveIsWellFormed → (plan : Result (List Step) UndoFault) → AreWellFormed (undo_items plan)
+pub undo-given : DirectiveIsWellFormed → (plan : Result (List Step) UndoFault) → AreWellFormed (undo_items plan)
 undo-given given (Ok []) = (comment-given (codes "nothing to do") refl, tt)
 undo-given given (Ok (step ∷ steps)) = steps-given given (step ∷ steps)
 undo-given given (Err fault) = (comment-given (undo_fault_text fault) (reply_line-bytes (undo_fault_text fault) (undo_fault-in_lines fault)), tt)
@@ -145,7 +145,7 @@ steps-keys : (steps : List Step) → list_all item_has_keys (map step_directive 
 steps-keys [] = refl
 steps-keys (step ∷ steps) = and-both _ _ (step-keys step) (steps-keys steps)
 
-undo-keys : (plan : Result (List Step) UndoFault) → list_all item_has_keys (undo_items plan) ≡ true
+pub undo-keys : (plan : Result (List Step) UndoFault) → list_all item_has_keys (undo_items plan) ≡ true
 undo-keys (Ok []) = refl
 undo-keys (Ok (step ∷ steps)) = steps-keys (step ∷ steps)
 undo-keys (Err fault) = refl
@@ -155,7 +155,7 @@ steps-short [] = refl
 steps-short (step ∷ []) = refl
 steps-short (step ∷ next ∷ steps) = steps-short (next ∷ steps)
 
-undo-short : (plan : Result (List Step) UndoFault) → ends_in_long_blank (undo_items plan) ≡ false
+pub undo-short : (plan : Result (List Step) UndoFault) → ends_in_long_blank (undo_items plan) ≡ false
 undo-short (Ok []) = refl
 undo-short (Ok (step ∷ steps)) = steps-short (step ∷ steps)
 undo-short (Err fault) = refl

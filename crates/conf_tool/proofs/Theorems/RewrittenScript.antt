@@ -1,21 +1,24 @@
 -- A script that is rewritten checks clean.
-use Rattle.std.proofs.Common.{◌≡◌, ℕ, true, false, not, ◌||◌, List, [], ◌∷◌, map, refl, sym, ap, ◌∙◌, subst}
+use Rattle.std.proofs.Common.{◌≡◌, ℕ, ◌≤◌, true, false, not, ◌||◌, List, [], ◌∷◌, map, length, refl, sym, ap, ◌∙◌, subst}
 use Rattle.std.specs.Prelude.{Ok}
 use Rattle.std.specs.List.{list_all, list_any}
 use Rattle.std.proofs.lemmas.Slice.Eq.{bytes_eq-Decides}
 use Rattle.dd_file.specs.DirectiveText.{DirectiveText}
 use Rattle.dd_file.specs.DirectiveLine.{has_keys}
+use Rattle.dd_file.specs.Position.{longest_input}
 use Rattle.dd_file.specs.Grammar.{script_of}
 use Rattle.dd_file.specs.Rewritten.{Entry, entry, is_output, rewritten_text}
 use Rattle.dd_file.specs.Laws.{IsSameItem, AreWellFormed, AreReadAgain, AreOver, LastIsRemoved, ReadAgain, ends_in_long_blank, ItemsAreWellFormed, WrittenScript, ItemsHaveKeys, item_has_keys}
 use Rattle.dd_file.specs.declared.item.Item.{Item}
 use Rattle.dd_file.specs.declared.item.Item.TheVariants.{Comment, Blank, Directive}
+use Rattle.conf_change.specs.declared.floor.Floor.{Floor}
 use Rattle.conf_session.specs.SessionState.{SessionState, new_session}
 use Rattle.conf_session.specs.Commands.{Answer, answer}
 use Rattle.conf_tool.specs.Reports.{actual_for, session_after, answered_entries, differs}
-use Rattle.conf_tool.specs.Outputs.{checked_entries, check_status}
+use Rattle.conf_tool.specs.Outputs.{checked, checked_entries, check_status}
 use Rattle.conf_session.specs.ReplyLines.{IsValidOutput}
 use Rattle.conf_tool.specs.Laws.{RewrittenClean}
+use Rattle.conf_tool.specs.declared.status.Status.TheVariants.{Clean}
 use Rattle.conf_session.proofs.Offered.{and-first, and-second, and-both, same-answer}
 
 -- the texts that are found can stand as outputs
@@ -63,13 +66,17 @@ clean-items session (one ∷ items) entries again e (ReadAgain n item other actu
     ap (λ s. differs (entry other (actual_for session other)) || list_any differs (answered_entries s others)) clean.after
     ∙ ap (λ b. b || list_any differs (answered_entries (session_after session one) others)) clean.same ∙ clean-items (session_after session one) items more others (cc) read
 
-pub rewritten-clean : WrittenScript → ItemsAreWellFormed → ItemsHaveKeys → ActualIsValid → RewrittenClean
-rewritten-clean written given keys stands input history floor short fits =
+-- items of the grammar that are written with their actual outputs check clean
+pub written-clean : WrittenScript → ActualIsValid → (history : ℕ) (floor : Floor) (items : List Item) → AreWellFormed items → list_all item_has_keys items ≡ true → ends_in_long_blank items ≡ false →
+    let text = rewritten_text (answered_entries (new_session history floor) items) in length text ≤ longest_input → (checked text history floor).outcome ≡ Ok Clean
+written-clean written stands history floor items given keys short fits =
     let session = new_session history floor in
-    let items = (script_of input).items in
     let entries = answered_entries session items in
     let same = items-of session items in
-    let read = written entries (subst AreWellFormed (sym same) (given input)) (actual-outputs stands session items (keys input)) (ap ends_in_long_blank same ∙ short) fits in
+    let read = written entries (subst AreWellFormed (sym same) given) (actual-outputs stands session items keys) (ap ends_in_long_blank same ∙ short) fits in
     let again = (script_of (rewritten_text entries)).items in
     ap (λ fault. (checked_entries (answered_entries session again) fault).outcome) read.0
     ∙ ap (λ b. Ok (check_status b)) (clean-items session items entries again refl read.1)
+
+pub rewritten-clean : WrittenScript → ItemsAreWellFormed → ItemsHaveKeys → ActualIsValid → RewrittenClean
+rewritten-clean written given keys stands input history floor short fits = written-clean written stands history floor (script_of input).items (given input) (keys input) short fits

@@ -133,7 +133,7 @@ fn separator(output: PlanOutput) -> &'static [u8]
     ensures { result.now ≡ separator output }
 {
     match output {
-        PlanOutput::Steps | PlanOutput::Table => b"\n",
+        PlanOutput::Steps | PlanOutput::Script | PlanOutput::Table => b"\n",
         PlanOutput::Json => b"",
     }
 }

@@ -14,23 +14,21 @@
 //! first script, so their outputs are those of one session that runs both scripts. The mode is own.
 //!
 //! If there is no step, the second script is a comment: `# nothing to do`, or `# no plan: ` and the reason.
-ghost use Rattle.std.specs.Prelude.{◌≡◌, ◌≤◌, ◌||◌, ℕ, List, [], ◌∷◌, Option, Ok, IfOk, IfErr, OnOk, OnErr, IsOkUnless};
+ghost use Rattle.std.specs.Prelude.{◌≡◌, ◌≤◌, ◌||◌, ℕ, List, [], Option, IfOk, IfErr, OnOk, OnErr, IsOkUnless};
 ghost use Rattle.dd_file.specs.RewriterState.{Continues, BreaksOff};
 ghost use Rattle.conf_tool.specs.Outputs.{undone_script, undo_status};
-ghost use Rattle.conf_tool.specs.Reports.{session_after, answered_text};
+ghost use Rattle.conf_tool.specs.Reports.{answered_text};
 ghost use Rattle.conf_tool.specs.Run.{IsAnswerFault, is_write_failure};
 ghost use Rattle.conf_session.specs.Undo.{undo_plan_of};
-ghost use Rattle.conf_tool.specs.UndoScript as spec;
 ghost use Rattle.conf_tool.specs.UndoScript.{undo_items};
 ghost use Rattle.conf_tool.specs.declared.tool_fault.ToolFault.TheVariants.{NoMemory as OutOfMemory};
 
 use super::part_by_part::PartByPart;
-use super::rewrite::{rewrite_item, run_item};
+use super::rewrite::run_item;
+use super::step_items::{write_comment, write_steps};
 use crate::options::Options;
 use crate::status::Status;
 use crate::tool_fault::ToolFault;
-use crate::undo_script::{comment, step_directive};
-use conf_plan::Plan;
 use conf_session::{Session, UndoFault, undo_fault_text};
 use dd_file::device::Sink;
 use dd_file::fault::FileFault;
@@ -79,79 +77,30 @@ impl Undoing {
     {
         match self.session.undo_plan(self.steps) {
             Ok(plan) => {
-                self.write_plan(&plan, writer)?;
+                write_steps(
+                    self.alloc,
+                    &mut self.session,
+                    &mut self.rewriter,
+                    plan.as_slice(),
+                    writer,
+                )?;
                 Ok(Status::Clean)
             }
             Err(fault) => match fault {
                 UndoFault::NoMemory => Err(ToolFault::NoMemory),
                 _ => {
                     let text = undo_fault_text(self.alloc, fault)?;
-                    self.write_comment(text.as_slice(), writer)?;
+                    write_comment(
+                        self.alloc,
+                        &mut self.session,
+                        &mut self.rewriter,
+                        text.as_slice(),
+                        writer,
+                    )?;
                     Ok(Status::Different)
                 }
             },
         }
-    }
-
-    /// Runs and writes the steps of a plan, each as a directive, or writes the comment `# nothing to do`.
-    fn write_plan<W: Sink>(&mut self, plan: &Plan, writer: &mut W) -> Result<(), ToolFault>
-        requires { self.old.rewriter.stage ≡ Stage.Ready }
-        ensures written { OnOk result (Continues self.old.rewriter.newlines self.new.rewriter.newlines (W.contents writer.old) (W.contents writer.new)
-            (answered_text self.old.session (undo_items (Ok plan.now)))) }
-        ensures part { OnErr result (BreaksOff self.old.rewriter.newlines (W.contents writer.old) (W.contents writer.new)
-            (answered_text self.old.session (undo_items (Ok plan.now)))) }
-        ensures stage { OnOk result (self.new.rewriter.stage ≡ Stage.Ready) }
-        ensures write { W.has_failed writer.new ≡ (W.has_failed writer.old || is_write_failure result) }
-        ensures kinds { IfErr result IsAnswerFault }
-    {
-        if plan.len() == 0 {
-            return self.write_comment(b"nothing to do", writer);
-        }
-        for index in 0..plan.len() {
-            if let Some(step) = plan.step(index) {
-                let directive = step_directive(self.alloc, step)?;
-                self.write_item(directive, writer)?;
-            }
-        }
-        Ok(())
-    }
-
-    /// Writes a comment: `# ` and this text.
-    fn write_comment<W: Sink>(&mut self, text: &[u8], writer: &mut W) -> Result<(), ToolFault>
-        requires { self.old.rewriter.stage ≡ Stage.Ready }
-        ensures written { OnOk result (Continues self.old.rewriter.newlines self.new.rewriter.newlines (W.contents writer.old) (W.contents writer.new)
-            (answered_text self.old.session (spec.comment text.now ∷ []))) }
-        ensures part { OnErr result (BreaksOff self.old.rewriter.newlines (W.contents writer.old) (W.contents writer.new)
-            (answered_text self.old.session (spec.comment text.now ∷ []))) }
-        ensures stage { OnOk result (self.new.rewriter.stage ≡ Stage.Ready) }
-        ensures write { W.has_failed writer.new ≡ (W.has_failed writer.old || is_write_failure result) }
-        ensures kinds { IfErr result IsAnswerFault }
-    {
-        let item = comment(self.alloc, text)?;
-        self.write_item(item, writer)
-    }
-
-    /// Runs an item of the second script, and writes it with its actual output.
-    fn write_item<W: Sink>(&mut self, item: Item, writer: &mut W) -> Result<(), ToolFault>
-        requires { self.old.rewriter.stage ≡ Stage.Ready }
-        ensures session { OnOk result (self.new.session ≡ session_after self.old.session item) }
-        ensures written { OnOk result (Continues self.old.rewriter.newlines self.new.rewriter.newlines (W.contents writer.old) (W.contents writer.new)
-            (answered_text self.old.session (item ∷ []))) }
-        ensures part { OnErr result (BreaksOff self.old.rewriter.newlines (W.contents writer.old) (W.contents writer.new)
-            (answered_text self.old.session (item ∷ []))) }
-        ensures stage { OnOk result (self.new.rewriter.stage ≡ Stage.Ready) }
-        ensures write { W.has_failed writer.new ≡ (W.has_failed writer.old || is_write_failure result) }
-        ensures kinds { IfErr result IsAnswerFault }
-    {
-        let written = rewrite_item(
-            self.alloc,
-            &mut self.session,
-            &mut self.rewriter,
-            &item,
-            writer,
-        );
-        drop(item);
-        written
     }
 }
 

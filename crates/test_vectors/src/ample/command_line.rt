@@ -173,7 +173,7 @@ fn accepts_arguments_of_undo(rt: HostRuntime) {
 }
 
 // Arguments of `plan`, and their strategy, output and ids that are down.
-static PLANNING: [(&[&str], Strategy, PlanOutput, Option<&[u64]>); 9] = [
+static PLANNING: [(&[&str], Strategy, PlanOutput, Option<&[u64]>); 10] = [
     (
         &["confscript", "plan"],
         Strategy::Shortest,
@@ -202,6 +202,12 @@ static PLANNING: [(&[&str], Strategy, PlanOutput, Option<&[u64]>); 9] = [
         &["confscript", "plan", "--output", "steps"],
         Strategy::Shortest,
         PlanOutput::Steps,
+        None,
+    ),
+    (
+        &["confscript", "plan", "--output", "script"],
+        Strategy::Shortest,
+        PlanOutput::Script,
         None,
     ),
     (

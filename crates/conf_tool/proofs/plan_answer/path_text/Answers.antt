@@ -1,5 +1,5 @@
-use Rattle.std.proofs.Common.{◌≡◌, ◌∙◌, ◌++◌, refl, sym, ap}
-use Rattle.std.specs.Prelude.{Option, Some, None, option_map}
+use Rattle.std.proofs.Common.{◌≡◌, ◌∙◌, ◌++◌, refl, sym, ap, subst}
+use Rattle.std.specs.Prelude.{Option, Some, None, option_map, IfOk}
 use Rattle.quorum_sets.specs.Ids.{Ids}
 use Rattle.conf_plan.specs.PlanText.{plan_text}
 use Rattle.plan_output.specs.Json.{json_text}
@@ -12,6 +12,11 @@ use Rattle.conf_tool.proofs.plan_answer.path_text.Goals.{in-Steps+in_ok-print_pa
 same-ids : (down : Option Ids) → option_map (λ set. set) down ≡ down
 same-ids None = refl
 same-ids (Some set) = refl
+
+pub returns-in-Script : goal.returns-in-Script
+returns-in-Script c =
+    let options = c.args.options.now in
+    subst (λ output. IfOk c.script_text.result (λ text. text.items ≡ text_as output c.args.number options.down c.args.now.now c.args.path.now)) (sym c.in-Script.is) c.script_text.ensures
 
 pub returns : goal.returns
 returns c =
