@@ -1,6 +1,6 @@
 //! The modes of the program, over a reader and a writer that do not allocate.
 ghost use Rattle.std.specs.Prelude.{IfOk};
-ghost use Rattle.dd_file.specs.Gathered.{NothingWaits};
+ghost use Rattle.dd_file.specs.Gathered.{NothingBuffered};
 ghost use Rattle.conf_tool.specs.Ranges.{IsInRange};
 
 use crate::matching::Matching;
@@ -363,7 +363,7 @@ pub(crate) fn run_and_flush_command<R: Source, W: Sink>(
     reader: &mut R,
     writer: &mut Blocks<W>,
 ) -> Result<Status, ToolFault>
-    requires { NothingWaits writer.old }
+    requires { NothingBuffered writer.old }
 {
     let options = options_of(alloc, command)?;
     run_and_flush(alloc, mode_of(command), options, reader, writer)
@@ -408,7 +408,7 @@ fn options_of_plan(rt: HostRuntime) {
 }
 
 fn blocks_for(alloc: Global, output: &'static [u8]) -> Result<Blocks<ToWrite<Matching>>, AllocError>
-    ensures { IfOk result (λ blocks. NothingWaits blocks) }
+    ensures { IfOk result (λ blocks. NothingBuffered blocks) }
 {
     twice!(_, Blocks::new(alloc, ToWrite::new(Matching::with(output))))
 }
@@ -419,7 +419,7 @@ fn outcome_over(
     case: Case,
     mut blocks: Blocks<ToWrite<Matching>>,
 ) -> (Result<Status, ToolFault>, Matching)
-    requires { NothingWaits blocks }
+    requires { NothingBuffered blocks }
 {
     let (command, input, _, _) = case;
     let outcome = run_and_flush_command(alloc, command, &mut FromRead::new(input), &mut blocks);
@@ -428,7 +428,7 @@ fn outcome_over(
 
 // Whether a run over blocks ends as expected and writes its output, or on `NoMemory` a prefix of it.
 fn ends_over(alloc: Global, case: Case, blocks: Blocks<ToWrite<Matching>>) -> bool
-    requires { NothingWaits blocks }
+    requires { NothingBuffered blocks }
 {
     let (result, writer) = outcome_over(alloc, case, blocks);
     if result == Err(ToolFault::NoMemory) {
