@@ -58,7 +58,7 @@ of four dashes, lines of expected output, and an empty line:
 Changes stand on the lines below the command, not after it on its line. Without
 the line of dashes the next directive is read as input. A blank line ends the
 expected output, unless the output stands between two pairs of lines of dashes.
-A directive line that ends in a backslash goes on in the next line. A line that
+A directive line that ends in a backslash continues on the next. A line that
 begins with # is a comment.
 
 Commands that read changes (see confscript help lines), none or more of them:
@@ -137,9 +137,9 @@ it prints
 /// The help of `plan`.
 pub(crate) const PLAN: &str =
     "Reads pairs of lines, the current configuration and the target, each as the
-command conf-state prints it. Prints for each pair the steps that lead from the
-one to the other, with an empty line between two pairs. Blank lines and lines
-that begin with # are passed over.
+command conf-state prints it, or as the JSON of a raftpb.ConfState. Prints for
+each pair the steps that lead from the one to the other, with an empty line
+between two pairs. Blank lines and lines that begin with # are skipped.
 
 Strategies:
   shortest        at most four steps. No other plan has fewer, keeps the
