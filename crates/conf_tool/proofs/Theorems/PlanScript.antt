@@ -8,14 +8,14 @@ use Rattle.conf_change.specs.ConfState.{lists_of}
 use Rattle.conf_change.specs.ConfStateLine.{conf_state_text}
 use Rattle.conf_change.specs.declared.floor.Floor.TheVariants.{One}
 use Rattle.conf_change.specs.declared.step.Step.{Step}
-use Rattle.conf_session.proofs.Offered.{and-both, reply_line-bytes}
+use Rattle.conf_session.proofs.Offered.{and-both, conf_state-in_lines, reply_line-bytes}
 use Rattle.conf_tool.specs.Laws.{PlanScriptClean}
 use Rattle.conf_tool.specs.PlanScript.{restore_command, restore_directive, script_items, usual_session, script_text}
 use Rattle.conf_tool.proofs.Theorems.JoinedScript.{bytes-line, undo-given, undo-keys, undo-short}
 use Rattle.conf_tool.proofs.Theorems.RewrittenScript.{ActualIsValid, written-clean}
 
 restore-line : (c : Configuration) → is_line (conf_state_text (lists_of c)) ≡ true
-restore-line c = bytes-line (conf_state_text (lists_of c)) (reply_line-bytes (conf_state_text (lists_of c)) ?)
+restore-line c = bytes-line (conf_state_text (lists_of c)) (reply_line-bytes (conf_state_text (lists_of c)) (conf_state-in_lines (lists_of c)))
 
 restore-given : DirectiveIsWellFormed → (c : Configuration) → IsWellFormed (restore_directive c)
 unfolding restore_directive
