@@ -10,13 +10,13 @@ use Rattle.quorum_sets.proofs.Offered.{has-ids_of, has-ascending, has-same_ids}
 use Rattle.conf_change.specs.Configuration.{Configuration, is_member, members}
 use Rattle.conf_change.specs.declared.step.Step.{Step}
 use Rattle.conf_change.proofs.Offered.{any-members}
-use Rattle.plan_output.specs.Stages.{StageState, configuration_after, stages_after, stages}
+use Rattle.plan_output.specs.Stages.{StageState, configuration_after_step, stages_after, stages}
 use Rattle.plan_output.specs.Table.{row, rows_of, step_name, step_names, stage_names, ids_on_the_way}
 
 -- ---- as many names and stages as steps, and one more
 length-stages_after : (before : Configuration) (steps : List Step) → length (stages_after before steps) ≡ length steps
 length-stages_after before [] = refl
-length-stages_after before (step ∷ steps) = ap suc (length-stages_after (configuration_after before step) steps)
+length-stages_after before (step ∷ steps) = ap suc (length-stages_after (configuration_after_step before step) steps)
 
 pub length-stages : (now : Configuration) (steps : List Step) → length (stages now steps) ≡ length steps + 1
 length-stages now steps = omega (arith, length-stages_after now steps)

@@ -31,17 +31,17 @@ abbrev pub first_stage : Configuration → StageState
 first_stage now = record { config = now; catching_up = no_ids }
 
 -- the configuration after a step; a step that is refused changes nothing
-abbrev pub configuration_after : Configuration → Step → Configuration
-configuration_after before step = result_unwrap_or (outcome before step) before
+abbrev pub configuration_after_step : Configuration → Step → Configuration
+configuration_after_step before step = result_unwrap_or (outcome before step) before
 
 -- the stage that a step leads to
 abbrev pub stage_after : Configuration → Step → StageState
-stage_after before step = record { config = configuration_after before step; catching_up = catching_up before step (configuration_after before step) }
+stage_after before step = record { config = configuration_after_step before step; catching_up = catching_up before step (configuration_after_step before step) }
 
 -- the stages after each of the steps, in order
 abbrev pub stages_after : Configuration → List Step → List StageState
 stages_after before [] = []
-stages_after before (step ∷ steps) = stage_after before step ∷ stages_after (configuration_after before step) steps
+stages_after before (step ∷ steps) = stage_after before step ∷ stages_after (configuration_after_step before step) steps
 
 -- the stages of a path: one more than it has steps
 abbrev pub stages : Configuration → List Step → List StageState

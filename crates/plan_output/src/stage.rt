@@ -13,7 +13,7 @@ ghost use Rattle.quorum_sets.specs.Ids.{no_ids};
 ghost use Rattle.quorum_sets.specs.Tolerance.{IsMostDown};
 ghost use Rattle.conf_change.specs.Configuration.{voters_of, is_restorable};
 ghost use Rattle.plan_output.specs.Stages as spec;
-ghost use Rattle.plan_output.specs.Stages.{StageState, first_stage, configuration_after, stage_after};
+ghost use Rattle.plan_output.specs.Stages.{StageState, first_stage, configuration_after_step, stage_after};
 
 use conf_change::{Changer, Config, Refused, Step, conf_state};
 use conf_plan::{Path, catching_up};
@@ -138,7 +138,7 @@ fn next_stage<S: MemberSet>(
     step: &Step,
 ) -> Result<Stage<S>, NoMemory>
     ensures stage { IfOk result (λ stage. stage ≡ stage_after changer.old.tracker.config step.now) }
-    ensures moved { OnOk result (changer.new.tracker.config ≡ configuration_after changer.old.tracker.config step.now) }
+    ensures moved { OnOk result (changer.new.tracker.config ≡ configuration_after_step changer.old.tracker.config step.now) }
 {
     let before = changer.tracker().config().try_clone()?;
     if changer.step(step) == Err(Refused::NoMemory) {

@@ -3,7 +3,7 @@ use Rattle.quorum_sets.proofs.Offered.{slice_get-not_past, take-one_more}
 use Rattle.conf_change.specs.ChangerState.{ChangerState}
 use Rattle.conf_plan.specs.Planned.{configuration_after}
 use Rattle.plan_output.specs.Stages as spec
-use Rattle.plan_output.specs.Stages.{StageState, first_stage, configuration_after, stage_after}
+use Rattle.plan_output.specs.Stages.{StageState, first_stage, configuration_after_step, stage_after}
 use Rattle.plan_output.proofs.StagesOnTheWay.{configuration_after-push, stages_after-push}
 use Rattle.plan_output.proofs.stage.stages.Goals as goal
 use Rattle.plan_output.proofs.stage.stages.Goals.{in-Some+in_ok-next_stage+in_ok-push-2, in_default}
@@ -20,7 +20,7 @@ loop-index-preserved g c =
           record {
             config =
                 ap (λ (s : ChangerState). s.tracker.config) w.changer-is ∙ w.in_ok-next_stage.ensures.moved
-                ∙ ap (λ before. configuration_after before step) c.loop-index.invariant.config
+                ∙ ap (λ before. configuration_after_step before step) c.loop-index.invariant.config
                 ∙ sym (configuration_after-push now so_far step) ∙ sym (ap (configuration_after now) longer);
             stages =
                 ap (λ v. v.items) w.stages-is ∙ w.in_ok-push-2.ensures.items
