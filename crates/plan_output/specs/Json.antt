@@ -28,7 +28,7 @@ abbrev pub step_keys : ℕ → ℕ → ℕ → StageState → Step → StageStat
 step_keys plan count number_of before step after =
     member (codes "conf_change") (conf_change_json (transition_of step) (proposed_changes before.config step))
     (member (codes "conf_state") (conf_state_json (lists_of after.config))
-    (member (codes "stage_may_be_down") (count_json (stage_may_be_down after))
+    (member (codes "may_be_down") (count_json (stage_may_be_down after))
     (member (codes "plan") (number (unsigned plan))
     (member (codes "step") (number (unsigned number_of))
     (member (codes "steps") (number (unsigned count))
