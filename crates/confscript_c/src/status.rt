@@ -1,8 +1,8 @@
 //! The statuses: that a call is done, or why it is refused. Their codes never change, since callers are compiled with
 //! them; a new status gets the next code.
-ghost use Rattle.std.specs.Prelude.{◌≡◌, Ok};
+ghost use Rattle.std.specs.Prelude.{◌≡◌, Ok, length};
 ghost use Rattle.confscript_c.specs.Status.{code_of, status_text, text_of_code};
-ghost use Rattle.confscript_c.specs.Written.{WritesText};
+ghost use Rattle.confscript_c.specs.Written.{answer_to, buffer_after};
 
 use crate::answer::Answer;
 use crate::buffer::write_text;
@@ -99,10 +99,11 @@ impl Status {
 }
 
 /// Writes what the status of this code means, or `unknown status` for any other number. The number of the answer is the
-/// length of the text in bytes. It is refused if the buffer is too small (own).
+/// length of the text in bytes. It takes no memory, and is refused only if the buffer is too small (own).
 #[unsafe(no_mangle)]
 pub extern "C" fn confscript_status_text(code: u32, out: &mut [u8]) -> Answer
-    ensures { WritesText (Ok (text_of_code code)) out.old result out.new }
+    ensures answer { result ≡ answer_to (Ok (text_of_code code)) (length out.old) }
+    ensures written { out.new ≡ buffer_after (Ok (text_of_code code)) out.old }
 {
     write_text(text_of_code(code).as_bytes(), out)
 }
