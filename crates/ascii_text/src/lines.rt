@@ -46,7 +46,7 @@ pub fn line_of(full_line: &[u8]) -> &[u8]
     without_end(without_end(full_line, b'\n'), b'\r')
 }
 
-/// Whether the bytes end in a newline. A line that is read in parts goes on until they do.
+/// Whether the bytes end in a newline. A line that is read in parts ends with the first that does.
 pub fn is_whole(bytes: &[u8]) -> bool
     ensures { result ≡ is_whole bytes.now }
 {

@@ -97,7 +97,7 @@ abbrev pub left_in : Result (Unit {0}) Refused → ChangerState → Result Chang
 left_in (Ok _) after = Ok after
 left_in (Err why) after = Err why
 
--- The result of a call that takes a step in place: as GivesNext, and a refusal (or NoMemory) changes nothing.
+-- The result of a call that takes a step and overwrites the changer: as GivesNext, and a refusal (or NoMemory) changes nothing.
 pub record Makes (before : ChangerState) (step : Step) (result : Result (Unit {0}) Refused) (after : ChangerState) : Type 0 where
   pub accepted : OnOk result (Accepts before step after)
   pub refused : IfErr result (Refuses before step)

@@ -82,7 +82,7 @@ auto_leave_in text =
 -- a function applied to a value, if there is one, as `do` does it
 infixl 10 ◌>>=◌
 abbrev pub ◌>>=◌ : {A B : Type 0} → Option A → (A → Option B) → Option B
-found >>= more = option_and_then more found
+first >>= more = option_and_then more first
 
 -- the ConfState of a trimmed line
 abbrev pub line_in : List ℕ → Option ConfStateLists

@@ -77,7 +77,7 @@ pub fn valid_configuration<S: MemberSet>(
     }
 }
 
-// The fault of a ConfState that names an id twice in a list.
+// The error of a ConfState that names an id twice in a list.
 fn listed_twice(alloc: Global, state: &ConfState) -> ConfigurationFault
     requires { described state.now ≡ None }
     ensures { (result ≡ ConfigurationFault.NoMemory) ⊎ (valid_of state.now ≡ Err result) }

@@ -1,6 +1,6 @@
 //! Configurations of a Raft cluster and how they change: etcd's package `confchange`, with the progress of each member.
 //!
-//! A configuration says who votes and who learns. Adding or removing one voter at a time is safe, since each majority
+//! A configuration is who votes and who learns. Adding or removing one voter at a time is safe, since each majority
 //! before such a change shares a member with each majority after it: this is a simple change. Every other change of the
 //! voters goes through a joint configuration, in which the incoming and the outgoing voters both have to agree
 //! (sections 4.1 and 4.3 of Ongaro's dissertation):
@@ -9,7 +9,7 @@
 //! (1 2 3)        --enter-joint v4 r1-->  (2 3 4)&&(1 2 3)  --leave-joint-->  (2 3 4)
 //! ```
 //!
-//! A voter that is to become a learner goes on voting among the outgoing voters until the joint configuration is left.
+//! A voter that is to become a learner keeps voting among the outgoing voters until the joint configuration is left.
 //! Till then it is a next learner:
 //!
 //! ```text

@@ -25,8 +25,8 @@ pub(crate) fn step_over<S: MemberSet>(set: &S, position: &mut usize, id: u64) ->
     ensures stays { result ≡ false → position.new ≡ position.old }
 {
     if *position < set.len() {
-        if let Some(found) = set.at(*position) {
-            if found == id {
+        if let Some(member) = set.at(*position) {
+            if member == id {
                 *position += 1;
                 return true;
             }

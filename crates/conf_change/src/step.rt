@@ -9,7 +9,7 @@ use crate::change::{Change, Changes};
 /// auto-leave), or leaving it (Ongaro's dissertation, sections 4.1 and 4.3).
 #[derive(Debug, PartialEq, Drop)]
 pub enum Step {
-    /// At most one voter changes, and any number of learners: `v4 l5 l6`, say.
+    /// At most one voter changes, and any number of learners, as in `v4 l5 l6`.
     Simple(Changes),
     /// Enters a joint configuration, with auto-leave or not, by these changes, which may alter any voters.
     EnterJoint(bool, Changes),

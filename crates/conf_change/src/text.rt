@@ -113,8 +113,8 @@ fn append_labelled(text: &mut Vec<u8>, label: &[u8], number: u64) -> Result<(), 
     Ok(())
 }
 
-/// Appends the message of a refusal, without a newline, as etcd's `confchange` package has it: `removed all voters`,
-/// say.
+/// Appends the message of a refusal, without a newline, as etcd's `confchange` package has it, as in
+/// `removed all voters`.
 pub fn write_refused(text: &mut Vec<u8>, refused: Refused) -> Result<(), NoMemory>
     requires { refused ≢ Refused.NoMemory }
     ensures ok { OnOk result (text.new.items ≡ text.old.items ++ refused_text refused) }

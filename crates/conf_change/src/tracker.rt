@@ -348,7 +348,7 @@ impl<S: MemberSet> Tracker<S> {
         ensures { result ≡ finite.get self.now.progress id }
     {
         match self.members.as_slice().get(*position).copied() {
-            Some((found, progress)) if found == id => {
+            Some((member, progress)) if member == id => {
                 *position = position.saturating_add(1);
                 Some(progress)
             }

@@ -1,4 +1,4 @@
-//! Which step etcd takes for a list of changes. A `raftpb.ConfChangeV2` has a transition and a list, and says no more:
+//! Which step etcd takes for a list of changes. A `raftpb.ConfChangeV2` has a transition and a list, and nothing else:
 //!
 //! ```text
 //!            no change       one change      more changes

@@ -1,4 +1,4 @@
--- What a path promises to a cluster that goes on serving while it takes the steps (own; section 4.2.1 of Ongaro's
+-- What a path promises to a cluster that keeps serving while it takes the steps (own; section 4.2.1 of Ongaro's
 -- dissertation describes how a cluster stalls).
 use Rattle.std.specs.Prelude.{◌≡◌, ℕ, ◌+◌, ◌≤◌, true, false, not, ◌||◌, IsTrue, List, length, ⊤}
 use Rattle.quorum_sets.specs.Ids.{Ids, no_ids, has, ids_where}

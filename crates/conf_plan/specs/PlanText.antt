@@ -51,8 +51,8 @@ is_newline byte = byte == 10
 -- texts without the last one, if that is empty
 abbrev pub without_empty_end : List (List ℕ) → List (List ℕ)
 without_empty_end [] = []
-without_empty_end (piece ∷ []) = filter has_bytes (piece ∷ [])
-without_empty_end (piece ∷ next ∷ pieces) = piece ∷ without_empty_end (next ∷ pieces)
+without_empty_end (part ∷ []) = filter has_bytes (part ∷ [])
+without_empty_end (part ∷ next ∷ parts) = part ∷ without_empty_end (next ∷ parts)
 
 -- The lines of a text: it is split at each newline, and what follows the last newline is a line if it is not empty. The
 -- empty text is one blank line.
@@ -104,7 +104,7 @@ pub record IsTooLong (text : List ℕ) : Type 0 where
   pub four : length before ≡ 4
   pub parsed : AllZip IsLineOf before steps
 
--- the text is not parsed as a plan, for this reason; running out of memory is never the text's fault
+-- the text is not parsed as a plan, for this reason; running out of memory is not a reason of the text
 abbrev pub HasFault : List ℕ → PlanTextFault → Type 0
 HasFault text (BadLine number) = IsFirstBadLine text number
 HasFault text TooManySteps = IsTooLong text

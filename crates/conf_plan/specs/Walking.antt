@@ -18,9 +18,9 @@ pub record IsEarliest (a b first : Option ℕ) : Type 0 where
   pub either : (first ≡ a) ⊎ (first ≡ b)
 
 -- the index after the id if the id is at the index, and the same index otherwise
-pub record IsPassed (ids : Ids) (index id : ℕ) (found : Bool) (next : ℕ) : Type 0 where
-  pub here : (found ≡ true) ↔ (slice_get (ascending ids) index ≡ Some id)
-  pub after : next ≡ index + (if found then 1 else 0)
+pub record IsPassed (ids : Ids) (index id : ℕ) (is_here : Bool) (next : ℕ) : Type 0 where
+  pub here : (is_here ≡ true) ↔ (slice_get (ascending ids) index ≡ Some id)
+  pub after : next ≡ index + (if is_here then 1 else 0)
 
 -- a walk over the ids is at the index, this id is next, and indexes are numbers of 64 bits
 pub record IsStanding (ids : Ids) (index : ℕ) (next : Option ℕ) : Type 0 where

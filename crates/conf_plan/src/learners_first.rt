@@ -1,5 +1,5 @@
 //! The path on which new voters are learners first (Ongaro's dissertation, section 4.2.1). A learner gets the log and
-//! does not vote, so the cluster goes on by its old voters while the learner catches up:
+//! does not vote, so the cluster keeps serving by its old voters while the learner catches up:
 //!
 //! ```text
 //! (1 2 3)                     --simple l4 l5-->

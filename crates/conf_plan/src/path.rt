@@ -37,14 +37,8 @@ impl Path {
 
     /// The steps in the order in which they are taken.
     pub fn as_slice(&self) -> &[Step]
-        ensures { result.now ≡ self.now }
-    {
-        self.steps.as_slice()
-    }
-
-    // The steps in order, whose ids have 64 bits, so that they are read back if they are printed.
-    pub(crate) fn printable(&self) -> &[Step]
         ensures steps { result.now ≡ self.now }
+        // The ids have 64 bits, so printed steps are read back.
         ensures token_ids { All HasTokenIds self.now }
     {
         self.steps.as_slice()

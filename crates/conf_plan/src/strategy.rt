@@ -10,7 +10,7 @@ use quorum_sets::{MemberSet, NoMemory};
 use std::alloc::Global;
 use thiserror::Error;
 
-/// How a path is chosen: what matters more, few steps or that the cluster goes on serving on the way.
+/// How a path is chosen: what matters more, few steps or that the cluster keeps serving on the way.
 #[derive(Clone, Copy, Debug, PartialEq, Eq)]
 pub enum Strategy {
     /// As few steps as possible: the path is the plan.

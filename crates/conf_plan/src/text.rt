@@ -80,7 +80,7 @@ pub fn print_path(text: &mut Vec<u8>, path: &Path) -> Result<(), NoMemory>
     ensures reads_back { length path.now ≤ 4 → plan_in (plan_text path.now) ≡ Ok path.now }
     ensures err { OnErr result (text.new.items ≡ text.old.items) }
 {
-    print_steps(text, path.printable())
+    print_steps(text, path.as_slice())
 }
 
 // Appends the lines of these steps, or nothing if memory runs out.

@@ -10,7 +10,7 @@ use Rattle.std.proofs.lemmas.List.Elements.{All-push, Contains-append_left, Cont
 use Rattle.std.proofs.lemmas.List.Folds.{list_any_at, Any-from_list_any}
 use Rattle.std.proofs.lemmas.List.Sorted.{Contains-permutation, All-permutation}
 use Rattle.std.proofs.lemmas.Option.{slice_get-get_or, slice_get_within, get_or_from_slice_get}
-use Rattle.conf_session.proofs.RankedRows.{rows-first, rows-partitioned}
+use Rattle.quorum_sets.proofs.Offered.{rows-first, rows-partitioned}
 use Rattle.conf_session.specs.IdIndex.{IsAbsent, IsFirstIndex, HasRows, IsIndex}
 
 pub index-partitioned : (ids : List ℕ) (rows : List (ℕ × ℕ)) (id : ℕ) → IsIndex ids rows → IsPartitionedBy (λ r. nat_lt r.0 id) rows

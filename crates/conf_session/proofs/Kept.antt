@@ -118,7 +118,7 @@ led-drop now (c ∷ kept) zero older led e =
     let Leading : Configuration → Type 0 = λ o. LedTo o kept in subst Leading same led.2
 led-drop now (c ∷ kept) (suc place) older led e = led-drop c kept place older led.2 e
 
--- an effect that a command may have on a session
+-- an update that a command may make to a session
 abbrev IsDue : SessionState → SessionChange → Type 0
 IsDue session Nothing = ⊤
 IsDue session (Acknowledged after) = IsSound after.tracker × (after.tracker.config ≡ current session)
@@ -126,7 +126,7 @@ IsDue session (Stepped after) = (step : Step) × Accepts session.changer step af
 IsDue session (Restored after) = IsSound after.tracker
 IsDue session (Undone after count) = (1 ≤ count) × IsSound after.tracker × (slice_get session.kept (count - 1) ≡ Some after.tracker.config)
 
-due-stays : ChangeLaws → (session : SessionState) (effect : SessionChange) → IsSession session → IsDue session effect → IsSession (after_directive session effect)
+due-stays : ChangeLaws → (session : SessionState) (update : SessionChange) → IsSession session → IsDue session update → IsSession (after_directive session update)
 due-stays laws session Nothing is due = record { sound = is.sound; few = is.few; led = is.led }
 due-stays laws session (Acknowledged after) is due =
     let Leading : Configuration → Type 0 = λ c. LedTo c session.kept in
@@ -150,16 +150,16 @@ due-stays laws session (Undone after count) is due =
       led = subst Leading same (led-drop (current session) session.kept (count - 1) after.tracker.config is.led due.2);
     }
 
--- ---- each command has such an effect
-step-due : ChangeLaws → (session : SessionState) (step : Step) (made : Result ChangerState Refused) → changer_after session.changer step ≡ made → IsDue session (after_step made).effect
+-- ---- each command makes such an update
+step-due : ChangeLaws → (session : SessionState) (step : Step) (made : Result ChangerState Refused) → changer_after session.changer step ≡ made → IsDue session (after_step made).update
 step-due laws session step (Ok after) e = (step, (laws.accepted session.changer after step).1 e)
 step-due laws session step (Err refused) e = tt
 
-restored-due : ChangeLaws → (session : SessionState) (saved : ConfStateLists) (actual : Option Configuration) → restored saved ≡ actual → IsDue session (after_restored session.changer actual).effect
+restored-due : ChangeLaws → (session : SessionState) (saved : ConfStateLists) (actual : Option Configuration) → restored saved ≡ actual → IsDue session (after_restored session.changer actual).update
 restored-due laws session saved None e = tt
 restored-due laws session saved (Some c) e = laws.begun session.changer.tracker.floor session.changer.last_index c (((laws.described saved c).0 e).1)
 
-ack-due : ChangeLaws → (session : SessionState) (id index : ℕ) (made : Result Progress AckFault) → IsSession session → ack_answer session.changer.tracker id index ≡ made → IsDue session (after_ack session.changer id made).effect
+ack-due : ChangeLaws → (session : SessionState) (id index : ℕ) (made : Result Progress AckFault) → IsSession session → ack_answer session.changer.tracker id index ≡ made → IsDue session (after_ack session.changer id made).update
 ack-due laws session id index (Ok p) is e = (laws.acknowledged session.changer id index p is.sound e, refl)
 ack-due laws session id index (Err NotMember) is e = tt
 ack-due laws session id index (Err IndexTooLarge) is e = tt
@@ -190,26 +190,26 @@ Arrives-planned plans session count older is some e voter =
     }
 
 voter-due : ChangeLaws → PlanLaws → (session : SessionState) (count : ℕ) (older : Configuration) (voter : Bool) → IsSession session → 1 ≤ count → slice_get session.kept (count - 1) ≡ Some older → has_voter older ≡ voter →
-    IsDue session (after_planned session count (plan_back session (Some older))).effect
+    IsDue session (after_planned session count (plan_back session (Some older))).update
 voter-due laws plans session count older true is some e voter =
     let steps = planned (current session) older in
     let arrives = Arrives-planned plans session count older is some e voter in
     let sound = taken-sound laws session.changer steps (undone_changer session steps) ((plans.taken session.changer (undone_changer session steps) steps).1 arrives.taken) is.sound in
-    let Due : Bool → Type 0 = λ b. IsDue session (after_planned session count (cond b (Ok (planned (current session) older)) (Err NoVoterTarget))).effect in
+    let Due : Bool → Type 0 = λ b. IsDue session (after_planned session count (cond b (Ok (planned (current session) older)) (Err NoVoterTarget))).update in
     subst Due (sym voter) (some, sound, e ∙ ap Some (sym arrives.there))
 voter-due laws plans session count older false is some e voter =
-    let Due : Bool → Type 0 = λ b. IsDue session (after_planned session count (cond b (Ok (planned (current session) older)) (Err NoVoterTarget))).effect in
+    let Due : Bool → Type 0 = λ b. IsDue session (after_planned session count (cond b (Ok (planned (current session) older)) (Err NoVoterTarget))).update in
     subst Due (sym voter) tt
 
 planned-due : ChangeLaws → PlanLaws → (session : SessionState) (count : ℕ) (actual : Option Configuration) → IsSession session → 1 ≤ count → slice_get session.kept (count - 1) ≡ actual →
-    IsDue session (after_planned session count (plan_back session actual)).effect
+    IsDue session (after_planned session count (plan_back session actual)).update
 planned-due laws plans session count None is some e = tt
 planned-due laws plans session count (Some older) is some e = voter-due laws plans session count older (has_voter older) is some e refl
 
-undo-due : ChangeLaws → PlanLaws → (session : SessionState) (count : ℕ) → IsSession session → 1 ≤ count → IsDue session (undo_last session count).effect
+undo-due : ChangeLaws → PlanLaws → (session : SessionState) (count : ℕ) → IsSession session → 1 ≤ count → IsDue session (undo_last session count).update
 undo-due laws plans session count is some = planned-due laws plans session count (slice_get session.kept (count - 1)) is some refl
 
-command-due : ChangeLaws → PlanLaws → (command : Command) (session : SessionState) (input : Input) (values : Values) → IsSession session → 1 ≤ values.steps → IsDue session (reply_of command session input values).effect
+command-due : ChangeLaws → PlanLaws → (command : Command) (session : SessionState) (input : Input) (values : Values) → IsSession session → 1 ≤ values.steps → IsDue session (reply_of command session input values).update
 command-due laws plans Simple session input values is some = step-due laws session (SimpleStep input.changes) _ refl
 command-due laws plans EnterJoint session input values is some = step-due laws session (EnterStep values.auto_leave input.changes) _ refl
 command-due laws plans LeaveJoint session input values is some = step-due laws session LeaveStep _ refl
@@ -223,11 +223,11 @@ command-due laws plans Committed session input values is some = tt
 command-due laws plans Vote session input values is some = tt
 command-due laws plans Unknown session input values is some = tt
 
-if_read-due : {V : Type 0} (session : SessionState) (reply : V → Reply) (read : Result V (List ℕ)) → ((v : V) → read ≡ Ok v → IsDue session (reply v).effect) → IsDue session (if_read reply read).effect
+if_read-due : {V : Type 0} (session : SessionState) (reply : V → Reply) (read : Result V (List ℕ)) → ((v : V) → read ≡ Ok v → IsDue session (reply v).update) → IsDue session (if_read reply read).update
 if_read-due session reply (Ok v) h = h v refl
 if_read-due session reply (Err actual) h = tt
 
-row-due : ChangeLaws → PlanLaws → (row : Row) (session : SessionState) (text : List ℕ) (arguments : List ArgumentText) → IsSession session → IsDue session (reply_by row session text arguments).effect
+row-due : ChangeLaws → PlanLaws → (row : Row) (session : SessionState) (text : List ℕ) (arguments : List ArgumentText) → IsSession session → IsDue session (reply_by row session text arguments).update
 row-due laws plans row session text arguments is =
     if_read-due session _ (read_input row.input text) (λ input _. if_read-due session _ (read_arguments row.parameters arguments)
     (λ values e. command-due laws plans row.command session input values is (steps-some row.parameters arguments values e)))

@@ -8,7 +8,6 @@ mod InputLines
 mod SameAnswer
 mod Kept
 mod EachOnce
-mod RankedRows
 mod IndexRows
 mod QuorumValues
 mod ReadValues

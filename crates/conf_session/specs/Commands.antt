@@ -126,9 +126,9 @@ pub record Answer : Type 0 where
   pub actual : List ℕ
   pub session : SessionState
 
--- the answer with a reply: the session after its effect
+-- the answer with a reply: the session after its update
 abbrev pub answered : SessionState → Reply → Answer
-answered session reply = record { actual = reply.actual; session = after_directive session reply.effect }
+answered session reply = record { actual = reply.actual; session = after_directive session reply.update }
 
 -- The answer to a directive. A refused one changes only the last index.
 abbrev pub answer : SessionState → DirectiveText → Answer

@@ -61,9 +61,9 @@ index_after index = min (index + 1) (2 ^ 64 - 1)
 
 -- the session after a directive that changes it so; the last index also rises
 abbrev pub after_directive : SessionState → SessionChange → SessionState
-after_directive session effect =
-    let left = changer_afterwards session effect in
-    record { changer = with_last_index left (index_after left.last_index); history = session.history; kept = kept_afterwards session effect }
+after_directive session update =
+    let left = changer_afterwards session update in
+    record { changer = with_last_index left (index_after left.last_index); history = session.history; kept = kept_afterwards session update }
 
 -- ---- what holds of every session
 -- one accepted step leads from the one configuration to the other

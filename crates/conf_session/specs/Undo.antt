@@ -33,7 +33,7 @@ undone_changer session steps = unwrap_or (after_steps session.changer steps) ses
 
 -- the reply: the text of the plan and of the changer after it; the configurations before the undone changes are no longer kept
 abbrev pub undone_by : ChangerState → ℕ → List Step → Reply
-undone_by after count steps = record { actual = plan_text steps ++ tracker_text after.tracker; effect = Undone after count }
+undone_by after count steps = record { actual = plan_text steps ++ tracker_text after.tracker; update = Undone after count }
 
 -- the reply to `undo` whose plan has these steps
 abbrev pub undone : SessionState → ℕ → List Step → Reply

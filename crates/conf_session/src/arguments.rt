@@ -29,7 +29,7 @@ pub(crate) fn missing_argument<'a>(
         && !has_key(arguments, parameter.key()))
 }
 
-/// Whether one of the arguments has the key. It also finds repeated arguments.
+/// Whether one of the arguments has the key. This also detects repeated arguments.
 pub(crate) fn has_key(arguments: &[Argument], key: &[u8]) -> bool
     ensures { result ≡ spec.has_key arguments.now key.now }
 {

@@ -1,6 +1,6 @@
 //! The commands of a script. Each is a row of a table: its name, the kind of its input, and its parameters. A directive's
-//! input is read first, then its arguments, and then the command is run. So errors of input and arguments are found here,
-//! in one place, and a command gets values. It does not change the session: its effect is part of the reply.
+//! input is read first, then its arguments, and then the command is run. So errors of input and arguments are reported
+//! here, in one place, and a command gets values. It does not change the session: the update is part of its reply.
 ghost use Rattle.std.specs.Prelude.{◌≡◌, ◌≤◌, option_map, IfOk};
 ghost use Rattle.conf_session.specs.Reply.{reply_in};
 ghost use Rattle.conf_session.specs.ReplyLines.{IsValidOutput};
@@ -27,7 +27,7 @@ use quorum_sets::NoMemory;
 use std::alloc::Global;
 
 /// The command of a directive. The changes are those of etcd's package `confchange`; `ConfChange` makes the one of them that
-/// etcd's `ConfChangeV2` stands for.
+/// etcd's `ConfChangeV2` denotes.
 #[derive(Clone, Copy)]
 pub(crate) enum Command {
     Simple,

@@ -6,7 +6,7 @@ use quorum_sets::NoMemory;
 use std::alloc::Global;
 use std::marker::Model;
 
-/// A list of ids in which an id is found by binary search.
+/// A list of ids, and a binary search in it.
 #[derive(Drop)]
 pub(crate) struct IdIndex {
     ids: Vec<u64>,
@@ -54,7 +54,7 @@ impl IdIndex {
         let rows = self.rows.as_slice();
         let start = rows.partition_point(|row| row.0 < id);
         match rows.get(start) {
-            Some((found, index)) if *found == id => Some(*index),
+            Some((row_id, index)) if *row_id == id => Some(*index),
             _ => None,
         }
     }

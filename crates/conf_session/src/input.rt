@@ -114,7 +114,7 @@ fn read_no_change(
     Ok(read)
 }
 
-// Reads a ConfState line. Whether it describes a configuration is for `restore` to say.
+// Reads a ConfState line. `restore` checks whether it describes a configuration.
 fn read_saved(
     alloc: Global,
     saved: &mut ConfState,

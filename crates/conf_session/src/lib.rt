@@ -29,7 +29,6 @@
 mod arguments;
 mod buffers;
 mod commands;
-mod effect;
 mod history;
 mod id_index;
 mod input;
@@ -40,6 +39,7 @@ mod reply;
 mod reply_texts;
 pub mod session;
 pub mod session_ids;
+mod session_update;
 mod state;
 pub mod undo_fault;
 mod values;

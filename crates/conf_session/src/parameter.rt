@@ -176,7 +176,7 @@ impl Listed for Option<bool> {
     }
 }
 
-// Whether the value is `_`, which etcd's tests write for what is not known.
+// Whether the value is `_`, which etcd's tests write for an unknown value.
 fn is_unknown(value: &[u8]) -> bool
     ensures { result ≡ spec.is_unknown value.now }
 {

@@ -115,8 +115,8 @@ impl Session {
         self.state.is_session();
         answer_keeps_session();
         let reply = run_directive(self.alloc, &self.state, &mut self.buffers, directive)?;
-        let (actual, effect) = reply.into_parts();
-        self.state.apply(effect, &mut self.buffers.next);
+        let (actual, update) = reply.into_parts();
+        self.state.apply(update, &mut self.buffers.next);
         Ok(actual)
     }
 }

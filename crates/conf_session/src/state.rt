@@ -8,10 +8,10 @@ ghost use Rattle.conf_session.specs.Reply.{session_change};
 ghost use Rattle.conf_session.specs.Undo.{undo_plan_of};
 ghost use Rattle.conf_session.specs.declared.undo_fault.UndoFault.{UndoFault as WhyNot};
 
-use crate::effect::Effect;
 use crate::history::History;
 use crate::laws::kept_lead_to_now;
 use crate::session_ids::SessionIds;
+use crate::session_update::SessionUpdate;
 use crate::undo_fault::UndoFault;
 use conf_change::{Changer, Config, Floor};
 use conf_plan::{Plan, PlanFault, plan};
@@ -112,26 +112,26 @@ impl State {
         }
     }
 
-    /// Applies the effect of a directive, then counts the directive in the last index. A replaced changer is left in `next`, to
+    /// Applies the update of a directive, then counts the directive in the last index. A replaced changer is left in `next`, to
     /// be overwritten; only its configuration is taken out of it, if it is kept.
-    pub(crate) fn apply(&mut self, effect: Effect, next: &mut Changer<SessionIds>)
-        requires { IsSession (after_directive self.old (session_change self.old.changer next.old effect)) }
-        ensures { self.new ≡ after_directive self.old (session_change self.old.changer next.old effect) }
+    pub(crate) fn apply(&mut self, update: SessionUpdate, next: &mut Changer<SessionIds>)
+        requires { IsSession (after_directive self.old (session_change self.old.changer next.old update)) }
+        ensures { self.new ≡ after_directive self.old (session_change self.old.changer next.old update) }
     {
-        match effect {
-            Effect::Nothing => {}
-            Effect::Acknowledged(id, index) => {
+        match update {
+            SessionUpdate::Nothing => {}
+            SessionUpdate::Acknowledged(id, index) => {
                 let _ = self.changer.ack(id, index);
             }
-            Effect::Stepped => {
+            SessionUpdate::Stepped => {
                 swap(&mut self.changer, next);
                 self.history.keep(next.take_config());
             }
-            Effect::Restored => {
+            SessionUpdate::Restored => {
                 swap(&mut self.changer, next);
                 self.history.clear();
             }
-            Effect::Undone(count) => {
+            SessionUpdate::Undone(count) => {
                 swap(&mut self.changer, next);
                 self.history.forget(count);
             }

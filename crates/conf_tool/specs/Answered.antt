@@ -1,5 +1,5 @@
 -- What has been written of the output after some parts of the input, and what is left of it. Each mode has a function
--- for what is left, by its state; the proof of a run goes from part to part by it.
+-- for what is left, by its state; the proof of a run is by it, part after part.
 use Rattle.std.specs.Prelude.{◌≡◌, ◌≤◌, ℕ, ◌+◌, ◌||◌, true, List, [], ◌∷◌, ◌++◌, flat_map, count_by, nat_lt, length, Option, Some, None, Result, Ok, Err, IfSome}
 use Rattle.std.specs.List.{list_any}
 use Rattle.std.specs.Io.KnownBytes.{Appends, Keeps}

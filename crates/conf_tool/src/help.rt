@@ -9,11 +9,11 @@ pub(crate) const PROGRAM: &str = "Examples:
 
 Exit statuses:
   0  done
-  1  check found a difference, or undo or plan has no plan, or a plan stalls
+  1  check reports a difference, or undo or plan has no plan, or a plan stalls
   2  the arguments or the input are wrong
   3  a file, a read or a write failed, or memory ran out
 
-'confscript help MODE' says what a mode reads and what it prints.";
+'confscript help MODE' describes what a mode reads and prints.";
 
 /// The help of `lines`.
 pub(crate) const LINES: &str =

@@ -94,10 +94,10 @@ fn append_marked(text: &mut Vec<u8>, sign: u8, bytes: &[u8]) -> Result<(), NoMem
     ensures { OnOk result (text.new.items ≡ text.old.items ++ marked (sign ∷ 32 ∷ []) bytes.now) }
 {
     let mut rest = bytes;
-    while let Some((full_line, behind)) = next_full_line(rest) {
+    while let Some((full_line, suffix)) = next_full_line(rest) {
         text.extend_from_slice(&[sign, b' '])?;
         append_line(text, full_line)?;
-        rest = behind;
+        rest = suffix;
     }
     Ok(())
 }

@@ -47,7 +47,7 @@ pub fn run<R: Source, W: Sink>(
 
     // What is written is the output, or a prefix of it, for each input that agrees with what was read.
     ensures output { Answers (output_of mode options) (R.remaining reader.old) (R.remaining reader.new) (W.contents writer.old) (W.contents writer.new) result }
-    ensures taken { LosesPrefix (R.remaining reader.old) (R.remaining reader.new) }
+    ensures consumed { LosesPrefix (R.remaining reader.old) (R.remaining reader.new) }
 
     // The reader has failed exactly if it had failed before or `Read` is returned, and likewise the writer and `Write`.
     // Other errors and statuses are only those of the mode.
@@ -108,7 +108,7 @@ pub fn run_and_flush<R: Source, W: Sink>(
 
     // Nothing is left in the buffer, unless the writer has failed.
     ensures flushed { W.has_failed (buffered_writer writer.new) ≡ false → NothingBuffered writer.new }
-    ensures taken { LosesPrefix (R.remaining reader.old) (R.remaining reader.new) }
+    ensures consumed { LosesPrefix (R.remaining reader.old) (R.remaining reader.new) }
 
     // A failed read and `NoMemory` take precedence over a failed write.
     ensures read { R.has_failed reader.new ≡ (R.has_failed reader.old || is_read_failure result) }

@@ -1,4 +1,4 @@
--- What the lines that a call is given denote. A line has a number, counted from 1, which the answer names if it is
+-- What the lines of a call denote. A line has a number, counted from 1, which the answer names if it is
 -- wrong.
 use Rattle.std.specs.Prelude.{ℕ, List, Option, Some, None, Result, Ok, Err}
 use Rattle.conf_change.specs.Configuration.{Configuration}

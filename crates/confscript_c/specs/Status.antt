@@ -32,7 +32,7 @@ code_of NoQuorum = 23
 code_of BadStrategy = 24
 code_of JointTarget = 25
 
--- what a status means, in words; that of a refused step is what the program prints
+-- what a status means; the text of a refused step is what the program prints
 abbrev pub status_text : Status → List ℕ
 status_text Done = codes "done"
 status_text TooSmall = codes "the buffer is too small"

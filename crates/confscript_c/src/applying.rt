@@ -26,7 +26,7 @@ use std::alloc::Global;
 
 /// Takes the steps of a plan, at most four, from the configuration of a ConfState line, and writes the line of the
 /// result. The number is its length in bytes. It is refused if the line names no valid configuration, if the plan has a
-/// bad line or a fifth one, or if a step is refused; the number then says which (etcd's `confchange`).
+/// bad line or a fifth one, or if a step is refused; the number is then that of the line or the step (etcd's `confchange`).
 #[unsafe(no_mangle)]
 pub extern "C" fn confscript_apply(
     alloc: Global,
@@ -42,7 +42,7 @@ pub extern "C" fn confscript_apply(
     }
 }
 
-// The line of the configuration after all steps, or the answer that says why there is none.
+// The line of the configuration after all steps, or the answer with the reason why there is none.
 fn line_after(alloc: Global, state: &[u8], plan: &[u8]) -> Result<Vec<u8>, Answer>
     ensures line { IfOk result (λ line. apply_result state.now plan.now ≡ Ok line.items) }
     ensures refused { IfErr result (λ why. (why ≡ no_memory) ⊎ (apply_result state.now plan.now ≡ Err why)) }
@@ -90,7 +90,7 @@ fn take(changer: &mut Changer<InlineIds>, plan: &Plan) -> Result<(), Answer>
     }
 }
 
-// The answer that says why a step is refused; the number is that of the step, counted from 1.
+// The answer for a refused step, whose number is counted from 1.
 fn refusal(refused: Refused, number: u64) -> Answer
     ensures { result ≡ refusal_answer refused number }
 {

@@ -1,5 +1,5 @@
-//! Reading the lines that a call is given. A caller sees no error type, so an error becomes a status, and the number
-//! says which line is meant: 1 or 2.
+//! Reads the lines of a call. A caller in C sees no error type, so an error becomes a status with the number of the
+//! line: 1 or 2.
 ghost use Rattle.std.specs.Prelude.{◌≡◌, ◌⊎◌, true, Ok, Err, IfOk, IfErr};
 ghost use Rattle.conf_change.specs.Configuration.{is_valid, has_voter};
 ghost use Rattle.conf_change.specs.ConfStateLine.{conf_state_in};
@@ -44,7 +44,7 @@ pub(crate) fn configuration_at(
     }
 }
 
-// The answer that says what is wrong with a line.
+// The answer for a line with an error.
 fn fault_answer(number: u64, fault: ConfigurationFault) -> Answer
     ensures { result ≡ fault_answer number fault }
 {

@@ -11,7 +11,7 @@
 //! ```
 //!
 //! If the buffer is too small, nothing is written and the number is the length of the text, so that the caller can call
-//! again with a larger one. If memory runs out, the status says so and nothing is written either.
+//! again with a larger one. If memory runs out, that is the status, and nothing is written either.
 //!
 //! ```text
 //! confscript_plan         two lines, a strategy        the steps from the first to the second
@@ -22,7 +22,7 @@
 //! confscript_may_be_down  voters, ids with no log      how many ids may be down
 //! ```
 //!
-//! The rules are those of the crates below, which say where they come from. The form of the calls is own.
+//! The rules are those of the crates below, which name their sources. The form of the calls is own.
 #![tactic(auto)]
 
 mod answer;

@@ -7,8 +7,8 @@ ghost use Rattle.confscript_c.specs.Written.{answer_to, buffer_after};
 use crate::answer::Answer;
 use crate::buffer::write_text;
 
-/// The statuses with their codes, which `enum confscript_status` names. The number of an answer is 0 unless it is said
-/// here (own; those of refused steps and broken invariants are etcd's).
+/// The statuses with their codes, which `enum confscript_status` names. The number of an answer is 0 unless
+/// documented otherwise (own; those of refused steps and broken invariants are etcd's).
 #[derive(Clone, Copy)]
 pub enum Status {
     /// The call did its work. The number is its result.
@@ -17,13 +17,13 @@ pub enum Status {
     TooSmall = 1,
     /// Memory ran out.
     NoMemory = 2,
-    /// A line is not a ConfState line. The number says which: 1 or 2.
+    /// A line is not a ConfState line. The number is that of the line: 1 or 2.
     BadConfState = 3,
     /// An id is listed twice.
     RepeatedId = 4,
-    /// A line names no valid configuration. The number says which: 1 or 2.
+    /// A line names no valid configuration. The number is that of the line: 1 or 2.
     NotAConfiguration = 5,
-    /// A configuration has no incoming voter. The number says which: 1 or 2.
+    /// A configuration has no incoming voter. The number is that of its line: 1 or 2.
     NoVoter = 6,
     /// A line of a plan is not a step. The number is that of the line, from 1.
     BadLine = 7,
@@ -63,7 +63,7 @@ impl Status {
         self as u32
     }
 
-    /// What the status means, in words. That of a refused step is etcd's message.
+    /// What the status means. The text of a refused step is etcd's message.
     pub fn text(self) -> &'static str
         ensures { result.now ≡ status_text self }
     {

@@ -3,7 +3,7 @@
 use Rattle.std.specs.Prelude.{◌≡◌, ◌≤◌, ◌<◌, ◌+◌, ℕ, Bool, true, false, ◌||◌, ◌⊎◌, List, [], ◌++◌, length, Option, Some, None, Result, Ok, Err, ⊤, IfOk, IfSome, IfErr, OnOk}
 use Rattle.std.specs.Io.KnownBytes.{IsAtEnd}
 use Rattle.dd_file.specs.Position.{Position, longest_input, longest_lookahead}
-use Rattle.dd_file.specs.Grammar.{Next, Over, Found, Faulty}
+use Rattle.dd_file.specs.Grammar.{Next, Over, Parsed, Faulty}
 use Rattle.dd_file.specs.ReaderState.{ReaderState, IsOver}
 use Rattle.dd_file.specs.Device.{LosesPrefix}
 use Rattle.dd_file.specs.declared.fault.FileFault.{FileFault}
@@ -12,10 +12,10 @@ use Rattle.dd_file.specs.declared.fault.FileFault.TheVariants.{Read, NoMemory, B
 -- The input, from the position of a state on, agrees with the bytes that a call read: it is the buffered bytes, then
 -- the bytes that the call read, and then more; that is empty if the end was reached or the reader has no bytes left.
 pub record AgreesWith (state : ReaderState) (before after input more : List ℕ) : Type 0 where
-  pub given : List ℕ
-  pub consumed : before ≡ given ++ after
-  pub whole : input ≡ (state.buffered ++ given) ++ more
-  pub met : state.is_ended ≡ true → given ++ more ≡ []
+  pub bytes_read : List ℕ
+  pub consumed : before ≡ bytes_read ++ after
+  pub whole : input ≡ (state.buffered ++ bytes_read) ++ more
+  pub met : state.is_ended ≡ true → bytes_read ++ more ≡ []
   pub last : after ≡ [] → more ≡ []
 
 -- the input agrees with a reader whose bytes are known; no input agrees with other readers
@@ -27,7 +27,7 @@ Agrees state None after input more = ⊥
 -- what comes next according to the result of a call; after an item come the buffered bytes, and then more
 abbrev pub next_in_answer : {X A : Type 0} → (X → A) → ReaderState → List ℕ → Result (Option X) FileFault → Next A
 next_in_answer view new more (Ok None) = Over
-next_in_answer view new more (Ok (Some found)) = Found (view found) new.position (new.buffered ++ more)
+next_in_answer view new more (Ok (Some value)) = Parsed (view value) new.position (new.buffered ++ more)
 next_in_answer view new more (Err fault) = Faulty fault
 
 -- reading was interrupted by a failed read, or because memory ran out, so the result does not depend on the input alone
@@ -42,7 +42,7 @@ IsNextOfInput view next old new before after result =
 
 -- whether the result is that a read failed
 abbrev pub is_read_fault : {X : Type 0} → Result X FileFault → Bool
-is_read_fault (Ok found) = false
+is_read_fault (Ok value) = false
 is_read_fault (Err Read) = true
 is_read_fault (Err NoMemory) = false
 is_read_fault (Err (BadDirective line)) = false
@@ -52,7 +52,7 @@ is_read_fault (Err (InputTooLong line)) = false
 
 -- the error of a result, if it is one
 abbrev pub fault_of : {X : Type 0} → Result X FileFault → Option FileFault
-fault_of (Ok found) = None
+fault_of (Ok value) = None
 fault_of (Err fault) = Some fault
 
 -- the errors that reading lines from this position on may have, with their lines
@@ -76,7 +76,7 @@ IsItemFault position (UnclosedDouble line) = line ≡ position.lines + 1
 -- A call that reads: known bytes of the reader lose a prefix, the end is reported only if the reader has none left, and
 -- once the end was reached the reader is not called again.
 pub record MovesOn {R : Type 0} (remaining : R → Option (List ℕ)) (old new : ReaderState) (before after : R) : Type 0 where
-  pub taken : LosesPrefix (remaining before) (remaining after)
+  pub consumed : LosesPrefix (remaining before) (remaining after)
   pub met : new.is_ended ≡ true → (old.is_ended ≡ true) ⊎ IsAtEnd (remaining after)
   pub stays : old.is_ended ≡ true → (after ≡ before) × (new.is_ended ≡ true)
 
@@ -88,7 +88,7 @@ pub record ReadsOn {R X A : Type 0} (remaining : R → Option (List ℕ)) (has_f
   pub answers : old.fault ≡ None → IsNextOfInput view next old new (remaining before) (remaining after) result
   pub moves : MovesOn remaining old new before after
   -- each item has a line, and the lines are fewer than the bytes that an input may have
-  pub forward : IfOk result (λ found. IfSome found (λ _. old.position.lines < new.position.lines))
+  pub forward : IfOk result (λ value. IfSome value (λ _. old.position.lines < new.position.lines))
   pub counted : OnOk result (new.position.lines ≤ longest_input)
   -- the look-ahead is bounded
   pub lookahead : OnOk result (length new.buffered ≤ longest_lookahead)

@@ -4,8 +4,8 @@ use Rattle.std.specs.List.{list_any}
 use Rattle.ascii_text.specs.WhiteSpace.{trimmed}
 use Rattle.dd_file.specs.Parts.{suffix}
 use Rattle.dd_file.specs.DirectiveLine.{ArgumentText, is_closing, split_at_commas, with_key, values_of, parsed_argument}
-use Rattle.dd_file.specs.declared.values.Left.{Left}
-use Rattle.dd_file.specs.declared.values.Left.TheVariants.{Nothing, Plain, Listed}
+use Rattle.dd_file.specs.declared.values.RestKind.{RestKind}
+use Rattle.dd_file.specs.declared.values.RestKind.TheVariants.{Nothing, Plain, Listed}
 
 -- whether a token is a valid argument
 abbrev pub is_argument : List ℕ → Bool
@@ -30,7 +30,7 @@ abbrev pub ends_at_closing : List ℕ → Bool
 ends_at_closing inside = list_any is_closing inside && (length (suffix is_closing inside) == 0)
 
 -- the values that are left, by what the rest of the argument is
-abbrev pub values_left : Left → List ℕ → List (List ℕ)
+abbrev pub values_left : RestKind → List ℕ → List (List ℕ)
 values_left Nothing rest = []
 values_left Plain rest = rest ∷ []
 values_left Listed rest = map trimmed (split_at_commas rest)

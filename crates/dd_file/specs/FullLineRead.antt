@@ -10,9 +10,9 @@ use Rattle.dd_file.specs.declared.fault.FileFault.TheVariants.{Read, NoMemory, B
 -- A part of a line, or all of it, was read: it is the beginning of the buffered bytes and of those that the reader
 -- gave, and has no newline before its end. The rest is buffered.
 pub record PartRead (buffered rest : List ℕ) (before after : Option (List ℕ)) (part : List ℕ) : Type 0 where
-  pub given : List ℕ
-  pub consumed : Consumes before after given
-  pub whole : buffered ++ given ≡ part ++ rest
+  pub bytes_read : List ℕ
+  pub consumed : Consumes before after bytes_read
+  pub whole : buffered ++ bytes_read ≡ part ++ rest
   pub full_line : first_len part ≡ length part
 
 -- A line was read up to its newline, or up to the end of the input, within the limit.

@@ -13,7 +13,7 @@ use Rattle.dd_file.specs.declared.fault.FileFault.TheVariants.{InputTooLong}
 -- there on; or an error.
 pub data Next (A : Type 0) : Type 0 where
   Over : Next A
-  Found : A → Position → List ℕ → Next A
+  Parsed : A → Position → List ℕ → Next A
   Faulty : FileFault → Next A
 
 -- the input with these bytes from this position on exceeds the limit
@@ -28,8 +28,8 @@ full_lines_within limit position bytes =
 -- what comes next is this result, made of the first count full lines
 abbrev pub next_of_lines : {A : Type 0} → ℕ → A → Position → List ℕ → Next A
 next_of_lines count result position bytes =
-    let taken = length (concat (take count (full_lines bytes))) in
-    Found result (record { lines = position.lines + count; bytes = position.bytes + taken }) (drop taken bytes)
+    let consumed = length (concat (take count (full_lines bytes))) in
+    Parsed result (record { lines = position.lines + count; bytes = position.bytes + consumed }) (drop consumed bytes)
 
 -- what comes next if no item is complete: the error that the input is too long, or nothing
 abbrev pub at_end : {A : Type 0} → Bool → Position → Next A
@@ -73,7 +73,7 @@ with_first item script = record { items = item ∷ script.items; fault = script.
 -- what comes next, and then the rest of the script from there on
 abbrev pub followed : {A : Type 0} → (Position → List ℕ → Script A) → Next A → Script A
 followed rest Over = record { items = []; fault = None }
-followed rest (Found item position bytes) = with_first item (rest position bytes)
+followed rest (Parsed item position bytes) = with_first item (rest position bytes)
 followed rest (Faulty fault) = record { items = []; fault = Some fault }
 
 -- the first count items from a position on, or all if there are fewer

@@ -1,18 +1,18 @@
 -- Items or lines that several calls read, one after another.
 use Rattle.std.specs.Prelude.{◌≡◌, ℕ, ◌<◌, List, [], ◌∷◌, ◌++◌, length, Option}
 use Rattle.dd_file.specs.Position.{Position}
-use Rattle.dd_file.specs.Grammar.{Next, Found}
+use Rattle.dd_file.specs.Grammar.{Next, Parsed}
 use Rattle.dd_file.specs.ReaderState.{ReaderState}
 use Rattle.dd_file.specs.Answer.{Agrees, MovesOn}
 
 -- these items are the next ones, in order: they lead from one position and its bytes to a later one and its bytes
 abbrev pub ReadsTo : {A : Type 0} → (Position → List ℕ → Next A) → Position → List ℕ → List A → Position → List ℕ → Type 0
 ReadsTo next position bytes [] now rest = (now ≡ position) × (rest ≡ bytes)
-ReadsTo next position bytes (item ∷ items) now rest = (suffix : Position) × (left : List ℕ) × (next position bytes ≡ Found item suffix left) × ReadsTo next suffix left items now rest
+ReadsTo next position bytes (item ∷ items) now rest = (suffix : Position) × (left : List ℕ) × (next position bytes ≡ Parsed item suffix left) × ReadsTo next suffix left items now rest
 
 -- each item or line has at least one byte, so that reading an input ends
 abbrev pub TakesBytes : {A : Type 0} → (Position → List ℕ → Next A) → Type 0
-TakesBytes {A} next = (position suffix : Position) (bytes left : List ℕ) (item : A) → next position bytes ≡ Found item suffix left → length left < length bytes
+TakesBytes {A} next = (position suffix : Position) (bytes left : List ℕ) (item : A) → next position bytes ≡ Parsed item suffix left → length left < length bytes
 
 -- What calls have returned so far, from one state and reader to those after the calls: for each input that agrees with
 -- what was read, its next items in order.

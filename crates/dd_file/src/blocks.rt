@@ -1,7 +1,7 @@
 //! A buffered writer: small writes are gathered into a block, so that a program makes one system call for a block, not
 //! for each line.
 //!
-//! Of std's `BufWriter` no contract says what was written when a write fails. Here a failed write is the last one, and
+//! No contract of std's `BufWriter` states what was written when a write fails. Here a failed write is the last one, and
 //! what the writer got is a prefix of what was written to the blocks.
 ghost use Rattle.std.specs.Prelude.{◌≡◌, ◌≤◌, ◌<◌, ◌+◌, ◌++◌, ◌||◌, IsErr, is_err, OnOk, IfOk, true, [], length, vec_len, vec_capacity};
 ghost use Rattle.std.specs.Io.{WritesAtMost};
@@ -145,9 +145,9 @@ impl<W: Sink> Sink for Blocks<W> {
     }
 
     // Flushes the block, and then the writer, which may buffer bytes too.
-    fn write_on(&mut self) -> Result<(), DeviceFault> {
+    fn flush_all(&mut self) -> Result<(), DeviceFault> {
         self.flush_block()?;
-        self.writer.write_on()
+        self.writer.flush_all()
     }
 
     fn failed(&self) -> bool {

@@ -205,7 +205,7 @@ impl Draft {
         }
     }
 
-    /// The line after the closing pair of dashes has to be blank, and belongs to the item (datadriven wants it empty).
+    /// The line after the closing pair of dashes has to be blank, and belongs to the item (datadriven requires it to be empty).
     fn after_pair(&self, command: Command, line: &[u8]) -> DraftState
         requires fits { FitsIn (DraftState.Pair command) self.now }
         ensures { AddsIn (DraftState.Pair command) self.now (counted self.now result) line.now }
@@ -235,7 +235,7 @@ impl Draft {
     pub(crate) fn finish(self) -> Result<Option<Item>, FileFault>
         requires fits { Fits self }
         requires room { self.line + self.count < 2 ^ 62 }
-        ensures found { result ≡ result_of_first (first_item_of self []) }
+        ensures item { result ≡ result_of_first (first_item_of self []) }
         ensures kind { IfErr result (IsDraftFault self.line) }
     {
         let Draft {

@@ -1,6 +1,6 @@
 //! Laws of scripts that are rewritten or joined, and of what is read and written part by part.
 //!
-//! A law is a function whose contract is a theorem; it does nothing. The first ones say what a user relies on: a script
+//! A law is a function whose contract is a theorem; it does nothing. The first ones are what a user relies on: a script
 //! that was rewritten reads as the script that it was, with its actual outputs as the expected ones. The last ones put
 //! the contracts of two calls together, for crates that read and write in loops.
 ghost use Rattle.std.specs.Prelude.{◌≡◌};
@@ -65,7 +65,7 @@ pub fn joined_items()
 /// Two calls of a reader, one after the other, consume one prefix of the input. An input that agrees with both agrees
 /// with each in turn (own).
 pub fn read_in_turn()
-    ensures taken { ConsumedInTurn }
+    ensures consumed { ConsumedInTurn }
     ensures agrees { ReadInTurn }
 {}
 

@@ -49,7 +49,7 @@ impl Model for Reader {
 impl Reader {
     /// A reader at the beginning of its script. It fails only if memory runs out (own).
     pub fn new(alloc: Global) -> Result<Reader, FileFault>
-        ensures fresh { IfOk result (λ reading. reading ≡ fresh) }
+        ensures fresh { IfOk result (λ reader. reader ≡ fresh) }
         ensures memory { IsOkUnless result FileFault.NoMemory }
     {
         Ok(Reader {
@@ -74,9 +74,9 @@ impl Reader {
             return Ok(None);
         }
         let raw_lines = RawLines::over(self.alloc, &mut self.text_buffer);
-        let found = read_item(self.alloc, raw_lines, &mut self.lines, reader);
-        self.fault = fault_in(&found);
-        found
+        let answer = read_item(self.alloc, raw_lines, &mut self.lines, reader);
+        self.fault = fault_in(&answer);
+        answer
     }
 
     /// The next item if all its lines are buffered, so that nothing is read. `None`, and nothing changes, if no item
@@ -119,16 +119,16 @@ impl Reader {
     }
 }
 
-fn fault_in(found: &Result<Option<Item>, FileFault>) -> Option<FileFault>
-    ensures { result ≡ fault_of found.now }
+fn fault_in(answer: &Result<Option<Item>, FileFault>) -> Option<FileFault>
+    ensures { result ≡ fault_of answer.now }
 {
-    match found {
+    match answer {
         Ok(_) => None,
         Err(fault) => Some(*fault),
     }
 }
 
-/// Reads the lines of one item, and none after them. An error in reading a line becomes the error of the item.
+/// Reads the lines of one item, and none after them. A line that cannot be read becomes the error of the item.
 fn read_item<R: Source>(
     alloc: Global,
     raw_lines: RawLines,
@@ -176,19 +176,19 @@ fn buffered_item<R: Source>(
     let _ = reader;
     let mut draft = Draft::new(alloc, lines.count() + 1, raw_lines);
     let mut count = 0;
-    let mut taken = 0;
+    let mut consumed = 0;
     'buffered: loop {
-        let rest = &lines.buffered()[taken..];
+        let rest = &lines.buffered()[consumed..];
         let len = first_line_len(rest);
         let full_line = &rest[..len];
         if !is_whole(full_line) {
             return None;
         }
         count += 1;
-        taken += len;
+        consumed += len;
         match draft.add(line_of(full_line)) {
             Ok(true) => {
-                lines.pass(count, taken);
+                lines.pass(count, consumed);
                 return Some(draft.finish());
             }
             Ok(false) => {}

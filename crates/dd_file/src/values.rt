@@ -12,9 +12,9 @@ use ascii_text::white_space::{is_blank, trimmed};
 use std::marker::Model;
 
 /// What the rest of an argument is. The rest is empty after the last value of a list, and also before a last value that
-/// is empty: this tells them apart.
+/// is empty: the kind distinguishes the two.
 #[derive(Clone, Copy, Debug)]
-enum Left {
+enum RestKind {
     /// No value.
     Nothing,
     /// One plain value.
@@ -27,7 +27,7 @@ enum Left {
 #[derive(Drop)]
 pub struct Values<'a> {
     rest: &'a [u8],
-    left: Left,
+    kind: RestKind,
 }
 
 impl<'a> Model for Values<'a> {
@@ -36,7 +36,7 @@ impl<'a> Model for Values<'a> {
 
     ghost Value = { List (List ℕ) };
 
-    ghost view = { λ v. values_left v.left v.rest.now };
+    ghost view = { λ v. values_left v.kind v.rest.now };
 }
 
 impl<'a> Values<'a> {
@@ -48,42 +48,42 @@ impl<'a> Values<'a> {
         requires { has_values text.now ≡ true }
         ensures { result ≡ values_after text.now }
     {
-        let Some((_, said)) = text.split_first() else {
+        let Some((_, value)) = text.split_first() else {
             return Values {
                 rest: text,
-                left: Left::Nothing,
+                kind: RestKind::Nothing,
             };
         };
-        let Some((b'(', list)) = said.split_first() else {
+        let Some((b'(', list)) = value.split_first() else {
             return Values {
-                rest: said,
-                left: Left::Plain,
+                rest: value,
+                kind: RestKind::Plain,
             };
         };
         let rest = &list[..list.len() - 1];
-        let left = if is_blank(rest) {
-            Left::Nothing
+        let kind = if is_blank(rest) {
+            RestKind::Nothing
         } else {
-            Left::Listed
+            RestKind::Listed
         };
-        Values { rest, left }
+        Values { rest, kind }
     }
 
     /// The next value, without the white space around it; `None` at the end and from then on.
     pub fn next(&mut self) -> Option<&'a [u8]>
         ensures { MatchOption result ((self.old ≡ []) × (self.new ≡ [])) (λ value. self.old ≡ value.now ∷ self.new) }
     {
-        match self.left {
-            Left::Nothing => None,
-            Left::Plain => {
-                self.left = Left::Nothing;
+        match self.kind {
+            RestKind::Nothing => None,
+            RestKind::Plain => {
+                self.kind = RestKind::Nothing;
                 Some(self.rest)
             }
-            Left::Listed => {
+            RestKind::Listed => {
                 let (value, suffix) = self.rest.split_at(position_of(self.rest, b','));
                 match suffix.split_first() {
                     Some((_, rest)) => self.rest = rest,
-                    None => self.left = Left::Nothing,
+                    None => self.kind = RestKind::Nothing,
                 }
                 Some(trimmed(value))
             }

@@ -17,7 +17,7 @@ abbrev pub count_json : Option ℕ → Data
 count_json None = null
 count_json (Some count) = number (unsigned count)
 
--- the key that says whether the stage commits, before the other keys; only if ids are named that are down
+-- the key for whether the stage commits, before the other keys; only if ids are named that are down
 abbrev pub with_commits : Option Ids → StageState → Members → Members
 with_commits None stage others = others
 with_commits (Some down) stage others = member (codes "commits") (boolean (commits stage down)) others

@@ -108,6 +108,6 @@ stage_rows all steps down =
     let ids = ascending (ids_on_the_way all) in
     headings ids down ∷ rows_of ids down (stage_names steps) all
 
--- the table of a path; with ids that are down, its last column says what commits then
+-- the table of a path; with ids that are down, its last column is whether a stage commits then
 abbrev pub table_text : Configuration → List Step → Option Ids → List ℕ
 table_text now steps down = grid_text (stage_rows (stages now steps) steps down)

@@ -1,7 +1,7 @@
 //! The JSON lines of a path, for programs that embed etcd's raft.
 //!
 //! Each step is one object on one line, with its keys in ascending order. `conf_change` is what to propose to etcd, and
-//! the other keys say what the cluster endures after it. The step `simple v4` from `(1 2 3)` is this, here with line
+//! the other keys are what the cluster endures after it. The step `simple v4` from `(1 2 3)` is this, here with line
 //! breaks:
 //!
 //! ```text

@@ -26,7 +26,7 @@ use std::alloc::Global;
 
 /// Appends the table of a path: a row for the configuration with which it begins, and one for each step with the
 /// configuration after it. It shows who votes and learns there, the majority, how many may be down, who has to catch
-/// up, and how many may be down until then. With `down`, the last column says whether the configuration commits while
+/// up, and how many may be down until then. With `down`, the last column is whether the configuration commits while
 /// these ids are down. Each line ends with a newline. On `NoMemory` the text is unchanged (own).
 pub fn add_table<S: MemberSet>(
     alloc: Global,

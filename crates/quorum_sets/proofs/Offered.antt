@@ -7,4 +7,5 @@ pub use Rattle.quorum_sets.proofs.KeptSets.MapEntries.{from_entries-inserted}
 pub use Rattle.quorum_sets.proofs.KeptSets.AscendingList.{ascending-is_ascending, ascends-insert, ascends-push, ascends-remove, ascends-sorted, sorted-ascends}
 pub use Rattle.quorum_sets.proofs.ListPositions.{slice_get-not_past, slice_get-split, take-one_more}
 pub use Rattle.quorum_sets.proofs.Quorums.Overlap.{CommittedMeetsWon-from_neighbours, CommittedMeetsWon-from_neighbours_back, QuorumsMeet-from_neighbours, QuorumsMeet-from_neighbours_back}
+pub use Rattle.quorum_sets.proofs.Quorums.SortedRows.{rows-first, rows-partitioned}
 pub use Rattle.quorum_sets.proofs.Quorums.Tolerance.{Endures-from_counts, counted-all, counts-from_Endures, is_quorum-without}

@@ -3,6 +3,7 @@
 pub mod Counts
 pub mod MajorityPosition
 pub mod CommittedIndex
+pub mod SortedRows
 pub mod ChartBars
 pub mod VoteResults
 pub mod Overlap

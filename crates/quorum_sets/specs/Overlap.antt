@@ -50,7 +50,7 @@ pub record CommitsAndWins (one other : Voters) (acks : Acks) (votes : Votes) (in
 abbrev pub CommittedMeetsWon : Voters → Voters → Type 0
 CommittedMeetsWon one other = (acks : Acks) (votes : Votes) (index : ℕ) → CommitsAndWins one other acks votes index → (id : ℕ) × HasAcknowledgedAndVoted acks votes index id
 
--- quorums of before and after meet, and what is committed on one side meets every vote that is won on the other
+-- the quorums before and after meet, and what is committed on one side meets every vote that is won on the other
 pub record Overlap (before after : Voters) : Type 0 where
   pub quorums : QuorumsMeet before after
   pub quorums_back : QuorumsMeet after before

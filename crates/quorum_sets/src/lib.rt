@@ -11,7 +11,7 @@
 //!
 //! Both decisions of Raft need a quorum. The committed index is the greatest one that a quorum has acknowledged, and a
 //! vote is won once a quorum has granted it. Any two quorums of one configuration share an id, and so do quorums of
-//! neighbouring configurations ([`common_member`] finds it), so what one quorum has committed is known to a member of
+//! neighbouring configurations ([`common_member`] returns it), so what one quorum has committed is known to a member of
 //! the other.
 //!
 //! ```text

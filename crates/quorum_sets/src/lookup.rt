@@ -6,7 +6,7 @@ ghost use Rattle.quorum_sets.specs.Ids.{has, ascending, size};
 use crate::member_set::MemberSet;
 
 /// Whether the set has the id. The search begins at `position` and leaves it where it ended, so ascending ids are
-/// looked up in one pass over the set. The position is only a hint: an id below it is found too.
+/// looked up in one pass over the set. The position is only a hint: the result is right for an id below it too.
 #[inline(always)]
 pub fn has_next<S: MemberSet>(set: &S, position: &mut usize, id: u64) -> bool
     ensures { result ≡ has (S.ids set.now) id }
@@ -23,15 +23,15 @@ pub fn has_next<S: MemberSet>(set: &S, position: &mut usize, id: u64) -> bool
 // Advances the position to the first id from there on that is not below this one. Returns whether it is this one.
 #[inline(always)]
 fn seek<S: MemberSet>(set: &S, position: &mut usize, id: u64) -> bool
-    ensures found { result ≡ true → has (S.ids set.now) id ≡ true }
+    ensures member { result ≡ true → has (S.ids set.now) id ≡ true }
     ensures below { result ≡ false → (k : ℕ) → position.new ≤ k → k < size (S.ids set.now) → id < get_or (ascending (S.ids set.now)) k 0 }
 {
     let len = set.len();
     for at in *position..len {
-        if let Some(found) = set.at(at) {
-            if found >= id {
+        if let Some(candidate) = set.at(at) {
+            if candidate >= id {
                 *position = at;
-                return found == id;
+                return candidate == id;
             }
         }
     }

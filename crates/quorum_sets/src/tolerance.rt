@@ -1,4 +1,4 @@
-//! How many voters may be down. A cluster goes on as long as a majority is up, so of n voters n - (n/2 + 1) may be
+//! How many voters may be down. A cluster keeps serving as long as a majority is up, so of n voters n - (n/2 + 1) may be
 //! down: 1 of 3, 1 of 4, 2 of 5. In a joint configuration this is true of both sets.
 ghost use Rattle.std.specs.Prelude.{◌≡◌};
 ghost use Rattle.quorum_sets.specs.Voters.{pair};

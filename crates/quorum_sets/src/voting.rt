@@ -1,6 +1,7 @@
 //! The result of a vote, as etcd's package `quorum` counts it.
 //!
-//! A candidate wins once a majority has voted yes, and has lost once so many have voted no that no majority is left:
+//! A candidate wins once a majority has voted yes, and loses once those that have not voted no are less
+//! than a majority:
 //!
 //! ```text
 //! (1 2 3 4)   1 yes, 2 yes           pending
@@ -62,9 +63,9 @@ fn count_votes<S: MemberSet, V: VoteSource>(set: &S, votes: &V) -> Tally
     let mut possible_yes_votes = 0;
     for position in 0..set.len() {
         if let Some(id) = set.at(position) {
-            let said = votes.voted(id);
-            yes_votes += usize::from(said.unwrap_or(false));
-            possible_yes_votes += usize::from(said.unwrap_or(true));
+            let vote = votes.voted(id);
+            yes_votes += usize::from(vote.unwrap_or(false));
+            possible_yes_votes += usize::from(vote.unwrap_or(true));
         }
     }
     Tally {

@@ -17,7 +17,7 @@ use serde_json::{Map, Value, put};
 use std::alloc::Global;
 
 /// The `raftpb.ConfChangeV2` to propose for a step from a configuration, so that etcd's raft ends in the same
-/// configuration as the step (the module `laws` says for which steps). The transition of a simple step is Auto;
+/// configuration as the step (for which steps, the module `laws` states). The transition of a simple step is Auto;
 /// entering a joint configuration is JointImplicit with auto-leave, and JointExplicit without it. If either has no
 /// change, an update of the least incoming voter is proposed, since on an empty list etcd leaves the joint
 /// configuration.

@@ -104,10 +104,10 @@ fn is_key(key: &str) -> bool
 }
 
 // Reads a boolean, false if it is missing or null.
-fn flag_in(found: Option<&Value>) -> Option<bool>
-    ensures { result ≡ spec.boolean_in (option_map (λ v. view v.now) found.entry) }
+fn flag_in(value: Option<&Value>) -> Option<bool>
+    ensures { result ≡ spec.boolean_in (option_map (λ v. view v.now) value.entry) }
 {
-    match found {
+    match value {
         None | Some(Value::Null) => Some(false),
         Some(Value::Bool(flag)) => Some(*flag),
         Some(_) => None,

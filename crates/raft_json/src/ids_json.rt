@@ -9,11 +9,11 @@ use serde_json::Value;
 use std::alloc::Global;
 
 /// Reads the ids at a key; none if it is missing or null.
-pub(crate) fn ids_in(alloc: Global, found: Option<&Value>) -> Result<Vec<u64>, JsonFault>
-    ensures ok { IfOk result (λ ids. spec.ids_in (option_map (λ v. view v.now) found.entry) ≡ Some ids.items) }
-    ensures bad { result ≡ Err JsonFault.BadJson → spec.ids_in (option_map (λ v. view v.now) found.entry) ≡ None }
+pub(crate) fn ids_in(alloc: Global, value: Option<&Value>) -> Result<Vec<u64>, JsonFault>
+    ensures ok { IfOk result (λ ids. spec.ids_in (option_map (λ v. view v.now) value.entry) ≡ Some ids.items) }
+    ensures bad { result ≡ Err JsonFault.BadJson → spec.ids_in (option_map (λ v. view v.now) value.entry) ≡ None }
 {
-    match found {
+    match value {
         None | Some(Value::Null) => Ok(Vec::new(alloc)),
         Some(Value::Array(items)) => ids_from(alloc, items),
         Some(_) => Err(JsonFault::BadJson),

@@ -247,7 +247,7 @@ fn is_changed<S: MemberSet>(
     row: &Row,
     changes: &[Change],
 ) -> bool {
-    let (call, _, found) = row;
+    let (call, _, expected) = row;
     let mut answer = make(changer, *call, changes);
     let mut stays = true;
     if answer == Err(Refused::NoMemory) {
@@ -255,7 +255,7 @@ fn is_changed<S: MemberSet>(
         answer = make(changer, *call, changes);
     }
     stays
-        & match (answer, found) {
+        & match (answer, expected) {
             (Ok(()), Ok(shown)) => is_shown(alloc, changer, *shown),
             (Err(fault), Err(refused)) => (fault == *refused) & is_same(changer, copy),
             _ => false,

@@ -106,7 +106,7 @@ fn is_saved<S: MemberSet>(alloc: Global, config: &Config<S>, state: &ConfState) 
 // Whether a saved form describes a configuration.
 fn is_described<S: MemberSet>(alloc: Global, state: &ConfState, config: &Config<S>) -> bool {
     match twice!(RestoreFault::NoMemory, described::<S>(alloc, state)) {
-        Ok(found) => found.same(config),
+        Ok(actual) => actual.same(config),
         Err(_) => false,
     }
 }

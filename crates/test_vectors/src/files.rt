@@ -32,7 +32,7 @@ static ITEMS: [(&[u8], &[u8]); 5] = [
 // The next item: a buffered one, or one that is read.
 fn next_item<R: Source>(reader: &mut Reader, source: &mut R) -> Result<Option<Item>, FileFault> {
     match reader.next_buffered(source) {
-        Some(found) => found,
+        Some(answer) => answer,
         None => reader.next(source),
     }
 }
@@ -40,7 +40,7 @@ fn next_item<R: Source>(reader: &mut Reader, source: &mut R) -> Result<Option<It
 // The next line: a buffered one, or one that is read.
 fn next_line<R: Source>(lines: &mut Lines, source: &mut R) -> Result<Option<Line>, FileFault> {
     match lines.next_buffered(source) {
-        Some(found) => found,
+        Some(answer) => answer,
         None => lines.next(source),
     }
 }
@@ -51,12 +51,12 @@ fn is_written(item: &Item, is_double: bool, text: &'static [u8]) -> bool {
     let mut rewriter = Rewriter::new();
     let mut is_kept = rewriter.keep(&mut writer, item).is_ok();
     if let Item::Directive(_) = item {
-        let found = if is_double {
+        let written = if is_double {
             rewriter.found(&mut writer, b"a\n\n")
         } else {
             rewriter.found_without_blanks(&mut writer, b"a\n")
         };
-        is_kept &= found.is_ok();
+        is_kept &= written.is_ok();
     }
     is_kept & rewriter.end(&mut writer).is_ok() & writer.into_inner().is_whole()
 }

@@ -97,7 +97,7 @@ fn read_json(alloc: Global, json: &[u8]) -> Result<ConfState, JsonFault> {
 
 fn is_read(alloc: Global, json: &str, line: &str) -> bool {
     match (read_json(alloc, json.as_bytes()), read(alloc, line)) {
-        (Ok(found), Ok(state)) => found == state,
+        (Ok(actual), Ok(state)) => actual == state,
         _ => false,
     }
 }

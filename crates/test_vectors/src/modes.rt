@@ -24,7 +24,7 @@ const ANSWERS: &[u8] = b"voters=(1)\n\
     removed all voters\n";
 
 // A script that checks clean, without its last newline and with it, and the script without its expected output.
-const CUT: &[u8] = b"simple\nv1\n----\nvoters=(1)\n1: StateProbe match=0 next=1";
+const UNFINISHED: &[u8] = b"simple\nv1\n----\nvoters=(1)\n1: StateProbe match=0 next=1";
 
 const WHOLE: &[u8] = b"simple\nv1\n----\nvoters=(1)\n1: StateProbe match=0 next=1\n";
 
@@ -205,9 +205,9 @@ const DIFFERENT: Result<Status, ToolFault> = Ok(Status::Different);
 /// The modes with their default options.
 pub(crate) static MODES: [Case; 14] = [
     (Command::Lines, CHANGES, ANSWERS, CLEAN),
-    (Command::Check, CUT, NONE_DIFFERS, CLEAN),
+    (Command::Check, UNFINISHED, NONE_DIFFERS, CLEAN),
     (Command::Check, BARE, BARE_REPORT, DIFFERENT),
-    (Command::Rewrite, CUT, WHOLE, CLEAN),
+    (Command::Rewrite, UNFINISHED, WHOLE, CLEAN),
     (Command::Rewrite, BARE, WHOLE, CLEAN),
     (Command::Rewrite, OLD, REWRITTEN, CLEAN),
     (
@@ -218,7 +218,7 @@ pub(crate) static MODES: [Case; 14] = [
     ),
     (Command::Rewrite, ENTERED, ENTERED, CLEAN),
     (Command::Undo, ENTERED, BACK, CLEAN),
-    (Command::Undo, CUT, NO_PLAN, DIFFERENT),
+    (Command::Undo, UNFINISHED, NO_PLAN, DIFFERENT),
     (Command::Undo, BARE, NO_PLAN, DIFFERENT),
     (SHORTEST, TWO, PLAN, CLEAN),
     (SHORTEST, TO_EMPTY, NO_TARGET, DIFFERENT),

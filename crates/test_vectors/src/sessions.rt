@@ -180,7 +180,12 @@ fn is_same_session(session: &Session, other: &Session) -> bool {
 }
 
 // Whether a directive has this output; on `NoMemory` the session is unchanged.
-fn is_found(session: &mut Session, copy: &Session, directive: &Directive, expected: &[u8]) -> bool {
+fn has_output(
+    session: &mut Session,
+    copy: &Session,
+    directive: &Directive,
+    expected: &[u8],
+) -> bool {
     let mut answer = session.step(directive);
     let mut stays = true;
     if answer.is_err() {
@@ -188,7 +193,7 @@ fn is_found(session: &mut Session, copy: &Session, directive: &Directive, expect
         answer = session.step(directive);
     }
     match answer {
-        Ok(found) => stays & (found.as_slice() == expected),
+        Ok(actual) => stays & (actual.as_slice() == expected),
         Err(_) => false,
     }
 }
@@ -200,7 +205,7 @@ fn follows(copy: &mut Session, directive: &Directive, expected: &[u8]) -> bool {
         answer = copy.step(directive);
     }
     match answer {
-        Ok(found) => found.as_slice() == expected,
+        Ok(actual) => actual.as_slice() == expected,
         Err(_) => false,
     }
 }
@@ -209,7 +214,7 @@ fn is_row(alloc: Global, session: &mut Session, copy: &mut Session, row: Row) ->
     let (text, expected) = row;
     match twice!(FileFault::NoMemory, first_item(alloc, text)) {
         Ok(Some(Item::Directive(directive))) => {
-            is_found(session, copy, &directive, expected)
+            has_output(session, copy, &directive, expected)
                 & follows(copy, &directive, expected)
                 & is_same_session(session, copy)
         }
@@ -217,7 +222,7 @@ fn is_row(alloc: Global, session: &mut Session, copy: &mut Session, row: Row) ->
     }
 }
 
-fn are_found(alloc: Global, session: &mut Session, copy: &mut Session, rows: &[Row]) -> bool {
+fn have_outputs(alloc: Global, session: &mut Session, copy: &mut Session, rows: &[Row]) -> bool {
     let mut is_so = true;
     for row in rows {
         is_so &= is_row(alloc, session, copy, *row);
@@ -266,7 +271,7 @@ fn holds_in(
 ) -> bool {
     match twice!(NoMemory, Session::with_floor(alloc, 100, floor)) {
         Ok(mut copy) => {
-            are_found(alloc, session, &mut copy, rows) & is_undone_by(alloc, session, undone)
+            have_outputs(alloc, session, &mut copy, rows) & is_undone_by(alloc, session, undone)
         }
         Err(_) => false,
     }

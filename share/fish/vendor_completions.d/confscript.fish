@@ -1,16 +1,16 @@
 # Completion of confscript for fish.
 set -l modes lines check rewrite undo plan help
 complete -c confscript -f
-complete -c confscript -n "not __fish_seen_subcommand_from $modes" -a lines -d 'make one change a line'
+complete -c confscript -n "not __fish_seen_subcommand_from $modes" -a lines -d 'apply one change per line'
 complete -c confscript -n "not __fish_seen_subcommand_from $modes" -a check -d 'run a script and report what differs'
-complete -c confscript -n "not __fish_seen_subcommand_from $modes" -a rewrite -d 'run a script and print it with what was found'
+complete -c confscript -n "not __fish_seen_subcommand_from $modes" -a rewrite -d 'run a script and print it with its actual output'
 complete -c confscript -n "not __fish_seen_subcommand_from $modes" -a undo -d 'run a script and print what undoes its last changes'
 complete -c confscript -n "not __fish_seen_subcommand_from $modes" -a plan -d 'print the steps from one configuration to another'
 complete -c confscript -n "not __fish_seen_subcommand_from $modes" -a help -d 'print the help of the program or of a mode'
 complete -c confscript -n '__fish_seen_subcommand_from help' -a "$modes"
 complete -c confscript -n '__fish_seen_subcommand_from lines check rewrite undo plan' -F
 complete -c confscript -n '__fish_seen_subcommand_from check rewrite undo' -l history -x -d 'how many earlier configurations are kept'
-complete -c confscript -n '__fish_seen_subcommand_from check rewrite undo' -l next-floor -x -a '0 1' -d 'the least index that a new member is sent next'
+complete -c confscript -n '__fish_seen_subcommand_from check rewrite undo' -l next-floor -x -a '0 1' -d 'initial next index of a member'
 complete -c confscript -n '__fish_seen_subcommand_from undo' -l steps -x -d 'how many changes are undone'
 complete -c confscript -n '__fish_seen_subcommand_from plan' -l strategy -x -a 'shortest learners-first one-at-a-time' -d 'how the plan is made'
 complete -c confscript -n '__fish_seen_subcommand_from plan' -l output -x -a 'steps script table json' -d 'how the plan is printed'

@@ -5,16 +5,16 @@ ghost use Rattle.conf_change.specs.ChangerState.{ChangerState};
 ghost use Rattle.conf_session.specs.Reply.{reply_in};
 ghost use Rattle.conf_session.specs.Commands as spec;
 
-use crate::effect::Effect;
 use crate::reply::Reply;
 use crate::reply_texts::{line_of, member_line};
 use crate::session_ids::SessionIds;
+use crate::session_update::SessionUpdate;
 use conf_change::{AckFault, Changer};
 use quorum_sets::NoMemory;
 use std::alloc::Global;
 
 /// Prints the member's progress after the acknowledgement, or why there is none. The progress itself is altered when the
-/// effect is applied.
+/// update is applied.
 pub(super) fn run(
     alloc: Global,
     changer: &Changer<SessionIds>,
@@ -26,7 +26,7 @@ pub(super) fn run(
     match changer.ack_answer(id, index) {
         Ok(progress) => {
             let actual = member_line(alloc, id, progress)?;
-            Ok(Reply::new(actual, Effect::Acknowledged(id, index)))
+            Ok(Reply::new(actual, SessionUpdate::Acknowledged(id, index)))
         }
         Err(AckFault::NotMember) => Ok(Reply::of_text(line_of(alloc, b"not a member", b"")?)),
         Err(AckFault::IndexTooLarge) => {

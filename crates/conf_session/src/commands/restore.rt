@@ -5,10 +5,10 @@ ghost use Rattle.conf_change.specs.ConfState.{restored};
 ghost use Rattle.conf_session.specs.Reply.{reply_in};
 ghost use Rattle.conf_session.specs.Commands as spec;
 
-use crate::effect::Effect;
 use crate::reply::Reply;
 use crate::reply_texts::{line_of, tracker_lines};
 use crate::session_ids::SessionIds;
+use crate::session_update::SessionUpdate;
 use conf_change::{Changer, ConfState, RestoreFault, laws};
 use quorum_sets::NoMemory;
 use std::alloc::Global;
@@ -27,7 +27,10 @@ pub(super) fn run(
     match Changer::restore_with_floor(alloc, saved, changer.last_index(), changer.floor()) {
         Ok(after) => {
             *next = after;
-            Ok(Reply::new(tracker_lines(alloc, next.tracker())?, Effect::Restored))
+            Ok(Reply::new(
+                tracker_lines(alloc, next.tracker())?,
+                SessionUpdate::Restored,
+            ))
         }
         Err(RestoreFault::NotAConfiguration) => {
             Ok(Reply::of_text(line_of(alloc, b"not a configuration", b"")?))

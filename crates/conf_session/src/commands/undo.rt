@@ -7,10 +7,10 @@ ghost use Rattle.conf_session.specs.Reply.{reply_in};
 ghost use Rattle.conf_session.specs.ReplyTexts.{tracker_text};
 ghost use Rattle.conf_session.specs.Undo.{undo_plan_of, undone};
 
-use crate::effect::Effect;
 use crate::reply::Reply;
 use crate::reply_texts::{append_tracker, undo_fault_line, usual_room};
 use crate::session_ids::SessionIds;
+use crate::session_update::SessionUpdate;
 use crate::state::State;
 use crate::undo_fault::UndoFault;
 use conf_change::{Changer, Tracker};
@@ -54,7 +54,7 @@ fn take_steps(
     match apply_plan(next, plan) {
         Ok(()) => {
             let actual = undone_text(alloc, plan, next.tracker())?;
-            Ok(Reply::new(actual, Effect::Undone(count)))
+            Ok(Reply::new(actual, SessionUpdate::Undone(count)))
         }
         // Each step of a plan is accepted, so only memory can run out.
         Err(_) => Err(NoMemory),

@@ -13,14 +13,14 @@ abbrev pub onto_ids : List ℕ → Option (List ℕ) → Option (List ℕ)
 onto_ids done (Some more) = Some (done ++ more)
 onto_ids done None = None
 
-pub slice_split-last_piece : (text part behind : List ℕ) (n : ℕ) → n ≡ position_or_len is_comma text → part ≡ take n text → behind ≡ drop n text → length behind ≡ 0 → slice_split is_comma text ≡ part ∷ []
-slice_split-last_piece text part behind n n_is piece_is behind_is none =
+pub slice_split-last_piece : (text part suffix : List ℕ) (n : ℕ) → n ≡ position_or_len is_comma text → part ≡ take n text → suffix ≡ drop n text → length suffix ≡ 0 → slice_split is_comma text ≡ part ∷ []
+slice_split-last_piece text part suffix n n_is piece_is behind_is none =
     let past : length text ≤ n = omega (arith, ap length behind_is, length-drop n text) in
     slice_split_none is_comma text (λ k d h. fails_before_first is_comma text k d (omega arith)) ∙ rw (piece_is, take_all n text past) refl
 
-pub slice_split-more_pieces : (text part behind : List ℕ) (n : ℕ) → n ≡ position_or_len is_comma text → part ≡ take n text → behind ≡ drop n text → 0 < length behind →
-    slice_split is_comma text ≡ part ∷ slice_split is_comma (drop 1 behind)
-slice_split-more_pieces text part behind n n_is piece_is behind_is some =
+pub slice_split-more_pieces : (text part suffix : List ℕ) (n : ℕ) → n ≡ position_or_len is_comma text → part ≡ take n text → suffix ≡ drop n text → 0 < length suffix →
+    slice_split is_comma text ≡ part ∷ slice_split is_comma (drop 1 suffix)
+slice_split-more_pieces text part suffix n n_is piece_is behind_is some =
     let within : n < length text = omega (arith, ap length behind_is, length-drop n text) in
-    let next : drop 1 behind ≡ drop (n + 1) text = ap (drop 1) behind_is ∙ drop-drop 1 n text in
+    let next : drop 1 suffix ≡ drop (n + 1) text = ap (drop 1) behind_is ∙ drop-drop 1 n text in
     rw (piece_is, next, n_is) (slice_split_first is_comma text 0 (omega arith))

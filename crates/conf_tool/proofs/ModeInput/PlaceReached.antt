@@ -23,7 +23,7 @@ loses-more begin now later a b = (a.0 ++ b.0, consumes-append begin now later a.
 -- nothing was read yet
 begin-input : (begin : Option (List ℕ)) (input more : List ℕ) → Agrees fresh begin begin input more → input ≡ more
 begin-input None input more agrees = absurd agrees
-begin-input (Some bytes) input more agrees = agrees.whole ∙ ap (λ t. ([] ++ t) ++ more) (append_cancel_right agrees.given [] bytes (sym agrees.consumed))
+begin-input (Some bytes) input more agrees = agrees.whole ∙ ap (λ t. ([] ++ t) ++ more) (append_cancel_right agrees.bytes_read [] bytes (sym agrees.consumed))
 
 -- what is read is what comes next, and then the rest
 abbrev pub InTurn : {A : Type 0} → (Position → List ℕ → Next A) → Type 0
@@ -31,7 +31,7 @@ InTurn next = (place : Position) (bytes : List ℕ) → script_from next place b
 
 -- Each input that agrees with what was read has these parts in front of what is read from there on.
 pub record Reached {A : Type 0} (next : Position → List ℕ → Next A) (begin now : Option (List ℕ)) (state : ReaderState) (parts : List A) : Type 0 where
-  pub taken : LosesPrefix begin now
+  pub consumed : LosesPrefix begin now
   pub ended : state.is_ended ≡ true → IsAtEnd now
   pub open_end : state.fault ≡ None
   pub read : (input more : List ℕ) → Agrees fresh begin now input more → script_from next start input ≡ prepended parts (script_from next state.position (state.buffered ++ more))
@@ -40,7 +40,7 @@ pub record Reached {A : Type 0} (next : Position → List ℕ → Next A) (begin
 
 pub reached-begin : {A : Type 0} (next : Position → List ℕ → Next A) (begin : Option (List ℕ)) (state : ReaderState) → state ≡ fresh → Reached next begin begin state []
 reached-begin next begin state is_fresh = record {
-  taken = loses-nothing begin;
+  consumed = loses-nothing begin;
   ended = λ yes. let bad : true ≡ false = sym yes ∙ ap (λ s. s.is_ended) is_fresh in cc;
   open_end = ap (λ s. s.fault) is_fresh;
   read = λ input more agrees.
@@ -55,7 +55,7 @@ pub reached-answer : {A R X : Type 0} (next : Position → List ℕ → Next A) 
     InTurn next → Reached next begin (remaining now) state parts → ReadsOn remaining has_failed view next IsFault state after now later result → (IsInterrupted result → ⊥) →
     (input more : List ℕ) → Agrees fresh begin (remaining later) input more → script_from next start input ≡ prepended parts (followed (script_from next) (next_in_answer view after more result))
 reached-answer next remaining has_failed view IsFault begin state after now later parts result in_turn reached reads uncut input more agrees =
-    let turn = agrees-in_turn fresh state begin (remaining now) (remaining later) input more reached.taken reads.moves.taken (λ yes. inr (reached.ended yes)) agrees in
+    let turn = agrees-in_turn fresh state begin (remaining now) (remaining later) input more reached.consumed reads.moves.consumed (λ yes. inr (reached.ended yes)) agrees in
     let converted = whole (reads.answers reached.open_end (state.buffered ++ turn.suffix) more turn.second) in
     reached.read input turn.suffix turn.first
     ∙ ap (prepended parts) (in_turn state.position (state.buffered ++ turn.suffix) ∙ ap (followed (script_from next)) converted) where
@@ -113,7 +113,7 @@ pub reached-next : {A R X : Type 0} (next : Position → List ℕ → Next A) (r
     Reached next begin (remaining later) after (parts ++ view part ∷ [])
 unfolding reached-part
 reached-next next remaining has_failed view IsFault begin state after now later parts part in_turn reached reads = record {
-  taken = loses-more begin (remaining now) (remaining later) reached.taken reads.moves.taken;
+  consumed = loses-more begin (remaining now) (remaining later) reached.consumed reads.moves.consumed;
   ended = λ yes. ended-next remaining state.is_ended now later reached.ended (λ old. (reads.moves.stays old).0) (reads.moves.met yes);
   open_end = reads.open_end;
   read = λ input more agrees.
@@ -130,5 +130,5 @@ pub record HasPrefix {A : Type 0} (parts : List A) (read : Script A) : Type 0 wh
 pub reached-prefix : {A : Type 0} (next : Position → List ℕ → Next A) (begin now later : Option (List ℕ)) (state : ReaderState) (parts : List A) → Reached next begin now state parts → LosesPrefix now later →
     (input more : List ℕ) → Agrees fresh begin later input more → HasPrefix parts (script_from next start input)
 reached-prefix next begin now later state parts reached lost input more agrees =
-    let turn = agrees-in_turn fresh state begin now later input more reached.taken lost (λ yes. inr (reached.ended yes)) agrees in
+    let turn = agrees-in_turn fresh state begin now later input more reached.consumed lost (λ yes. inr (reached.ended yes)) agrees in
     record { rest = script_from next state.position (state.buffered ++ turn.suffix); is = reached.read input turn.suffix turn.first }

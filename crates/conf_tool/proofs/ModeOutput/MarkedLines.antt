@@ -1,4 +1,4 @@
--- Lines behind a sign, piece by piece.
+-- Lines after a sign, one by one.
 use Rattle.std.proofs.Common.{◌≡◌, ℕ, List, [], ◌∷◌, ◌++◌, flat_map, true, false, cond, refl, sym, ap, ◌∙◌, append_assoc, rules}
 use Rattle.ascii_text.specs.Lines.{is_whole, newline, full_lines, without_last}
 use Rattle.conf_session.specs.ReplyTexts.{line}
@@ -7,7 +7,7 @@ use Rattle.conf_tool.specs.Reports.{marked}
 abbrev marked_pieces : List ℕ → List (List ℕ) → List ℕ
 marked_pieces sign ps = flat_map (λ full_line. line (sign ++ without_last 10 full_line)) ps
 
--- the first piece is appended behind the sign, before those of the rest
+-- the first line is appended after the sign, before the others
 pub marked-first : (so_far sign bytes full_line rest : List ℕ) → full_lines bytes ≡ full_line ∷ full_lines rest →
     ((so_far ++ sign) ++ (without_last 10 full_line ++ newline)) ++ marked sign rest ≡ so_far ++ marked sign bytes
 marked-first so_far sign bytes full_line rest first =

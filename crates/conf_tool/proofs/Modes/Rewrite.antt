@@ -35,7 +35,7 @@ rest-first : (s t : SessionState) (item : Item) (rest : Script Item) → t ≡ s
     rewrite_left s (prepended (item ∷ []) rest) ≡ with_prefix (entry_text item (actual_for s item)) (rewrite_left t rest)
 rest-first s t item rest is = ap (λ u. with_prefix (entry_text item (actual_for s item)) (rewrite_left u rest)) (sym is)
 
--- the output with an item behind the text so far
+-- the output with an item after the text so far
 total-part : (s t : SessionState) (rewriter : RewriterState) (item : Item) (total : Script Item → Output) (parts : List Item) (before mid : Option (List ℕ)) →
     (rewritten : HasRewritten s rewriter total parts before mid) → t ≡ session_after s item → (rest : Script Item) →
     total (prepended parts (prepended (item ∷ []) rest)) ≡ ended (with_prefix (rewritten.text ++ entry_text item (actual_for s item)) (rewrite_left t rest))

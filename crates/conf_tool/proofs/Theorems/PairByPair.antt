@@ -69,14 +69,14 @@ each-named R options holds number (first ∷ second ∷ lines) = by_pair (both_o
     by_pair (Ok pair) is rest = (holds number pair (both-valid first second (configuration_at first) (configuration_at second) pair refl refl is), rest)
 
 -- ---- the text of the whole output
--- texts behind others, if the first has a number above 1
-abbrev behind : List ℕ → ℕ → List (List ℕ) → List ℕ
-behind part number [] = []
-behind part number (text ∷ texts) = (if nat_lt 1 number then part else []) ++ separated_by part (text ∷ texts)
+-- texts after others, if the first has a number above 1
+abbrev suffix : List ℕ → ℕ → List (List ℕ) → List ℕ
+suffix part number [] = []
+suffix part number (text ∷ texts) = (if nat_lt 1 number then part else []) ++ separated_by part (text ∷ texts)
 
-then-behind : (part prefix text : List ℕ) (number : ℕ) (texts : List (List ℕ)) → 1 ≤ number → (prefix ++ text) ++ behind part (number + 1) texts ≡ prefix ++ separated_by part (text ∷ texts)
-then-behind part prefix text number [] some = append-nil (prefix ++ text)
-then-behind part prefix text number (next ∷ texts) some =
+then-suffix : (part prefix text : List ℕ) (number : ℕ) (texts : List (List ℕ)) → 1 ≤ number → (prefix ++ text) ++ suffix part (number + 1) texts ≡ prefix ++ separated_by part (text ∷ texts)
+then-suffix part prefix text number [] some = append-nil (prefix ++ text)
+then-suffix part prefix text number (next ∷ texts) some =
     let second : nat_lt 1 (number + 1) ≡ true = lt-ltb 1 (number + 1) (omega (arith, some)) in
     ap (λ b. (prefix ++ text) ++ (cond b part [] ++ separated_by part (next ∷ texts))) second ∙ append_assoc prefix text (part ++ separated_by part (next ∷ texts))
 
@@ -86,22 +86,22 @@ half-text (Ok now) None = refl
 half-text (Ok now) (Some fault) = refl
 
 pairs-text : (options : PlanOptions) (number : ℕ) (lines : List NumberedLine) (fault : Option FileFault) → 1 ≤ number →
-    (planned_pairs options number lines fault).text ≡ behind (separator options.output) number (texts_from options number (named_pairs lines))
+    (planned_pairs options number lines fault).text ≡ suffix (separator options.output) number (texts_from options number (named_pairs lines))
 pairs-text options number [] None some = refl
 pairs-text options number [] (Some fault) some = refl
 pairs-text options number (line ∷ []) fault some = half-text (configuration_at line) fault
 pairs-text options number (first ∷ second ∷ lines) fault some = by_pair (both_of (configuration_at first) (configuration_at second)) (pairs-text options (number + 1) lines fault (omega (arith, some)))
   where
     by_pair : (read : Result Pair ConfigurationsFault) →
-        (planned_pairs options (number + 1) lines fault).text ≡ behind (separator options.output) (number + 1) (texts_from options (number + 1) (named_pairs lines)) →
-        (pair_then options number read (planned_pairs options (number + 1) lines fault)).text ≡ behind (separator options.output) number (texts_from options number (pair_before read (named_pairs lines)))
+        (planned_pairs options (number + 1) lines fault).text ≡ suffix (separator options.output) (number + 1) (texts_from options (number + 1) (named_pairs lines)) →
+        (pair_then options number read (planned_pairs options (number + 1) lines fault)).text ≡ suffix (separator options.output) number (texts_from options number (pair_before read (named_pairs lines)))
     by_pair (Err bad) rest = refl
     by_pair (Ok pair) rest =
         ap (λ t. pair_text options number pair.0 pair.1 ++ t) rest
-        ∙ then-behind (separator options.output) (if nat_lt 1 number then separator options.output else []) (plan_text_between options number pair.0 pair.1) number
+        ∙ then-suffix (separator options.output) (if nat_lt 1 number then separator options.output else []) (plan_text_between options number pair.0 pair.1) number
         (texts_from options (number + 1) (named_pairs lines)) some
 
-from-first : (part : List ℕ) (texts : List (List ℕ)) → behind part 1 texts ≡ separated_by part texts
+from-first : (part : List ℕ) (texts : List (List ℕ)) → suffix part 1 texts ≡ separated_by part texts
 from-first part [] = refl
 from-first part (text ∷ texts) = refl
 

@@ -85,7 +85,7 @@ fn next_part<P, S: Parts<P>, R: Source, W: Sink>(
     if let Some(read) = parts.buffered(reader) {
         return Ok(read);
     }
-    if writer.write_on().is_err() {
+    if writer.flush_all().is_err() {
         return Err(WriteFault);
     }
     Ok(parts.read(reader, writer))
@@ -104,7 +104,7 @@ pub(super) fn run_by_part<P: Drop, S: Parts<P> + Drop, M: PartByPart<P> + Drop, 
     requires faults { (position : Position) (fault : ReadFault) → S.IsFault position fault → CanAnswer M.mode (Err (as_tool_fault fault)) }
     ensures output { (total : ScriptOf P → Output) → ((buffered : Option (List ℕ)) → M.HasAnswered mode total [] buffered buffered) →
         Answers (λ input. total (script_from S.coming start input)) (R.remaining reader.old) (R.remaining reader.new) (W.contents writer.old) (W.contents writer.new) result }
-    ensures taken { LosesPrefix (R.remaining reader.old) (R.remaining reader.new) }
+    ensures consumed { LosesPrefix (R.remaining reader.old) (R.remaining reader.new) }
     ensures read { R.has_failed reader.new ≡ (R.has_failed reader.old || is_read_failure result) }
     ensures write { W.has_failed writer.new ≡ (W.has_failed writer.old || is_write_failure result) }
     ensures kinds { CanAnswer M.mode result }

@@ -54,9 +54,9 @@ buffered-line remaining has_failed view old reader line can within whole is =
     let counted = within.counted in
     let ahead = within.ahead in
     full_line-reads remaining has_failed view old mid (passed old 1 k) reader reader full_line (Some line) can.faultless can.unended
-    (record { taken = still.taken; met = still.met; stays = still.stays }) refl can.faultless
+    (record { consumed = still.consumed; met = still.met; stays = still.stays }) refl can.faultless
     (record {
-      part = record { given = []; consumed = keeps (remaining reader); whole = append-nil buffered ∙ sym (take-append-drop k buffered); full_line = first_len-take buffered ∙ sym len };
+      part = record { bytes_read = []; consumed = keeps (remaining reader); whole = append-nil buffered ∙ sym (take-append-drop k buffered); full_line = first_len-take buffered ∙ sym len };
       ahead = simp length-drop (omega (arith, ahead));
       counted = omega (arith, limit, counted);
       fits = omega (arith, limit, len, bound);
@@ -79,11 +79,11 @@ one-whole [] h = cc
 one-whole (b ∷ bytes) h = ap (filter is_whole) (full_lines-first (b ∷ bytes) (omega arith)) ∙ rw h refl
 
 -- The lines so far of what is held are the item's.
-pub record BufferedSoFar {R : Type 0} (remaining : R → Option (List ℕ)) (old : ReaderState) (reader : R) (draft : DraftText) (count taken : ℕ) : Type 0 where
-  pub reading : ReadingItem remaining old (passed old count taken) reader reader draft
-  pub within : taken ≤ length old.buffered
-  pub counted : count ≤ taken
-  pub ahead : first_item_of draft (whole_lines (drop taken old.buffered)) ≡ first_of (old.position.lines + 1) (whole_lines old.buffered)
+pub record BufferedSoFar {R : Type 0} (remaining : R → Option (List ℕ)) (old : ReaderState) (reader : R) (draft : DraftText) (count consumed : ℕ) : Type 0 where
+  pub reading : ReadingItem remaining old (passed old count consumed) reader reader draft
+  pub within : consumed ≤ length old.buffered
+  pub counted : count ≤ consumed
+  pub ahead : first_item_of draft (whole_lines (drop consumed old.buffered)) ≡ first_of (old.position.lines + 1) (whole_lines old.buffered)
 
 passed-none : (state : ReaderState) → passed state 0 0 ≡ state
 passed-none state = ap (λ n. record state { position = record { lines = n; bytes = state.position.bytes + 0 } }) (lines-none state.position.lines) ∙ ap (λ n. record state { position = record { lines = state.position.lines; bytes = n } }) (lines-none state.position.bytes) where
@@ -122,52 +122,52 @@ passed-within state m n can within le few =
       limit = omega (arith, limit, le);
     }
 
-pub buffered-more : {R : Type 0} (remaining : R → Option (List ℕ)) (has_failed : R → Bool) (old : ReaderState) (reader : R) (draft next : DraftText) (count taken : ℕ) (rest : List ℕ) → CanReadBuffered old → Within old →
-    BufferedSoFar remaining old reader draft count taken → rest ≡ drop taken old.buffered → is_whole (take (first_len rest) rest) ≡ true → AddsIn draft.state draft next (line_of (take (first_len rest) rest)) →
-    BufferedSoFar remaining old reader next (count + 1) (taken + first_len rest)
-buffered-more remaining has_failed old reader draft next count taken rest can within so_far is whole adds =
-    let now = passed old count taken in
+pub buffered-more : {R : Type 0} (remaining : R → Option (List ℕ)) (has_failed : R → Bool) (old : ReaderState) (reader : R) (draft next : DraftText) (count consumed : ℕ) (rest : List ℕ) → CanReadBuffered old → Within old →
+    BufferedSoFar remaining old reader draft count consumed → rest ≡ drop consumed old.buffered → is_whole (take (first_len rest) rest) ≡ true → AddsIn draft.state draft next (line_of (take (first_len rest) rest)) →
+    BufferedSoFar remaining old reader next (count + 1) (consumed + first_len rest)
+buffered-more remaining has_failed old reader draft next count consumed rest can within so_far is whole adds =
+    let now = passed old count consumed in
     let k = first_len rest in
     let line = line_of (take k rest) in
     let same : rest ≡ now.buffered = is in
     let now-whole : is_whole (take (first_len now.buffered) now.buffered) ≡ true = subst (λ r. is_whole (take (first_len r) r) ≡ true) same whole in
-    let read = buffered-line remaining has_failed (λ (l : List ℕ). l) now reader line (passed-can old count taken can so_far.within) (passed-within old count taken can within so_far.within so_far.counted) now-whole
+    let read = buffered-line remaining has_failed (λ (l : List ℕ). l) now reader line (passed-can old count consumed can so_far.within) (passed-within old count consumed can within so_far.within so_far.counted) now-whole
     (ap (λ r. line_of (take (first_len r) r)) same) in
-    let moved : passed now 1 (first_len now.buffered) ≡ passed old (count + 1) (taken + k) = ap (λ r. passed now 1 (first_len r)) (sym same) ∙ passed-more old count taken k in
+    let moved : passed now 1 (first_len now.buffered) ≡ passed old (count + 1) (consumed + k) = ap (λ r. passed now 1 (first_len r)) (sym same) ∙ passed-more old count consumed k in
     let some = whole-some rest whole in
     let bound = first_len-bound rest in
-    let len : length rest ≡ length (drop taken old.buffered) = ap length is in
-    let left = length-drop taken old.buffered in
+    let len : length rest ≡ length (drop consumed old.buffered) = ap length is in
+    let left = length-drop consumed old.buffered in
     let le = so_far.within in
     let few = so_far.counted in
-    let suffix : drop k rest ≡ drop (taken + k) old.buffered = ap (drop k) is ∙ drop-drop k taken old.buffered in
-    let lines : whole_lines (drop taken old.buffered) ≡ line ∷ whole_lines (drop (taken + k) old.buffered) = ap whole_lines (sym is) ∙ ap (map line_of) (one-whole rest whole) ∙ ap (λ r. line ∷ whole_lines r) suffix in
+    let suffix : drop k rest ≡ drop (consumed + k) old.buffered = ap (drop k) is ∙ drop-drop k consumed old.buffered in
+    let lines : whole_lines (drop consumed old.buffered) ≡ line ∷ whole_lines (drop (consumed + k) old.buffered) = ap whole_lines (sym is) ∙ ap (map line_of) (one-whole rest whole) ∙ ap (λ r. line ∷ whole_lines r) suffix in
     record {
       reading = subst (λ (s : ReaderState). ReadingItem remaining old s reader reader next) moved
           (reading-more remaining has_failed (λ (l : List ℕ). l) old now (passed now 1 (first_len now.buffered)) reader reader reader draft next line so_far.reading read adds);
       within = omega (arith, le, len, left, bound);
       counted = omega (arith, few, some);
-      ahead = adds.first_item (whole_lines (drop (taken + k) old.buffered)) ∙ ap (first_item_in draft.state draft) (sym lines) ∙ so_far.ahead;
+      ahead = adds.first_item (whole_lines (drop (consumed + k) old.buffered)) ∙ ap (first_item_in draft.state draft) (sym lines) ∙ so_far.ahead;
     }
 
 -- the item is done
-pub buffered-done : {R : Type 0} (remaining : R → Option (List ℕ)) (has_failed : R → Bool) (old new : ReaderState) (reader : R) (draft : DraftText) (count taken : ℕ) (result : Result (Option Item) FileFault) → CanReadBuffered old → Within old →
-    BufferedSoFar remaining old reader draft count taken → is_done draft.state ≡ true → new ≡ passed old count taken → result ≡ result_of_first (first_item_of draft []) → IfErr result (IsDraftFault draft.line) →
+pub buffered-done : {R : Type 0} (remaining : R → Option (List ℕ)) (has_failed : R → Bool) (old new : ReaderState) (reader : R) (draft : DraftText) (count consumed : ℕ) (result : Result (Option Item) FileFault) → CanReadBuffered old → Within old →
+    BufferedSoFar remaining old reader draft count consumed → is_done draft.state ≡ true → new ≡ passed old count consumed → result ≡ result_of_first (first_item_of draft []) → IfErr result (IsDraftFault draft.line) →
     ReadsOn remaining has_failed (λ item. item) (next_item longest_input) IsItemFault old (record new { fault = fault_of result }) reader reader result
-buffered-done remaining has_failed old new reader draft count taken result can within so_far done is found kind =
-    let now = passed old count taken in
+buffered-done remaining has_failed old new reader draft count consumed result can within so_far done is found kind =
+    let now = passed old count consumed in
     subst (λ (s : ReaderState). ReadsOn remaining has_failed (λ item. item) (next_item longest_input) IsItemFault old (record s { fault = fault_of result }) reader reader result) (sym is)
-    (done-reads remaining has_failed old now reader reader draft result can.faultless can.unended so_far.reading done (passed-within old count taken can within so_far.within so_far.counted).ahead refl found kind)
+    (done-reads remaining has_failed old now reader reader draft result can.faultless can.unended so_far.reading done (passed-within old count consumed can within so_far.within so_far.counted).ahead refl found kind)
 
 -- no item ends in what is held
 open-prefix : (count : ℕ) (found : Option FirstItem) → Ends false count found → is_ended_item found ≡ false
 open-prefix count None ends = refl
 open-prefix count (Some prefix) ends = ends.ended
 
-pub buffered-open : {R : Type 0} (remaining : R → Option (List ℕ)) (old : ReaderState) (reader : R) (draft : DraftText) (count taken : ℕ) (rest : List ℕ) → BufferedSoFar remaining old reader draft count taken → is_done draft.state ≡ false →
-    rest ≡ drop taken old.buffered → is_whole (take (first_len rest) rest) ≡ false → is_item_buffered old.position old.buffered ≡ false
-buffered-open remaining old reader draft count taken rest so_far open_end is unfinished =
-    let none : whole_lines (drop taken old.buffered) ≡ [] = ap whole_lines (sym is) ∙ ap (map line_of) (no-whole rest unfinished) in
+pub buffered-open : {R : Type 0} (remaining : R → Option (List ℕ)) (old : ReaderState) (reader : R) (draft : DraftText) (count consumed : ℕ) (rest : List ℕ) → BufferedSoFar remaining old reader draft count consumed → is_done draft.state ≡ false →
+    rest ≡ drop consumed old.buffered → is_whole (take (first_len rest) rest) ≡ false → is_item_buffered old.position old.buffered ≡ false
+buffered-open remaining old reader draft count consumed rest so_far open_end is unfinished =
+    let none : whole_lines (drop consumed old.buffered) ≡ [] = ap whole_lines (sym is) ∙ ap (map line_of) (no-whole rest unfinished) in
     ap is_ended_item (sym so_far.ahead ∙ ap (first_item_of draft) none)
     ∙ open-prefix draft.count (first_item_of draft []) (subst (λ c. Ends c draft.count (first_item_of draft [])) open_end (draft-ends draft.state draft so_far.reading.fits))
 

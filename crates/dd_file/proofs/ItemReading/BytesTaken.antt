@@ -9,7 +9,7 @@ use Rattle.dd_file.specs.DirectiveLine.{CommandText, command_of}
 use Rattle.dd_file.specs.Script.{FirstItem, first_item, first_of, directive_lines_of, joined, is_continued, is_comment, is_separator, begins_with_dashes, before_pair, has_pair, directive, after_pair, in_double, in_single, body, at_command, at_directive}
 use Rattle.dd_file.specs.Parts.{up_to, suffix}
 use Rattle.dd_file.specs.Position.{Position}
-use Rattle.dd_file.specs.Grammar.{Next, Over, Found, Faulty, next_line, next_item, from_full_lines, from_first_item, with_count, at_end, is_too_long, full_lines_within}
+use Rattle.dd_file.specs.Grammar.{Next, Over, Parsed, Faulty, next_line, next_item, from_full_lines, from_first_item, with_count, at_end, is_too_long, full_lines_within}
 use Rattle.dd_file.specs.InOrder.{TakesBytes}
 use Rattle.dd_file.specs.declared.item.Item.{Item}
 use Rattle.dd_file.specs.declared.fault.FileFault.{FileFault}
@@ -77,22 +77,22 @@ full_lines-some (suc count) bytes some has =
     let parts = length-append (take (first_len bytes) bytes) (concat (take count (full_lines (drop (first_len bytes) bytes)))) in
     rw (full_lines-first bytes has) (omega (arith, first, len, parts))
 
-drop-shorter : (taken : ℕ) (bytes : List ℕ) → 0 < taken → 0 < length bytes → length (drop taken bytes) < length bytes
-drop-shorter taken bytes some has = simp length-drop (omega (arith, some, has))
+drop-shorter : (consumed : ℕ) (bytes : List ℕ) → 0 < consumed → 0 < length bytes → length (drop consumed bytes) < length bytes
+drop-shorter consumed bytes some has = simp length-drop (omega (arith, some, has))
 
 -- what was found leaves fewer bytes
 abbrev Leaves : {A : Type 0} → List ℕ → Next A → Type 0
 Leaves bytes Over = Unit {0}
-Leaves bytes (Found item position left) = length left < length bytes
+Leaves bytes (Parsed item position left) = length left < length bytes
 Leaves bytes (Faulty fault) = Unit {0}
 
 at_end-leaves : (A : Type 0) (too_long : Bool) (position : Position) (bytes : List ℕ) → Leaves {A = A} bytes (at_end too_long position)
 at_end-leaves A true position bytes = tt
 at_end-leaves A false position bytes = tt
 
-some-leaves : {A : Type 0} (position suffix : Position) (bytes left : List ℕ) (item : A) (found : Next A) → Leaves bytes found → found ≡ Found item suffix left → length left < length bytes
+some-leaves : {A : Type 0} (position suffix : Position) (bytes left : List ℕ) (item : A) (found : Next A) → Leaves bytes found → found ≡ Parsed item suffix left → length left < length bytes
 some-leaves position suffix bytes left item Over h e = cc
-some-leaves position suffix bytes left item (Found x p l) h e = let same : l ≡ left = cc in subst (λ (t : List ℕ). length t < length bytes) same h
+some-leaves position suffix bytes left item (Parsed x p l) h e = let same : l ≡ left = cc in subst (λ (t : List ℕ). length t < length bytes) same h
 some-leaves position suffix bytes left item (Faulty fault) h e = cc
 
 -- no bytes have no pieces

@@ -5,7 +5,7 @@ use Rattle.std.specs.List.{concat}
 use Rattle.ascii_text.specs.Lines.{full_lines, line_of}
 use Rattle.dd_file.specs.Position.{Position}
 use Rattle.dd_file.specs.Script.{FirstItem, first_item, first_of}
-use Rattle.dd_file.specs.Grammar.{Next, Over, Found, Faulty, next_item, next_line, from_first_item, with_count, is_too_long, full_lines_within}
+use Rattle.dd_file.specs.Grammar.{Next, Over, Parsed, Faulty, next_item, next_line, from_first_item, with_count, is_too_long, full_lines_within}
 use Rattle.dd_file.specs.Draft.{DraftText, Fits, FitsIn, first_item_of, first_item_in, is_done, result_of_first, item_result}
 use Rattle.dd_file.specs.declared.item.Item.{Item}
 use Rattle.dd_file.specs.declared.draft_state.DraftState.{DraftState}
@@ -18,7 +18,7 @@ use Rattle.dd_file.proofs.ItemReading.NoMoreLine.{Ends, draft-ends, done-same, f
 -- the answer as what comes next
 abbrev pub as_next : Result (Option Item) FileFault → Position → List ℕ → Next Item
 as_next (Ok None) now rest = Over
-as_next (Ok (Some item)) now rest = Found item now rest
+as_next (Ok (Some item)) now rest = Parsed item now rest
 as_next (Err fault) now rest = Faulty fault
 
 -- the front of the lines so far and those behind them decides
@@ -34,10 +34,10 @@ counted : (limit : ℕ) (position now : Position) (bytes rest : List ℕ) (lines
     ((item : Item) → found ≡ Ok item → k ≡ length lines) → with_count k found position bytes ≡ as_next (item_result found) now rest
 counted limit position now bytes rest lines k (Err fault) on all = refl
 counted limit position now bytes rest lines k (Ok item) on all =
-    let taken : ℕ → ℕ = λ n. length (concat (take n (full_lines bytes))) in
-    let at : ℕ → Next Item = λ n. Found item (record { lines = position.lines + n; bytes = position.bytes + taken n }) (drop (taken n) bytes) in
-    ap at (all item refl) ∙ ap (λ n. Found item (record { lines = n; bytes = position.bytes + taken (length lines) }) (drop (taken (length lines)) bytes)) (sym on.count)
-    ∙ ap (λ n. Found item (record { lines = now.lines; bytes = n }) (drop (taken (length lines)) bytes)) (sym on.passed) ∙ ap (Found item now) (sym on.left)
+    let consumed : ℕ → ℕ = λ n. length (concat (take n (full_lines bytes))) in
+    let at : ℕ → Next Item = λ n. Parsed item (record { lines = position.lines + n; bytes = position.bytes + consumed n }) (drop (consumed n) bytes) in
+    ap at (all item refl) ∙ ap (λ n. Parsed item (record { lines = n; bytes = position.bytes + consumed (length lines) }) (drop (consumed (length lines)) bytes)) (sym on.count)
+    ∙ ap (λ n. Parsed item (record { lines = now.lines; bytes = n }) (drop (consumed (length lines)) bytes)) (sym on.passed) ∙ ap (Parsed item now) (sym on.left)
 
 -- the item is done
 done-prefix : (limit : ℕ) (position now : Position) (bytes rest : List ℕ) (lines : List (List ℕ)) (too_long : Bool) (count : ℕ) (found : Option FirstItem) → LinesOn limit position bytes lines now rest →

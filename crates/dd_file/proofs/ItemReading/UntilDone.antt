@@ -4,7 +4,7 @@ use Rattle.std.specs.Prelude.{◌||◌, Option, Some, None, is_some, Result, Ok,
 use Rattle.std.proofs.lemmas.List.{append_assoc, length-append}
 use Rattle.dd_file.specs.Position.{Position, longest_input, longest_lookahead}
 use Rattle.dd_file.specs.Script.{FirstItem, first_of}
-use Rattle.dd_file.specs.Grammar.{Over, Found, Faulty, next_line, next_item}
+use Rattle.dd_file.specs.Grammar.{Over, Parsed, Faulty, next_line, next_item}
 use Rattle.dd_file.specs.ReaderState.{ReaderState, IsOver}
 use Rattle.dd_file.specs.Answer.{Agrees, IsNextOfInput, MovesOn, ReadsOn, IsLineFault, IsItemFault, IsInterrupted, next_in_answer, is_read_fault, fault_of}
 use Rattle.dd_file.specs.InOrder.{ReadSoFar}
@@ -69,7 +69,7 @@ reading-more remaining has_failed view old now new before between after draft ne
 as-answered : (now new : ReaderState) (more : List ℕ) (result : Result (Option Item) FileFault) (rest : List ℕ) → now.position ≡ new.position → rest ≡ new.buffered ++ more →
     as_next result now.position rest ≡ next_in_answer (λ item. item) new more result
 as-answered now new more (Ok None) rest position is = refl
-as-answered now new more (Ok (Some item)) rest position is = ap (λ (p : Position). Found item p rest) position ∙ ap (Found item new.position) is
+as-answered now new more (Ok (Some item)) rest position is = ap (λ (p : Position). Parsed item p rest) position ∙ ap (Parsed item new.position) is
 as-answered now new more (Err fault) rest position is = refl
 
 -- What an answer has to say, whatever it is.
@@ -91,7 +91,7 @@ item-reads : {R : Type 0} (remaining : R → Option (List ℕ)) (has_failed : R 
     ReadsOn remaining has_failed (λ item. item) (next_item longest_input) IsItemFault old (record now { fault = fault_of result }) before after result
 item-reads remaining has_failed old now before after (Ok found) faultless unended answer = record {
   answers = λ _. answer.answers;
-  moves = record { taken = answer.moves.taken; met = answer.moves.met; stays = answer.moves.stays };
+  moves = record { consumed = answer.moves.consumed; met = answer.moves.met; stays = answer.moves.stays };
   forward = answer.forward;
   counted = answer.counted;
   lookahead = answer.lookahead;
@@ -105,7 +105,7 @@ item-reads remaining has_failed old now before after (Ok found) faultless unende
 }
 item-reads remaining has_failed old now before after (Err fault) faultless unended answer = record {
   answers = λ _. answer.answers;
-  moves = record { taken = answer.moves.taken; met = answer.moves.met; stays = answer.moves.stays };
+  moves = record { consumed = answer.moves.consumed; met = answer.moves.met; stays = answer.moves.stays };
   forward = tt;
   counted = tt;
   lookahead = tt;
@@ -217,7 +217,7 @@ fault-answers remaining has_failed view old now new before between after draft (
 fault-answers remaining has_failed view old now new before between after draft (AfterDouble line) reading open_end read kind input more agrees = absurd kind
 fault-answers remaining has_failed view old now new before between after draft (UnclosedDouble line) reading open_end read kind input more agrees = absurd kind
 fault-answers {L = L} remaining has_failed view old now new before between after draft (InputTooLong line) reading open_end read kind input more agrees =
-    let turn = agrees-in_turn old now (remaining before) (remaining between) (remaining after) input more reading.given.moves.taken read.moves.taken reading.given.moves.met agrees in
+    let turn = agrees-in_turn old now (remaining before) (remaining between) (remaining after) input more reading.given.moves.consumed read.moves.consumed reading.given.moves.met agrees in
     let bytes = now.buffered ++ turn.suffix in
     let on = reads-on longest_input reading.lines old.position input now.position bytes (reading.given.read input turn.suffix turn.first) in
     elim (read.answers reading.faultless bytes more turn.second) [
@@ -262,7 +262,7 @@ fault-item {L = L} remaining has_failed view old now new before between after dr
 
 -- the end of the input
 agrees-none : (state : ReaderState) (before after : Option (List ℕ)) (input more : List ℕ) → Agrees state before after input more → input ≡ [] → more ≡ []
-agrees-none state (Some before) (Some after) input more agrees none = (no-prefix (state.buffered ++ agrees.given) more (sym agrees.whole ∙ none)).1
+agrees-none state (Some before) (Some after) input more agrees none = (no-prefix (state.buffered ++ agrees.bytes_read) more (sym agrees.whole ∙ none)).1
 agrees-none state (Some before) None input more agrees none = absurd agrees
 agrees-none state None after input more agrees none = absurd agrees
 
@@ -298,7 +298,7 @@ end-reads remaining has_failed view old now new before between after draft resul
 
       at : (input more : List ℕ) → Agrees old (remaining before) (remaining after) input more → next_item longest_input old.position input ≡ next_in_answer (λ item. item) (record new { fault = fault_of result }) more result
       at input more agrees =
-          let turn = agrees-in_turn old now (remaining before) (remaining between) (remaining after) input more reading.given.moves.taken read.moves.taken reading.given.moves.met agrees in
+          let turn = agrees-in_turn old now (remaining before) (remaining between) (remaining after) input more reading.given.moves.consumed read.moves.consumed reading.given.moves.met agrees in
           let bytes = now.buffered ++ turn.suffix in
           let on = reads-on longest_input reading.lines old.position input now.position bytes (reading.given.read input turn.suffix turn.first) in
           let last : next_line longest_input now.position bytes ≡ Over = answer-whole None (read.answers reading.faultless bytes more turn.second) in

@@ -7,7 +7,7 @@ use Rattle.std.proofs.Math.Seq.{drop-append_seam, drop-length}
 use Rattle.std.proofs.lemmas.Bool.Decides.{nat_tests}
 use Rattle.ascii_text.specs.Lines.{first_len, full_lines, line_of, is_whole}
 use Rattle.dd_file.specs.Position.{Position}
-use Rattle.dd_file.specs.Grammar.{Next, Over, Found, Faulty, next_line, from_full_lines, is_too_long, full_lines_within}
+use Rattle.dd_file.specs.Grammar.{Next, Over, Parsed, Faulty, next_line, from_full_lines, is_too_long, full_lines_within}
 use Rattle.dd_file.specs.declared.fault.FileFault.TheVariants.{InputTooLong}
 use Rattle.ascii_text.proofs.Offered.{full_lines-first, cond-longer, cond-shorter}
 use Rattle.dd_file.proofs.TextLines.TextAfter.{is_whole_text, full_lines-append, full_lines_within-whole}
@@ -26,16 +26,16 @@ whole-text (b ∷ c ∷ bytes) h = whole-text (c ∷ bytes) h
 -- the first piece gives the line, and the bytes behind it are left
 from-first : (limit : ℕ) (position : Position) (full_line more : List ℕ) (within suffix : List (List ℕ)) →
     full_lines_within limit position (full_line ++ more) ≡ full_line ∷ within → full_lines (full_line ++ more) ≡ full_line ∷ suffix →
-    next_line limit position (full_line ++ more) ≡ Found (line_of full_line) (record { lines = position.lines + 1; bytes = position.bytes + length full_line }) more
+    next_line limit position (full_line ++ more) ≡ Parsed (line_of full_line) (record { lines = position.lines + 1; bytes = position.bytes + length full_line }) more
 from-first limit position full_line more within suffix first all =
-    let at : ℕ → Next (List ℕ) = λ taken. Found (line_of full_line) (record { lines = position.lines + 1; bytes = position.bytes + taken }) (drop taken (full_line ++ more)) in
+    let at : ℕ → Next (List ℕ) = λ consumed. Parsed (line_of full_line) (record { lines = position.lines + 1; bytes = position.bytes + consumed }) (drop consumed (full_line ++ more)) in
     ap (λ ps. from_full_lines (is_too_long limit position (full_line ++ more)) ps position (full_line ++ more)) first
     ∙ ap (λ ps. at (length (concat (take 1 ps)))) all ∙ ap (λ t. at (length t)) (append-nil full_line)
-    ∙ ap (λ rest. Found (line_of full_line) (record { lines = position.lines + 1; bytes = position.bytes + length full_line }) rest) (drop-append_seam full_line more)
+    ∙ ap (λ rest. Parsed (line_of full_line) (record { lines = position.lines + 1; bytes = position.bytes + length full_line }) rest) (drop-append_seam full_line more)
 
 -- a whole piece within the limit, or one that goes up to the end
 pub next_line-found : (limit : ℕ) (position : Position) (full_line more : List ℕ) → first_len full_line ≡ length full_line → position.bytes + length full_line ≤ limit → 0 < length full_line →
-    (is_whole full_line ≡ true) ⊎ (more ≡ []) → next_line limit position (full_line ++ more) ≡ Found (line_of full_line) (record { lines = position.lines + 1; bytes = position.bytes + length full_line }) more
+    (is_whole full_line ≡ true) ⊎ (more ≡ []) → next_line limit position (full_line ++ more) ≡ Parsed (line_of full_line) (record { lines = position.lines + 1; bytes = position.bytes + length full_line }) more
 next_line-found limit position full_line more one fits some (inl whole) =
     let text = whole-text full_line whole in
     let within = full_lines_within-whole limit position full_line more text fits in

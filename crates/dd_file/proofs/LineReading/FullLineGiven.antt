@@ -5,7 +5,7 @@ use Rattle.std.proofs.lemmas.List.{append_assoc, append_cancel_right}
 use Rattle.std.specs.Io.KnownBytes.{IsAtEnd}
 use Rattle.ascii_text.specs.Lines.{line_of, is_whole}
 use Rattle.dd_file.specs.Position.{Position, longest_input}
-use Rattle.dd_file.specs.Grammar.{Over, Found, Faulty, next_line}
+use Rattle.dd_file.specs.Grammar.{Over, Parsed, Faulty, next_line}
 use Rattle.dd_file.specs.ReaderState.{ReaderState, IsOver}
 use Rattle.dd_file.specs.FullLineRead.{PartRead, FullLineRead, LongRead, FullLineFault}
 use Rattle.dd_file.specs.Answer.{AgreesWith, Agrees, IsNextOfInput, MovesOn, ReadsOn, IsLineFault, is_read_fault}
@@ -17,7 +17,7 @@ use Rattle.dd_file.proofs.LineReading.FirstFullLine.{next_line-found, next_line-
 part-input : (old : ReaderState) (rest before after input more part : List ℕ) → PartRead old.buffered rest (Some before) (Some after) part → AgreesWith old before after input more →
     input ≡ part ++ (rest ++ more)
 part-input old rest before after input more part read agrees =
-    let same : agrees.given ≡ read.given = append_cancel_right _ _ _ (sym agrees.consumed ∙ read.consumed) in
+    let same : agrees.bytes_read ≡ read.bytes_read = append_cancel_right _ _ _ (sym agrees.consumed ∙ read.consumed) in
     agrees.whole ∙ ap (λ t. (old.buffered ++ t) ++ more) same ∙ ap (λ t. t ++ more) read.whole ∙ append_assoc part rest more
 
 -- the end was met, so nothing follows
@@ -30,7 +30,7 @@ none-suffix old new before after input more open_end met agrees ended = at (met 
 
 found-line : (old mid : ReaderState) (before after : Option (List ℕ)) (full_line input more : List ℕ) → old.is_ended ≡ false → FullLineRead old mid before after full_line →
     (mid.is_ended ≡ true → (old.is_ended ≡ true) ⊎ IsAtEnd after) → Agrees old before after input more → 0 < length full_line →
-    next_line longest_input old.position input ≡ Found (line_of full_line) (record { lines = old.position.lines + 1; bytes = old.position.bytes + length full_line }) (mid.buffered ++ more)
+    next_line longest_input old.position input ≡ Parsed (line_of full_line) (record { lines = old.position.lines + 1; bytes = old.position.bytes + length full_line }) (mid.buffered ++ more)
 found-line old mid (Some before) (Some after) full_line input more open_end read met agrees some =
     ap (next_line longest_input old.position) (part-input old mid.buffered before after input more full_line read.part agrees)
     ∙ next_line-found longest_input old.position full_line (mid.buffered ++ more) read.part.full_line read.fits some (at read.done) where
@@ -93,9 +93,9 @@ found-reads : {R V : Type 0} (remaining : R → Option (List ℕ)) (has_failed :
     ReadsOn remaining has_failed view (next_line longest_input) IsLineFault old (record mid { position = record { lines = mid.position.lines + 1; bytes = mid.position.bytes + length full_line } }) before after (Ok (Some line))
 found-reads remaining has_failed view old mid before after full_line line faultless unended moves position mid-faultless read sound is some counted = record {
   answers = λ _ input more agrees. inr (found-line old mid (remaining before) (remaining after) full_line input more unended read moves.met agrees some
-      ∙ ap (λ l. Found l (record { lines = old.position.lines + 1; bytes = old.position.bytes + length full_line }) (mid.buffered ++ more)) (sym is)
-      ∙ ap (λ (p : Position). Found (view line) (record { lines = p.lines + 1; bytes = p.bytes + length full_line }) (mid.buffered ++ more)) (sym position));
-  moves = record { taken = moves.taken; met = moves.met; stays = moves.stays };
+      ∙ ap (λ l. Parsed l (record { lines = old.position.lines + 1; bytes = old.position.bytes + length full_line }) (mid.buffered ++ more)) (sym is)
+      ∙ ap (λ (p : Position). Parsed (view line) (record { lines = p.lines + 1; bytes = p.bytes + length full_line }) (mid.buffered ++ more)) (sym position));
+  moves = record { consumed = moves.consumed; met = moves.met; stays = moves.stays };
   forward = subst (λ (p : Position). old.position.lines < p.lines + 1) (sym position) (omega arith);
   counted = counted;
   lookahead = read.ahead;
@@ -114,10 +114,10 @@ pub full_line-reads : {R V : Type 0} (remaining : R → Option (List ℕ)) (has_
     has_failed after ≡ (has_failed before || false) →
     MatchOption found ((full_line ≡ []) × (new ≡ mid)) (λ line. (view line ≡ line_of full_line) × (0 < length full_line) × (mid.position.lines + 1 ≤ longest_input) × (new ≡ record mid { position = record { lines = mid.position.lines + 1; bytes = mid.position.bytes + length full_line } })) →
     ReadsOn remaining has_failed view (next_line longest_input) IsLineFault old new before after (Ok found)
-full_line-reads remaining has_failed view old mid new before after full_line None faultless unended moves position mid-faultless read sound taken =
-    rw (taken.1) (over-reads remaining has_failed view old mid before after full_line faultless unended moves position mid-faultless read sound taken.0)
-full_line-reads remaining has_failed view old mid new before after full_line (Some line) faultless unended moves position mid-faultless read sound taken =
-    rw (taken.3) (found-reads remaining has_failed view old mid before after full_line line faultless unended moves position mid-faultless read sound taken.0 taken.1 taken.2)
+full_line-reads remaining has_failed view old mid new before after full_line None faultless unended moves position mid-faultless read sound consumed =
+    rw (consumed.1) (over-reads remaining has_failed view old mid before after full_line faultless unended moves position mid-faultless read sound consumed.0)
+full_line-reads remaining has_failed view old mid new before after full_line (Some line) faultless unended moves position mid-faultless read sound consumed =
+    rw (consumed.3) (found-reads remaining has_failed view old mid before after full_line line faultless unended moves position mid-faultless read sound consumed.0 consumed.1 consumed.2)
 
 -- why no piece was read
 faulty-line : {V : Type 0} (view : V → List ℕ) (old mid new : ReaderState) (before after : Option (List ℕ)) (fault : FileFault) → old.position.bytes ≤ longest_input → FullLineFault old mid before after fault →
@@ -143,7 +143,7 @@ faulty-reads : {R V : Type 0} (remaining : R → Option (List ℕ)) (has_failed 
     ReadsOn remaining has_failed view (next_line longest_input) IsLineFault old (record mid { fault = Some fault }) before after (Err fault)
 faulty-reads remaining has_failed view old mid before after fault faultless unended fits moves why sound = record {
   answers = λ _. faulty-line view old mid (record mid { fault = Some fault }) (remaining before) (remaining after) fault fits why;
-  moves = record { taken = moves.taken; met = moves.met; stays = moves.stays };
+  moves = record { consumed = moves.consumed; met = moves.met; stays = moves.stays };
   forward = tt;
   counted = tt;
   lookahead = tt;

@@ -5,7 +5,7 @@ use Rattle.std.specs.List.{concat}
 use Rattle.std.proofs.lemmas.List.{append-nil, drop-drop, drop-take, take-append-drop, take-append-le, length-append, length-drop, length-take}
 use Rattle.ascii_text.specs.Lines.{first_len, full_lines, line_of, is_whole}
 use Rattle.dd_file.specs.Position.{Position}
-use Rattle.dd_file.specs.Grammar.{Next, Over, Found, Faulty, next_line, from_full_lines, next_of_lines, at_end, is_too_long, full_lines_within}
+use Rattle.dd_file.specs.Grammar.{Next, Over, Parsed, Faulty, next_line, from_full_lines, next_of_lines, at_end, is_too_long, full_lines_within}
 use Rattle.dd_file.specs.InOrder.{ReadsTo}
 use Rattle.dd_file.specs.declared.fault.FileFault.{FileFault}
 use Rattle.ascii_text.proofs.Offered.{full_lines-first, first_len-bound, length-first, unfinished-rest}
@@ -97,11 +97,11 @@ record StepOn (limit : ℕ) (position : Position) (bytes line : List ℕ) (now :
   pub passed : now.bytes ≡ position.bytes + length full_line
   pub left : rest ≡ drop (length full_line) bytes
 
-no-end : {A : Type 0} {P : Type 0} (too_long : Bool) (position now : Position) (item : A) (rest : List ℕ) → at_end too_long position ≡ Found item now rest → P
+no-end : {A : Type 0} {P : Type 0} (too_long : Bool) (position now : Position) (item : A) (rest : List ℕ) → at_end too_long position ≡ Parsed item now rest → P
 no-end true position now item rest e = cc
 no-end false position now item rest e = cc
 
-step-on : (limit : ℕ) (position : Position) (bytes line : List ℕ) (now : Position) (rest : List ℕ) → next_line limit position bytes ≡ Found line now rest → StepOn limit position bytes line now rest
+step-on : (limit : ℕ) (position : Position) (bytes line : List ℕ) (now : Position) (rest : List ℕ) → next_line limit position bytes ≡ Parsed line now rest → StepOn limit position bytes line now rest
 step-on limit position [] line now rest e = no-end (is_too_long limit position []) position now line rest (ap (λ ps. from_full_lines (is_too_long limit position []) ps position []) (sym (none-within limit position)) ∙ e)
 step-on limit position (b ∷ bytes) line now rest e = at (within-first limit position (b ∷ bytes) (omega arith)) where
   from : List (List ℕ) → Next (List ℕ)
@@ -117,9 +117,9 @@ step-on limit position (b ∷ bytes) line now rest e = at (within-first limit po
       StepOn limit position (b ∷ bytes) line now rest
   at (inl none) = no-end (is_too_long limit position (b ∷ bytes)) position now line rest (ap from (sym none) ∙ e)
   at (inr first) =
-      let found : next_of_lines 1 (line_of full_line) position (b ∷ bytes) ≡ Found line now rest = ap from (sym first) ∙ e in
-      let taken : ℕ → Next (List ℕ) = λ n. Found (line_of full_line) (record { lines = position.lines + 1; bytes = position.bytes + n }) (drop n (b ∷ bytes)) in
-      let is : Found (line_of full_line) (behind_first position (b ∷ bytes)) (drop (first_len (b ∷ bytes)) (b ∷ bytes)) ≡ Found line now rest = ap taken (sym one) ∙ found in
+      let found : next_of_lines 1 (line_of full_line) position (b ∷ bytes) ≡ Parsed line now rest = ap from (sym first) ∙ e in
+      let consumed : ℕ → Next (List ℕ) = λ n. Parsed (line_of full_line) (record { lines = position.lines + 1; bytes = position.bytes + n }) (drop n (b ∷ bytes)) in
+      let is : Parsed (line_of full_line) (behind_first position (b ∷ bytes)) (drop (first_len (b ∷ bytes)) (b ∷ bytes)) ≡ Parsed line now rest = ap consumed (sym one) ∙ found in
       let same-line : line_of full_line ≡ line = cc in
       let same-position : behind_first position (b ∷ bytes) ≡ now = cc in
       let same-rest : drop (first_len (b ∷ bytes)) (b ∷ bytes) ≡ rest = cc in

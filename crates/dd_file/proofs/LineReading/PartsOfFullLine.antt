@@ -13,7 +13,7 @@ pub part-moved : (buffered rest suffix : List ℕ) (before after : Option (List 
 part-moved buffered rest suffix before after part full_line read unfinished is left =
     let k = first_len rest in
     record {
-      given = read.given;
+      bytes_read = read.bytes_read;
       consumed = read.consumed;
       whole = read.whole ∙ ap (λ t. part ++ t) (sym (take-append-drop k rest)) ∙ sym (append_assoc part (take k rest) (drop k rest)) ∙ ap (λ t. t ++ drop k rest) (sym is) ∙ ap (λ t. full_line ++ t) (sym left);
       full_line = ap first_len is ∙ first_len-append part (take k rest) read.full_line unfinished ∙ ap (λ n. length part + n) (first_len-take rest ∙ sym (length-first rest)) ∙ sym (length-append part (take k rest)) ∙ ap length (sym is);
@@ -30,9 +30,9 @@ consumes-append (Some o) (Some m) (Some n) xs ys a b = a ∙ ap (λ t. xs ++ t) 
 pub part-filled : (buffered rest bytes : List ℕ) (before mid after : Option (List ℕ)) (part : List ℕ) → PartRead buffered rest before mid part → rest ≡ [] →
     Consumes mid after bytes → PartRead buffered bytes before after part
 part-filled buffered rest bytes before mid after part read none more = record {
-  given = read.given ++ bytes;
-  consumed = consumes-append before mid after read.given bytes read.consumed more;
-  whole = sym (append_assoc buffered read.given bytes) ∙ ap (λ t. t ++ bytes) (read.whole ∙ ap (λ t. part ++ t) none ∙ append-nil part);
+  bytes_read = read.bytes_read ++ bytes;
+  consumed = consumes-append before mid after read.bytes_read bytes read.consumed more;
+  whole = sym (append_assoc buffered read.bytes_read bytes) ∙ ap (λ t. t ++ bytes) (read.whole ∙ ap (λ t. part ++ t) none ∙ append-nil part);
   full_line = read.full_line;
 }
 

@@ -96,11 +96,11 @@ full_lines-drop (suc count) (b ∷ bytes) =
     let first = first_len whole in
     let cut = full_lines-first whole (omega arith) in
     let rest = drop first whole in
-    let taken = concat (take count (full_lines rest)) in
+    let consumed = concat (take count (full_lines rest)) in
     let bound = first_len-bound whole in
-    let len : length (take first whole ++ taken) ≡ first + length taken = rw (length-append (take first whole) taken) (let prefix = length-take-le first whole bound in omega (arith, prefix)) in
+    let len : length (take first whole ++ consumed) ≡ first + length consumed = rw (length-append (take first whole) consumed) (let prefix = length-take-le first whole bound in omega (arith, prefix)) in
     ap (λ (ps : List (List ℕ)). full_lines (drop (length (concat (take (suc count) ps))) whole)) cut
-    ∙ ap (λ (k : ℕ). full_lines (drop k whole)) len ∙ ap full_lines (sym (drop-drop (length taken) first whole)) ∙ full_lines-drop count rest ∙ sym (ap (drop (suc count)) cut)
+    ∙ ap (λ (k : ℕ). full_lines (drop k whole)) len ∙ ap full_lines (sym (drop-drop (length consumed) first whole)) ∙ full_lines-drop count rest ∙ sym (ap (drop (suc count)) cut)
 
 concat-full_lines : (count : ℕ) (bytes : List ℕ) → length (concat (take count (full_lines bytes))) ≤ length bytes
 concat-full_lines zero bytes = omega arith
@@ -110,10 +110,10 @@ concat-full_lines (suc count) (b ∷ bytes) =
     let first = first_len whole in
     let cut = full_lines-first whole (omega arith) in
     let rest = drop first whole in
-    let taken = concat (take count (full_lines rest)) in
+    let consumed = concat (take count (full_lines rest)) in
     let bound = first_len-bound whole in
     let prefix = length-take-le first whole bound in
-    let len = length-append (take first whole) taken in
+    let len = length-append (take first whole) consumed in
     let more = concat-full_lines count rest in
     let left = length-drop first whole in
     rw cut (omega (arith, prefix, len, more, left, bound))
@@ -135,12 +135,12 @@ first_items-lines (suc fuel) position bytes fits =
       found : (count : ℕ) (ended : Bool) (found : Result Item FileFault) → ((position : Position) (bytes : List ℕ) → position.bytes + length bytes ≤ longest_input → first_items (next_item longest_input) fuel position bytes ≡ items_at fuel (position.lines + 1) (lines_of bytes)) →
           followed (first_items (next_item longest_input) fuel) (from_first_item false (Some (first_item found count ended)) position bytes) ≡ from_found (items_at fuel) (position.lines + 1) (lines_of bytes) count found
       found count ended (Ok item) ih =
-          let taken = length (concat (take count (full_lines bytes))) in
+          let consumed = length (concat (take count (full_lines bytes))) in
           let bound = concat-full_lines count bytes in
-          let left = length-drop taken bytes in
+          let left = length-drop consumed bytes in
           let sum : position.lines + count + 1 ≡ position.lines + 1 + count = omega arith in
-          ap (with_first item) (ih (record { lines = position.lines + count; bytes = position.bytes + taken }) (drop taken bytes) (omega (arith, fits, bound, left))
-          ∙ ap (λ (m : ℕ). items_at fuel m (lines_of (drop taken bytes))) sum
+          ap (with_first item) (ih (record { lines = position.lines + count; bytes = position.bytes + consumed }) (drop consumed bytes) (omega (arith, fits, bound, left))
+          ∙ ap (λ (m : ℕ). items_at fuel m (lines_of (drop consumed bytes))) sum
           ∙ ap (λ (ls : List (List ℕ)). items_at fuel (position.lines + 1 + count) ls) (ap (map line_of) (full_lines-drop count bytes) ∙ sym (drop-map line_of count (full_lines bytes))))
       found count ended (Err fault) ih = refl
 

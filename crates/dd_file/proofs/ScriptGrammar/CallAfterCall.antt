@@ -5,7 +5,7 @@ use Rattle.std.specs.Io.KnownBytes.{Consumes, IsAtEnd}
 use Rattle.std.proofs.lemmas.List.{append_assoc, append-nil, append_cancel_right}
 use Rattle.dd_file.specs.Position.{Position}
 use Rattle.dd_file.specs.Device.{LosesPrefix}
-use Rattle.dd_file.specs.Grammar.{Next, Over, Found, Faulty, Script, followed, with_first, first_items, script_from}
+use Rattle.dd_file.specs.Grammar.{Next, Over, Parsed, Faulty, Script, followed, with_first, first_items, script_from}
 use Rattle.dd_file.specs.ReaderState.{ReaderState}
 use Rattle.dd_file.specs.Answer.{AgreesWith, Agrees, IsNextOfInput, IsInterrupted, MovesOn}
 use Rattle.dd_file.specs.InOrder.{ReadsTo, TakesBytes, ReadSoFar}
@@ -17,7 +17,7 @@ followed-same : {A : Type 0} (next : Position → List ℕ → Next A) (position
     ((suffix : Position) (left : List ℕ) → length left < n → length left < m → first_items next n suffix left ≡ first_items next m suffix left) →
     followed (first_items next n) found ≡ followed (first_items next m) found
 followed-same next position bytes n m Over e takes hn hm same = refl
-followed-same next position bytes n m (Found item suffix left) e takes hn hm same =
+followed-same next position bytes n m (Parsed item suffix left) e takes hn hm same =
     let shorter = takes position suffix bytes left item e in
     ap (with_first item) (same suffix left (omega (arith, shorter, hn)) (omega (arith, shorter, hm)))
 followed-same next position bytes n m (Faulty fault) e takes hn hm same = refl
@@ -32,7 +32,7 @@ first_items-fuel next takes (suc n) (suc m) position bytes hn hm = followed-same
 script_from-at : {A : Type 0} (next : Position → List ℕ → Next A) → TakesBytes next → (position : Position) (bytes : List ℕ) (found : Next A) → next position bytes ≡ found →
     followed (first_items next (length bytes)) found ≡ followed (script_from next) found
 script_from-at next takes position bytes Over e = refl
-script_from-at next takes position bytes (Found item suffix left) e =
+script_from-at next takes position bytes (Parsed item suffix left) e =
     let shorter = takes position suffix bytes left item e in
     ap (with_first item) (first_items-fuel next takes (length bytes) (length left + 1) suffix left shorter (omega arith))
 script_from-at next takes position bytes (Faulty fault) e = refl
@@ -50,7 +50,7 @@ pub record IsFront {A : Type 0} (prefix : List A) (script rest : Script A) : Typ
 
 -- one more item
 pub ReadsTo-push : {A : Type 0} (next : Position → List ℕ → Next A) (items : List A) (item : A) (position now suffix : Position) (bytes rest left : List ℕ) →
-    ReadsTo next position bytes items now rest → next now rest ≡ Found item suffix left → ReadsTo next position bytes (items ++ item ∷ []) suffix left
+    ReadsTo next position bytes items now rest → next now rest ≡ Parsed item suffix left → ReadsTo next position bytes (items ++ item ∷ []) suffix left
 ReadsTo-push next [] item position now suffix bytes rest left read more =
     (suffix, left, ap (λ (p : Position). next p bytes) (sym read.0) ∙ ap (next now) (sym read.1) ∙ more, (refl, refl))
 ReadsTo-push next (x ∷ items) item position now suffix bytes rest left read more =
@@ -60,7 +60,7 @@ ReadsTo-push next (x ∷ items) item position now suffix bytes rest left read mo
 pub moves-append : {R : Type 0} (remaining : R → Option (List ℕ)) (old mid new : ReaderState) (before between after : R) →
     MovesOn remaining old mid before between → MovesOn remaining mid new between after → MovesOn remaining old new before after
 moves-append remaining old mid new before between after first second = record {
-  taken = (first.taken.0 ++ second.taken.0, consumes-append (remaining before) (remaining between) (remaining after) first.taken.0 second.taken.0 first.taken.1 second.taken.1);
+  consumed = (first.consumed.0 ++ second.consumed.0, consumes-append (remaining before) (remaining between) (remaining after) first.consumed.0 second.consumed.0 first.consumed.1 second.consumed.1);
   met = λ ended. at (second.met ended);
   stays = λ ended. let was = first.stays ended in let is = second.stays (was.1) in (is.0 ∙ was.0, is.1);
 } where
@@ -79,21 +79,21 @@ no-prefix (x ∷ xs) ys none = cc
 in-turn : (old mid : ReaderState) (before between after input more one two : List ℕ) → before ≡ one ++ between → between ≡ two ++ after →
     (mid.is_ended ≡ true → (old.is_ended ≡ true) ⊎ (between ≡ [])) → AgreesWith old before after input more → AgreesInTurn old mid (Some before) (Some between) (Some after) input more
 in-turn old mid before between after input more one two first second met agrees =
-    let given : agrees.given ≡ one ++ two = append_cancel_right _ _ _ (sym agrees.consumed ∙ first ∙ ap (λ t. one ++ t) second ∙ sym (append_assoc one two after)) in
+    let given : agrees.bytes_read ≡ one ++ two = append_cancel_right _ _ _ (sym agrees.consumed ∙ first ∙ ap (λ t. one ++ t) second ∙ sym (append_assoc one two after)) in
     let ended : old.is_ended ≡ true → one ++ (two ++ more) ≡ [] = λ e. sym (append_assoc one two more) ∙ ap (λ t. t ++ more) (sym given) ∙ agrees.met e in
     let last : between ≡ [] → two ++ more ≡ [] = λ none.
     let parts = no-prefix two after (sym second ∙ none) in ap (λ t. t ++ more) parts.0 ∙ agrees.last parts.1 in
     record {
       suffix = two ++ more;
       first = record {
-        given = one;
+        bytes_read = one;
         consumed = first;
         whole = agrees.whole ∙ ap (λ t. (old.buffered ++ t) ++ more) given ∙ ap (λ t. t ++ more) (sym (append_assoc old.buffered one two)) ∙ append_assoc (old.buffered ++ one) two more;
         met = ended;
         last = last;
       };
       second = record {
-        given = two;
+        bytes_read = two;
         consumed = second;
         whole = sym (append_assoc mid.buffered two more);
         met = λ e. elim (met e) [ inl was ↦ (no-prefix one (two ++ more) (ended was)).1 | inr none ↦ last none ];
@@ -112,7 +112,7 @@ agrees-in_turn old mid None between after input more first second met agrees = a
 -- before the first call
 pub given-none : {R A : Type 0} (remaining : R → Option (List ℕ)) (next : Position → List ℕ → Next A) (old : ReaderState) (before : R) → ReadSoFar remaining next old old before before []
 given-none remaining next old before = record {
-  moves = record { taken = ([], keeps (remaining before)); met = inl; stays = λ ended. (refl, ended) };
+  moves = record { consumed = ([], keeps (remaining before)); met = inl; stays = λ ended. (refl, ended) };
   read = λ input more agrees. at (remaining before) input more agrees;
 } where
   keeps : (bytes : Option (List ℕ)) → Consumes bytes bytes []
@@ -122,7 +122,7 @@ given-none remaining next old before = record {
   at : (bytes : Option (List ℕ)) (input more : List ℕ) → Agrees old bytes bytes input more → ReadsTo next old.position input [] old.position (old.buffered ++ more)
   at None input more agrees = absurd agrees
   at (Some bytes) input more agrees =
-      let nothing : agrees.given ≡ [] = append_cancel_right _ _ bytes (sym agrees.consumed) in
+      let nothing : agrees.bytes_read ≡ [] = append_cancel_right _ _ bytes (sym agrees.consumed) in
       (refl, sym (agrees.whole ∙ ap (λ t. (old.buffered ++ t) ++ more) nothing ∙ ap (λ t. t ++ more) (append-nil old.buffered)))
 
 -- what an answer other than a fault says
@@ -138,7 +138,7 @@ pub given-more : {R X A : Type 0} (remaining : R → Option (List ℕ)) (view : 
 given-more remaining view next old mid new before between after items item so_far moves answers = record {
   moves = moves-append remaining old mid new before between after so_far.moves moves;
   read = λ input more agrees.
-      let turn = agrees-in_turn old mid (remaining before) (remaining between) (remaining after) input more so_far.moves.taken moves.taken so_far.moves.met agrees in
+      let turn = agrees-in_turn old mid (remaining before) (remaining between) (remaining after) input more so_far.moves.consumed moves.consumed so_far.moves.met agrees in
       ReadsTo-push next items (view item) old.position mid.position new.position input (mid.buffered ++ turn.suffix) (new.buffered ++ more) (so_far.read input turn.suffix turn.first)
       (answer-whole (Some item) (answers (mid.buffered ++ turn.suffix) more turn.second));
 }

@@ -12,28 +12,11 @@ use Rattle.std.proofs.lemmas.List.Folds.{fold-map, list_any_at, Any-from_list_an
 use Rattle.std.proofs.lemmas.List.Sums.{sum_by-cons}
 use Rattle.std.proofs.lemmas.List.Sorted.{ranks_by, sorted_far, Contains-permutation, list_any-IsPermutation, sum_by-IsPermutation, IsPartitionedBy-ltb}
 use Rattle.quorum_sets.specs.Committed.{Acks, acked_index}
+use Rattle.quorum_sets.proofs.Quorums.SortedRows.{Parts, not_before, row_order, rows-first, rows-partitioned}
 use Rattle.quorum_sets.specs.Chart.{IsRanking, ranked, is_tied, bar_width}
 
--- ---- the order by index and then by id
-not_less_by : (less same less_id same_id : Bool) → is_lt (ordering_then (cond less Less (cond same Equal Greater)) (cond less_id Less (cond same_id Equal Greater))) ≡ false → (less ≡ false) × (same ≡ true → less_id ≡ false)
-not_less_by true same less_id same_id h = cc
-not_less_by false true true same_id h = cc
-not_less_by false true false same_id h = (refl, λ _. refl)
-not_less_by false false less_id same_id h = (refl, λ no. cc)
-
-not_less : (i x j y : ℕ) → is_lt (ordering_then (nat_cmp i j) (nat_cmp x y)) ≡ false → (j ≤ i) × (j ≡ i → y ≤ x)
-not_less i x j y h =
-    let parts = not_less_by (nat_lt i j) (i == j) (nat_lt x y) (x == y) h in
-    (ltb-false i j parts.0, λ same. ltb-false x y (parts.1 (eq-eqb i j (sym same))))
-
-row_order : (rows : List (ℕ × ℕ)) → IsSorted (λ x y. ordering_then (nat_cmp x.0 y.0) (nat_cmp x.1 y.1)) rows → (j k : ℕ) (d : ℕ × ℕ) → j ≤ k → k < length rows → ((get_or rows j d).0 ≤ (get_or rows k d).0) × ((get_or rows j d).0 ≡ (get_or rows k d).0 → (get_or rows j d).1 ≤ (get_or rows k d).1)
-row_order rows ascends j k d before within =
-    let total = then_total (on_total (λ (r : ℕ × ℕ). r.0) nat_cmp_total) (on_total (λ (r : ℕ × ℕ). r.1) nat_cmp_total) in
-    not_less _ _ _ _ (sorted_far _ (ranks_by total (λ r. r)) rows ascends j k d before within)
-
 pub ranking-partitioned : (ids : List ℕ) (acks : Acks) (rows : List (ℕ × ℕ)) (index : ℕ) → IsRanking ids acks rows → IsPartitionedBy (λ r. nat_lt r.0 index) rows
-ranking-partitioned ids acks rows index ranking =
-    IsPartitionedBy-ltb (λ r. r.0) rows index (λ j k d before within. (row_order rows ranking.ascends j k d before within).0)
+ranking-partitioned ids acks rows index ranking = rows-partitioned rows index ranking.ascends
 
 -- ---- the rows against the ids
 count-rows : (p : ℕ × ℕ → Bool) (ids : List ℕ) (acks : Acks) (rows : List (ℕ × ℕ)) → IsPermutation (map (ranked acks) ids) rows → count_by p rows ≡ count_by (λ id. p (ranked acks id)) ids
@@ -66,39 +49,16 @@ count_by-partition p (x ∷ xs) (suc k) within parted =
     sum_by-cons (λ y. cond (p y) 1 0) x xs ∙ (λ i. cond (here i) 1 0 + rest i) ∙ omega arith
 
 -- ---- the first row that has an index
--- the place parts the rows with a smaller index from the others
-abbrev pub Parts : ℕ → List (ℕ × ℕ) → ℕ → Type 0
-Parts index rows position = IsPartitionPoint (λ r. nat_lt r.0 index ≡ true) (λ r. nat_lt r.0 index ≡ false) rows position
-
--- what is not before the place has no smaller index
-from_place : (index : ℕ) (rows : List (ℕ × ℕ)) (position j : ℕ) (d : ℕ × ℕ) → Parts index rows position → j < length rows → index ≤ (get_or rows j d).0 → position ≤ j
-from_place index rows position j d parted within enough = elim (cases_lt j position) [
-  | inl before ↦ let less = ltb-true _ index (parted.0 j d (omega arith) before) in absurd (omega arith)
-  | inr after ↦ after
-]
-
--- the row at the place has the index of the id, and no greater id
+-- the row at the position has the index of the id, and no greater id
 pub record IsFirst (index id position : ℕ) (rows : List (ℕ × ℕ)) (first : ℕ × ℕ) : Type 0 where
   pub within : position < length rows
   pub index_is : first.0 ≡ index
   pub id_below : first.1 ≤ id
 
-pub IsFirst-at_place : (ids : List ℕ) (acks : Acks) (rows : List (ℕ × ℕ)) (id position : ℕ) → IsRanking ids acks rows → Contains ids id → Parts (acked_index acks id) rows position → IsFirst (acked_index acks id) id position rows (get_or rows position (ranked acks id))
-IsFirst-at_place ids acks rows id position ranking among parted =
-    let index : ℕ = acked_index acks id in
-    let d : ℕ × ℕ = ranked acks id in
-    let there = has_row ids acks rows id ranking among in
-    let index_there : (get_or rows there.0 d).0 ≡ index = ap (λ r. r.0) there.2 in
-    let id_there : (get_or rows there.0 d).1 ≡ id = ap (λ r. r.1) there.2 in
-    let before = from_place index rows position there.0 d parted there.1 (omega arith) in
-    let order = row_order rows ranking.ascends position there.0 d before there.1 in
-    let not_less = ltb-false _ index (parted.1 position d (omega arith) (omega arith)) in
-    let same : (get_or rows position d).0 ≡ index = omega arith in
-    record {
-      within = omega arith;
-      index_is = same;
-      id_below = (let low = order.1 (same ∙ sym index_there) in omega arith);
-    }
+pub IsFirst-at_position : (ids : List ℕ) (acks : Acks) (rows : List (ℕ × ℕ)) (id position : ℕ) → IsRanking ids acks rows → Contains ids id → Parts (acked_index acks id) rows position → IsFirst (acked_index acks id) id position rows (get_or rows position (ranked acks id))
+IsFirst-at_position ids acks rows id position ranking among parted =
+    let first = rows-first rows (acked_index acks id) id position ranking.ascends parted (has_row ids acks rows id ranking among) in
+    record { within = first.0; index_is = first.1; id_below = first.2 }
 
 abbrev pub ties : ℕ → ℕ → ℕ × ℕ → Bool
 ties index id row = nat_lt row.1 id && nat_eq row.0 index
@@ -106,7 +66,7 @@ ties index id row = nat_lt row.1 id && nat_eq row.0 index
 pub width-first : (ids : List ℕ) (acks : Acks) (rows : List (ℕ × ℕ)) (id position : ℕ) → IsRanking ids acks rows → Contains ids id → position ≤ length rows → Parts (acked_index acks id) rows position → (get_or rows position (ranked acks id)).1 ≡ id → position ≡ bar_width ids acks id
 width-first ids acks rows id position ranking among within parted leads =
     let index : ℕ = acked_index acks id in
-    let first = IsFirst-at_place ids acks rows id position ranking among parted in
+    let first = IsFirst-at_position ids acks rows id position ranking among parted in
     let alone : is_tied ids acks id ≡ false = false_from_ne_true _ (λ tied.
     let other = Any-from_list_any (ties index id) rows (any-rows (ties index id) ids acks rows ranking.same ∙ tied) in
     let parts = and_parts _ _ other.4 in
@@ -115,7 +75,7 @@ width-first ids acks rows id position ranking among within parted leads =
     let here : get_or rows other.0 (ranked acks id) ≡ other.1 = get_or_default rows other.0 (ranked acks id) other.1 other.2 ∙ other.3 in
     let there : (get_or rows other.0 (ranked acks id)).0 ≡ index = ap (λ r. r.0) here ∙ index_is in
     let id_there : (get_or rows other.0 (ranked acks id)).1 ≡ other.1.1 = ap (λ r. r.1) here in
-    let after = from_place index rows position other.0 (ranked acks id) parted other.2 (omega arith) in
+    let after = not_before index rows position other.0 (ranked acks id) parted other.2 (omega arith) in
     let order = row_order rows ranking.ascends position other.0 (ranked acks id) after other.2 in
     let low = order.1 (first.index_is ∙ sym there) in
     absurd (omega arith)) in
@@ -126,7 +86,7 @@ width-first ids acks rows id position ranking among within parted leads =
 pub width-later : (ids : List ℕ) (acks : Acks) (rows : List (ℕ × ℕ)) (id position : ℕ) → IsRanking ids acks rows → Contains ids id → Parts (acked_index acks id) rows position → ((get_or rows position (ranked acks id)).1 ≡ id → ⊥) → 0 ≡ bar_width ids acks id
 width-later ids acks rows id position ranking among parted follows =
     let index : ℕ = acked_index acks id in
-    let first = IsFirst-at_place ids acks rows id position ranking among parted in
+    let first = IsFirst-at_position ids acks rows id position ranking among parted in
     let below : (get_or rows position (ranked acks id)).1 < id = omega (arith, follows) in
     let tied : is_tied ids acks id ≡ true =
     sym (any-rows (ties index id) ids acks rows ranking.same)

@@ -46,7 +46,7 @@ fn is_flushed(rt: &impl Runtime) -> bool {
     let device = limited(rt.alloc(), 20, 20, Stop::Fault);
     let mut blocks = Blocks::new(rt.alloc(), device).expect(rt, "a block");
     let was_reported = write_all(&mut blocks, b"12").is_err();
-    let is_reported = blocks.write_on().is_err();
+    let is_reported = blocks.flush_all().is_err();
     let device = blocks.into_inner().into_inner();
     !was_reported
         & !is_reported

@@ -60,10 +60,10 @@ fn step(rt: &impl Runtime, index: usize) -> Step {
 
 // Whether a step equals only the one at its own index.
 fn equals_only_itself(rt: &impl Runtime, index: usize) -> bool {
-    let found = step(rt, index);
+    let chosen = step(rt, index);
     let mut is_so = true;
     for at in 0..6 {
-        is_so &= (found == step(rt, at)) == (index == at);
+        is_so &= (chosen == step(rt, at)) == (index == at);
     }
     is_so
 }

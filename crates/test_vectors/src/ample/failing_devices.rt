@@ -33,17 +33,17 @@ fn reads_until(alloc: Global, case: Case, before: usize) -> bool {
 
 // Whether a run ends as expected if its writer accepts a byte per call and stops after this many, with a prefix of this
 // many bytes. After an error the writer is not called again, not even for an empty write or a flush.
-fn writes_until(alloc: Global, case: Case, cut: usize, stop: Stop) -> bool {
+fn writes_until(alloc: Global, case: Case, limit: usize, stop: Stop) -> bool {
     let (command, input, output, _) = case;
-    let mut writer = limited(alloc, 1, cut, stop);
+    let mut writer = limited(alloc, 1, limit, stop);
     let outcome = run_command(alloc, command, &mut FromRead::new(input), &mut writer);
-    let fails = cut < output.len();
+    let fails = limit < output.len();
     let failed = writer.failed();
     let device = writer.into_inner();
     let prefix = device.written.as_slice();
     (outcome == expected(case, fails, ToolFault::Write))
         & (failed == fails)
-        & (prefix.len() == cut.min(output.len()))
+        & (prefix.len() == limit.min(output.len()))
         & output.starts_with(prefix)
         & (device.calls == prefix.len().saturating_add(usize::from(fails)))
         & (device.later_calls == 0)
@@ -51,9 +51,9 @@ fn writes_until(alloc: Global, case: Case, cut: usize, stop: Stop) -> bool {
 
 // Whether a run over a block ends as expected if its writer stops after this many bytes: the output is written with the
 // last block, after the run.
-fn flushes_until(rt: &impl Runtime, case: Case, cut: usize) -> bool {
+fn flushes_until(rt: &impl Runtime, case: Case, limit: usize) -> bool {
     let (command, input, output, _) = case;
-    let device = limited(rt.alloc(), 4096, cut, Stop::Fault);
+    let device = limited(rt.alloc(), 4096, limit, Stop::Fault);
     let mut blocks = Blocks::new(rt.alloc(), device).expect(rt, "a block");
     let outcome = run_and_flush_command(
         rt.alloc(),
@@ -63,8 +63,8 @@ fn flushes_until(rt: &impl Runtime, case: Case, cut: usize) -> bool {
     );
     let device = blocks.into_inner().into_inner();
     let prefix = device.written.as_slice();
-    (outcome == expected(case, cut < output.len(), ToolFault::Write))
-        & (prefix.len() == cut.min(output.len()))
+    (outcome == expected(case, limit < output.len(), ToolFault::Write))
+        & (prefix.len() == limit.min(output.len()))
         & output.starts_with(prefix)
         & (device.later_calls == 0)
 }
@@ -79,10 +79,10 @@ fn stops_reading(rt: &impl Runtime, case: Case) -> bool {
 
 fn stops_writing(rt: &impl Runtime, case: Case) -> bool {
     let mut is_so = true;
-    for cut in 0..case.2.len() + 1 {
-        is_so &= writes_until(rt.alloc(), case, cut, Stop::Fault)
-            & writes_until(rt.alloc(), case, cut, Stop::AcceptsNone)
-            & flushes_until(rt, case, cut);
+    for limit in 0..case.2.len() + 1 {
+        is_so &= writes_until(rt.alloc(), case, limit, Stop::Fault)
+            & writes_until(rt.alloc(), case, limit, Stop::AcceptsNone)
+            & flushes_until(rt, case, limit);
     }
     is_so
 }

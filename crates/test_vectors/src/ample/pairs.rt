@@ -180,9 +180,9 @@ fn graph_of_all(rt: &impl Runtime) -> Graph {
     graph
 }
 
-fn add_nexts(found: &mut Vec<usize>, nexts: &[usize], steps: usize) {
+fn add_nexts(distances: &mut Vec<usize>, nexts: &[usize], steps: usize) {
     for next in nexts {
-        if let Some(known) = found.get_mut(*next) {
+        if let Some(known) = distances.get_mut(*next) {
             if *known > steps {
                 *known = steps;
             }
@@ -191,24 +191,24 @@ fn add_nexts(found: &mut Vec<usize>, nexts: &[usize], steps: usize) {
 }
 
 // From the ends of the runs of some number of steps, adds those of one step more.
-fn add_round(found: &mut Vec<usize>, edges: &[Vec<usize>], steps: usize)
+fn add_round(distances: &mut Vec<usize>, edges: &[Vec<usize>], steps: usize)
     requires { steps ≤ 10 }
 {
     for (code, nexts) in edges.iter().enumerate() {
-        if found.get(code).copied() == Some(steps) {
-            add_nexts(found, nexts, steps + 1);
+        if distances.get(code).copied() == Some(steps) {
+            add_nexts(distances, nexts, steps + 1);
         }
     }
 }
 
 // The least number of steps from a configuration to each other one.
 fn fewest_steps(rt: &impl Runtime, edges: &[Vec<usize>], from: usize) -> Vec<usize> {
-    let mut found = vec![in rt.alloc(); NOWHERE; CODES].expect(rt, "numbers");
-    add_nexts(&mut found, &[from], 0);
+    let mut distances = vec![in rt.alloc(); NOWHERE; CODES].expect(rt, "numbers");
+    add_nexts(&mut distances, &[from], 0);
     for steps in 0..10 {
-        add_round(&mut found, edges, steps);
+        add_round(&mut distances, edges, steps);
     }
-    found
+    distances
 }
 
 fn is_accepted(changer: &mut Changer<TreeIds>, step: Option<&Step>) -> bool {

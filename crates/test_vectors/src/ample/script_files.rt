@@ -28,11 +28,11 @@ fn show_next_line<R: Source>(
     if buffered.is_some() {
         show(rt, shown, b"h");
     }
-    let found = match buffered {
-        Some(found) => found,
+    let answer = match buffered {
+        Some(answer) => answer,
         None => lines.next(source),
     };
-    if let Some(line) = found.expect(rt, "a line or the end") {
+    if let Some(line) = answer.expect(rt, "a line or the end") {
         show_line(rt, shown, line.as_slice());
     }
 }
@@ -59,9 +59,9 @@ static LINES: [(&str, &str); 6] = [
 
 #[test]
 fn gives_lines(rt: HostRuntime) {
-    for (input, want) in &LINES {
+    for (input, expected) in &LINES {
         let shown = lines_of(&rt, *input);
-        assert!(rt; shown.as_slice() == want.as_bytes(), "at {input}");
+        assert!(rt; shown.as_slice() == expected.as_bytes(), "at {input}");
     }
 }
 
@@ -131,9 +131,9 @@ static VALUES: [(&str, &str); 8] = [
 
 #[test]
 fn walks_values(rt: HostRuntime) {
-    for (line, want) in &VALUES {
+    for (line, expected) in &VALUES {
         let shown = values_of(&rt, *line);
-        assert!(rt; shown.as_slice() == want.as_bytes(), "at {line}");
+        assert!(rt; shown.as_slice() == expected.as_bytes(), "at {line}");
     }
 }
 
@@ -189,9 +189,9 @@ fn show_next_item<R: Source>(
 fn items_of<R: Source>(rt: &impl Runtime, source: &mut R) -> Vec<u8> {
     let mut shown = Vec::new(rt.alloc());
     let mut reader = Reader::new(rt.alloc()).expect(rt, "a reader");
-    let mut goes_on = true;
+    let mut has_more = true;
     for _ in 0..9 {
-        goes_on = goes_on && show_next_item(rt, &mut shown, &mut reader, source);
+        has_more = has_more && show_next_item(rt, &mut shown, &mut reader, source);
     }
     shown
 }
@@ -295,10 +295,14 @@ static SCRIPTS: [(&str, &str); 51] = [
 
 #[test]
 fn reads_items(rt: HostRuntime) {
-    for (script, want) in &SCRIPTS {
+    for (script, expected) in &SCRIPTS {
         assert!(rt;
-            has_items(&rt, &mut FromRead::new(script.as_bytes()), *want)
-                & has_items(&rt, &mut byte_by_byte(script.as_bytes(), usize::MAX), *want),
+            has_items(&rt, &mut FromRead::new(script.as_bytes()), *expected)
+                & has_items(
+                    &rt,
+                    &mut byte_by_byte(script.as_bytes(), usize::MAX),
+                    *expected
+                ),
             "at {script}"
         );
     }
@@ -315,11 +319,11 @@ fn show_buffered_item<R: Source>(
     if buffered.is_some() {
         show(rt, shown, b"h");
     }
-    let found = match buffered {
-        Some(found) => found,
+    let answer = match buffered {
+        Some(answer) => answer,
         None => reader.next(source),
     };
-    let item = found.expect(rt, "an item or the end")?;
+    let item = answer.expect(rt, "an item or the end")?;
     show_item(rt, shown, &item);
     Some(item)
 }
@@ -341,7 +345,7 @@ fn reads_buffered_items(rt: HostRuntime) {
 }
 
 #[test]
-fn reads_into_items_that_are_given_back(rt: HostRuntime) {
+fn reuses_items(rt: HostRuntime) {
     let mut source = FromRead::new(BUFFERED_SCRIPT);
     let mut reader = Reader::new(rt.alloc()).expect(&rt, "a reader");
     let mut shown = Vec::new(rt.alloc());
@@ -384,11 +388,11 @@ fn show_made_comment(rt: &impl Runtime, shown: &mut Vec<u8>, line: &str) {
 
 #[test]
 fn makes_items(rt: HostRuntime) {
-    for (line, input, want) in &MADE {
+    for (line, input, expected) in &MADE {
         let mut shown = Vec::new(rt.alloc());
         show_made_directive(&rt, &mut shown, *line, *input);
         show_made_comment(&rt, &mut shown, *line);
-        assert!(rt; shown.as_slice() == want.as_bytes(), "of {line}");
+        assert!(rt; shown.as_slice() == expected.as_bytes(), "of {line}");
     }
 }
 

@@ -2,7 +2,7 @@ use Rattle.std.proofs.Common.{◌≡◌, ◌++◌, ◌∷◌, [], length}
 use Rattle.conf_tool.specs.Reports.{marked}
 use Rattle.conf_tool.proofs.report.append_marked.Given as goal
 
--- the text so far, and the lines that are left behind the sign
+-- the text so far, and the lines that are left after the sign
 abbrev pub invariant-loop-full_line : goal.invariant-loop-full_line
 invariant-loop-full_line l = l.text.items ++ marked (l.sign ∷ 32 ∷ []) l.rest ≡ l.initial.text.items ++ marked (l.sign ∷ 32 ∷ []) l.bytes
 

@@ -35,7 +35,7 @@ returns-in-Ok-true-clause-reads g c =
     let reading = reading-more g.R.Source.remaining g.R.Source.has_failed (λ (l : List ℕ). l) c.args.lines.now c.read.lines c.next.new.self c.args.reader.now c.read.reader c.next.new.reader c.read.draft c.add.new.self c.in-Ok-Some.line
     loop.reading read (subst (λ l. AddsIn c.read.draft.state c.read.draft c.add.new.self l) c.as_slice.ensures c.in-Ok-true.ensures.added) in
     done-reads g.R.Source.remaining g.R.Source.has_failed c.args.lines.now c.next.new.self c.args.reader.now c.next.new.reader c.add.new.self c.finish.result c.requires.faultless c.requires.unended reading
-    (sym c.in-Ok-true.ensures.done ∙ c.in-Ok-true.field-0-test) read.lookahead (read.read loop.reading.faultless ∙ sym (or-false (g.R.Source.has_failed c.read.reader)) ∙ loop.sound) c.finish.ensures.found c.finish.ensures.kind
+    (sym c.in-Ok-true.ensures.done ∙ c.in-Ok-true.field-0-test) read.lookahead (read.read loop.reading.faultless ∙ sym (or-false (g.R.Source.has_failed c.read.reader)) ∙ loop.sound) c.finish.ensures.item c.finish.ensures.kind
 
 pub returns-in-Err-add-clause-reads : goal.returns-in-Err-add-clause-reads
 returns-in-Err-add-clause-reads g c =
@@ -49,7 +49,7 @@ returns-in-Ok-None-clause-reads g c =
     let read = rw c.in-Ok-None.field-0-is at c.in-Ok-None.ensures in
     let loop = c.read.invariant in
     end-reads g.R.Source.remaining g.R.Source.has_failed (λ (l : List ℕ). l) c.args.lines.now c.read.lines c.next.new.self c.args.reader.now c.read.reader c.next.new.reader c.read.draft c.finish-in-Ok-None.result
-    c.requires.faultless c.requires.unended loop.reading read loop.sound c.finish-in-Ok-None.ensures.found c.finish-in-Ok-None.ensures.kind
+    c.requires.faultless c.requires.unended loop.reading read loop.sound c.finish-in-Ok-None.ensures.item c.finish-in-Ok-None.ensures.kind
 
 pub returns-in-Err-clause-reads : goal.returns-in-Err-clause-reads
 returns-in-Err-clause-reads g c =

@@ -6,8 +6,8 @@ use Rattle.quorum_sets.proofs.voting.count_votes.Given as goal
 
 abbrev pub invariant-loop-position : goal.invariant-loop-position
 invariant-loop-position g l = record {
-  said : l.yes_votes ≡ count_by (is_yes (g.V.VoteSource.votes l.votes)) (take l.position (ascending (g.S.MemberSet.ids l.set)));
+  vote : l.yes_votes ≡ count_by (is_yes (g.V.VoteSource.votes l.votes)) (take l.position (ascending (g.S.MemberSet.ids l.set)));
   may_say : l.possible_yes_votes ≡ count_by (may_be_yes (g.V.VoteSource.votes l.votes)) (take l.position (ascending (g.S.MemberSet.ids l.set)));
-  said_small : l.yes_votes ≤ l.position;
+  vote_small : l.yes_votes ≤ l.position;
   may_say_small : l.possible_yes_votes ≤ l.position;
 }

@@ -14,6 +14,6 @@ returns-in_ok-tracker_lines-in-Ok c =
     let is = c.in-Ok.ensures in
     let begun : after ≡ begun_with changer.tracker.floor changer.last_index config =
     is.described config is.restored is.sound.restorable ∙ (λ i. begun_with (c.floor.ensures i) (c.last_index.ensures i) config) in
-    let reply : List ℕ → Reply = λ actual. record { actual = actual; effect = Restored after } in
+    let reply : List ℕ → Reply = λ actual. record { actual = actual; update = Restored after } in
     ap (reply_in changer after) c.new.ensures ∙ ap reply (c.in_ok-tracker_lines-in-Ok.ensures ∙ ap tracker_text c.tracker.ensures.tracker)
     ∙ ap restored_with begun ∙ sym (ap (after_restored changer) is.as_function)

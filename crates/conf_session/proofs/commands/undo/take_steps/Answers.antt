@@ -17,7 +17,7 @@ returns-in_ok-actual-in-Ok c =
     let copied : c.in_ok-next.field-0 ≡ changer = c.in_ok-next.ensures.same ∙ c.changer.ensures.changer in
     let there : after_steps changer steps ≡ Some after =
     ap (λ (before : ChangerState). after_steps before steps) (sym copied) ∙ (c.one_changer_after_steps.ensures.taken c.in_ok-next.field-0 after steps).0 c.in-Ok.ensures.taken in
-    let reply : List ℕ → Reply = λ actual. record { actual = actual; effect = Undone after c.args.count } in
+    let reply : List ℕ → Reply = λ actual. record { actual = actual; update = Undone after c.args.count } in
     ap (reply_in changer after) c.new.ensures
     ∙ ap reply (c.in_ok-actual-in-Ok.ensures ∙ ap (λ tracker. plan_text steps ++ tracker_text tracker) c.tracker.ensures.tracker)
     ∙ sym (ap (λ o. undone_by (unwrap_or o changer) c.args.count steps) there)

@@ -33,7 +33,7 @@ returns-in_err-read g c =
       output = λ total begun input more agrees.
           let prefix = reached-prefix _ _ _ _ _ _ c.each.invariant.reached lost input more agrees in
           subst (λ s. AppendsPart before after (total s).text) (sym prefix.is) (g.met.M.PartByPart.prefix _ _ _ prefix.rest.items prefix.rest.fault _ _ (g.met.M.PartByPart.stays _ _ _ _ _ _ (c.each.invariant.answered total begun) c.next_part.ensures.kept));
-      taken = loses-more _ _ _ c.each.invariant.reached.taken lost;
+      consumed = loses-more _ _ _ c.each.invariant.reached.consumed lost;
       read = ap g.R.Source.has_failed same ∙ c.each.invariant.unread ∙ sym (or-false _);
       write = or-fault _ _ _ _ _ c.in_err-read.ensures.write refl c.each.invariant.unwritten;
       kinds = tt;
@@ -75,8 +75,8 @@ returns-in_err-answer-in-Ok-Some-clause-output g c = λ total begun input more a
     rw (p.1, p.2) (stop-means _ _ total (script_from g.S.Parts.coming start input) _ before after _ prefix.is c.in_err-answer-in-Ok-Some.ensures.kinds
     (λ all. all _ _ prefix.rest.items prefix.rest.fault _ answered) part)
 
-pub returns-in_err-answer-in-Ok-Some-clause-taken : goal.returns-in_err-answer-in-Ok-Some-clause-taken
-returns-in_err-answer-in-Ok-Some-clause-taken g c = loses-more _ _ _ c.each.invariant.reached.taken c.in_ok-read.ensures.reads.moves.taken
+pub returns-in_err-answer-in-Ok-Some-clause-consumed : goal.returns-in_err-answer-in-Ok-Some-clause-consumed
+returns-in_err-answer-in-Ok-Some-clause-consumed g c = loses-more _ _ _ c.each.invariant.reached.consumed c.in_ok-read.ensures.reads.moves.consumed
 
 pub end-requires : goal.end-requires
 end-requires g c = (c.requires.unwritten.0, c.each.invariant.parts, _, g.met.M.PartByPart.stays _ _ _ _ _ _ (c.each.invariant.answered _ c.requires.unwritten.1) c.next_part.ensures.kept)
@@ -88,8 +88,8 @@ returns-in-Ok-None-clause-output g c = λ total begun input more agrees.
     let answered = g.met.M.PartByPart.stays _ _ _ _ _ _ (c.each.invariant.answered total begun) c.next_part.ensures.kept in
     subst (λ s. Means (total s) c.end.result (g.W.Sink.contents c.args.writer.now) (g.W.Sink.contents c.end.new.writer)) (sym prefix) (c.end.ensures.output _ _ _ answered)
 
-pub returns-in-Ok-None-clause-taken : goal.returns-in-Ok-None-clause-taken
-returns-in-Ok-None-clause-taken g c = loses-more _ _ _ c.each.invariant.reached.taken c.in_ok-read.ensures.reads.moves.taken
+pub returns-in-Ok-None-clause-consumed : goal.returns-in-Ok-None-clause-consumed
+returns-in-Ok-None-clause-consumed g c = loses-more _ _ _ c.each.invariant.reached.consumed c.in_ok-read.ensures.reads.moves.consumed
 
 pub end-requires-in-Script : goal.end-requires-in-Script
 end-requires-in-Script g c = (c.requires.unwritten.0, c.each.invariant.parts, _, g.met.M.PartByPart.stays _ _ _ _ _ _ (c.each.invariant.answered _ c.requires.unwritten.1) c.next_part.ensures.kept)
@@ -102,8 +102,8 @@ returns-in-Script-clause-output g c = λ total begun input more agrees.
     let answered = g.met.M.PartByPart.stays _ _ _ _ _ _ (c.each.invariant.answered total begun) c.next_part.ensures.kept in
     subst (λ s. Means (total s) c.end-in-Script.result (g.W.Sink.contents c.args.writer.now) (g.W.Sink.contents c.end-in-Script.new.writer)) (sym prefix) (c.end-in-Script.ensures.output _ _ _ answered)
 
-pub returns-in-Script-clause-taken : goal.returns-in-Script-clause-taken
-returns-in-Script-clause-taken g c = loses-more _ _ _ c.each.invariant.reached.taken c.in_ok-read.ensures.reads.moves.taken
+pub returns-in-Script-clause-consumed : goal.returns-in-Script-clause-consumed
+returns-in-Script-clause-consumed g c = loses-more _ _ _ c.each.invariant.reached.consumed c.in_ok-read.ensures.reads.moves.consumed
 
 pub returns-in_default : goal.returns-in_default
 returns-in_default g c =
@@ -112,10 +112,10 @@ returns-in_default g c =
     let after = g.W.Sink.contents c.next_part.new.writer in
     record {
       output = λ total begun input more agrees.
-          let prefix = reached-prefix _ _ _ _ _ _ c.each.invariant.reached c.in_ok-read.ensures.reads.moves.taken input more agrees in
+          let prefix = reached-prefix _ _ _ _ _ _ c.each.invariant.reached c.in_ok-read.ensures.reads.moves.consumed input more agrees in
           reader-means _ _ converted (total (script_from g.S.Parts.coming start input)) before after
           (subst (λ s. AppendsPart before after (total s).text) (sym prefix.is) (g.met.M.PartByPart.prefix _ _ _ prefix.rest.items prefix.rest.fault _ _ (g.met.M.PartByPart.stays _ _ _ _ _ _ (c.each.invariant.answered total begun) c.next_part.ensures.kept)));
-      taken = loses-more _ _ _ c.each.invariant.reached.taken c.in_ok-read.ensures.reads.moves.taken;
+      consumed = loses-more _ _ _ c.each.invariant.reached.consumed c.in_ok-read.ensures.reads.moves.consumed;
       read = or-fault _ _ _ _ _ ((rw c.in-Err.is at c.in_ok-read.ensures.reads).read c.each.invariant.reached.open_end) (reader-read _ _ converted) c.each.invariant.unread;
       write = or-fault _ _ _ _ _ c.in_ok-read.ensures.write (reader-unwritten _ _ converted) c.each.invariant.unwritten;
       kinds = rw c.from.ensures (c.requires.faults _ _ ((rw c.in-Err.is at c.in_ok-read.ensures.reads).kind c.each.invariant.reached.open_end));

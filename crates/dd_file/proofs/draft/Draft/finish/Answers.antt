@@ -8,24 +8,24 @@ use Rattle.dd_file.proofs.ItemReading.NoMoreLine.{HasParts, AtInput, AtSeparator
 use Rattle.dd_file.proofs.draft.Draft.finish.Goals as goal
 use Rattle.dd_file.proofs.draft.Draft.finish.Goals.{in-Input, in-Input-2, in-Input-3, in-Input-4, in-Input-5}
 
-pub returns-in-CommentLine-clause-found : goal.returns-in-CommentLine-clause-found
-returns-in-CommentLine-clause-found c =
+pub returns-in-CommentLine-clause-item : goal.returns-in-CommentLine-clause-item
+returns-in-CommentLine-clause-item c =
     let fields = c.self.inside in
     found-comment_at c.args.self fields.raw_lines (ap (λ (d : DraftText). d.state) (sym c.self.view_is) ∙ c.in-CommentLine.is) c.requires.fits
     (sym (take-append-drop fields.directive_line_count fields.raw_lines) ∙ ap (λ (d : DraftText). d.directive_lines ++ d.input) c.self.view_is)
 
-pub returns-in-BlankLines-clause-found : goal.returns-in-BlankLines-clause-found
-returns-in-BlankLines-clause-found c =
+pub returns-in-BlankLines-clause-item : goal.returns-in-BlankLines-clause-item
+returns-in-BlankLines-clause-item c =
     let fields = c.self.inside in
     found-blank_at c.args.self fields.raw_lines (ap (λ (d : DraftText). d.state) (sym c.self.view_is) ∙ c.in-BlankLines.is) c.requires.fits
     (sym (take-append-drop fields.directive_line_count fields.raw_lines) ∙ ap (λ (d : DraftText). d.directive_lines ++ d.input) c.self.view_is)
 
-pub returns-in-DirectiveLines-clause-found : goal.returns-in-DirectiveLines-clause-found
-returns-in-DirectiveLines-clause-found c =
+pub returns-in-DirectiveLines-clause-item : goal.returns-in-DirectiveLines-clause-item
+returns-in-DirectiveLines-clause-item c =
     found-bad_at c.args.self c.self.inside.line (ap (λ (d : DraftText). d.state) (sym c.self.view_is) ∙ c.in-DirectiveLines.is) c.requires.fits (ap (λ (d : DraftText). d.line) c.self.view_is)
 
-pub returns-clause-found : goal.returns-clause-found
-returns-clause-found c =
+pub returns-clause-item : goal.returns-clause-item
+returns-clause-item c =
     let fields = c.self.inside in
     let command = c.match-state.command in
     let view : fields.state ≡ c.args.self.state = ap (λ (d : DraftText). d.state) c.self.view_is in

@@ -17,7 +17,7 @@ returns c =
     let empty = c.is_blank.ensures in
     elim c.if-is_blank.branch [
       | then-is_blank w ↦
-          ap (λ left. values_left left rest) w.left-is ∙ sym (values ∙ ap (λ b. cond b [] (map trimmed (split_at_commas rest))) (sym empty ∙ w.if-is_blank.true))
+          ap (λ left. values_left left rest) w.kind-is ∙ sym (values ∙ ap (λ b. cond b [] (map trimmed (split_at_commas rest))) (sym empty ∙ w.if-is_blank.true))
       | else-is_blank w ↦
-          ap (λ left. values_left left rest) w.left-is ∙ sym (values ∙ ap (λ b. cond b [] (map trimmed (split_at_commas rest))) (sym empty ∙ w.if-is_blank.false))
+          ap (λ left. values_left left rest) w.kind-is ∙ sym (values ∙ ap (λ b. cond b [] (map trimmed (split_at_commas rest))) (sym empty ∙ w.if-is_blank.false))
     ]

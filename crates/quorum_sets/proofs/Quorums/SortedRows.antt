@@ -1,5 +1,4 @@
--- Rows that ascend by their first number, and then by their second: where the rows with a first number begin. (Lemmas that
--- quorum_sets has of the ranking of a chart, and does not offer.)
+-- Rows that ascend by their first number, and then by their second: where the rows with a first number begin.
 use Rattle.std.proofs.Common.{◌≡◌, ℕ, ◌<◌, ◌≤◌, Bool, true, false, cond, List, length, get_or, refl, sym, ap, ◌∙◌, arith, inl, inr, ◌==◌}
 use Rattle.std.specs.Prelude.{nat_lt}
 use Rattle.std.specs.declared.cmp.Ordering.TheVariants.{Less, Equal, Greater}
@@ -21,31 +20,31 @@ not_less i x j y h =
     let parts = not_less_by (nat_lt i j) (i == j) (nat_lt x y) (x == y) h in
     (ltb-false i j parts.0, λ same. ltb-false x y (parts.1 (eq-eqb i j (sym same))))
 
-row_order : (rows : List (ℕ × ℕ)) → IsSorted (λ x y. ordering_then (nat_cmp x.0 y.0) (nat_cmp x.1 y.1)) rows → (j k : ℕ) (d : ℕ × ℕ) → j ≤ k → k < length rows → ((get_or rows j d).0 ≤ (get_or rows k d).0) × ((get_or rows j d).0 ≡ (get_or rows k d).0 → (get_or rows j d).1 ≤ (get_or rows k d).1)
+pub row_order : (rows : List (ℕ × ℕ)) → IsSorted (λ x y. ordering_then (nat_cmp x.0 y.0) (nat_cmp x.1 y.1)) rows → (j k : ℕ) (d : ℕ × ℕ) → j ≤ k → k < length rows → ((get_or rows j d).0 ≤ (get_or rows k d).0) × ((get_or rows j d).0 ≡ (get_or rows k d).0 → (get_or rows j d).1 ≤ (get_or rows k d).1)
 row_order rows ascends j k d before within =
     let total = then_total (on_total (λ (r : ℕ × ℕ). r.0) nat_cmp_total) (on_total (λ (r : ℕ × ℕ). r.1) nat_cmp_total) in
     not_less _ _ _ _ (sorted_far _ (ranks_by total (λ r. r)) rows ascends j k d before within)
 
--- the position parts the rows with a smaller index from the others
+-- the position parts the rows with a smaller first number from the others
 abbrev pub Parts : ℕ → List (ℕ × ℕ) → ℕ → Type 0
-Parts index rows position = IsPartitionPoint (λ r. nat_lt r.0 index ≡ true) (λ r. nat_lt r.0 index ≡ false) rows position
+Parts first rows position = IsPartitionPoint (λ r. nat_lt r.0 first ≡ true) (λ r. nat_lt r.0 first ≡ false) rows position
 
--- what is not before the position has no smaller index
-from_place : (index : ℕ) (rows : List (ℕ × ℕ)) (position j : ℕ) (d : ℕ × ℕ) → Parts index rows position → j < length rows → index ≤ (get_or rows j d).0 → position ≤ j
-from_place index rows position j d parted within enough = elim (cases_lt j position) [
-  | inl before ↦ let less = ltb-true _ index (parted.0 j d (omega arith) before) in absurd (omega arith)
+-- what is not before the position has no smaller first number
+pub not_before : (first : ℕ) (rows : List (ℕ × ℕ)) (position j : ℕ) (d : ℕ × ℕ) → Parts first rows position → j < length rows → first ≤ (get_or rows j d).0 → position ≤ j
+not_before first rows position j d parted within enough = elim (cases_lt j position) [
+  | inl before ↦ let less = ltb-true _ first (parted.0 j d (omega arith) before) in absurd (omega arith)
   | inr after ↦ after
 ]
 
 -- the first row with a first number has the least second one: that of any row with the same first number is no less
 pub rows-first : (rows : List (ℕ × ℕ)) (first second position : ℕ) → IsSorted (λ x y. ordering_then (nat_cmp x.0 y.0) (nat_cmp x.1 y.1)) rows
-    → IsPartitionPoint (λ r. nat_lt r.0 first ≡ true) (λ r. nat_lt r.0 first ≡ false) rows position → Contains rows (first, second)
+    → Parts first rows position → Contains rows (first, second)
     → (position < length rows) × ((get_or rows position (first, second)).0 ≡ first) × ((get_or rows position (first, second)).1 ≤ second)
 rows-first rows first second position ascends parted there =
     let d : ℕ × ℕ = (first, second) in
     let first_there : (get_or rows there.0 d).0 ≡ first = ap (λ r. r.0) there.2 in
     let second_there : (get_or rows there.0 d).1 ≡ second = ap (λ r. r.1) there.2 in
-    let before = from_place first rows position there.0 d parted there.1 (omega arith) in
+    let before = not_before first rows position there.0 d parted there.1 (omega arith) in
     let order = row_order rows ascends position there.0 d before there.1 in
     let not_less = ltb-false _ first (parted.1 position d (omega arith) (omega arith)) in
     let same : (get_or rows position d).0 ≡ first = omega arith in
