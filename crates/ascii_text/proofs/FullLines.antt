@@ -1,4 +1,4 @@
--- The first piece of a text, and those behind it.
+-- The first full line of a text, and those after it.
 use Rattle.std.proofs.Common.{◌≡◌, ℕ, suc, ◌+◌, ◌≤◌, ◌<◌, Bool, true, false, cond, List, [], ◌∷◌, ◌++◌, length, take, drop, refl, sym, ◌∙◌, ap, arith, rules}
 use Rattle.std.specs.Prelude.{◌==◌}
 use Rattle.std.proofs.lemmas.List.{append_assoc, length-take}
@@ -23,7 +23,7 @@ abbrev has_none : List ℕ → Bool
 has_none [] = true
 has_none (b ∷ bytes) = false
 
--- one byte before some pieces
+-- one byte before some full lines
 step : (c : Bool) (b : ℕ) (bytes : List ℕ) → (b == 10) ≡ c →
     full_lines bytes ≡ cond (has_none bytes) [] (take (first_len bytes) bytes ∷ full_lines (drop (first_len bytes) bytes)) →
     cond c (newline ∷ full_lines bytes) (before_first_line b (full_lines bytes)) ≡
@@ -32,12 +32,12 @@ step true b bytes e h = let is : b ≡ 10 = search rules in ap (λ x. (x ∷ [])
 step false b [] e h = refl
 step false b (x ∷ xs) e h = ap (before_first_line b) h
 
--- the pieces of some bytes: none, or the first piece and those of the rest
+-- the full lines of some bytes: none, or the first full line and those of the rest
 pub full_lines-cases : (bytes : List ℕ) → full_lines bytes ≡ cond (has_none bytes) [] (take (first_len bytes) bytes ∷ full_lines (drop (first_len bytes) bytes))
 full_lines-cases [] = refl
 full_lines-cases (b ∷ bytes) = step (b == 10) b bytes refl (full_lines-cases bytes)
 
--- the first piece, and the pieces of the rest
+-- the first full line, and the full lines of the rest
 pub full_lines-first : (bytes : List ℕ) → 0 < length bytes → full_lines bytes ≡ take (first_len bytes) bytes ∷ full_lines (drop (first_len bytes) bytes)
 full_lines-first [] h = absurd (omega (arith, h))
 full_lines-first (b ∷ bytes) h = full_lines-cases (b ∷ bytes)
@@ -52,7 +52,7 @@ is_whole-append x [] = refl
 is_whole-append x (y ∷ []) = refl
 is_whole-append x (y ∷ z ∷ xs) = is_whole-append x (z ∷ xs)
 
--- one part of a piece, and more behind it
+-- one full line, and more after it
 one-more : (c : Bool) (n : ℕ) → c ≡ false → cond c 1 (suc n) ≡ 1 + n
 one-more true n e = cc
 one-more false n e = omega arith
@@ -73,7 +73,7 @@ first_len-append (b ∷ c ∷ xs) ys e h =
     let ih = first_len-append (c ∷ xs) ys (cond-shorter (b == 10) (first_len (c ∷ xs)) (suc (length xs)) other e) h in
     one-more (b == 10) (first_len (c ∷ xs ++ ys)) other ∙ omega (arith, ih)
 
--- a first piece is one piece
+-- a first full line is one full line
 first-step : (c : Bool) (b : ℕ) (bytes : List ℕ) → (b == 10) ≡ c → first_len (take (first_len bytes) bytes) ≡ first_len bytes →
     first_len (take (cond c 1 (suc (first_len bytes))) (b ∷ bytes)) ≡ cond c 1 (suc (first_len bytes))
 first-step true b bytes e ih = rw e refl
@@ -86,7 +86,7 @@ first_len-take (b ∷ bytes) = first-step (b == 10) b bytes refl (first_len-take
 pub length-first : (bytes : List ℕ) → length (take (first_len bytes) bytes) ≡ first_len bytes
 length-first bytes = let h = first_len-bound bytes in simp length-take (omega (arith, h))
 
--- bytes that go on without a newline have no byte behind them
+-- bytes that go on without a newline have no byte after them
 rest-step : (c : Bool) (b : ℕ) (part bytes : List ℕ) → (b == 10) ≡ c → (is_whole ((part ++ b ∷ []) ++ take (first_len bytes) bytes) ≡ false → drop (first_len bytes) bytes ≡ []) →
     is_whole (part ++ take (cond c 1 (suc (first_len bytes))) (b ∷ bytes)) ≡ false → drop (cond c 1 (suc (first_len bytes))) (b ∷ bytes) ≡ []
 rest-step true b part bytes e ih h = let bad : true ≡ false = sym e ∙ sym (is_whole-append b part) ∙ h in cc

@@ -6,7 +6,7 @@ use Rattle.ascii_text.specs.Lines.{without_last}
 use Rattle.ascii_text.proofs.WhiteSpace.{ends-blank}
 
 -- a list has no element, or a last one
-pub list-by_last : {A : Type 0} (xs : List A) → (xs ≡ []) ⊎ ((front : List A) × (x : A) × (xs ≡ front ++ x ∷ []))
+pub list-by_last : {A : Type 0} (xs : List A) → (xs ≡ []) ⊎ ((prefix : List A) × (x : A) × (xs ≡ prefix ++ x ∷ []))
 list-by_last [] = inl refl
 list-by_last (x ∷ xs) = elim (list-by_last xs) [ inl e ↦ inr ([], x, ap (λ t. x ∷ t) e) | inr p ↦ inr (x ∷ p.0, p.1, ap (λ t. x ∷ t) p.2) ]
 
@@ -23,16 +23,16 @@ without_last-push b x (y ∷ z ∷ xs) = ap (λ t. y ∷ t) (without_last-push b
   at false = refl
 
 -- bytes that end in that byte, that end in another, and none
-pub without_last-same : (b x : ℕ) (front bytes : List ℕ) → bytes ≡ front ++ x ∷ [] → x ≡ b → front ≡ without_last b bytes
-without_last-same b x front bytes e h =
-    sym (ap (without_last b) e ∙ without_last-push b x front ∙ ap (λ c. cond c front (front ++ x ∷ [])) (eq-eqb x b h))
+pub without_last-same : (b x : ℕ) (prefix bytes : List ℕ) → bytes ≡ prefix ++ x ∷ [] → x ≡ b → prefix ≡ without_last b bytes
+without_last-same b x prefix bytes e h =
+    sym (ap (without_last b) e ∙ without_last-push b x prefix ∙ ap (λ c. cond c prefix (prefix ++ x ∷ [])) (eq-eqb x b h))
 
-pub without_last-other : (b x : ℕ) (front bytes : List ℕ) → bytes ≡ front ++ x ∷ [] → (x ≡ b → ⊥) → bytes ≡ without_last b bytes
-without_last-other b x front bytes e ne =
+pub without_last-other : (b x : ℕ) (prefix bytes : List ℕ) → bytes ≡ prefix ++ x ∷ [] → (x ≡ b → ⊥) → bytes ≡ without_last b bytes
+without_last-other b x prefix bytes e ne =
     let h : (x == b) ≡ false = search rules in
-    e ∙ sym (ap (without_last b) e ∙ without_last-push b x front ∙ ap (λ c. cond c front (front ++ x ∷ [])) h)
+    e ∙ sym (ap (without_last b) e ∙ without_last-push b x prefix ∙ ap (λ c. cond c prefix (prefix ++ x ∷ [])) h)
 
--- bytes with more behind them
+-- bytes with more after them
 pub without_last-append : (b : ℕ) (xs : List ℕ) (y : ℕ) (ys : List ℕ) → without_last b (xs ++ y ∷ ys) ≡ xs ++ without_last b (y ∷ ys)
 without_last-append b [] y ys = refl
 without_last-append b (x ∷ []) y ys = refl

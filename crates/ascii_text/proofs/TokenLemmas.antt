@@ -1,4 +1,4 @@
--- The words of a text, one by one.
+-- The tokens of a text, one by one.
 use Rattle.std.proofs.Common.{◌≡◌, ℕ, ◌+◌, ◌<◌, Bool, true, false, not, cond, ◌&&◌, List, [], ◌∷◌, ◌++◌, length, take, drop, get_or, filter, refl, sym, ap, ◌∙◌, arith, inl, inr}
 use Rattle.std.specs.List.{slice_split, onto_first, position_or_len, after_first}
 use Rattle.std.proofs.lemmas.Bool.{lt-ltb, cases_lt}
@@ -10,22 +10,22 @@ use Rattle.ascii_text.specs.WhiteSpace.{is_space, is_blank, without_leading_spac
 use Rattle.ascii_text.specs.Tokens.{has_bytes, tokens_in}
 use Rattle.ascii_text.proofs.WhiteSpace.{ends-tail}
 
--- white space parts the words on its two sides
+-- white space parts the tokens on its two sides
 onto_first-append : (b : ℕ) (ps qs : List (List ℕ)) → 0 < length ps → onto_first b (ps ++ qs) ≡ onto_first b ps ++ qs
 onto_first-append b [] qs h = absurd (omega (arith, h))
 onto_first-append b (p ∷ ps) qs h = refl
 
-split-at_space : (front : List ℕ) (b : ℕ) (back : List ℕ) → is_space b ≡ true → slice_split is_space (front ++ b ∷ back) ≡ slice_split is_space front ++ slice_split is_space back
+split-at_space : (prefix : List ℕ) (b : ℕ) (back : List ℕ) → is_space b ≡ true → slice_split is_space (prefix ++ b ∷ back) ≡ slice_split is_space prefix ++ slice_split is_space back
 split-at_space [] b back h = ap (λ c. cond c ([] ∷ slice_split is_space back) (onto_first b (slice_split is_space back))) h
-split-at_space (x ∷ front) b back h =
-    ap (λ ps. cond (is_space x) ([] ∷ ps) (onto_first x ps)) (split-at_space front b back h) ∙ at (is_space x) where
-      at : (c : Bool) → cond c ([] ∷ (slice_split is_space front ++ slice_split is_space back)) (onto_first x (slice_split is_space front ++ slice_split is_space back))
-          ≡ cond c ([] ∷ slice_split is_space front) (onto_first x (slice_split is_space front)) ++ slice_split is_space back
+split-at_space (x ∷ prefix) b back h =
+    ap (λ ps. cond (is_space x) ([] ∷ ps) (onto_first x ps)) (split-at_space prefix b back h) ∙ at (is_space x) where
+      at : (c : Bool) → cond c ([] ∷ (slice_split is_space prefix ++ slice_split is_space back)) (onto_first x (slice_split is_space prefix ++ slice_split is_space back))
+          ≡ cond c ([] ∷ slice_split is_space prefix) (onto_first x (slice_split is_space prefix)) ++ slice_split is_space back
       at true = refl
-      at false = onto_first-append x (slice_split is_space front) (slice_split is_space back) (omega (arith, length-slice_split is_space front))
+      at false = onto_first-append x (slice_split is_space prefix) (slice_split is_space back) (omega (arith, length-slice_split is_space prefix))
 
-pub tokens_in-at_space : (front : List ℕ) (b : ℕ) (back : List ℕ) → is_space b ≡ true → tokens_in (front ++ b ∷ back) ≡ tokens_in front ++ tokens_in back
-tokens_in-at_space front b back h = ap (filter has_bytes) (split-at_space front b back h) ∙ filter-append has_bytes (slice_split is_space front) (slice_split is_space back)
+pub tokens_in-at_space : (prefix : List ℕ) (b : ℕ) (back : List ℕ) → is_space b ≡ true → tokens_in (prefix ++ b ∷ back) ≡ tokens_in prefix ++ tokens_in back
+tokens_in-at_space prefix b back h = ap (filter has_bytes) (split-at_space prefix b back h) ∙ filter-append has_bytes (slice_split is_space prefix) (slice_split is_space back)
 
 tokens_in-blank : (bytes : List ℕ) → is_blank bytes ≡ true → tokens_in bytes ≡ []
 tokens_in-blank [] h = refl
@@ -34,18 +34,18 @@ tokens_in-blank (b ∷ bs) h = at (is_space b) refl h (tokens_in-blank bs) where
   at true e k ih = tokens_in-at_space [] b bs e ∙ ih k
   at false e k ih = cc
 
-tokens_in-before_blank : (front back : List ℕ) → is_blank back ≡ true → tokens_in (front ++ back) ≡ tokens_in front
-tokens_in-before_blank front [] h = ap tokens_in (append-nil front)
-tokens_in-before_blank front (b ∷ back) h = at (is_space b) refl h where
-  at : (c : Bool) → is_space b ≡ c → (c && is_blank back) ≡ true → tokens_in (front ++ b ∷ back) ≡ tokens_in front
-  at true e k = tokens_in-at_space front b back e ∙ ap (λ ws. tokens_in front ++ ws) (tokens_in-blank back k) ∙ append-nil (tokens_in front)
+tokens_in-before_blank : (prefix back : List ℕ) → is_blank back ≡ true → tokens_in (prefix ++ back) ≡ tokens_in prefix
+tokens_in-before_blank prefix [] h = ap tokens_in (append-nil prefix)
+tokens_in-before_blank prefix (b ∷ back) h = at (is_space b) refl h where
+  at : (c : Bool) → is_space b ≡ c → (c && is_blank back) ≡ true → tokens_in (prefix ++ b ∷ back) ≡ tokens_in prefix
+  at true e k = tokens_in-at_space prefix b back e ∙ ap (λ ws. tokens_in prefix ++ ws) (tokens_in-blank back k) ∙ append-nil (tokens_in prefix)
   at false e k = cc
 
--- so white space at the end changes no words
+-- so white space at the end changes no tokens
 pub tokens_in-ends : (bytes : List ℕ) → tokens_in bytes ≡ tokens_in (without_trailing_space bytes)
 tokens_in-ends bytes = let t = ends-tail bytes in ap tokens_in t.whole ∙ tokens_in-before_blank (without_trailing_space bytes) t.tail t.blank
 
--- white space before the first word
+-- white space before the first token
 tokens_in-without_leading_space : (text : List ℕ) → tokens_in (without_leading_space text) ≡ tokens_in text
 tokens_in-without_leading_space [] = refl
 tokens_in-without_leading_space (b ∷ bs) = at (is_space b) refl (tokens_in-without_leading_space bs) where
@@ -56,7 +56,7 @@ tokens_in-without_leading_space (b ∷ bs) = at (is_space b) refl (tokens_in-wit
 filter-cons_yes : (full_line : List ℕ) (full_lines : List (List ℕ)) → 0 < length full_line → filter has_bytes (full_line ∷ full_lines) ≡ full_line ∷ filter has_bytes full_lines
 filter-cons_yes full_line full_lines some = rw (lt-ltb 0 (length full_line) some) refl
 
--- a first word stands before the first white space
+-- a first token is before the first white space
 tokens_first : (text : List ℕ) → 0 < position_or_len is_space text → tokens_in text ≡ take (position_or_len is_space text) text ∷ tokens_in (drop (position_or_len is_space text) text)
 tokens_first text some =
     let n = position_or_len is_space text in
@@ -80,10 +80,10 @@ empty_from_no_token (b ∷ bs) none = at (is_space b) refl (empty_from_no_token 
   at true e ih none = ih none
   at false e ih none = let more : position_or_len is_space (b ∷ bs) ≡ 1 + position_or_len is_space bs = rw e refl in absurd (omega (arith, more, none))
 
--- what stands up to the next white space, in a text without white space before it, is the first word; where that is empty, there is none
-pub tokens_in-none_at_front : (text : List ℕ) → position_or_len is_space (without_leading_space text) ≡ 0 → tokens_in text ≡ []
-tokens_in-none_at_front text none = sym (tokens_in-without_leading_space text) ∙ ap tokens_in (empty_from_no_token text none)
+-- what is up to the next white space, in a text without white space before it, is the first token; where that is empty, there is none
+pub tokens_in-none_at_prefix : (text : List ℕ) → position_or_len is_space (without_leading_space text) ≡ 0 → tokens_in text ≡ []
+tokens_in-none_at_prefix text none = sym (tokens_in-without_leading_space text) ∙ ap tokens_in (empty_from_no_token text none)
 
-pub tokens_in-at_front : (text token rest : List ℕ) (n : ℕ) → n ≡ position_or_len is_space (without_leading_space text) → token ≡ take n (without_leading_space text) → rest ≡ drop n (without_leading_space text) → 0 < n → tokens_in text ≡ token ∷ tokens_in rest
-tokens_in-at_front text token rest n n_is token_is rest_is some =
+pub tokens_in-at_prefix : (text token rest : List ℕ) (n : ℕ) → n ≡ position_or_len is_space (without_leading_space text) → token ≡ take n (without_leading_space text) → rest ≡ drop n (without_leading_space text) → 0 < n → tokens_in text ≡ token ∷ tokens_in rest
+tokens_in-at_prefix text token rest n n_is token_is rest_is some =
     rw (token_is, rest_is, n_is) (sym (tokens_in-without_leading_space text) ∙ tokens_first (without_leading_space text) (omega arith))

@@ -4,37 +4,37 @@ use Rattle.std.proofs.Math.Bool.{and-true, and-false}
 use Rattle.std.proofs.lemmas.List.Folds.{list_all-append}
 use Rattle.ascii_text.specs.WhiteSpace.{is_space, is_blank, without_leading_space, without_trailing_space, trimmed}
 
--- bytes with white space, or with other bytes, behind them ..
-pub blank-behind : (front back : List ℕ) → is_blank back ≡ true → is_blank (front ++ back) ≡ is_blank front
-blank-behind front back h = list_all-append is_space front back ∙ ap (λ c. is_blank front && c) h ∙ and-true (is_blank front)
+-- bytes with white space, or with other bytes, after them ..
+pub blank-after : (prefix back : List ℕ) → is_blank back ≡ true → is_blank (prefix ++ back) ≡ is_blank prefix
+blank-after prefix back h = list_all-append is_space prefix back ∙ ap (λ c. is_blank prefix && c) h ∙ and-true (is_blank prefix)
 
-other-behind : (front back : List ℕ) → is_blank back ≡ false → is_blank (front ++ back) ≡ false
-other-behind front back h = list_all-append is_space front back ∙ ap (λ c. is_blank front && c) h ∙ and-false (is_blank front)
+other-after : (prefix back : List ℕ) → is_blank back ≡ false → is_blank (prefix ++ back) ≡ false
+other-after prefix back h = list_all-append is_space prefix back ∙ ap (λ c. is_blank prefix && c) h ∙ and-false (is_blank prefix)
 
 pub ends-blank : (bytes : List ℕ) → is_blank bytes ≡ true → without_trailing_space bytes ≡ []
 ends-blank [] h = refl
 ends-blank (b ∷ bs) h = ap (λ c. cond c [] (b ∷ without_trailing_space bs)) h
 
-pub ends-before_blank : (front back : List ℕ) → is_blank back ≡ true → without_trailing_space (front ++ back) ≡ without_trailing_space front
+pub ends-before_blank : (prefix back : List ℕ) → is_blank back ≡ true → without_trailing_space (prefix ++ back) ≡ without_trailing_space prefix
 ends-before_blank [] back h = ends-blank back h
-ends-before_blank (b ∷ front) back h =
-    ap (λ c. cond (is_space b && c) [] (b ∷ without_trailing_space (front ++ back))) (blank-behind front back h)
-    ∙ ap (λ t. cond (is_blank (b ∷ front)) [] (b ∷ t)) (ends-before_blank front back h)
+ends-before_blank (b ∷ prefix) back h =
+    ap (λ c. cond (is_space b && c) [] (b ∷ without_trailing_space (prefix ++ back))) (blank-after prefix back h)
+    ∙ ap (λ t. cond (is_blank (b ∷ prefix)) [] (b ∷ t)) (ends-before_blank prefix back h)
 
-pub ends-before_other : (front back : List ℕ) → is_blank back ≡ false → without_trailing_space (front ++ back) ≡ front ++ without_trailing_space back
+pub ends-before_other : (prefix back : List ℕ) → is_blank back ≡ false → without_trailing_space (prefix ++ back) ≡ prefix ++ without_trailing_space back
 ends-before_other [] back h = refl
-ends-before_other (b ∷ front) back h =
-    ap (λ c. cond c [] (b ∷ without_trailing_space (front ++ back))) (other-behind (b ∷ front) back h) ∙ ap (λ t. b ∷ t) (ends-before_other front back h)
+ends-before_other (b ∷ prefix) back h =
+    ap (λ c. cond c [] (b ∷ without_trailing_space (prefix ++ back))) (other-after (b ∷ prefix) back h) ∙ ap (λ t. b ∷ t) (ends-before_other prefix back h)
 
 -- bytes that end in white space, and bytes that end in another byte
-pub without_trailing_space-space : (x : ℕ) (front bytes : List ℕ) → bytes ≡ front ++ x ∷ [] → is_space x ≡ true →
-    without_trailing_space front ≡ without_trailing_space bytes
-without_trailing_space-space x front bytes e h = sym (ap without_trailing_space e ∙ ends-before_blank front (x ∷ []) (ap (λ c. c && true) h))
+pub without_trailing_space-space : (x : ℕ) (prefix bytes : List ℕ) → bytes ≡ prefix ++ x ∷ [] → is_space x ≡ true →
+    without_trailing_space prefix ≡ without_trailing_space bytes
+without_trailing_space-space x prefix bytes e h = sym (ap without_trailing_space e ∙ ends-before_blank prefix (x ∷ []) (ap (λ c. c && true) h))
 
-pub without_trailing_space-other : (x : ℕ) (front bytes : List ℕ) → bytes ≡ front ++ x ∷ [] → is_space x ≡ false →
+pub without_trailing_space-other : (x : ℕ) (prefix bytes : List ℕ) → bytes ≡ prefix ++ x ∷ [] → is_space x ≡ false →
     bytes ≡ without_trailing_space bytes
-without_trailing_space-other x front bytes e h =
-    e ∙ sym (ap without_trailing_space e ∙ ends-before_other front (x ∷ []) (ap (λ c. c && true) h) ∙ ap (λ c. front ++ cond (c && true) [] (x ∷ [])) h)
+without_trailing_space-other x prefix bytes e h =
+    e ∙ sym (ap without_trailing_space e ∙ ends-before_other prefix (x ∷ []) (ap (λ c. c && true) h) ∙ ap (λ c. prefix ++ cond (c && true) [] (x ∷ [])) h)
 
 -- what is trimmed is blank where the bytes are
 pub is_blank-without_trailing_space : (bytes : List ℕ) → is_blank (without_trailing_space bytes) ≡ is_blank bytes
@@ -55,7 +55,7 @@ is_blank-without_leading_space (b ∷ bytes) = at (is_space b) refl (is_blank-wi
 pub is_blank-trimmed : (bytes : List ℕ) → is_blank (trimmed bytes) ≡ is_blank bytes
 is_blank-trimmed bytes = is_blank-without_leading_space (without_trailing_space bytes) ∙ is_blank-without_trailing_space bytes
 
--- the bytes up to the last one that is not white space are a front part
+-- the bytes up to the last one that is not white space are a prefix
 pub take-without_trailing_space : (bytes : List ℕ) → take (length (without_trailing_space bytes)) bytes ≡ without_trailing_space bytes
 take-without_trailing_space [] = refl
 take-without_trailing_space (b ∷ bytes) = at (is_blank (b ∷ bytes)) (take-without_trailing_space bytes) where
@@ -64,7 +64,7 @@ take-without_trailing_space (b ∷ bytes) = at (is_blank (b ∷ bytes)) (take-wi
   at true same = refl
   at false same = ap (λ t. b ∷ t) same
 
--- white space in front is left out
+-- leading white space is left out
 pub length-without_leading_space : (bytes : List ℕ) → length (without_leading_space bytes) ≤ length bytes
 length-without_leading_space [] = omega arith
 length-without_leading_space (b ∷ bytes) = at (is_space b) (length-without_leading_space bytes) where
@@ -79,7 +79,7 @@ without_leading_space-split (b ∷ bytes) = at (is_space b) (without_leading_spa
   at true rest = (b ∷ rest.0, ap (λ t. b ∷ t) (rest.1))
   at false rest = ([], refl)
 
--- what stands behind the white space at the end
+-- what is after the white space at the end
 pub record Tail (bytes : List ℕ) : Type 0 where
   pub tail : List ℕ
   pub whole : bytes ≡ without_trailing_space bytes ++ tail
@@ -100,16 +100,16 @@ leads-blank (b ∷ bs) h = at (is_space b) h (leads-blank bs) where
   at true k ih = ih k
   at false k ih = cc
 
-pub leads-behind_blank : (front back : List ℕ) → is_blank front ≡ true → without_leading_space (front ++ back) ≡ without_leading_space back
-leads-behind_blank [] back h = refl
-leads-behind_blank (b ∷ bs) back h = at (is_space b) h (leads-behind_blank bs back) where
+pub leads-after_blank : (prefix back : List ℕ) → is_blank prefix ≡ true → without_leading_space (prefix ++ back) ≡ without_leading_space back
+leads-after_blank [] back h = refl
+leads-after_blank (b ∷ bs) back h = at (is_space b) h (leads-after_blank bs back) where
   at : (c : Bool) → (c && is_blank bs) ≡ true → (is_blank bs ≡ true → without_leading_space (bs ++ back) ≡ without_leading_space back) → cond c (without_leading_space (bs ++ back)) (b ∷ bs ++ back) ≡ without_leading_space back
   at true k ih = ih k
   at false k ih = cc
 
-pub leads-behind_other : (front back : List ℕ) → is_blank front ≡ false → without_leading_space (front ++ back) ≡ without_leading_space front ++ back
-leads-behind_other [] back h = cc
-leads-behind_other (b ∷ bs) back h = at (is_space b) h (leads-behind_other bs back) where
+pub leads-after_other : (prefix back : List ℕ) → is_blank prefix ≡ false → without_leading_space (prefix ++ back) ≡ without_leading_space prefix ++ back
+leads-after_other [] back h = cc
+leads-after_other (b ∷ bs) back h = at (is_space b) h (leads-after_other bs back) where
   at : (c : Bool) → (c && is_blank bs) ≡ false → (is_blank bs ≡ false → without_leading_space (bs ++ back) ≡ without_leading_space bs ++ back) →
       cond c (without_leading_space (bs ++ back)) (b ∷ bs ++ back) ≡ cond c (without_leading_space bs) (b ∷ bs) ++ back
   at true k ih = ih k

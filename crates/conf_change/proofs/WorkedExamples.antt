@@ -35,8 +35,8 @@ change_summary : (last_effective many 1 ≡ Some Learner) × (last_effective man
 change_summary = (refl, refl, refl, refl, refl, refl)
 
 -- a change of 0 and an update have no say
-no_say : (last_effective (change Voter 0 ∷ change Update 1 ∷ []) 0 ≡ None) × (last_effective (change Voter 0 ∷ change Update 1 ∷ []) 1 ≡ None)
-no_say = (refl, refl)
+no_effective_change : (last_effective (change Voter 0 ∷ change Update 1 ∷ []) 0 ≡ None) × (last_effective (change Voter 0 ∷ change Update 1 ∷ []) 1 ≡ None)
+no_effective_change = (refl, refl)
 
 incoming_3 : has (result_of one_voter many).incoming 3 ≡ true
 incoming_3 = has-incoming_after one_voter many 3
@@ -54,8 +54,8 @@ learner_1 = has-learners_after one_voter many 1 ∙ ap (λ b. is_learner_after (
 next_1 : has (result_of one_voter many).learners_next 1 ≡ true
 next_1 = has-next_after one_voter many 1 ∙ ap (λ b. is_next_after (Some Learner) b (has no_ids 1)) (has-ids_of (1 ∷ []) 1)
 
-nobody_4 : (has (result_of one_voter many).incoming 4 ≡ false) × (has (result_of one_voter many).learners 4 ≡ false)
-nobody_4 = (has-incoming_after one_voter many 4, has-learners_after one_voter many 4)
+nothing_of_4 : (has (result_of one_voter many).incoming 4 ≡ false) × (has (result_of one_voter many).learners 4 ≡ false)
+nothing_of_4 = (has-incoming_after one_voter many 4, has-learners_after one_voter many 4)
 
 -- ---- texts
 two_tokens : tokens_in (codes " v1 \n l2") ≡ codes "v1" ∷ codes "l2" ∷ []
@@ -117,7 +117,7 @@ no_voter_yet = simp written_out refl
 not_joint : leave_outcome (config (1 ∷ []) [] [] []) ≡ Err NotJoint
 not_joint = simp written_out refl
 
--- a member that goes and returns in one list is fresh; a definition that asks for the last word alone has true here
+-- a member that goes and returns in one list is fresh; a definition that asks for the last effective change alone has true here
 returned_is_fresh : keeps_progress (config (1 ∷ 2 ∷ []) [] [] []) (Simple (change Remove 2 ∷ change Voter 2 ∷ [])) (config (1 ∷ 2 ∷ []) [] [] []) 2 ≡ false
 returned_is_fresh = simp written_out refl
 

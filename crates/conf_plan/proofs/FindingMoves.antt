@@ -3,5 +3,5 @@
 pub mod OfEachId
 pub mod ResultingConfiguration
 pub mod FourSetWalk
-pub mod RisingIds
+pub mod AscendingIds
 pub mod PickedIds

@@ -43,9 +43,9 @@ back_from_joint = simp written_out refl
 into_joint : (c target : Configuration) (shared : Ids) → IsSingle c → IsValidWithVoter target → is_joint target ≡ true
     → is_same c target ≡ false → is_same_set c.incoming target.outgoing ≡ false → shared_members c target ≡ shared
     → planned_from_single c target ≡ single_steps c target.outgoing shared ++ entering_step (single_with target.outgoing shared) target ∷ []
-into_joint c target shared single settled joint other differs is =
+into_joint c target shared single valid_with_voter joint other differs is =
     cond-false (is_same c target) _ _ other ∙ cond-true (is_joint target) _ _ joint
-    ∙ joint_steps-inserted c target single settled joint differs
+    ∙ joint_steps-inserted c target single valid_with_voter joint differs
     ∙ ap (λ s. single_steps c target.outgoing s ++ entering_step (single_with target.outgoing s) target ∷ []) is
 
 -- from voters=(3) learners=(1 2) to voters=(3)&&(1) learners=(2) learners_next=(1)
@@ -76,20 +76,20 @@ shared_row = ap (ids_where (is_shared three_and_one)) all ∙ ap ids_of (filtere
 
 three-is_single : IsSingle three
 three-is_single = record {
-  settled = record { valid = simp written_out refl; voter = simp written_out refl };
+  valid_with_voter = record { valid = simp written_out refl; voter = simp written_out refl };
   single = simp written_out refl;
 }
 
-three_and_one-is_settled : IsValidWithVoter three_and_one
-three_and_one-is_settled = record { valid = simp written_out refl; voter = simp written_out refl }
+three_and_one-is_valid : IsValidWithVoter three_and_one
+three_and_one-is_valid = record { valid = simp written_out refl; voter = simp written_out refl }
 
--- 3 learns while 1 votes, and they change places when the joint configuration is entered
+-- 3 learns while 1 votes, and they change positions when the joint configuration is entered
 abbrev into_row : List Step
 into_row = EnterJoint false (change Voter 1 ∷ change Learner 3 ∷ []) ∷ LeaveJoint ∷ EnterJoint false (change Learner 1 ∷ change Voter 3 ∷ []) ∷ []
 
 from_three : planned_from_single three three_and_one ≡ into_row
 from_three =
-    into_joint three three_and_one (ids_of (3 ∷ 2 ∷ [])) three-is_single three_and_one-is_settled (simp written_out refl)
+    into_joint three three_and_one (ids_of (3 ∷ 2 ∷ [])) three-is_single three_and_one-is_valid (simp written_out refl)
     (simp written_out refl) (simp written_out refl) shared_row
     ∙ simp written_out refl
 
@@ -102,7 +102,7 @@ back_into_joint =
 named_in_row : (times_named 1 into_row ≡ 2) × (times_named 2 into_row ≡ 0) × (times_named 3 into_row ≡ 2)
 named_in_row = (refl, refl, refl)
 
--- an update names nobody, and nothing names the id 0
+-- an update names no id, and nothing names the id 0
 named_by_none : (times_named 5 (Simple (change Update 5 ∷ change Learner 5 ∷ []) ∷ []) ≡ 1) × (times_named 0 (Simple (change Voter 0 ∷ []) ∷ []) ≡ 0)
 named_by_none = (refl, refl)
 
@@ -144,21 +144,21 @@ none_shared = ap (ids_where (is_shared one_and_two)) all ∙ ap ids_of (filtered
 
 one-is_single : IsSingle one
 one-is_single = record {
-  settled = record { valid = simp written_out refl; voter = simp written_out refl };
+  valid_with_voter = record { valid = simp written_out refl; voter = simp written_out refl };
   single = simp written_out refl;
 }
 
-one_and_two-is_settled : IsValidWithVoter one_and_two
-one_and_two-is_settled = record { valid = simp written_out refl; voter = simp written_out refl }
+one_and_two-is_valid : IsValidWithVoter one_and_two
+one_and_two-is_valid = record { valid = simp written_out refl; voter = simp written_out refl }
 
 back_by_one_voter : planned one one_and_two ≡ Simple (change Voter 2 ∷ []) ∷ EnterJoint false (change Learner 2 ∷ []) ∷ []
 back_by_one_voter =
     cond-false (is_same one one_and_two) _ _ (simp written_out refl) ∙ cond-false (is_joint one) _ _ (simp written_out refl)
-    ∙ into_joint one one_and_two (ids_of []) one-is_single one_and_two-is_settled (simp written_out refl)
+    ∙ into_joint one one_and_two (ids_of []) one-is_single one_and_two-is_valid (simp written_out refl)
     (simp written_out refl) (simp written_out refl) none_shared
     ∙ simp written_out refl
 
--- the outgoing voter 4 is gone when the joint configuration is left, and 1 is not
+-- the outgoing voter 4 is removed when the joint configuration is left, and 1 is not
 outlasts_row : (outlasts_leave (config (3 ∷ []) (4 ∷ []) (1 ∷ 2 ∷ []) []) (LeaveJoint ∷ into_row) 4 ≡ false)
     × (outlasts_leave (config (3 ∷ []) (4 ∷ []) (1 ∷ 2 ∷ []) []) (LeaveJoint ∷ into_row) 1 ≡ true) × (outlasts_leave three into_row 4 ≡ true)
 outlasts_row = (simp written_out refl, simp written_out refl, refl)

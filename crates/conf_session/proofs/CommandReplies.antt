@@ -21,20 +21,20 @@ flat_map-suc f [] i x e = cc
 flat_map-suc f (y ∷ xs) zero x e = let same : y ≡ x = cc in ap (λ z. f z ++ []) same ∙ append-nil (f x)
 flat_map-suc f (y ∷ xs) (suc i) x e = ap (λ rest. f y ++ rest) (flat_map-suc f xs i x e) ∙ sym (append_assoc (f y) (flat_map f (take i xs)) (f x))
 
-pub flat_map-front : {X : Type 0} (f : X → List ℕ) (xs : List X) (i : ℕ) (x : X) → slice_get xs i ≡ Some x → flat_map f (take (i + 1) xs) ≡ flat_map f (take i xs) ++ f x
-flat_map-front f xs i x e = ap (λ n. flat_map f (take n xs)) (add-one i) ∙ flat_map-suc f xs i x e
+pub flat_map-prefix : {X : Type 0} (f : X → List ℕ) (xs : List X) (i : ℕ) (x : X) → slice_get xs i ≡ Some x → flat_map f (take (i + 1) xs) ≡ flat_map f (take i xs) ++ f x
+flat_map-prefix f xs i x e = ap (λ n. flat_map f (take n xs)) (add-one i) ∙ flat_map-suc f xs i x e
 
 -- one member more is appended
 pub members-one_more : (old now new : List ℕ) (members : List (ℕ × Progress)) (i id : ℕ) (p : Progress) → slice_get members i ≡ Some (id, p) → now ≡ old ++ flat_map member_line (take i members) →
     new ≡ now ++ line (progress_text id p) → new ≡ old ++ flat_map member_line (take (i + 1) members)
 members-one_more old now new members i id p at so_far more =
     more ∙ ap (λ t. t ++ member_line (id, p)) so_far ∙ append_assoc old (flat_map member_line (take i members)) (member_line (id, p))
-    ∙ ap (λ t. old ++ t) (sym (flat_map-front member_line members i (id, p) at))
+    ∙ ap (λ t. old ++ t) (sym (flat_map-prefix member_line members i (id, p) at))
 
 -- what is found can stand, where it can for the reply
 pub reply-valid_output : {E : Type 0} (r : Result ReplyParts E) (changer next : ChangerState) {a b : Reply} → a ≡ b → IsValidOutput b.actual → IfOk r (λ reply. reply_in changer next reply ≡ a) → IfOk r (λ reply. IsValidOutput reply.actual)
-reply-valid_output (Ok reply) changer next e stands h = let P : Reply → Type 0 = λ x. IsValidOutput x.actual in subst P (sym (h ∙ e)) stands
-reply-valid_output (Err fault) changer next e stands h = tt
+reply-valid_output (Ok reply) changer next e holds h = let P : Reply → Type 0 = λ x. IsValidOutput x.actual in subst P (sym (h ∙ e)) holds
+reply-valid_output (Err fault) changer next e holds h = tt
 
 -- a configuration, a newline and the members after a text
 pub tracker-appended : {E : Type 0} (r : Result (Unit {0}) E) (old one two new : List ℕ) (tracker : TrackerState) (config : Configuration) → config ≡ tracker.config →

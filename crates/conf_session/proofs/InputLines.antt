@@ -1,4 +1,4 @@
--- What the lines of an input tell when white space at their ends is let go: its words, and its text without white space
+-- What the lines of an input denote when white space at their ends is let go: its tokens, and its text without white space
 -- at both ends where one line at most is not blank.
 use Rattle.std.proofs.Common.{◌≡◌, ℕ, Bool, true, false, cond, ◌&&◌, List, [], ◌∷◌, ◌++◌, map, refl, sym, ap, ◌∙◌, subst, rules}
 use Rattle.std.specs.Prelude.{◌==◌, flat_map, if◌then◌else◌}
@@ -8,11 +8,11 @@ use Rattle.std.proofs.lemmas.List.{append_assoc, append-nil}
 use Rattle.std.proofs.lemmas.List.Folds.{list_all-append}
 use Rattle.ascii_text.specs.Lines.{newline, full_lines, before_first_line, line_of, lines_of, without_last}
 use Rattle.ascii_text.specs.WhiteSpace.{is_space, is_blank, without_leading_space, without_trailing_space, trimmed}
-use Rattle.ascii_text.proofs.Offered.{without_trailing_space-without_last, blank-behind, ends-before_blank, ends-before_other, is_blank-without_trailing_space, leads-blank, leads-behind_blank, leads-behind_other, leads-ends, tokens_in-at_space, tokens_in-ends}
+use Rattle.ascii_text.proofs.Offered.{without_trailing_space-without_last, blank-after, ends-before_blank, ends-before_other, is_blank-without_trailing_space, leads-blank, leads-after_blank, leads-after_other, leads-ends, tokens_in-at_space, tokens_in-ends}
 use Rattle.ascii_text.specs.Tokens.{tokens_in}
 use Rattle.conf_session.specs.ReplyLines.{is_line_byte}
 
--- ---- the pieces of a text: lines with their newlines, and a last one that may have none
+-- ---- the parts of a text: lines with their newlines, and a last one that may have none
 data IsCut : List ℕ → List (List ℕ) → Type 0 where
   NoLine : IsCut [] []
   LastLine : (line : List ℕ) → IsCut line (line ∷ [])
@@ -28,8 +28,8 @@ full_lines-cut : (text : List ℕ) → IsCut text (full_lines text)
 full_lines-cut [] = NoLine
 full_lines-cut (b ∷ text) = cut-byte (b == 10) b text (full_lines text) refl (full_lines-cut text)
 
--- ---- words and lines, line by line
--- the words of a text are those of its lines
+-- ---- tokens and lines, line by line
+-- the tokens of a text are those of its lines
 tokens_in-cut : (text : List ℕ) (ps : List (List ℕ)) → IsCut text ps → tokens_in text ≡ flat_map tokens_in (map without_trailing_space ps)
 tokens_in-cut text ps NoLine = refl
 tokens_in-cut text ps (LastLine line) = tokens_in-ends line ∙ sym (append-nil (tokens_in (without_trailing_space line)))
@@ -63,14 +63,14 @@ newline-within : (front back : List ℕ) → list_all is_line_byte (front ++ 10 
 newline-within front back = list_all-append is_line_byte front (10 ∷ back) ∙ and-false (list_all is_line_byte front)
 
 -- a blank line before some text
-trimmed-behind : (front rest : List ℕ) → is_blank front ≡ true → trimmed (front ++ rest) ≡ trimmed rest
-trimmed-behind front rest h = leads-ends (front ++ rest) ∙ ap without_trailing_space (leads-behind_blank front rest h) ∙ sym (leads-ends rest)
+trimmed-after : (front rest : List ℕ) → is_blank front ≡ true → trimmed (front ++ rest) ≡ trimmed rest
+trimmed-after front rest h = leads-ends (front ++ rest) ∙ ap without_trailing_space (leads-after_blank front rest h) ∙ sym (leads-ends rest)
 
 -- a line that is not blank before some more
 two-lines : (line rest : List ℕ) → is_blank line ≡ false → is_blank rest ≡ false → list_all is_line_byte (trimmed ((line ++ newline) ++ rest)) ≡ false
 two-lines line rest h k =
     ap (λ t. list_all is_line_byte (without_leading_space t)) (ends-before_other (line ++ newline) rest k ∙ append_assoc line newline (without_trailing_space rest))
-    ∙ ap (list_all is_line_byte) (leads-behind_other line (10 ∷ without_trailing_space rest) h) ∙ newline-within (without_leading_space line) (without_trailing_space rest)
+    ∙ ap (list_all is_line_byte) (leads-after_other line (10 ∷ without_trailing_space rest) h) ∙ newline-within (without_leading_space line) (without_trailing_space rest)
 
 trimmed-cut : (text : List ℕ) (ps : List (List ℕ)) → IsCut text ps →
     IsOneLine (has_one (map without_trailing_space ps)) (first_line (map without_trailing_space ps)) (trimmed text)
@@ -83,11 +83,11 @@ trimmed-cut text ps (Line line rest more is) =
     at (is_blank (without_trailing_space (line ++ newline))) (list_all is_blank (map without_trailing_space more)) (sym (is_blank-without_trailing_space (line ++ newline))) (blank-cut rest more is) (trimmed-cut rest more is) where
       at : (c d : Bool) → is_blank (line ++ newline) ≡ c → is_blank rest ≡ d → IsOneLine (has_one (map without_trailing_space more)) (first_line (map without_trailing_space more)) (trimmed rest) →
           IsOneLine (cond c (has_one (map without_trailing_space more)) d) (cond c (first_line (map without_trailing_space more)) (without_leading_space (without_trailing_space (line ++ newline)))) (trimmed ((line ++ newline) ++ rest))
-      at true d e f ih = subst (IsOneLine (has_one (map without_trailing_space more)) (first_line (map without_trailing_space more))) (sym (trimmed-behind (line ++ newline) rest e)) ih
+      at true d e f ih = subst (IsOneLine (has_one (map without_trailing_space more)) (first_line (map without_trailing_space more))) (sym (trimmed-after (line ++ newline) rest e)) ih
       at false true e f ih = ap without_leading_space (ends-before_blank (line ++ newline) rest f)
-      at false false e f ih = two-lines line rest (sym (blank-behind line newline refl) ∙ e) f
+      at false false e f ih = two-lines line rest (sym (blank-after line newline refl) ∙ e) f
 
--- ---- the same by the lines of a text: a line is its piece but for white space at the end
+-- ---- the same by the lines of a text: a line is its part but for white space at the end
 ends-line_of : (ps : List (List ℕ)) → map without_trailing_space (map line_of ps) ≡ map without_trailing_space ps
 ends-line_of [] = refl
 ends-line_of (p ∷ ps) =

@@ -70,14 +70,14 @@ record Led (now older : Configuration) (count : ℕ) : Type 0 where
   run : IsRun older steps now
   counted : length steps ≡ count
 
-led-run : (now : Configuration) (kept : List Configuration) (place : ℕ) (older : Configuration) → LedTo now kept → slice_get kept place ≡ Some older → Led now older (suc place)
-led-run now [] place older led e = cc
+led-run : (now : Configuration) (kept : List Configuration) (position : ℕ) (older : Configuration) → LedTo now kept → slice_get kept position ≡ Some older → Led now older (suc position)
+led-run now [] position older led e = cc
 led-run now (c ∷ kept) zero older led e =
     let same : c ≡ older = cc in
     let Leading : Configuration → Type 0 = λ o. Led now o 1 in
     subst Leading same (record { restorable = led.0; steps = led.1.step ∷ []; run = (now, led.1.gives, refl); counted = refl })
-led-run now (c ∷ kept) (suc place) older led e =
-    let rest = led-run c kept place older led.2 e in
+led-run now (c ∷ kept) (suc position) older led e =
+    let rest = led-run c kept position older led.2 e in
     record {
       restorable = rest.restorable;
       steps = rest.steps ++ led.1.step ∷ [];
@@ -85,9 +85,9 @@ led-run now (c ∷ kept) (suc place) older led e =
       counted = let n = length-append rest.steps (led.1.step ∷ []) in let m = rest.counted in omega arith;
     }
 
-kept-voter : VoterLaw → (now : Configuration) (kept : List Configuration) (place : ℕ) (older : Configuration) → LedTo now kept → slice_get kept place ≡ Some older → has_voter now ≡ true
-kept-voter law now [] place older led e = cc
-kept-voter law now (c ∷ kept) place older led e = law c now led.1.step led.0 led.1.gives
+kept-voter : VoterLaw → (now : Configuration) (kept : List Configuration) (position : ℕ) (older : Configuration) → LedTo now kept → slice_get kept position ≡ Some older → has_voter now ≡ true
+kept-voter law now [] position older led e = cc
+kept-voter law now (c ∷ kept) position older led e = law c now led.1.step led.0 led.1.gives
 
 pub is-earlier : VoterLaw → EarlierLaw
 is-earlier law session count older is some e =
@@ -111,12 +111,12 @@ led-take now [] (suc n) led = tt
 led-take now (c ∷ kept) zero led = tt
 led-take now (c ∷ kept) (suc n) led = (led.0, led.1, led-take c kept n led.2)
 
-led-drop : (now : Configuration) (kept : List Configuration) (place : ℕ) (older : Configuration) → LedTo now kept → slice_get kept place ≡ Some older → LedTo older (drop (suc place) kept)
-led-drop now [] place older led e = cc
+led-drop : (now : Configuration) (kept : List Configuration) (position : ℕ) (older : Configuration) → LedTo now kept → slice_get kept position ≡ Some older → LedTo older (drop (suc position) kept)
+led-drop now [] position older led e = cc
 led-drop now (c ∷ kept) zero older led e =
     let same : c ≡ older = cc in
     let Leading : Configuration → Type 0 = λ o. LedTo o kept in subst Leading same led.2
-led-drop now (c ∷ kept) (suc place) older led e = led-drop c kept place older led.2 e
+led-drop now (c ∷ kept) (suc position) older led e = led-drop c kept position older led.2 e
 
 -- an update that a command may make to a session
 abbrev IsDue : SessionState → SessionChange → Type 0

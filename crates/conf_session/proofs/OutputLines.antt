@@ -14,7 +14,7 @@ use Rattle.conf_session.specs.ReplyTexts.{line}
 use Rattle.conf_session.specs.ReplyLines.{is_line_byte, is_reply_line, IsReplyText, IsValidOutput}
 use Rattle.conf_session.proofs.ReplyLines.{and-first, and-second, and-both, reply_line-bytes}
 
--- ---- the pieces of such a text
+-- ---- the parts of such a text
 full_lines-line : (bytes rest : List ℕ) → list_all is_line_byte bytes ≡ true → full_lines (line bytes ++ rest) ≡ line bytes ∷ full_lines rest
 full_lines-line [] rest h = refl
 full_lines-line (b ∷ bytes) rest h =
@@ -55,15 +55,15 @@ ends-line [] = refl
 ends-line (x ∷ []) = refl
 ends-line (x ∷ y ∷ bytes) = ends-more 10 x y (bytes ++ newline) ∙ ends-line (y ∷ bytes)
 
-ends-behind : (front : List ℕ) (y : ℕ) (back : List ℕ) → ends_with nat_eq (y ∷ back) newline ≡ true → ends_with nat_eq (front ++ y ∷ back) newline ≡ true
-ends-behind [] y back h = h
-ends-behind (x ∷ []) y back h = ends-more 10 x y back ∙ h
-ends-behind (x ∷ z ∷ front) y back h = ends-more 10 x z (front ++ y ∷ back) ∙ ends-behind (z ∷ front) y back h
+ends-after : (front : List ℕ) (y : ℕ) (back : List ℕ) → ends_with nat_eq (y ∷ back) newline ≡ true → ends_with nat_eq (front ++ y ∷ back) newline ≡ true
+ends-after [] y back h = h
+ends-after (x ∷ []) y back h = ends-more 10 x y back ∙ h
+ends-after (x ∷ z ∷ front) y back h = ends-more 10 x z (front ++ y ∷ back) ∙ ends-after (z ∷ front) y back h
 
 ends-text : (bytes : List ℕ) (lines : List (List ℕ)) → list_all is_reply_line (bytes ∷ lines) ≡ true → ends_with nat_eq (text_of (bytes ∷ lines)) newline ≡ true
 ends-text bytes [] h = ap (λ t. ends_with nat_eq t newline) (append-nil (line bytes)) ∙ ends-line bytes
 ends-text bytes ([] ∷ lines) h = let e : false ≡ true = and-second (is_reply_line bytes) false h in cc
-ends-text bytes ((b ∷ bs) ∷ lines) h = ends-behind (line bytes) b (bs ++ newline ++ text_of lines) (ends-text (b ∷ bs) lines (and-second _ _ h))
+ends-text bytes ((b ∷ bs) ∷ lines) h = ends-after (line bytes) b (bs ++ newline ++ text_of lines) (ends-text (b ∷ bs) lines (and-second _ _ h))
 
 -- ---- each line
 neither : (a b : Bool) → (a || b) ≡ false → (a ≡ false) × (b ≡ false)
@@ -82,7 +82,7 @@ no_blank bytes h = (is_none bytes h).0
 output-line : (bytes : List ℕ) → is_reply_line bytes ≡ true → is_output_line bytes ≡ true
 output-line bytes h = ap not (ap (λ t. t || ends_with nat_eq bytes (13 ∷ [])) (no_dashes bytes h) ∙ no_return_at_end bytes (reply_line-bytes bytes h))
 
-output-lines : (lines : List (List ℕ)) → list_all is_reply_line lines ≡ true → list_all (λ piece. is_output_line (without_last 10 piece)) (map line lines) ≡ true
+output-lines : (lines : List (List ℕ)) → list_all is_reply_line lines ≡ true → list_all (λ part. is_output_line (without_last 10 part)) (map line lines) ≡ true
 output-lines [] h = refl
 output-lines (bytes ∷ lines) h = and-both _ _ (ap is_output_line (without_newline bytes) ∙ output-line bytes (and-first _ _ h)) (output-lines lines (and-second _ _ h))
 
@@ -102,7 +102,7 @@ reply_text-valid_output text t =
     let ends : ends_with nat_eq text newline ≡ true = ap (λ x. ends_with nat_eq x newline) t.whole ∙ text-ends t.lines t.some t.valid in
     let cut : full_lines text ≡ map line t.lines = ap full_lines t.whole ∙ full_lines-lines t.lines t.valid in
     record {
-      output = and-both _ _ (or_right _ _ ends) (ap (list_all (λ piece. is_output_line (without_last 10 piece))) cut ∙ output-lines t.lines t.valid);
+      output = and-both _ _ (or_right _ _ ends) (ap (list_all (λ part. is_output_line (without_last 10 part))) cut ∙ output-lines t.lines t.valid);
       ended = ends;
       full = ap (λ ps. list_any is_blank (map line_of ps)) cut ∙ no_blank-lines t.lines t.valid;
     }

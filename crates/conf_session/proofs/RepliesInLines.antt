@@ -61,25 +61,25 @@ no_input-in_lines = line-in_lines (codes "this command takes no input") refl
 abbrev has_no_white : List ℕ → Bool
 has_no_white token = list_all (λ b. not (is_space b)) token
 
-onto-whole : (b : ℕ) (pieces : List (List ℕ)) → is_space b ≡ false → list_all has_no_white pieces ≡ true → list_all has_no_white (onto_first b pieces) ≡ true
+onto-whole : (b : ℕ) (parts : List (List ℕ)) → is_space b ≡ false → list_all has_no_white parts ≡ true → list_all has_no_white (onto_first b parts) ≡ true
 onto-whole b [] e h = and-both _ _ (and-both _ _ (ap not e) refl) refl
-onto-whole b (piece ∷ pieces) e h = and-both _ _ (and-both _ _ (ap not e) (and-first _ _ h)) (and-second _ _ h)
+onto-whole b (part ∷ parts) e h = and-both _ _ (and-both _ _ (ap not e) (and-first _ _ h)) (and-second _ _ h)
 
-split-step : (b : ℕ) (pieces : List (List ℕ)) (white : Bool) → is_space b ≡ white → list_all has_no_white pieces ≡ true → list_all has_no_white (cond white ([] ∷ pieces) (onto_first b pieces)) ≡ true
-split-step b pieces true e h = h
-split-step b pieces false e h = onto-whole b pieces e h
+split-step : (b : ℕ) (parts : List (List ℕ)) (white : Bool) → is_space b ≡ white → list_all has_no_white parts ≡ true → list_all has_no_white (cond white ([] ∷ parts) (onto_first b parts)) ≡ true
+split-step b parts true e h = h
+split-step b parts false e h = onto-whole b parts e h
 
 split-whole : (text : List ℕ) → list_all has_no_white (slice_split is_space text) ≡ true
 split-whole [] = refl
 split-whole (b ∷ text) = split-step b (slice_split is_space text) (is_space b) refl (split-whole text)
 
-filter-step : (test : List ℕ → Bool) (piece : List ℕ) (pieces : List (List ℕ)) (kept : Bool) → has_no_white piece ≡ true → list_all has_no_white pieces ≡ true → list_all has_no_white (cond kept (piece ∷ pieces) pieces) ≡ true
-filter-step test piece pieces true h k = and-both _ _ h k
-filter-step test piece pieces false h k = k
+filter-step : (test : List ℕ → Bool) (part : List ℕ) (parts : List (List ℕ)) (kept : Bool) → has_no_white part ≡ true → list_all has_no_white parts ≡ true → list_all has_no_white (cond kept (part ∷ parts) parts) ≡ true
+filter-step test part parts true h k = and-both _ _ h k
+filter-step test part parts false h k = k
 
-filter-whole : (test : List ℕ → Bool) (pieces : List (List ℕ)) → list_all has_no_white pieces ≡ true → list_all has_no_white (filter test pieces) ≡ true
+filter-whole : (test : List ℕ → Bool) (parts : List (List ℕ)) → list_all has_no_white parts ≡ true → list_all has_no_white (filter test parts) ≡ true
 filter-whole test [] h = refl
-filter-whole test (piece ∷ pieces) h = filter-step test piece (filter test pieces) (test piece) (and-first _ _ h) (filter-whole test pieces (and-second _ _ h))
+filter-whole test (part ∷ parts) h = filter-step test part (filter test parts) (test part) (and-first _ _ h) (filter-whole test parts (and-second _ _ h))
 
 tokens_in-whole : (text : List ℕ) → list_all has_no_white (tokens_in text) ≡ true
 tokens_in-whole text = filter-whole has_bytes (slice_split is_space text) (split-whole text)

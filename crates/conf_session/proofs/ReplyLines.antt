@@ -65,8 +65,8 @@ reply_line-bytes text h = and-second (not (is_blank text || is_dashes text)) _ h
 abbrev pub is_mark : ℕ → Bool
 is_mark b = not (is_space b || b == 45)
 
-any-front : {X : Type 0} (p : X → Bool) (xs ys : List X) → list_any p xs ≡ true → list_any p (xs ++ ys) ≡ true
-any-front p xs ys h = list_any-append p xs ys ∙ ap (λ found. found || list_any p ys) h
+any-prefix : {X : Type 0} (p : X → Bool) (xs ys : List X) → list_any p xs ≡ true → list_any p (xs ++ ys) ≡ true
+any-prefix p xs ys h = list_any-append p xs ys ∙ ap (λ found. found || list_any p ys) h
 
 space-step : (space dash some all : Bool) → (not (space || dash) || some) ≡ true → (some ≡ true → all ≡ false) → (space && all) ≡ false
 space-step true dash some all h k = k h
@@ -87,7 +87,7 @@ marked-in_lines text h k =
     and-both _ _ (ap not (ap (λ t. t || is_dashes text) (no_blank text h) ∙ no_dashes-if text (is_dashes text) refl h)) k
 
 pub reply_line-append : (front back : List ℕ) → list_any is_mark front ≡ true → IsBytes front → IsBytes back → is_reply_line (front ++ back) ≡ true
-reply_line-append front back h k l = marked-in_lines (front ++ back) (any-front is_mark front back h) (all-append is_line_byte front back k l)
+reply_line-append front back h k l = marked-in_lines (front ++ back) (any-prefix is_mark front back h) (all-append is_line_byte front back k l)
 
 where-bytes : (there : Bool) (text : List ℕ) → IsBytes text → IsBytes (text_if there text)
 where-bytes true text h = h
@@ -162,7 +162,7 @@ IsTail-from_bytes text h = record { tail = h }
 
 infixl 60 ◌▸◌
 pub ◌▸◌ : {front back : List ℕ} → IsLine front → IsTail back → IsLine (front ++ back)
-◌▸◌ {front} {back} h k = record { mark = any-front is_mark front back h.mark; bytes = all-append is_line_byte front back h.bytes k.tail }
+◌▸◌ {front} {back} h k = record { mark = any-prefix is_mark front back h.mark; bytes = all-append is_line_byte front back h.bytes k.tail }
 
 infixl 61 ◌▹◌
 pub ◌▹◌ : {front back : List ℕ} → IsTail front → IsTail back → IsTail (front ++ back)
@@ -235,12 +235,12 @@ digits-bytes : (parsed : List ℕ) → AllDigits 10 parsed → IsBytes parsed
 digits-bytes [] h = refl
 digits-bytes (b ∷ bs) h = and-both _ _ (byte-from_zero b (digit_at (b ∷ bs) 0 h (omega arith)).0) (digits-bytes bs h.1)
 
-joined-bytes : (pieces : List (List ℕ)) (ns : List ℕ) → AllZip ParsesToNumber pieces ns → IsBytes (join_with_byte 32 pieces)
+joined-bytes : (parts : List (List ℕ)) (ns : List ℕ) → AllZip ParsesToNumber parts ns → IsBytes (join_with_byte 32 parts)
 joined-bytes [] ns h = refl
-joined-bytes (piece ∷ pieces) [] h = absurd h
-joined-bytes (piece ∷ []) (n ∷ ns) h = digits-bytes piece h.0.numeral.1
-joined-bytes (piece ∷ next ∷ pieces) (n ∷ ns) h =
-    all-append is_line_byte piece (32 ∷ join_with_byte 32 (next ∷ pieces)) (digits-bytes piece h.0.numeral.1) (joined-bytes (next ∷ pieces) ns h.1)
+joined-bytes (part ∷ parts) [] h = absurd h
+joined-bytes (part ∷ []) (n ∷ ns) h = digits-bytes part h.0.numeral.1
+joined-bytes (part ∷ next ∷ parts) (n ∷ ns) h =
+    all-append is_line_byte part (32 ∷ join_with_byte 32 (next ∷ parts)) (digits-bytes part h.0.numeral.1) (joined-bytes (next ∷ parts) ns h.1)
 
 parsed-tail : (text ns : List ℕ) → ParsesToNumbers text ns → IsTail text
 parsed-tail text ns h = IsTail-from_bytes text (ap (list_all is_line_byte) h.spaced ∙ joined-bytes h.tokens ns h.parsed)

@@ -1,2 +1,2 @@
 -- The arguments of the command line.
-pub mod IdPieces
+pub mod IdParts

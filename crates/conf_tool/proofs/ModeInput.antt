@@ -1,6 +1,6 @@
--- The input of a mode: where it stands, what a line is answered, and what ends it.
+-- The input of a mode: where it is, what a line is answered, and what ends it.
 
-pub mod PlaceReached
+pub mod PositionReached
 pub mod Faults
 pub mod LineReplies
 pub mod JsonLines

@@ -1,4 +1,4 @@
--- The words of a directive: its command, its arguments and their values.
+-- The tokens of a directive: its command, its arguments and their values.
 
 pub mod FirstToken
 pub mod TrimmedEnd

@@ -1,4 +1,4 @@
--- The next line of an input, from the pieces that are read.
+-- The next line of an input, from the full lines that are read.
 
 pub mod FirstFullLine
 pub mod PartsOfFullLine

@@ -1,4 +1,4 @@
--- What the grammar of scripts makes of lines: the front that is an item, and all items.
+-- What the grammar of scripts makes of lines: the first item, and all items.
 
 pub mod ItemLength
 pub mod EndedItem

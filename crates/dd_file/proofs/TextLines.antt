@@ -1,4 +1,4 @@
--- The lines of a text, and what stands at their ends.
+-- The lines of a text, and what is at their ends.
 
 pub mod EndPositions
 pub mod TextAfter

@@ -30,7 +30,7 @@ changes_part [] = []
 changes_part (change ∷ changes) = 32 ∷ join_with_byte 32 (map change_text (change ∷ changes))
 
 abbrev parts : List ℕ → Step → List ℕ
-parts front step = front ++ join_with_byte 32 (command_tokens step) ++ changes_part (changes_of step)
+parts prefix step = prefix ++ join_with_byte 32 (command_tokens step) ++ changes_part (changes_of step)
 
 line_text-simple : (changes : List Change) → line_text (Simple changes) ≡ parts [] (Simple changes)
 line_text-simple [] = refl
@@ -63,12 +63,12 @@ changes_part-some (change ∷ changes) some = refl
 pub step_name-alone : (number : ℕ) (step : Step) → (length (changes_of step) == 0) ≡ true
     → decimal number ++ codes " " ++ join_with_byte 32 (command_tokens step) ≡ step_name number step
 step_name-alone number step none =
-    let front = decimal number ++ codes " " ++ join_with_byte 32 (command_tokens step) in
-    sym (append-nil front) ∙ sym (ap (λ rest. front ++ rest) (changes_part-none (changes_of step) none)) ∙ step_name-parts number step
+    let prefix = decimal number ++ codes " " ++ join_with_byte 32 (command_tokens step) in
+    sym (append-nil prefix) ∙ sym (ap (λ rest. prefix ++ rest) (changes_part-none (changes_of step) none)) ∙ step_name-parts number step
 
 pub step_name-changes : (number : ℕ) (step : Step) → (length (changes_of step) == 0) ≡ false
     → decimal number ++ codes " " ++ join_with_byte 32 (command_tokens step) ++ codes " " ++ join_with_byte 32 (map change_text (changes_of step)) ≡ step_name number step
 step_name-changes number step some =
-    let front = decimal number ++ codes " " ++ join_with_byte 32 (command_tokens step) in
-    append_assoc front (codes " ") (join_with_byte 32 (map change_text (changes_of step)))
-    ∙ sym (ap (λ rest. front ++ rest) (changes_part-some (changes_of step) some)) ∙ step_name-parts number step
+    let prefix = decimal number ++ codes " " ++ join_with_byte 32 (command_tokens step) in
+    append_assoc prefix (codes " ") (join_with_byte 32 (map change_text (changes_of step)))
+    ∙ sym (ap (λ rest. prefix ++ rest) (changes_part-some (changes_of step) some)) ∙ step_name-parts number step

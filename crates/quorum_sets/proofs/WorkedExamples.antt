@@ -26,8 +26,8 @@ ruleset of_maps = (entries-insert_id, entries-empty, get_in, get_unknown)
 abbrev acks_of : List (ℕ × ℕ) → Acks
 acks_of entries = finite.from_entries entries
 
-abbrev nobody : Ids
-nobody = ids_of []
+abbrev no_voter : Ids
+no_voter = ids_of []
 
 abbrev three : Ids
 three = ids_of (1 ∷ 2 ∷ 3 ∷ [])
@@ -43,11 +43,11 @@ majorities : (majority 0 ≡ 1) × (majority 1 ≡ 1) × (majority 2 ≡ 2) × (
 majorities = (refl, refl, refl, refl, refl)
 
 -- the pair without voters has no quorum
-no_quorum_of_nobody : is_quorum (pair nobody nobody) three ≡ false
-no_quorum_of_nobody = simp written_out refl
+no_quorum_of_no_voter : is_quorum (pair no_voter no_voter) three ≡ false
+no_quorum_of_no_voter = simp written_out refl
 
 -- half of an even set is no quorum of it
-half_is_no_quorum : is_quorum (pair four nobody) (ids_of (1 ∷ 2 ∷ [])) ≡ false
+half_is_no_quorum : is_quorum (pair four no_voter) (ids_of (1 ∷ 2 ∷ [])) ≡ false
 half_is_no_quorum = simp written_out refl
 
 -- a quorum of the incoming voters alone is none of the pair
@@ -76,19 +76,19 @@ counted_five = record {
   not_passed = λ some. simp of_maps refl;
 }
 
-counted_by_nobody : IsCommitted nobody by_two (2 ^ 64 - 1)
-counted_by_nobody = record {
+counted_by_no_voter : IsCommitted no_voter by_two (2 ^ 64 - 1)
+counted_by_no_voter = record {
   of_empty = λ empty. refl;
   reached = λ some. (let no : true ≡ false = simp of_maps at some in cc);
   not_passed = λ some. (let no : true ≡ false = simp of_maps at some in cc);
 }
 
-counted_of_both : IsJointCommitted (pair three nobody) by_two 5
+counted_of_both : IsJointCommitted (pair three no_voter) by_two 5
 counted_of_both = record {
   of_incoming = 5;
   of_outgoing = 2 ^ 64 - 1;
   incoming = counted_five;
-  outgoing = counted_by_nobody;
+  outgoing = counted_by_no_voter;
   smaller = refl;
 }
 
@@ -99,15 +99,15 @@ by_all = acks_of ((1, 1) ∷ (2, 2) ∷ (3, 3) ∷ (4, 4) ∷ (5, 5) ∷ (6, 6) 
 committed_of_nine : committed_index nine by_all ≡ 5
 committed_of_nine = simp of_maps refl
 
--- an even set: the definition that takes the place n / 2 has 3 here
+-- an even set: the definition that takes the position n / 2 has 3 here
 committed_of_four : committed_index four by_all ≡ 2
 committed_of_four = simp of_maps refl
 
-committed_by_nobody : committed_index nobody by_two ≡ 2 ^ 64 - 1
-committed_by_nobody = simp of_maps refl
+committed_by_no_voter : committed_index no_voter by_two ≡ 2 ^ 64 - 1
+committed_by_no_voter = simp of_maps refl
 
-joint_with_nobody : joint_committed_index (pair three nobody) by_two ≡ 5
-joint_with_nobody = simp of_maps refl
+joint_with_no_voter : joint_committed_index (pair three no_voter) by_two ≡ 5
+joint_with_no_voter = simp of_maps refl
 
 joint_of_nine_and_one : joint_committed_index (pair nine (ids_of (1 ∷ []))) by_all ≡ 1
 joint_of_nine_and_one = simp of_maps refl
@@ -132,8 +132,8 @@ pending_in_one = simp of_maps refl
 lost_in_one : joint_vote_result (pair three (ids_of (3 ∷ 4 ∷ 5 ∷ []))) more_votes ≡ VoteLost
 lost_in_one = simp of_maps refl
 
-won_by_nobody : joint_vote_result (pair nobody nobody) some_votes ≡ VoteWon
-won_by_nobody = simp of_maps refl
+won_by_no_voter : joint_vote_result (pair no_voter no_voter) some_votes ≡ VoteWon
+won_by_no_voter = simp of_maps refl
 
 -- half of an even set is not enough, and with no of the other half the vote is lost
 half_is_pending : vote_result (ids_of (2 ∷ 5 ∷ [])) some_votes ≡ VotePending
@@ -160,5 +160,5 @@ chart_of_zero : chart_text (1 ∷ 2 ∷ []) (acks_of ((2, 0) ∷ [])) ≡ codes 
 unfolding digits
 chart_of_zero = simp of_maps refl
 
-chart_of_nobody : chart_text [] by_all ≡ codes "<empty majority quorum>"
-chart_of_nobody = refl
+chart_of_no_voter : chart_text [] by_all ≡ codes "<empty majority quorum>"
+chart_of_no_voter = refl

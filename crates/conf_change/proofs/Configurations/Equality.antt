@@ -85,6 +85,6 @@ is_same-is_equality a b =
     let P : Configuration → Type 0 = λ d. is_same a d ≡ true in
     (is_same-equal a b, λ e. subst P e (is_same-refl a))
 
--- a test that answers as this one tells whether they are equal
+-- a test that answers as this one decides whether they are equal
 pub is_same-by_test : (a b : Configuration) (found : Bool) → found ≡ is_same a b → (found ≡ true) ↔ (a ≡ b)
 is_same-by_test a b found e = let same = is_same-is_equality a b in (λ yes. same.0 (sym e ∙ yes), λ equal. e ∙ same.1 equal)

@@ -46,7 +46,7 @@ is_empty-from_none s none = ap is_empty (has-same_ids s no_ids (λ q. none q ∙
 pub has-none_in_empty : (s : Ids) → is_empty s ≡ true → (q : ℕ) → has s q ≡ false
 has-none_in_empty s e q = ap (λ t. has t q) (no_ids-from_is_empty s e) ∙ has-no_ids q
 
--- ---- what validity says of each id
+-- ---- what validity states of each id
 within_members : (a b : Ids) → is_within a b ≡ true → (q : ℕ) → has a q ≡ true → has b q ≡ true
 within_members a b e = member_passes (has b) a e
 

@@ -57,7 +57,7 @@ or_not : (b : Bool) → (b || not b) ≡ true
 or_not true = refl
 or_not false = refl
 
--- the last word of one change
+-- the last effective change of one change
 abbrev token_of : Kind → Bool → Bool → Option Kind
 token_of kind named zero = cond (named && not zero && not (is_update kind)) (Some kind) None
 
@@ -197,7 +197,7 @@ applied_more next_index xs x before now after none so_far made floor follows = r
 }
 
 -- ---- from a tracker that is sound
--- who is a member has progress with its mark, and nobody else any
+-- who is a member has progress with its mark, and no other id has any
 entry_in-expected : (next_index : ℕ) (had : Option Progress) (member learner : Bool) → is_some had ≡ member → IfSome had (λ p. p.learner ≡ learner) → had ≡ entry_of next_index member learner had
 entry_in-expected next_index None true learner e marked = absurd (false≢true e)
 entry_in-expected next_index None false learner e marked = refl
@@ -270,11 +270,11 @@ MadeSoFar-one_more next_index start first changes k d now after members members'
           expected.no_zero (made_so_far.so_far floor) is refl follows;
     })
 
--- ---- the entry of one id, by what it is told to be
-pub Follows-told : (next_index id : ℕ) (c : Configuration) (id_is : Membership) (before after : ProgressMap) → id_is ≡ membership_in c id
+-- ---- the entry of one id, by what it becomes
+pub Follows-known : (next_index id : ℕ) (c : Configuration) (id_is : Membership) (before after : ProgressMap) → id_is ≡ membership_in c id
     → ((q : ℕ) → finite.get after q ≡ cond (q == id) (entry_of next_index id_is.member id_is.learner (finite.get before id)) (finite.get before q))
     → Follows next_index id c before after
-Follows-told next_index id c id_is before after is entries =
+Follows-known next_index id c id_is before after is entries =
     λ q. entries q ∙ ap (λ m. cond (q == id) (entry_of next_index m.member m.learner (finite.get before id)) (finite.get before q)) is
 
 -- ---- one change alone

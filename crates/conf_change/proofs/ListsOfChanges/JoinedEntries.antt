@@ -21,8 +21,8 @@ abbrev pub AllUpTo : List ℕ → ℕ → Type 0
 AllUpTo xs y = (k : ℕ) → k < length xs → get_or xs k 0 ≤ y
 
 -- ---- one more entry
--- what is said then
-record SaysMore (before : List ChangeSummary) (summary : ChangeSummary) (after : List ChangeSummary) : Type 0 where
+-- what is printed then
+record Extends (before : List ChangeSummary) (summary : ChangeSummary) (after : List ChangeSummary) : Type 0 where
   last : (q : ℕ) → last_in after q ≡ last_in (before ++ summary ∷ []) q
   removal : (q : ℕ) → removal_in after q ≡ removal_in (before ++ summary ∷ []) q
   entries : (q : ℕ) → has_entry after q ≡ has_entry (before ++ summary ∷ []) q
@@ -41,28 +41,28 @@ two_entries : (b : Bool) → (b || false) ≡ ((b || false) || (b || false))
 two_entries true = refl
 two_entries false = refl
 
-joined_says : (front : List ChangeSummary) (last summary : ChangeSummary) → last.id ≡ summary.id → SaysMore (front ++ last ∷ []) summary (front ++ and_later last summary ∷ [])
-joined_says front last summary same = record {
+joined_extends : (beginning : List ChangeSummary) (last summary : ChangeSummary) → last.id ≡ summary.id → Extends (beginning ++ last ∷ []) summary (beginning ++ and_later last summary ∷ [])
+joined_extends beginning last summary same = record {
   last = λ q.
-      last_in-append front (and_later last summary ∷ []) q
-      ∙ ap (later_of (last_in front q)) (two_last (q == last.id) last summary ∙ ap (λ n. later_of (later_of (cond (q == last.id) last.last None) None) (later_of (cond (q == n) summary.last None) None)) same)
-      ∙ sym (later-later (last_in front q) (last_in (last ∷ []) q) (last_in (summary ∷ []) q))
-      ∙ ap (λ o. later_of o (last_in (summary ∷ []) q)) (sym (last_in-append front (last ∷ []) q))
-      ∙ sym (last_in-append (front ++ last ∷ []) (summary ∷ []) q);
+      last_in-append beginning (and_later last summary ∷ []) q
+      ∙ ap (later_of (last_in beginning q)) (two_last (q == last.id) last summary ∙ ap (λ n. later_of (later_of (cond (q == last.id) last.last None) None) (later_of (cond (q == n) summary.last None) None)) same)
+      ∙ sym (later-later (last_in beginning q) (last_in (last ∷ []) q) (last_in (summary ∷ []) q))
+      ∙ ap (λ o. later_of o (last_in (summary ∷ []) q)) (sym (last_in-append beginning (last ∷ []) q))
+      ∙ sym (last_in-append (beginning ++ last ∷ []) (summary ∷ []) q);
   removal = λ q.
       let p = λ (w : ChangeSummary). (w.id == q) && w.removes in
-      list_any-append p front (and_later last summary ∷ [])
-      ∙ ap (λ b. removal_in front q || b) (two_removals (last.id == q) last.removes summary.removes ∙ ap (λ n. (((last.id == q) && last.removes) || false) || (((n == q) && summary.removes) || false)) same)
-      ∙ or_assoc (removal_in front q) (removal_in (last ∷ []) q) (removal_in (summary ∷ []) q)
-      ∙ ap (λ b. b || removal_in (summary ∷ []) q) (sym (list_any-append p front (last ∷ [])))
-      ∙ sym (list_any-append p (front ++ last ∷ []) (summary ∷ []));
+      list_any-append p beginning (and_later last summary ∷ [])
+      ∙ ap (λ b. removal_in beginning q || b) (two_removals (last.id == q) last.removes summary.removes ∙ ap (λ n. (((last.id == q) && last.removes) || false) || (((n == q) && summary.removes) || false)) same)
+      ∙ or_assoc (removal_in beginning q) (removal_in (last ∷ []) q) (removal_in (summary ∷ []) q)
+      ∙ ap (λ b. b || removal_in (summary ∷ []) q) (sym (list_any-append p beginning (last ∷ [])))
+      ∙ sym (list_any-append p (beginning ++ last ∷ []) (summary ∷ []));
   entries = λ q.
       let p = λ (w : ChangeSummary). q == w.id in
-      list_any-append p front (and_later last summary ∷ [])
-      ∙ ap (λ b. has_entry front q || b) (two_entries (q == last.id) ∙ ap (λ n. ((q == last.id) || false) || ((q == n) || false)) same)
-      ∙ or_assoc (has_entry front q) (has_entry (last ∷ []) q) (has_entry (summary ∷ []) q)
-      ∙ ap (λ b. b || has_entry (summary ∷ []) q) (sym (list_any-append p front (last ∷ [])))
-      ∙ sym (list_any-append p (front ++ last ∷ []) (summary ∷ []));
+      list_any-append p beginning (and_later last summary ∷ [])
+      ∙ ap (λ b. has_entry beginning q || b) (two_entries (q == last.id) ∙ ap (λ n. ((q == last.id) || false) || ((q == n) || false)) same)
+      ∙ or_assoc (has_entry beginning q) (has_entry (last ∷ []) q) (has_entry (summary ∷ []) q)
+      ∙ ap (λ b. b || has_entry (summary ∷ []) q) (sym (list_any-append p beginning (last ∷ [])))
+      ∙ sym (list_any-append p (beginning ++ last ∷ []) (summary ∷ []));
 }
   where
     or_assoc : (a b c : Bool) → (a || (b || c)) ≡ ((a || b) || c)
@@ -75,8 +75,8 @@ pub record JoinedSoFar (each : List ChangeSummary) (k : ℕ) (summaries : List C
   pub joins : Joins (take k each) summaries
   pub up_to : (j : ℕ) → k ≤ j → j < length each → AllUpTo (ids summaries) (get_or (ids each) j 0)
 
-ids-push : (front : List ChangeSummary) (w : ChangeSummary) → ids (front ++ w ∷ []) ≡ ids front ++ w.id ∷ []
-ids-push front w = map-append (λ v. v.id) front (w ∷ [])
+ids-push : (beginning : List ChangeSummary) (w : ChangeSummary) → ids (beginning ++ w ∷ []) ≡ ids beginning ++ w.id ∷ []
+ids-push beginning w = map-append (λ v. v.id) beginning (w ∷ [])
 
 up_to-push : (xs : List ℕ) (y z : ℕ) → AllUpTo xs z → y ≤ z → AllUpTo (xs ++ y ∷ []) z
 up_to-push xs y z up le k within =
@@ -86,8 +86,8 @@ up_to-push xs y z up le k within =
       | inr last ↦ (let e = get_or_at xs y [] 0 k (omega arith) in rw e le)
     ]
 
-says_as : (before now after : List ChangeSummary) (summary : ChangeSummary) → Joins before now → SaysMore now summary after → IsAscending (ids after) → Joins (before ++ summary ∷ []) after
-says_as before now after summary joins more ascends = record {
+extends_as : (before now after : List ChangeSummary) (summary : ChangeSummary) → Joins before now → Extends now summary after → IsAscending (ids after) → Joins (before ++ summary ∷ []) after
+extends_as before now after summary joins more ascends = record {
   ascends = ascends;
   last = λ q. more.last q ∙ last_in-append now (summary ∷ []) q ∙ ap (λ o. later_of o (last_in (summary ∷ []) q)) (joins.last q) ∙ sym (last_in-append before (summary ∷ []) q);
   removal = λ q.
@@ -99,12 +99,12 @@ says_as before now after summary joins more ascends = record {
 }
 
 -- the last of the entries is the greatest, so one that is apart from it is above all
-above_all : (front : List ChangeSummary) (last summary : ChangeSummary) → IsAscending (ids (front ++ last ∷ [])) → AllUpTo (ids (front ++ last ∷ [])) summary.id → last.id ≢ summary.id
-    → (k : ℕ) → k < length (ids (front ++ last ∷ [])) → get_or (ids (front ++ last ∷ [])) k 0 < summary.id
-above_all front last summary ascends up apart k within =
-    let n = length (ids front) in
-    let long : length (ids (front ++ last ∷ [])) ≡ n + 1 = ap length (ids-push front last) ∙ length-append (ids front) (last.id ∷ []) in
-    let at_end : get_or (ids (front ++ last ∷ [])) n 0 ≡ last.id = ap (λ xs. get_or xs n 0) (ids-push front last) ∙ get_or_at (ids front) last.id [] 0 n refl in
+above_all : (beginning : List ChangeSummary) (last summary : ChangeSummary) → IsAscending (ids (beginning ++ last ∷ [])) → AllUpTo (ids (beginning ++ last ∷ [])) summary.id → last.id ≢ summary.id
+    → (k : ℕ) → k < length (ids (beginning ++ last ∷ [])) → get_or (ids (beginning ++ last ∷ [])) k 0 < summary.id
+above_all beginning last summary ascends up apart k within =
+    let n = length (ids beginning) in
+    let long : length (ids (beginning ++ last ∷ [])) ≡ n + 1 = ap length (ids-push beginning last) ∙ length-append (ids beginning) (last.id ∷ []) in
+    let at_end : get_or (ids (beginning ++ last ∷ [])) n 0 ≡ last.id = ap (λ xs. get_or xs n 0) (ids-push beginning last) ∙ get_or_at (ids beginning) last.id [] 0 n refl in
     let last_le = up n (omega arith) in
     let last_lt : last.id < summary.id = omega (arith, apart) in
     elim (cases_lt k n) [
@@ -112,28 +112,28 @@ above_all front last summary ascends up apart k within =
       | inr end ↦ (let here : k ≡ n = omega arith in rw here (omega arith))
     ]
 
--- the id at a place
+-- the id at a position
 pub ids-at : (each : List ChangeSummary) (j : ℕ) (d : ChangeSummary) → j < length each → get_or (ids each) j 0 ≡ (get_or each j d).id
 ids-at [] j d within = absurd (omega arith)
 ids-at (w ∷ ws) zero d within = refl
 ids-at (w ∷ ws) (suc j) d within = ids-at ws j d (omega arith)
 
-more_from : (each now after : List ChangeSummary) (k : ℕ) (d : ChangeSummary) → k < length each → JoinedSoFar each k now → SaysMore now (get_or each k d) after → IsAscending (ids after)
+more_from : (each now after : List ChangeSummary) (k : ℕ) (d : ChangeSummary) → k < length each → JoinedSoFar each k now → Extends now (get_or each k d) after → IsAscending (ids after)
     → ((j : ℕ) → k + 1 ≤ j → j < length each → AllUpTo (ids after) (get_or (ids each) j 0)) → JoinedSoFar each (k + 1) after
 more_from each now after k d within so_far more ascends up = record {
-  joins = rw (take_more each k d within) (says_as (take k each) now after (get_or each k d) so_far.joins more ascends);
+  joins = rw (take_more each k d within) (extends_as (take k each) now after (get_or each k d) so_far.joins more ascends);
   up_to = up;
 }
 
-pushed_says : (now after : List ChangeSummary) (summary : ChangeSummary) → after ≡ now ++ summary ∷ [] → SaysMore now summary after
-pushed_says now after summary is = let P : List ChangeSummary → Type 0 = SaysMore now summary in subst P (sym is) (record { last = λ q. refl; removal = λ q. refl; entries = λ q. refl })
+pushed_extends : (now after : List ChangeSummary) (summary : ChangeSummary) → after ≡ now ++ summary ∷ [] → Extends now summary after
+pushed_extends now after summary is = let P : List ChangeSummary → Type 0 = Extends now summary in subst P (sym is) (record { last = λ q. refl; removal = λ q. refl; entries = λ q. refl })
 
 pushed : (each now after : List ChangeSummary) (k : ℕ) (d : ChangeSummary) → IsNonDecreasingBy (λ w. w.id) each → k < length each → JoinedSoFar each k now
     → after ≡ now ++ get_or each k d ∷ [] → ((i : ℕ) → i < length (ids now) → get_or (ids now) i 0 < (get_or each k d).id) → JoinedSoFar each (k + 1) after
 pushed each now after k d up within so_far is above =
     let w = get_or each k d in
     let same : ids after ≡ ids now ++ w.id ∷ [] = ap ids is ∙ ids-push now w in
-    more_from each now after k d within so_far (pushed_says now after w is)
+    more_from each now after k d within so_far (pushed_extends now after w is)
     (subst IsAscending (sym same) (ascends-push (ids now) w.id so_far.joins.ascends above))
     (λ j le inside.
     let here = ids-at each j d inside in
@@ -147,8 +147,8 @@ JoinedSoFar-one_more each now after k d up within so_far added =
     elim added.cases [
       | inl here ↦
           (let same : ids after ≡ ids now = ap ids here.4 ∙ ids-push here.0 (and_later here.1 w) ∙ sym (ids-push here.0 here.1) ∙ sym (ap ids here.2) in
-          let summarizes : SaysMore now w after = (let P : List ChangeSummary → List ChangeSummary → Type 0 = λ a b. SaysMore a w b in
-          subst (λ a. P a after) (sym here.2) (subst (P (here.0 ++ here.1 ∷ [])) (sym here.4) (joined_says here.0 here.1 w here.3))) in
+          let summarizes : Extends now w after = (let P : List ChangeSummary → List ChangeSummary → Type 0 = λ a b. Extends a w b in
+          subst (λ a. P a after) (sym here.2) (subst (P (here.0 ++ here.1 ∷ [])) (sym here.4) (joined_extends here.0 here.1 w here.3))) in
           more_from each now after k d within so_far summarizes
           (subst IsAscending (sym same) so_far.joins.ascends)
           (λ j le inside. subst (λ xs. AllUpTo xs (get_or (ids each) j 0)) (sym same) (so_far.up_to j (omega arith) inside)))
@@ -164,23 +164,23 @@ JoinedSoFar-one_more each now after k d up within so_far added =
           subst P (sym here.0) (λ i inside. absurd (omega arith)))
     ]
 
--- ---- what one entry an id says
+-- ---- what one entry an id states
 -- no entry has the id
 abbrev IsApart : List ChangeSummary → ℕ → Type 0
 IsApart ws id = (k : ℕ) → k < length (ids ws) → id ≡ get_or (ids ws) k 0 → ⊥
 
-unsaid_last : (ws : List ChangeSummary) (id : ℕ) → IsApart ws id → last_in ws id ≡ None
-unsaid_last [] id apart = refl
-unsaid_last (w ∷ ws) id apart =
+no_last : (ws : List ChangeSummary) (id : ℕ) → IsApart ws id → last_in ws id ≡ None
+no_last [] id apart = refl
+no_last (w ∷ ws) id apart =
     let other : (id == w.id) ≡ false = ne_eqb id w.id (apart 0 (omega arith)) in
     ap (λ b. later_of (cond b w.last None) (last_in ws id)) other
-    ∙ later-none (last_in ws id) ∙ unsaid_last ws id (λ k within e. apart (suc k) (omega arith) e)
+    ∙ later-none (last_in ws id) ∙ no_last ws id (λ k within e. apart (suc k) (omega arith) e)
 
-unsaid_removal : (ws : List ChangeSummary) (id : ℕ) → IsApart ws id → removal_in ws id ≡ false
-unsaid_removal [] id apart = refl
-unsaid_removal (w ∷ ws) id apart =
+no_removal : (ws : List ChangeSummary) (id : ℕ) → IsApart ws id → removal_in ws id ≡ false
+no_removal [] id apart = refl
+no_removal (w ∷ ws) id apart =
     let other : (w.id == id) ≡ false = ne_eqb w.id id (λ e. apart 0 (omega arith) (sym e)) in
-    ap (λ b. (b && w.removes) || removal_in ws id) other ∙ unsaid_removal ws id (λ k within e. apart (suc k) (omega arith) e)
+    ap (λ b. (b && w.removes) || removal_in ws id) other ∙ no_removal ws id (λ k within e. apart (suc k) (omega arith) e)
 
 above_first : (w : ChangeSummary) (ws : List ChangeSummary) → IsAscending (ids (w ∷ ws)) → IsApart ws w.id
 above_first w ws up k within e = let lt = up 0 (suc k) (omega arith) (omega arith) in omega arith
@@ -196,7 +196,7 @@ first_apart w ws k d up within =
 own_last : (ws : List ChangeSummary) → IsAscending (ids ws) → (k : ℕ) (d : ChangeSummary) → k < length ws → last_in ws (get_or ws k d).id ≡ (get_or ws k d).last
 own_last [] up k d within = absurd (omega arith)
 own_last (w ∷ ws) up zero d within =
-    (λ i. later_of (cond (eq-eqb w.id w.id refl i) w.last None) (unsaid_last ws w.id (above_first w ws up) i))
+    (λ i. later_of (cond (eq-eqb w.id w.id refl i) w.last None) (no_last ws w.id (above_first w ws up) i))
 own_last (w ∷ ws) up (suc k) d within =
     let inside : k < length ws = omega arith in
     let lt = first_apart w ws k d up inside in
@@ -207,7 +207,7 @@ own_last (w ∷ ws) up (suc k) d within =
 own_removal : (ws : List ChangeSummary) → IsAscending (ids ws) → (k : ℕ) (d : ChangeSummary) → k < length ws → removal_in ws (get_or ws k d).id ≡ (get_or ws k d).removes
 own_removal [] up k d within = absurd (omega arith)
 own_removal (w ∷ ws) up zero d within =
-    (λ i. (eq-eqb w.id w.id refl i && w.removes) || unsaid_removal ws w.id (above_first w ws up) i) ∙ or_none w.removes
+    (λ i. (eq-eqb w.id w.id refl i && w.removes) || no_removal ws w.id (above_first w ws up) i) ∙ or_none w.removes
   where
     or_none : (b : Bool) → (b || false) ≡ b
     or_none true = refl

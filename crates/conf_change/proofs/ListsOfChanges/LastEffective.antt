@@ -31,7 +31,7 @@ last_in-append (x ∷ xs) ys id =
     ap (later_of (cond (id == x.id) x.last None)) (last_in-append xs ys id)
     ∙ sym (later-later (cond (id == x.id) x.last None) (last_in xs id) (last_in ys id))
 
--- ---- what each change says
+-- ---- what each change states
 abbrev kind_of_found : Option Change → Option Kind
 kind_of_found o = option_map (λ change. change.kind) o
 
@@ -53,21 +53,21 @@ last_effective-cons : (x : Change) (xs : List Change) (id : ℕ) → last_effect
 last_effective-cons x xs id = ap (λ ys. option_map (λ change. change.kind) (find (names id) ys)) (reverse-append (x ∷ []) xs) ∙ same_find (names id) (reverse xs) x
 
 -- a change has its say on its own id alone
-own_say : (x : Change) (id : ℕ) (b : Bool) → (id == x.id) ≡ b
+own_effective_change : (x : Change) (id : ℕ) (b : Bool) → (id == x.id) ≡ b
     → cond b (summary_of x).last None ≡ cond (names id x) (Some x.kind) None
-own_say x id true same =
+own_effective_change x id true same =
     let is : id ≡ x.id = eqb-true id x.id same in
     let back : (x.id == id) ≡ true = eq-eqb x.id id (sym is) in
     ap (λ n. cond (not (n == 0) && not (is_update x.kind)) (Some x.kind) None) (sym is)
     ∙ ap (λ b. cond (b && not (id == 0) && not (is_update x.kind)) (Some x.kind) None) (sym back)
-own_say x id false other =
+own_effective_change x id false other =
     let back : (x.id == id) ≡ false = ne_eqb x.id id (λ e. false≢true (sym other ∙ eq-eqb id x.id (sym e))) in
     ap (λ b. cond (b && not (id == 0) && not (is_update x.kind)) (Some x.kind) None) (sym back)
 
 last_in-changes : (xs : List Change) (id : ℕ) → last_in (map summary_of xs) id ≡ last_effective xs id
 last_in-changes [] id = refl
 last_in-changes (x ∷ xs) id =
-    (λ i. later_of (own_say x id (id == x.id) refl i) (last_in-changes xs id i)) ∙ sym (last_effective-cons x xs id)
+    (λ i. later_of (own_effective_change x id (id == x.id) refl i) (last_in-changes xs id i)) ∙ sym (last_effective-cons x xs id)
 
 no_token : (b : Bool) → (let none : Option Kind = None in cond b none none ≡ none)
 no_token true = refl

@@ -14,7 +14,7 @@ use Rattle.conf_change.specs.declared.change.Change.{Change}
 use Rattle.conf_change.specs.declared.change.Kind.{Kind}
 use Rattle.conf_change.specs.declared.change.Kind.TheVariants.{Voter, Learner, Remove, Update}
 
--- ---- the last word
+-- ---- the last effective change
 of_cond : (b : Bool) (x : Change) (o : Option Change) → option_map (λ change. change.kind) (cond b (Some x) o) ≡ cond b (Some x.kind) (option_map (λ change. change.kind) o)
 of_cond true x o = refl
 of_cond false x o = refl
@@ -22,7 +22,7 @@ of_cond false x o = refl
 reverse-push : (xs : List Change) (x : Change) → reverse (xs ++ x ∷ []) ≡ x ∷ reverse xs
 reverse-push xs x = reverse-append xs (x ∷ [])
 
--- one more change has the last word on the ids that it names
+-- one more change has the last effective change on the ids that it names
 pub last_effective-push : (xs : List Change) (x : Change) (id : ℕ) → last_effective (xs ++ x ∷ []) id ≡ cond (names id x) (Some x.kind) (last_effective xs id)
 last_effective-push xs x id = ap (λ ys. option_map (λ change. change.kind) (find (names id) ys)) (reverse-push xs x) ∙ of_cond (names id x) x _
 
@@ -30,7 +30,7 @@ last_effective-push xs x id = ap (λ ys. option_map (λ change. change.kind) (fi
 pub last_effective-one : (x : Change) (q : ℕ) → last_effective (x ∷ []) q ≡ cond (names q x) (Some x.kind) None
 last_effective-one x q = of_cond (names q x) x None
 
--- ---- an id with a last word is named
+-- ---- an id with a last effective change is named
 some_cond : (b : Bool) (x : Change) (o : Option Change) → is_some (cond b (Some x) o) ≡ (b || is_some o)
 some_cond true x o = refl
 some_cond false x o = refl
@@ -70,9 +70,9 @@ flip id m e = nat_eq_equiv.symm id m ∙ e
 named_among : (id : ℕ) (xs : List Change) → list_any (names id) xs ≡ true → list_any (λ m. id == m) (map (λ change. change.id) xs) ≡ true
 named_among id [] e = e
 named_among id (x ∷ xs) e =
-    or_mono (names id x) (list_any (names id) xs) _ _ (λ said. flip id x.id (first_and _ _ _ said)) (named_among id xs) e
+    or_mono (names id x) (list_any (names id) xs) _ _ (λ is_listed. flip id x.id (first_and _ _ _ is_listed)) (named_among id xs) e
 
--- ---- what is decided by the last word alone
+-- ---- what is decided by the last effective change alone
 some_of_map : (o : Option Change) (k : Kind) → option_map (λ change. change.kind) o ≡ Some k → is_some o ≡ true
 some_of_map None k e = ap is_some e
 some_of_map (Some x) k e = refl
@@ -155,7 +155,7 @@ last_effective-only kind q id apart e =
     let x : Change = record { kind = kind; id = id } in
     last_effective-one x q
     ∙ ap (λ b. cond b (Some kind) None)
-    (both_true (id == q) (not (q == 0)) (is_update kind) (λ said. zero_apart q id apart (flip q id said)) e ∙ nat_eq_equiv.symm id q)
+    (both_true (id == q) (not (q == 0)) (is_update kind) (λ is_listed. zero_apart q id apart (flip q id is_listed)) e ∙ nat_eq_equiv.symm id q)
 
 -- the set with the id or without it
 abbrev pub put_to : Bool → Ids → ℕ → Ids
@@ -190,7 +190,7 @@ set_made decide same kind s t id apart e made q =
     ∙ of_decided (λ o. decide q o (has s q)) kind (has s q) (q == id) (same q (has s q))
     ∙ ap (λ o. decide q o (has s q)) (sym (last_effective-only kind q id apart e))
 
--- where the id is put where the change says, and nothing else is altered
+-- where the id is put where the change states, and nothing else is altered
 pub result_of-change : (kind : Kind) (c d : Configuration) (id : ℕ) (out : Bool) → id ≢ 0 → is_update kind ≡ false → has c.outgoing id ≡ out
     → d.incoming ≡ put_to (is_incoming_after (Some kind) (has c.incoming id)) c.incoming id
     → d.outgoing ≡ c.outgoing
@@ -215,8 +215,8 @@ incoming_of-change kind c id apart e =
     ∙ sym (has-incoming_after c (only kind id) q))
 
 -- a list that has no say
-unsaid : (c : Configuration) (xs : List Change) → ((q : ℕ) → last_effective xs q ≡ None) → c ≡ result_of c xs
-unsaid c xs empty_summary =
+no_effect : (c : Configuration) (xs : List Change) → ((q : ℕ) → last_effective xs q ≡ None) → c ≡ result_of c xs
+no_effect c xs empty_summary =
     configuration-by_members c (result_of c xs)
     (λ q. sym (has-incoming_after c xs q ∙ ap (λ o. is_incoming_after o (has c.incoming q)) (empty_summary q)))
     refl
@@ -225,19 +225,19 @@ unsaid c xs empty_summary =
     refl
 
 pub result_of-none : (c : Configuration) → c ≡ result_of c []
-result_of-none c = unsaid c [] (λ q. refl)
+result_of-none c = no_effect c [] (λ q. refl)
 
 -- an update and a change of the id 0
 no_names : (x : Change) (q : ℕ) → names q x ≡ false → last_effective (x ∷ []) q ≡ None
 no_names x q e = last_effective-one x q ∙ ap (λ b. cond b (Some x.kind) None) e
 
-no_say : (a b c : Bool) → c ≡ true → (a && not b && not c) ≡ false
-no_say true true c e = refl
-no_say true false c e = rw e refl
-no_say false b c e = refl
+no_effective_change : (a b c : Bool) → c ≡ true → (a && not b && not c) ≡ false
+no_effective_change true true c e = refl
+no_effective_change true false c e = rw e refl
+no_effective_change false b c e = refl
 
 pub result_of-update : (c : Configuration) (x : Change) → x.kind ≡ Update → c ≡ result_of c (x ∷ [])
-result_of-update c x e = unsaid c (x ∷ []) (λ q. no_names x q (no_say (x.id == q) (q == 0) (is_update x.kind) (ap is_update e)))
+result_of-update c x e = no_effect c (x ∷ []) (λ q. no_names x q (no_effective_change (x.id == q) (q == 0) (is_update x.kind) (ap is_update e)))
 
 no_zero : (a b c : Bool) → a ≡ b → (a && not b && c) ≡ false
 no_zero true true c e = refl
@@ -245,7 +245,7 @@ no_zero true false c e = absurd (false≢true (sym e))
 no_zero false b c e = refl
 
 pub result_of-zero : (c : Configuration) (x : Change) → x.id ≡ 0 → c ≡ result_of c (x ∷ [])
-result_of-zero c x zero = unsaid c (x ∷ []) (λ q. no_names x q (no_zero (x.id == q) (q == 0) (not (is_update x.kind)) (ap (λ n. n == q) zero ∙ nat_eq_equiv.symm 0 q)))
+result_of-zero c x zero = no_effect c (x ∷ []) (λ q. no_names x q (no_zero (x.id == q) (q == 0) (not (is_update x.kind)) (ap (λ n. n == q) zero ∙ nat_eq_equiv.symm 0 q)))
 
 -- ---- one change after others
 incoming_absorbs : (k : Kind) (m w : Bool) (o : Option Kind)

@@ -1,4 +1,4 @@
--- What the walk over the last words makes.
+-- What the walk over the last effective changes makes.
 use Rattle.std.proofs.Common.{◌≡◌, ℕ, ◌+◌, ◌<◌, ◌≤◌, inl, inr, Bool, true, false, cond, ◌&&◌, ◌||◌, ◌==◌, List, [], ◌∷◌, ◌++◌, length, map, take, get_or, refl, sym, ap, subst, ◌∙◌, eqb-true}
 use Rattle.std.specs.Prelude.{Option, Some, None, is_some}
 use Rattle.std.specs.Ordering.{nat_cmp}
@@ -109,10 +109,10 @@ pub walked-one_more : (next_index : ℕ) (t : TrackerState) (xs : List Change) (
     → entry ≡ entry_of next_index (has_member_role roles) roles.learner (progress_left_after w.removes roles.outgoing (finite.get t.progress w.id))
     → members' ≡ members ++ entries_of w.id entry
     → WalkedSoFar next_index t xs (take (k + 1) (ids summaries)) incoming' learners' next' members')
-walked-one_more next_index t xs summaries k d incoming learners next incoming' learners' next' members members' sat roles entry within summarizes so_far sat_is seat_is i l n entry_is m =
+walked-one_more next_index t xs summaries k d incoming learners next incoming' learners' next' members members' sat roles entry within summarizes so_far sat_is roles_are i l n entry_is m =
     let w = get_or summaries k d in
     let passed = take k (ids summaries) in
-    let s : roles ≡ roles_after (roles_in t.config w.id) (last_effective xs w.id) = seat_is ∙ (λ j. roles_after (sat_is j) (summarizes.last j)) in
+    let s : roles ≡ roles_after (roles_in t.config w.id) (last_effective xs w.id) = roles_are ∙ (λ j. roles_after (sat_is j) (summarizes.last j)) in
     let e : entry ≡ entry_then next_index t xs w.id =
     entry_is ∙ (λ j. entry_of next_index (has_member_role (s j)) (s j).learner (progress_left_after (summarizes.removal j) (s j).outgoing (finite.get t.progress w.id))) in
     let long : length (ids summaries) ≡ length summaries = length-map summaries (λ v. v.id) in
@@ -140,12 +140,12 @@ all_in false a f = refl
 has-where : (p : ℕ → Bool) (passed : List ℕ) (q : ℕ) → (p q ≡ true → list_any (λ y. q == y) passed ≡ true) → has (ids_where p passed) q ≡ p q
 has-where p passed q covered = has-ids_where p passed q ∙ all_in (p q) (list_any (λ y. q == y) passed) covered
 
-settled : (a m : Bool) (p : Progress) → (m ≡ true → a ≡ true) → cond a (cond m (Some p) None) None ≡ cond m (Some p) None
-settled true m p f = refl
-settled false true p f = ap (λ b. cond b (Some p) None) (f refl)
-settled false false p f = refl
+second_test_suffices : (a m : Bool) (p : Progress) → (m ≡ true → a ≡ true) → cond a (cond m (Some p) None) None ≡ cond m (Some p) None
+second_test_suffices true m p f = refl
+second_test_suffices false true p f = ap (λ b. cond b (Some p) None) (f refl)
+second_test_suffices false false p f = refl
 
--- an id that has a last word, or was a member, has an entry
+-- an id that has a last effective change, or was a member, has an entry
 record Covers (before : TrackerState) (xs : List Change) (summaries : List ChangeSummary) : Type 0 where
   named : (q : ℕ) (kind : Kind) → last_effective xs q ≡ Some kind → has_entry summaries q ≡ true
   known : (q : ℕ) → is_member before.config q ≡ true → has_entry summaries q ≡ true
@@ -205,7 +205,7 @@ walked-applies next_index before floor outgoing auto_leave es xs summaries k inc
       entries = λ q.
           ap (λ m. finite.get (finite.from_entries {R = nat_cmp} m) q) walked.members_are
           ∙ get-picked (entry_then next_index t xs) (ids summaries) q
-          ∙ settled (list_any (λ x. q == x) (ids summaries)) (member_then t xs q) _ (λ m. any-ids summaries q ∙ member_covered q m)
+          ∙ second_test_suffices (list_any (λ x. q == x) (ids summaries)) (member_then t xs q) _ (λ m. any-ids summaries q ∙ member_covered q m)
           ∙ sym (λ i. entry_of next_index (in_is q i || has outgoing q || learner_is q i) (learner_is q i) (progress_left t xs q));
     }
 

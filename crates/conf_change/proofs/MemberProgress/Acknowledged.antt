@@ -37,16 +37,16 @@ pub get-with_progress : (t : TrackerState) (id : ℕ) (p : Progress) (q : ℕ)
 get-with_progress t id p q =
     finite.get-insert nat_cmp_total t.progress id p q ∙ ap (λ b. cond b (Some p) (finite.get t.progress q)) (unsigned_tied q id)
 
--- what holds of the one entry and held of each holds of each
+-- what holds of the one entry and buffered of each holds of each
 holds_of_each : (P : ℕ → Progress → Type 0) (t : TrackerState) (id : ℕ) (p : Progress) → P id p → ((q : ℕ) → IfSome (finite.get t.progress q) (P q))
     → (q : ℕ) → IfSome (finite.get (with_progress t id p).progress q) (P q)
-holds_of_each P t id p here held q =
+holds_of_each P t id p here kept_back q =
     let Q : Option Progress → Type 0 = λ o. IfSome o (P q) in
     subst Q (sym (get-with_progress t id p q)) (by (q == id) refl)
   where
     by : (b : Bool) → (q == id) ≡ b → IfSome (cond b (Some p) (finite.get t.progress q)) (P q)
     by true e = let R : ℕ → Type 0 = λ x. P x p in subst R (sym (eqb→eq q id (subst T (sym e) tt))) here
-    by false e = held q
+    by false e = kept_back q
 
 found : (P : Progress → Type 0) (o : Option Progress) (was : Progress) → o ≡ Some was → IfSome o P → P was
 found P o was e h = let Q : Option Progress → Type 0 = λ x. IfSome x P in subst Q e h

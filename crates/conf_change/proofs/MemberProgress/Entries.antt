@@ -145,7 +145,7 @@ find-set (e ∷ es) (suc i) x p q up within same =
 key_found : (es : Members) (id i : ℕ) → IsBinarySearchResult (λ m. nat_cmp m.0 id) es (Ok i) → (get_or es i no_member).0 ≡ id
 key_found es id i found = ranked _ id _ (sym (found no_member))
 
--- ---- a member that a search finds, or the place where one goes
+-- ---- a member that a search finds, or the position where one goes
 abbrev keys : Members → List ℕ
 keys es = map (λ m. m.0) es
 
@@ -164,8 +164,8 @@ search-in_entries es id (Err i) up within parted =
           let less = ranked _ id _ (sym (point.0 k no_member (omega arith) before)) in
           let key = keys_at es k in
           omega arith;
-      above = λ k behind inside.
-          let more = ranked _ id _ (sym (point.1 k no_member behind (omega arith))) in
+      above = λ k suffix inside.
+          let more = ranked _ id _ (sym (point.1 k no_member suffix (omega arith))) in
           let key = keys_at es k in
           omega arith;
     }
@@ -182,7 +182,7 @@ apart_from : (es : Members) (id i : ℕ) → IsInsertionPoint (keys es) id i →
 apart_from es id i goes k within same =
     elim (cases_lt k i) [
       | inl before ↦ (let less = goes.below k before in omega arith)
-      | inr behind ↦ (let more = goes.above k behind within in omega arith)
+      | inr suffix ↦ (let more = goes.above k suffix within in omega arith)
     ]
 
 pub get-standing : (es : Members) (id i : ℕ) (d : ℕ × Progress) → IsAscending (keys es) → IsAtPosition (keys es) id i
@@ -216,7 +216,7 @@ get-marked es id i learner d up at q =
     get-set es id i (with_mark learner (get_or es i d).1) up at q
     ∙ ap (λ o. cond (q == id) (option_map (with_mark learner) o) (finite.get (finite.from_entries {R = nat_cmp} es) q)) (get-standing es id i d up at)
 
--- what a member keeps that stands in the list
+-- what a member keeps that is in the list
 pub with_mark-standing : (es : Members) (id i : ℕ) (learner : Bool) (fresh : Progress) → IsAscending (keys es) → IsAtPosition (keys es) id i
     → option_map (with_mark learner) (finite.get (finite.from_entries {R = nat_cmp} es) id) ≡ Some (with_mark learner (unwrap_or (finite.get (finite.from_entries {R = nat_cmp} es) id) fresh))
 with_mark-standing es id i learner fresh up at = rw (sym (get-standing es id i no_member up at)) refl
@@ -262,8 +262,8 @@ keys-remove (e ∷ es) (suc i) = ap (λ ks. e.0 ∷ ks) (keys-remove es i)
 pub ascends-taken : (es : Members) (id i : ℕ) → IsAscending (keys es) → IsAtPosition (keys es) id i → IsAscending (keys (remove es i))
 ascends-taken es id i up at = let Rises : List ℕ → Type 0 = IsAscending in subst Rises (sym (keys-remove es i)) (ascends-remove (keys es) i up at.within)
 
-none_behind : (e : ℕ × Progress) (es : Members) → IsAscending (keys (e ∷ es)) → None ≡ find nat_cmp e.0 es
-none_behind e es up = absent es e.0 (λ k within same. (let above = up 0 (suc k) (omega arith) (omega arith) in absurd (omega arith)))
+none_after : (e : ℕ × Progress) (es : Members) → IsAscending (keys (e ∷ es)) → None ≡ find nat_cmp e.0 es
+none_after e es up = absent es e.0 (λ k within same. (let above = up 0 (suc k) (omega arith) (omega arith) in absurd (omega arith)))
 
 first_taken : (b : Bool) (p : Progress) (o : Option Progress) → (b ≡ true → o ≡ None) → o ≡ cond b None (cond b (Some p) o)
 first_taken true p o none = none refl
@@ -277,7 +277,7 @@ other_taken false b p o apart = refl
 find-remove : (es : Members) (i x q : ℕ) → IsAscending (keys es) → i < length es → get_or (keys es) i 0 ≡ x → find nat_cmp q (remove es i) ≡ cond (q == x) None (find nat_cmp q es)
 find-remove [] i x q up within same = absurd (omega arith)
 find-remove (e ∷ es) zero x q up within same =
-    first_taken (q == x) e.1 (find nat_cmp q es) (λ here. ap (λ n. find nat_cmp n es) (eqb-true q x here ∙ sym same) ∙ sym (none_behind e es up))
+    first_taken (q == x) e.1 (find nat_cmp q es) (λ here. ap (λ n. find nat_cmp n es) (eqb-true q x here ∙ sym same) ∙ sym (none_after e es up))
     ∙ ap (λ b. cond (q == x) None (cond b (Some e.1) (find nat_cmp q es))) (ap (λ n. q == n) (sym same) ∙ sym (unsigned_tied q e.0))
 find-remove (e ∷ es) (suc i) x q up within same =
     let long = length-keys es in

@@ -33,7 +33,7 @@ any-members c q =
     ∙ ap (λ b. b || list_any (λ x. q == x) (ascending c.learners)) (list_any-append _ (ascending c.incoming) (ascending c.outgoing))
     ∙ sym (λ i. has-ascending c.incoming q i || has-ascending c.outgoing q i || has-ascending c.learners q i)
 
--- each member has its own, and nobody else has any
+-- each member has its own, and no other id has any
 pub get-progress_by : (c : Configuration) (of : ℕ → Progress) (id : ℕ)
     → finite.get (progress_by c of) id ≡ (if is_member c id then Some (of id) else None)
 get-progress_by c of id =

@@ -4,16 +4,16 @@ use Rattle.std.specs.Prelude.{Some, None, find}
 use Rattle.std.proofs.lemmas.List.{drop_more, drop_all}
 use Rattle.std.proofs.lemmas.Option.{slice_get_within, get_or_from_slice_get}
 
-at_place : (xs : List ℕ) (k x : ℕ) → slice_get xs k ≡ Some x → drop k xs ≡ x ∷ drop (k + 1) xs
-at_place xs k x here = drop_more xs k x (slice_get_within xs k x here) ∙ ap (λ y. y ∷ drop (k + 1) xs) (get_or_from_slice_get xs k x x here)
+at_position : (xs : List ℕ) (k x : ℕ) → slice_get xs k ≡ Some x → drop k xs ≡ x ∷ drop (k + 1) xs
+at_position xs k x here = drop_more xs k x (slice_get_within xs k x here) ∙ ap (λ y. y ∷ drop (k + 1) xs) (get_or_from_slice_get xs k x x here)
 
 -- the item at k passes
 pub find-here : (test : ℕ → Bool) (xs : List ℕ) (k x : ℕ) → slice_get xs k ≡ Some x → test x ≡ true → find test (drop k xs) ≡ Some x
-find-here test xs k x here passes = ap (find test) (at_place xs k x here) ∙ ap (λ b. cond b (Some x) (find test (drop (k + 1) xs))) passes
+find-here test xs k x here passes = ap (find test) (at_position xs k x here) ∙ ap (λ b. cond b (Some x) (find test (drop (k + 1) xs))) passes
 
 -- it does not
 pub find-later : (test : ℕ → Bool) (xs : List ℕ) (k x : ℕ) → slice_get xs k ≡ Some x → test x ≡ false → find test (drop k xs) ≡ find test (drop (k + 1) xs)
-find-later test xs k x here fails = ap (find test) (at_place xs k x here) ∙ ap (λ b. cond b (Some x) (find test (drop (k + 1) xs))) fails
+find-later test xs k x here fails = ap (find test) (at_position xs k x here) ∙ ap (λ b. cond b (Some x) (find test (drop (k + 1) xs))) fails
 
 -- no item is left
 pub find-past : (test : ℕ → Bool) (xs : List ℕ) (k n : ℕ) → n ≡ length xs → n ≤ k → find test (drop k xs) ≡ None

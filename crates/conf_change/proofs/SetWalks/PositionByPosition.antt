@@ -1,4 +1,4 @@
--- Walks of a set by its places.
+-- Walks of a set by its positions.
 use Rattle.std.proofs.Common.{◌≡◌, ℕ, ◌+◌, Bool, true, false, ◌||◌, ◌==◌, [], ◌∷◌, take, get_or, slice_get, refl, sym, ap, ◌∙◌, ◌≤◌}
 use Rattle.std.specs.Prelude.{Some}
 use Rattle.std.specs.List.{list_any}
@@ -8,7 +8,7 @@ use Rattle.std.proofs.lemmas.List.Folds.{list_any-append}
 use Rattle.quorum_sets.specs.Ids.{Ids, has, ascending, size}
 use Rattle.quorum_sets.proofs.Offered.{has-ascending}
 
--- whether the id is at one of the first places
+-- whether the id is at one of the first positions
 abbrev pub is_passed : Ids → ℕ → ℕ → Bool
 is_passed ids position q = list_any (λ id. q == id) (take position (ascending ids))
 

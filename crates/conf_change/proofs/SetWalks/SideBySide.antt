@@ -19,20 +19,20 @@ use Rattle.conf_change.specs.Progress.{IsFreshOf, all_fresh, fresh_progress}
 use Rattle.conf_change.specs.declared.progress.Progress.{Progress}
 use Rattle.conf_change.proofs.MemberProgress.OfEachId.{get-progress_by, find-of_each}
 
--- ---- places of a set
--- the id stands at this place or behind it
-pub record StandsFrom (ids : Ids) (position id : ℕ) : Type 0 where
+-- ---- positions of a set
+-- the id is at this position or after it
+pub record IsFrom (ids : Ids) (position id : ℕ) : Type 0 where
   pub at : ℕ
-  pub behind : position ≤ at
+  pub suffix : position ≤ at
   pub within : at < size ids
   pub here : get_or (ascending ids) at 0 ≡ id
 
-stands : (ids : Ids) (id : ℕ) → has ids id ≡ true → StandsFrom ids 0 id
-stands ids id among =
+holds : (ids : Ids) (id : ℕ) → has ids id ≡ true → IsFrom ids 0 id
+holds ids id among =
     let found = Any-from_list_any (λ x. id == x) (ascending ids) (sym (has-ascending ids id) ∙ among) in
     record {
       at = found.0;
-      behind = omega arith;
+      suffix = omega arith;
       within = found.2;
       here = get_or_default (ascending ids) found.0 0 found.1 found.2 ∙ found.3 ∙ sym (eqb-true id found.1 found.4);
     }
@@ -47,15 +47,15 @@ passes-there ids id position here =
     let is = get_or_from_slice_get (ascending ids) position id 0 here in
     record {
       kept = omega arith;
-      passed = λ k behind before within. let e : k ≡ position = omega arith in rw e is;
-      ahead = λ k behind within. let lt = ascending-is_ascending ids position k (omega arith) within in omega arith;
+      passed = λ k suffix before within. let e : k ≡ position = omega arith in rw e is;
+      ahead = λ k suffix within. let lt = ascending-is_ascending ids position k (omega arith) within in omega arith;
     }
 
 pub passes-apart : (ids : Ids) (id position : ℕ) → IsLeastFrom ids position id → ((x : ℕ) → slice_get (ascending ids) position ≡ Some x → x ≢ id) → Passes ids id position position
 passes-apart ids id position least differs = record {
   kept = omega arith;
-  passed = λ k behind before within. absurd (omega arith);
-  ahead = λ k behind within.
+  passed = λ k suffix before within. absurd (omega arith);
+  ahead = λ k suffix within.
       let inside : position < size ids = omega arith in
       let le = least position (omega arith) inside in
       let other = differs (get_or (ascending ids) position 0) (slice_get-get_or (ascending ids) position 0 inside) in
@@ -65,13 +65,13 @@ passes-apart ids id position least differs = record {
       ];
 }
 
--- ---- a walk that has done some ids and stands at a place of the set
-pub record IsBehind (done : List ℕ) (ids : Ids) (position : ℕ) : Type 0 where
-  pub left : (q : ℕ) → has ids q ≡ true → list_any (λ x. q == x) done ≡ false → StandsFrom ids position q
+-- ---- a walk that has done some ids and is at a position of the set
+pub record IsAfter (done : List ℕ) (ids : Ids) (position : ℕ) : Type 0 where
+  pub left : (q : ℕ) → has ids q ≡ true → list_any (λ x. q == x) done ≡ false → IsFrom ids position q
   pub ahead : (i k : ℕ) → i < length done → position ≤ k → k < size ids → get_or done i 0 < get_or (ascending ids) k 0
 
-pub behind-begin : (ids : Ids) → IsBehind [] ids 0
-behind-begin ids = record { left = λ q among _. stands ids q among; ahead = λ i k within _ _. absurd (omega arith) }
+pub after-begin : (ids : Ids) → IsAfter [] ids 0
+after-begin ids = record { left = λ q among _. holds ids q among; ahead = λ i k within _ _. absurd (omega arith) }
 
 -- what is not in a longer list
 not_in : (q x : ℕ) (done : List ℕ) → list_any (λ y. q == y) (done ++ x ∷ []) ≡ false → (list_any (λ y. q == y) done ≡ false) × ((q == x) ≡ false)
@@ -81,42 +81,42 @@ not_in q x done e = split (list_any (λ y. q == y) done) (q == x) (sym (list_any
   split false true e = absurd cc
   split false false e = (refl, refl)
 
-pub behind-more : (done : List ℕ) (ids : Ids) (x position next : ℕ) → IsBehind done ids position → Passes ids x position next → IsBehind (done ++ x ∷ []) ids next
-behind-more done ids x position next so_far passes = record {
+pub after-more : (done : List ℕ) (ids : Ids) (x position next : ℕ) → IsAfter done ids position → Passes ids x position next → IsAfter (done ++ x ∷ []) ids next
+after-more done ids x position next so_far passes = record {
   left = λ q among none.
       let apart = not_in q x done none in
       let there = so_far.left q among apart.0 in
       elim (cases_lt there.at next) [
         | inl before ↦
-            (let same : q ≡ x = sym there.here ∙ passes.passed there.at there.behind before there.within in
+            (let same : q ≡ x = sym there.here ∙ passes.passed there.at there.suffix before there.within in
             let no : true ≡ false = sym (eq-eqb q x same) ∙ apart.1 in
             absurd cc)
-        | inr behind ↦ record { at = there.at; behind = behind; within = there.within; here = there.here }
+        | inr suffix ↦ record { at = there.at; suffix = suffix; within = there.within; here = there.here }
       ];
-  ahead = λ i k within behind inside.
+  ahead = λ i k within suffix inside.
       let long = length-append done (x ∷ []) in
       let kept = passes.kept in
       elim (cases_lt i (length done)) [
         | inl before ↦ (let first = get_or_append_left done (x ∷ []) 0 i before in rw first (so_far.ahead i k before (omega arith) inside))
-        | inr last ↦ (let first = get_or_at done x [] 0 i (omega arith) in rw first (passes.ahead k behind inside))
+        | inr last ↦ (let first = get_or_at done x [] 0 i (omega arith) in rw first (passes.ahead k suffix inside))
       ];
 }
 
--- the ids that are done are below the one that stands at the place
-pub behind-below : (done : List ℕ) (ids : Ids) (position x : ℕ) → IsBehind done ids position → slice_get (ascending ids) position ≡ Some x → (i : ℕ) → i < length done → get_or done i 0 < x
-behind-below done ids position x so_far here i within =
+-- the ids that are done are below the one that is at the position
+pub after-below : (done : List ℕ) (ids : Ids) (position x : ℕ) → IsAfter done ids position → slice_get (ascending ids) position ≡ Some x → (i : ℕ) → i < length done → get_or done i 0 < x
+after-below done ids position x so_far here i within =
     let lt = so_far.ahead i position within (omega arith) (slice_get_within _ position x here) in
     let is = get_or_from_slice_get (ascending ids) position x 0 here in
     omega arith
 
--- behind the last place all are done
-pub behind-all : (done : List ℕ) (ids : Ids) (position q : ℕ) → IsBehind done ids position → size ids ≤ position → has ids q ≡ true → list_any (λ x. q == x) done ≡ true
-behind-all done ids position q so_far past among = go (list_any (λ x. q == x) done) refl where
+-- after the last position all are done
+pub after-all : (done : List ℕ) (ids : Ids) (position q : ℕ) → IsAfter done ids position → size ids ≤ position → has ids q ≡ true → list_any (λ x. q == x) done ≡ true
+after-all done ids position q so_far past among = go (list_any (λ x. q == x) done) refl where
   go : (b : Bool) → list_any (λ x. q == x) done ≡ b → b ≡ true
   go true e = refl
-  go false e = let there = so_far.left q among e in let behind = there.behind in let within = there.within in absurd (omega arith)
+  go false e = let there = so_far.left q among e in let suffix = there.suffix in let within = there.within in absurd (omega arith)
 
--- ---- the ids that stand at the places
+-- ---- the ids at the positions
 -- the least of three
 pub record IsHead (a b c head : Option ℕ) : Type 0 where
   pub one : (head ≡ a) ⊎ (head ≡ b) ⊎ (head ≡ c)
@@ -138,12 +138,12 @@ IsHead-of_three a b c at_a at_b at_c both head is_a is_b is_c first second =
       below_c = λ x e. second.below_b x (is_c ∙ e);
     }
 
-pub IsHead-stands : (a b c : Option ℕ) (x : ℕ) → IsHead a b c (Some x) → (a ≡ Some x) ⊎ (b ≡ Some x) ⊎ (c ≡ Some x)
-IsHead-stands a b c x head = elim head.one [ inl e ↦ inl (sym e) | inr (inl e) ↦ inr (inl (sym e)) | inr (inr e) ↦ inr (inr (sym e)) ]
+pub IsHead-holds : (a b c : Option ℕ) (x : ℕ) → IsHead a b c (Some x) → (a ≡ Some x) ⊎ (b ≡ Some x) ⊎ (c ≡ Some x)
+IsHead-holds a b c x head = elim head.one [ inl e ↦ inl (sym e) | inr (inl e) ↦ inr (inl (sym e)) | inr (inr e) ↦ inr (inr (sym e)) ]
 
 -- none of a set is below the head
-pub IsLeastFrom-behind : (ids : Ids) (position id : ℕ) → ((x : ℕ) → slice_get (ascending ids) position ≡ Some x → (y : ℕ) × (Some id ≡ Some y) × (y ≤ x)) → IsLeastFrom ids position id
-IsLeastFrom-behind ids position id below k behind within =
+pub IsLeastFrom-after : (ids : Ids) (position id : ℕ) → ((x : ℕ) → slice_get (ascending ids) position ≡ Some x → (y : ℕ) × (Some id ≡ Some y) × (y ≤ x)) → IsLeastFrom ids position id
+IsLeastFrom-after ids position id below k suffix within =
     let found = below (get_or (ascending ids) position 0) (slice_get-get_or (ascending ids) position 0 (omega arith)) in
     let same : id ≡ found.0 = cc (found.1) in
     let le = found.2 in
@@ -160,7 +160,7 @@ size-past_last ids position below =
       | inl within ↦ (let found = below (get_or (ascending ids) position 0) (slice_get-get_or (ascending ids) position 0 within) in let no = found.1 in absurd cc)
     ]
 
--- the place of the head moves
+-- the position of the head moves
 moves : (ids : Ids) (x position next : ℕ) → slice_get (ascending ids) position ≡ Some x → Passes ids x position next → (position < next) × (position < size ids)
 moves ids x position next here passes =
     let within = slice_get_within (ascending ids) position x here in
@@ -175,22 +175,22 @@ pub record Walked (next_index : ℕ) (a b c : Ids) (i j k : ℕ) (entries : List
   pub ascends : IsAscending (map (λ m. m.0) entries)
   pub fresh : entries ≡ map (λ id. (id, fresh_progress next_index (has c id))) (map (λ m. m.0) entries)
   pub members : (q : ℕ) → list_any (λ x. q == x) (map (λ m. m.0) entries) ≡ true → (has a q || has b q || has c q) ≡ true
-  pub first : IsBehind (map (λ m. m.0) entries) a i
-  pub second : IsBehind (map (λ m. m.0) entries) b j
-  pub third : IsBehind (map (λ m. m.0) entries) c k
+  pub first : IsAfter (map (λ m. m.0) entries) a i
+  pub second : IsAfter (map (λ m. m.0) entries) b j
+  pub third : IsAfter (map (λ m. m.0) entries) c k
 
 pub walked-begin : (next_index : ℕ) (a b c : Ids) → Walked next_index a b c 0 0 0 []
 walked-begin next_index a b c = record {
   ascends = λ i j lt within. absurd (omega arith);
   fresh = refl;
   members = λ q no. absurd cc;
-  first = behind-begin a;
-  second = behind-begin b;
-  third = behind-begin c;
+  first = after-begin a;
+  second = after-begin b;
+  third = after-begin c;
 }
 
 -- the mark of a learner
-pub has-marked : (done : List ℕ) (ids : Ids) (x position next : ℕ) (there : Bool) → IsBehind done ids position → ((i : ℕ) → i < length done → get_or done i 0 < x) → Passes ids x position next
+pub has-marked : (done : List ℕ) (ids : Ids) (x position next : ℕ) (there : Bool) → IsAfter done ids position → ((i : ℕ) → i < length done → get_or done i 0 < x) → Passes ids x position next
     → (there ≡ true → slice_get (ascending ids) position ≡ Some x) → (there ≡ false → next ≡ position) → there ≡ has ids x
 has-marked done ids x position next true so_far below passes here stays = sym (has-at ids position x (here refl))
 has-marked done ids x position next false so_far below passes here stays = go (has ids x) refl where
@@ -203,7 +203,7 @@ has-marked done ids x position next false so_far below passes here stays = go (h
   go true e =
       let at = so_far.left x e new in
       let e2 = stays refl in
-      let behind = at.behind in
+      let suffix = at.suffix in
       let lt = passes.ahead at.at (omega arith) at.within in
       let is = at.here in
       absurd (omega arith)
@@ -229,11 +229,11 @@ one_of a b c i j k x head = elim head [
 
 member_more : (a b c : Ids) (done : List ℕ) (x : ℕ) → ((q : ℕ) → list_any (λ y. q == y) done ≡ true → (has a q || has b q || has c q) ≡ true) → (has a x || has b x || has c x) ≡ true
     → (q : ℕ) → (list_any (λ y. q == y) done || ((q == x) || false)) ≡ true → (has a q || has b q || has c q) ≡ true
-member_more a b c done x before this q said = go (list_any (λ y. q == y) done) (q == x) refl refl said where
+member_more a b c done x before this q is_listed = go (list_any (λ y. q == y) done) (q == x) refl refl is_listed where
   go : (was here : Bool) → list_any (λ y. q == y) done ≡ was → (q == x) ≡ here → (was || (here || false)) ≡ true → (has a q || has b q || has c q) ≡ true
-  go true here e f said = before q e
-  go false true e f said = ap (λ id. has a id || has b id || has c id) (eqb-true q x f) ∙ this
-  go false false e f said = absurd cc
+  go true here e f is_listed = before q e
+  go false true e f is_listed = ap (λ id. has a id || has b id || has c id) (eqb-true q x f) ∙ this
+  go false false e f is_listed = absurd cc
 
 pub walked-more : (next_index : ℕ) (a b c : Ids) (i j k i' j' k' x : ℕ) (there : Bool) (entries after : List (ℕ × Progress)) → Walked next_index a b c i j k entries
     → (slice_get (ascending a) i ≡ Some x) ⊎ (slice_get (ascending b) j ≡ Some x) ⊎ (slice_get (ascending c) k ≡ Some x)
@@ -246,19 +246,19 @@ walked-more next_index a b c i j k i' j' k' x there entries after w head pass_a 
     let now : keys after ≡ keys entries ++ x ∷ [] = ap keys is ∙ keys_more entries x (fresh_progress next_index there) in
     let below : (n : ℕ) → n < length (keys entries) → get_or (keys entries) n 0 < x =
     elim head [
-      | inl e ↦ behind-below (keys entries) a i x w.first e
-      | inr (inl e) ↦ behind-below (keys entries) b j x w.second e
-      | inr (inr e) ↦ behind-below (keys entries) c k x w.third e
+      | inl e ↦ after-below (keys entries) a i x w.first e
+      | inr (inl e) ↦ after-below (keys entries) b j x w.second e
+      | inr (inr e) ↦ after-below (keys entries) c k x w.third e
     ] in
     let mark = has-marked (keys entries) c x k k' there w.third below pass_c here stays in
-    let Behind : Ids → ℕ → List ℕ → Type 0 = λ ids position done. IsBehind done ids position in
+    let After : Ids → ℕ → List ℕ → Type 0 = λ ids position done. IsAfter done ids position in
     record {
       ascends = subst IsAscending (sym now) (ascends-push (keys entries) x w.ascends below);
       fresh = is ∙ (λ n. w.fresh n ++ (x, fresh_progress next_index (mark n)) ∷ []) ∙ sym (ap (map of) now ∙ map-append of (keys entries) (x ∷ []));
       members = λ q yes. member_more a b c (keys entries) x w.members (one_of a b c i j k x head) q (sym (list_any-append (λ y. q == y) (keys entries) (x ∷ [])) ∙ sym (ap (list_any (λ y. q == y)) now) ∙ yes);
-      first = subst (Behind a i') (sym now) (behind-more (keys entries) a x i i' w.first pass_a);
-      second = subst (Behind b j') (sym now) (behind-more (keys entries) b x j j' w.second pass_b);
-      third = subst (Behind c k') (sym now) (behind-more (keys entries) c x k k' w.third pass_c);
+      first = subst (After a i') (sym now) (after-more (keys entries) a x i i' w.first pass_a);
+      second = subst (After b j') (sym now) (after-more (keys entries) b x j j' w.second pass_b);
+      third = subst (After c k') (sym now) (after-more (keys entries) c x k k' w.third pass_c);
     }
 
 -- the measure of the walk falls
@@ -276,7 +276,7 @@ size-walk_falls a b c i j k i' j' k' x head pass_a pass_b pass_c =
       | inr (inr e) ↦ (let m = moves c x k k' e pass_c in let lt = m.0 in let in_c = m.1 in omega arith)
     ]
 
--- a walk behind the last ids
+-- a walk after the last ids
 pub walked-all : (next_index : ℕ) (a b c : Ids) (i j k : ℕ) (entries : List (ℕ × Progress)) → Walked next_index a b c i j k entries
     → size a ≤ i → size b ≤ j → size c ≤ k → IsFreshOf next_index a b c entries
 walked-all next_index a b c i j k entries w past_a past_b past_c = record {
@@ -286,9 +286,9 @@ walked-all next_index a b c i j k entries w past_a past_b past_c = record {
 } where
   both_ways : (q : ℕ) (done in_a in_b in_c : Bool) → list_any (λ x. q == x) (map (λ m. m.0) entries) ≡ done → has a q ≡ in_a → has b q ≡ in_b → has c q ≡ in_c → done ≡ (in_a || in_b || in_c)
   both_ways q true in_a in_b in_c d e f g = sym ((λ n. sym e n || sym f n || sym g n) ∙ w.members q d)
-  both_ways q false true in_b in_c d e f g = sym d ∙ behind-all _ a i q w.first past_a e
-  both_ways q false false true in_c d e f g = sym d ∙ behind-all _ b j q w.second past_b f
-  both_ways q false false false true d e f g = sym d ∙ behind-all _ c k q w.third past_c g
+  both_ways q false true in_b in_c d e f g = sym d ∙ after-all _ a i q w.first past_a e
+  both_ways q false false true in_c d e f g = sym d ∙ after-all _ b j q w.second past_b f
+  both_ways q false false false true d e f g = sym d ∙ after-all _ c k q w.third past_c g
   both_ways q false false false false d e f g = refl
 
 -- ---- as a map

@@ -1,4 +1,4 @@
--- That a tracker which nobody is in is sound.
+-- That a tracker with an empty configuration is sound.
 use Rattle.std.proofs.Common.{◌≡◌, ℕ, true, refl, sym, ap, subst, ◌∙◌, is_some, ◌||◌}
 use Rattle.std.specs.Prelude.{None, IfSome, Option}
 use Rattle.std.specs.Ordering.{nat_cmp}

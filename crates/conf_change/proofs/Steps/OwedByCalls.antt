@@ -23,7 +23,7 @@ use Rattle.conf_change.proofs.Steps.Acceptance.{outcome-simple_accepted, outcome
 use Rattle.conf_change.proofs.Steps.Soundness.{has-after_leave, moved_to-is_sound, outcome-are_neighbours, outcome-overlaps, outcome-has_voter}
 
 -- ---- progress
--- the entry of an id, in the words of the step
+-- the entry of an id, in the terms of the step
 entry_kept : (next : ℕ) (was is replaced learner : Bool) (had : Option Progress) → is_some had ≡ was
     → cond is (Some (with_mark learner (unwrap_or (cond replaced None had) (fresh_progress next learner)))) None
     ≡ cond is (Some (cond (was && is && not replaced) (with_mark learner (unwrap_or had (fresh_progress next learner))) (fresh_progress next learner))) None
@@ -34,7 +34,7 @@ entry_kept next true true false learner had e = refl
 entry_kept next false true false learner None e = refl
 entry_kept next false true false learner (Some p) e = absurd (true≢false e)
 
--- each entry is left as the step says
+-- each entry is left as the step states
 abbrev pub HasEntriesAfter : ChangerState → Step → TrackerState → Type 0
 HasEntriesAfter before step after =
     (q : ℕ) → finite.get after.progress q
@@ -111,8 +111,8 @@ stays : (c : Configuration) (q : ℕ) → ValidByMember c → has c.outgoing q �
 stays c q valid out =
     let waits : has c.learners_next q ≡ false = false_from_ne_true (has c.learners_next q) (λ e. true≢false (sym (valid.next_outgoing q e) ∙ out)) in
     let learner : has c.learners q ≡ has (after_leave c).learners q = or_nothing (has c.learners q) ∙ sym (has-after_leave c q ∙ ap (λ b. has c.learners q || b) waits) in
-    let gone : has c.outgoing q ≡ has no_ids q = out ∙ sym (has-no_ids q) in
-    record { learner = learner; member = λ i. has c.incoming q || gone i || learner i }
+    let removed : has c.outgoing q ≡ has no_ids q = out ∙ sym (has-no_ids q) in
+    record { learner = learner; member = λ i. has c.incoming q || removed i || learner i }
   where
     or_nothing : (b : Bool) → b ≡ (b || false)
     or_nothing true = refl

@@ -74,13 +74,13 @@ outcome-has_voter c after (EnterJoint auto_leave changes) ok e = let t = EnterTa
 outcome-has_voter c after LeaveJoint ok e = let t = LeaveTaken-from_outcome c after e in sym (ap has_voter t.made) ∙ has_voter-joint c ok t.joint
 
 -- ---- validity stays
-says_nothing_of_zero : (a b : Bool) → (a && false && b) ≡ false
-says_nothing_of_zero true b = refl
-says_nothing_of_zero false b = refl
+ignores_zero : (a b : Bool) → (a && false && b) ≡ false
+ignores_zero true b = refl
+ignores_zero false b = refl
 
 find-zero : (xs : List Change) → find (names 0) xs ≡ None
 find-zero [] = refl
-find-zero (x ∷ xs) = ap (λ b. cond b (Some x) (find (names 0) xs)) (says_nothing_of_zero (x.id == 0) (not (is_update x.kind))) ∙ find-zero xs
+find-zero (x ∷ xs) = ap (λ b. cond b (Some x) (find (names 0) xs)) (ignores_zero (x.id == 0) (not (is_update x.kind))) ∙ find-zero xs
 
 -- no change has a say on 0
 last_effective-zero : (xs : List Change) → last_effective xs 0 ≡ None

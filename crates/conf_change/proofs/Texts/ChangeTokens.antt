@@ -9,7 +9,7 @@ use Rattle.conf_change.specs.declared.change.Kind.{Kind}
 use Rattle.conf_change.specs.declared.change.Kind.TheVariants.{Voter, Learner, Remove, Update}
 use Rattle.ascii_text.proofs.Offered.{number_in-ok, ParsesToNumber-from_some, number_in-none}
 
--- changes that were read, before what the rest stands for
+-- changes that were read, before what the rest denotes
 abbrev pub onto : List Change → Result (List Change) BadToken → Result (List Change) BadToken
 onto done (Ok more) = Ok (done ++ more)
 onto done (Err bad) = Err bad
@@ -55,8 +55,8 @@ ParsesTo-from_ok (letter ∷ digit ∷ rest) change e = go (kind_in letter) (num
         id_after = ParsesToNumber-from_some (digit ∷ rest) id is_number;
       })
 
-not_spelled : (number : List ℕ) → number_in number ≡ None → (id : ℕ) → ¬ (ParsesToNumber number id)
-not_spelled number none id h = let some = number_in-ok number id h in cc
+not_parsed : (number : List ℕ) → number_in number ≡ None → (id : ℕ) → ¬ (ParsesToNumber number id)
+not_parsed number none id h = let some = number_in-ok number id h in cc
 
 not_letter : (byte : ℕ) → kind_in byte ≡ None → (kind : Kind) → byte ≢ letter_of kind
 not_letter byte none kind is = let some = ap kind_in is ∙ kind_in-letter_of kind in cc
@@ -77,7 +77,7 @@ Blames-from_err (letter ∷ digit ∷ rest) bad e = go (kind_in letter) (number_
   go (Some kind) None is_kind is_number =
       let f = rw (is_kind, is_number) at e in
       let is : bad ≡ bad_number (letter ∷ digit ∷ rest) = cc in
-      rw is (refl, (kind, digit ∷ rest, omega arith, ap (λ first. first ∷ digit ∷ rest) (letter_from_kind letter kind is_kind), not_spelled (digit ∷ rest) is_number))
+      rw is (refl, (kind, digit ∷ rest, omega arith, ap (λ first. first ∷ digit ∷ rest) (letter_from_kind letter kind is_kind), not_parsed (digit ∷ rest) is_number))
   go (Some kind) (Some id) is_kind is_number = let f = rw (is_kind, is_number) at e in absurd cc
 
 change_in-err : (bad : BadToken) → HasReason bad → change_in (token_of bad) ≡ Err bad
@@ -92,7 +92,7 @@ change_in-err (bad_number token) reason = go reason.1 reason.2 reason.3 reason.4
   go [] long is none = absurd (omega (arith, ap length is))
   go (digit ∷ rest) long is none = rw is (rw (kind_in-letter_of reason.0, number_in-none (digit ∷ rest) none) refl)
 
--- the words of a text, one after another
+-- the tokens of a text, one after another
 pub changes_in_tokens-ok : (tokens : List (List ℕ)) (changes : List Change) → AllZip ParsesTo tokens changes → changes_in_tokens tokens ≡ Ok changes
 changes_in_tokens-ok [] [] h = refl
 changes_in_tokens-ok [] (change ∷ changes) h = absurd h

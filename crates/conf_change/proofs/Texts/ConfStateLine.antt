@@ -19,7 +19,7 @@ use Rattle.conf_change.specs.ConfState.{ConfStateLists}
 use Rattle.conf_change.specs.ConfStateLine.{truth_text, bracketed_line, conf_state_text, ParsesToNumbers, DenotesConfState, after_prefix, numbers_in_tokens, is_space_byte, numbers_in, is_close, field_in, auto_leave_in, conf_state_in}
 use Rattle.ascii_text.proofs.Offered.{without_trailing_space-other, number_in-ok, ParsesToNumber-from_some}
 
--- a byte that is no digit stands in no number
+-- a byte that is no digit is in no number
 no_byte : (digits : List ℕ) (byte : ℕ) → AllDigits 10 digits → ((b : ℕ) → 48 ≤ b → b ≤ 57 → b ≢ byte) → All (λ b. eqb b byte ≡ false) digits
 no_byte digits byte h differs = All-from_get_or (λ b. eqb b byte ≡ false) digits 0 (λ i within. let range = digit_at digits i h within in ne_eqb (get_or digits i 0) byte (differs (get_or digits i 0) range.0 range.1))
 
@@ -106,8 +106,8 @@ append-after_prefix : (prefix text body : List ℕ) → after_prefix prefix text
 append-after_prefix prefix text body e =
     let n = length prefix in
     let found = cond_some (bytes_eq (take n text) prefix) (drop n text) body e in
-    let front = (bytes_eq-Decides (take n text) prefix).0 found.0 in
-    sym (take-append-drop n text) ∙ rw (front, found.1) refl
+    let beginning = (bytes_eq-Decides (take n text) prefix).0 found.0 in
+    sym (take-append-drop n text) ∙ rw (beginning, found.1) refl
 
 position_or_len-close : (inside rest : List ℕ) → All (λ b. is_close b ≡ false) inside → position_or_len is_close (inside ++ 93 ∷ rest) ≡ length inside
 position_or_len-close inside rest none =
@@ -141,15 +141,15 @@ record Field (prefix text numbers rest : List ℕ) : Type 0 where
 Field-from_some : (prefix text numbers rest : List ℕ) → field_in prefix text ≡ Some (numbers, rest) → Field prefix text numbers rest
 Field-from_some prefix text numbers rest e =
     let n : List ℕ → ℕ = λ body. position_or_len is_close body in
-    let front = some_from_then (after_prefix prefix text) (λ body. option_map (λ (ns : List ℕ). (ns, drop (n body) body)) (numbers_in (take (n body) body))) (numbers, rest) e in
-    let body = front.0 in
-    let read = some_from_map (numbers_in (take (n body) body)) (λ (ns : List ℕ). (ns, drop (n body) body)) (numbers, rest) front.2 in
+    let beginning = some_from_then (after_prefix prefix text) (λ body. option_map (λ (ns : List ℕ). (ns, drop (n body) body)) (numbers_in (take (n body) body))) (numbers, rest) e in
+    let body = beginning.0 in
+    let read = some_from_map (numbers_in (take (n body) body)) (λ (ns : List ℕ). (ns, drop (n body) body)) (numbers, rest) beginning.2 in
     let pair = some_injective (read.0, drop (n body) body) (numbers, rest) read.2 in
     let same_numbers : read.0 ≡ numbers = ap (λ (p : List ℕ × List ℕ). p.0) pair in
     let same_rest : drop (n body) body ≡ rest = ap (λ (p : List ℕ × List ℕ). p.1) pair in
     record {
       inside = take (n body) body;
-      whole = append-after_prefix prefix text body front.1 ∙ ap (λ b. prefix ++ b) (sym (take-append-drop (n body) body) ∙ ap (λ r. take (n body) body ++ r) same_rest);
+      whole = append-after_prefix prefix text body beginning.1 ∙ ap (λ b. prefix ++ b) (sym (take-append-drop (n body) body) ∙ ap (λ r. take (n body) body ++ r) same_rest);
       parsed = ParsesToNumbers-from_some (take (n body) body) numbers (read.1 ∙ ap (λ ns. Some ns) same_numbers);
     }
 
@@ -201,7 +201,7 @@ DenotesConfState-from_some text saved e =
     let learners_next = Field-from_some (codes "] LearnersNext:[") third.0.1 fourth.0.0 fourth.0.1 fourth.1 in
     let flag = text-flag_in fourth.0.1 last.0 last.1 in
     let lists : ConfStateLists = record { voters = first.0.0; voters_outgoing = second.0.0; learners = third.0.0; learners_next = fourth.0.0; auto_leave = last.0 } in
-    let stands : DenotesConfState text lists = record {
+    let holds : DenotesConfState text lists = record {
       voters = voters.inside;
       voters_outgoing = voters_outgoing.inside;
       learners = learners.inside;
@@ -212,12 +212,12 @@ DenotesConfState-from_some text saved e =
       parsed_learners = learners.parsed;
       parsed_learners_next = learners_next.parsed;
     } in
-    subst (DenotesConfState text) (some_injective lists saved last.2) stands
+    subst (DenotesConfState text) (some_injective lists saved last.2) holds
 
 -- ---- the printed line
-trimmed-from_first : (text more front : List ℕ) → text ≡ 86 ∷ more → text ≡ front ++ 101 ∷ [] → trimmed text ≡ text
-trimmed-from_first text more front first last =
-    ap without_leading_space (sym (without_trailing_space-other 101 front text last refl) ∙ first) ∙ sym first
+trimmed-from_first : (text more beginning : List ℕ) → text ≡ 86 ∷ more → text ≡ beginning ++ 101 ∷ [] → trimmed text ≡ text
+trimmed-from_first text more beginning first last =
+    ap without_leading_space (sym (without_trailing_space-other 101 beginning text last refl) ∙ first) ∙ sym first
 
 -- the line but for the truth value
 abbrev line_start : List ℕ → List ℕ → List ℕ → List ℕ → List ℕ
@@ -255,23 +255,23 @@ conf_state_text-appended old t1 t2 t3 t4 t5 t6 voters voters_outgoing learners l
     is6 ∙ rw (is5, is4, is3, is2, is1, a, b, c, d, f)
     (line_grouped old (codes "Voters:[") (spaced_numbers saved.voters) (codes "] VotersOutgoing:[") (spaced_numbers saved.voters_outgoing) (codes "] Learners:[") (spaced_numbers saved.learners) (codes "] LearnersNext:[") (spaced_numbers saved.learners_next) (codes "] AutoLeave:") (truth_text saved.auto_leave))
 
--- ---- the pieces, one by one
--- numbers that were read, before those of the pieces that are left
+-- ---- the parts, one by one
+-- numbers that were read, before those of the parts that are left
 abbrev pub onto_numbers : List ℕ → Option (List ℕ) → Option (List ℕ)
 onto_numbers done (Some more) = Some (done ++ more)
 onto_numbers done None = None
 
--- ---- the first piece
-pub slice_split-last : (text token behind : List ℕ) (n : ℕ) → n ≡ position_or_len is_space_byte text → token ≡ take n text → behind ≡ drop n text → length behind ≡ 0 → slice_split is_space_byte text ≡ token ∷ []
-slice_split-last text token behind n n_is piece_is behind_is none =
-    let past : length text ≤ n = omega (arith, ap length behind_is, length-drop n text) in
-    slice_split_none is_space_byte text (λ k d h. fails_before_first is_space_byte text k d (omega arith)) ∙ rw (piece_is, take_all n text past) refl
+-- ---- the first part
+pub slice_split-last : (text token suffix : List ℕ) (n : ℕ) → n ≡ position_or_len is_space_byte text → token ≡ take n text → suffix ≡ drop n text → length suffix ≡ 0 → slice_split is_space_byte text ≡ token ∷ []
+slice_split-last text token suffix n n_is part_is after_is none =
+    let past : length text ≤ n = omega (arith, ap length after_is, length-drop n text) in
+    slice_split_none is_space_byte text (λ k d h. fails_before_first is_space_byte text k d (omega arith)) ∙ rw (part_is, take_all n text past) refl
 
-pub slice_split-more : (text token behind : List ℕ) (n : ℕ) → n ≡ position_or_len is_space_byte text → token ≡ take n text → behind ≡ drop n text → 0 < length behind → slice_split is_space_byte text ≡ token ∷ slice_split is_space_byte (drop 1 behind)
-slice_split-more text token behind n n_is piece_is behind_is some =
-    let within : n < length text = omega (arith, ap length behind_is, length-drop n text) in
-    let next : drop 1 behind ≡ drop (n + 1) text = ap (drop 1) behind_is ∙ drop-drop 1 n text in
-    rw (piece_is, next, n_is) (slice_split_first is_space_byte text 0 (omega arith))
+pub slice_split-more : (text token suffix : List ℕ) (n : ℕ) → n ≡ position_or_len is_space_byte text → token ≡ take n text → suffix ≡ drop n text → 0 < length suffix → slice_split is_space_byte text ≡ token ∷ slice_split is_space_byte (drop 1 suffix)
+slice_split-more text token suffix n n_is part_is after_is some =
+    let within : n < length text = omega (arith, ap length after_is, length-drop n text) in
+    let next : drop 1 suffix ≡ drop (n + 1) text = ap (drop 1) after_is ∙ drop-drop 1 n text in
+    rw (part_is, next, n_is) (slice_split_first is_space_byte text 0 (omega arith))
 
 pub DenotesConfState-none : (text : List ℕ) (saved : ConfStateLists) → conf_state_in text ≡ None → DenotesConfState text saved → ⊥
 DenotesConfState-none text saved none h = let some = conf_state_in-ok text saved h in cc

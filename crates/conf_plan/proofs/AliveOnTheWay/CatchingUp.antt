@@ -15,15 +15,15 @@ use Rattle.conf_change.proofs.Offered.{any-members}
 use Rattle.conf_plan.specs.Alive.{catching_up}
 use Rattle.conf_plan.proofs.FindingMoves.OfEachId.{has-union}
 
--- a member after the step that was none before, or whose place a new one takes
+-- a member after the step that was none before, or whose position a new one takes
 pub catching_up-picked : (before after : Configuration) (step : Step) (voters all removed picked : Ids) → voters ≡ union after.incoming after.outgoing → all ≡ union voters after.learners
     → ((q : ℕ) → has removed q ≡ removes (changes_of step) q)
     → picked ≡ ids_where (λ id. not (is_member before id) || (has removed id && not (has after.outgoing id))) (ascending all)
     → picked ≡ catching_up before step after
-catching_up-picked before after step voters all removed picked voters_are all_are gone is =
+catching_up-picked before after step voters all removed picked voters_are all_are is_removed is =
     is ∙ has-same_ids _ _ (λ q.
     has-ids_where (λ id. not (is_member before id) || (has removed id && not (has after.outgoing id))) (ascending all) q
-    ∙ (λ i. (not (is_member before q) || (gone q i && not (has after.outgoing q))) && member q i)
+    ∙ (λ i. (not (is_member before q) || (is_removed q i && not (has after.outgoing q))) && member q i)
     ∙ either (is_member before q) (is_member after q) (removes (changes_of step) q && not (has after.outgoing q))
     ∙ ap (λ b. not (keeps_progress before step after q) && b) (sym (any-members after q))
     ∙ sym (has-ids_where (λ id. not (keeps_progress before step after id)) (members after) q))
@@ -62,7 +62,7 @@ nothing_more true b = refl
 nothing_more false true = refl
 nothing_more false false = refl
 
--- so far these were removed, and there is one more change, whichever stands past the end
+-- so far these were removed, and there is one more change, whichever is past the end
 abbrev pub RemovedSoFar : Ids → List Change → ℕ → Ids → Type 0
 RemovedSoFar before changes k now = (id : ℕ) → has now id ≡ (has before id || removes (take k changes) id)
 

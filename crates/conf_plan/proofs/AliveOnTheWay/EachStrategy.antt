@@ -20,10 +20,10 @@ use Rattle.conf_plan.proofs.PlannedSteps.RunToTarget.{planned-at_most_four}
 use Rattle.conf_plan.proofs.Runs.Chains.{IsRun-from_IsRunWith}
 
 planned-serves : (now target : Configuration) → IsValidWithVoter now → IsValidWithVoter target → ShortestServes now (planned now target) target
-planned-serves now target settled_now settled =
-    let quorums = planned-keeps_quorums now target settled_now settled in
+planned-serves now target now_valid_with_voter valid_with_voter =
+    let quorums = planned-keeps_quorums now target now_valid_with_voter valid_with_voter in
     record {
-      best = planned-is_best now target settled_now settled;
+      best = planned-is_best now target now_valid_with_voter valid_with_voter;
       at_most_four = planned-at_most_four now target;
       quorums = quorums;
       tolerance = KeepsTolerance-from_quorums now target (planned now target) quorums;
@@ -31,10 +31,10 @@ planned-serves now target settled_now settled =
 
 one_at_a_time-serves : (now target : Configuration) → IsValidWithVoter now → IsValidWithVoter target → has_path OneAtATime now target ≡ true
     → OneAtATimeServes now (path_by OneAtATime now target) target
-one_at_a_time-serves now target settled_now settled way =
+one_at_a_time-serves now target now_valid_with_voter valid_with_voter way =
     let steps = path_by OneAtATime now target in
     let bound = min (size now.incoming) (size target.incoming) in
-    let turns = one_at_a_time-has_turns now target settled_now settled way in
+    let turns = one_at_a_time-has_turns now target now_valid_with_voter valid_with_voter way in
     record {
       run = IsRunWith-weaker (IsTurn bound) ChangesOneLearnerFirst (λ before after step turn. record { one = turn.one; learners = λ id votes new. (turn.ready id votes new).learner }) now target steps turns;
       least = λ other is. one_at_a_time-least now target other is;
@@ -45,6 +45,6 @@ one_at_a_time-serves now target settled_now settled way =
 
 pub path_by-serves : (strategy : Strategy) (now target : Configuration) → IsValidWithVoter now → IsValidWithVoter target → has_path strategy now target ≡ true
     → Serves strategy now (path_by strategy now target) target
-path_by-serves Shortest now target settled_now settled way = planned-serves now target settled_now settled
-path_by-serves LearnersFirst now target settled_now settled way = learners_first-serves now target settled_now settled
-path_by-serves OneAtATime now target settled_now settled way = one_at_a_time-serves now target settled_now settled way
+path_by-serves Shortest now target now_valid_with_voter valid_with_voter way = planned-serves now target now_valid_with_voter valid_with_voter
+path_by-serves LearnersFirst now target now_valid_with_voter valid_with_voter way = learners_first-serves now target now_valid_with_voter valid_with_voter
+path_by-serves OneAtATime now target now_valid_with_voter valid_with_voter way = one_at_a_time-serves now target now_valid_with_voter valid_with_voter way

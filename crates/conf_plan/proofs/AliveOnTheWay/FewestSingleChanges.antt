@@ -26,7 +26,7 @@ use Rattle.conf_plan.specs.Run.{Gives, IsRunWith}
 use Rattle.conf_plan.specs.declared.strategy.Strategy.TheVariants.{OneAtATime}
 use Rattle.conf_plan.proofs.AliveOnTheWay.Newcomers.{filter-within}
 use Rattle.conf_plan.proofs.FindingMoves.OfEachId.{has-union}
-use Rattle.conf_plan.proofs.FindingMoves.RisingIds.{holds, holds-above}
+use Rattle.conf_plan.proofs.FindingMoves.AscendingIds.{holds, holds-above}
 use Rattle.conf_plan.proofs.Runs.JointEnds.{not_both}
 
 -- ---- what an id costs
@@ -107,11 +107,11 @@ one_at_most false = omega arith
 change-others : (c after : Configuration) (x : Change) (q : ℕ) → Gives c (Simple (x ∷ [])) after → (x.id == q) ≡ false
     → (has after.incoming q ≡ has c.incoming q) × (has after.learners q ≡ has c.learners q)
 change-others c after x q gives other =
-    let silent : last_effective (x ∷ []) q ≡ None = last_effective-one x q ∙ ap (λ b. cond (b && not (q == 0) && not (is_update x.kind)) (Some x.kind) None) other in
+    let without_effect : last_effective (x ∷ []) q ≡ None = last_effective-one x q ∙ ap (λ b. cond (b && not (q == 0) && not (is_update x.kind)) (Some x.kind) None) other in
     let P : Configuration → Type 0 = λ d. (has d.incoming q ≡ has c.incoming q) × (has d.learners q ≡ has c.learners q) in
     subst P (SimpleTaken-from_outcome c after (x ∷ []) gives).made (
-      has-incoming_after c (x ∷ []) q ∙ ap (λ token. is_incoming_after token (has c.incoming q)) silent,
-      has-learners_after c (x ∷ []) q ∙ ap (λ token. is_learner_after token (has c.outgoing q) (has c.learners q)) silent,
+      has-incoming_after c (x ∷ []) q ∙ ap (λ token. is_incoming_after token (has c.incoming q)) without_effect,
+      has-learners_after c (x ∷ []) q ∙ ap (λ token. is_learner_after token (has c.outgoing q) (has c.learners q)) without_effect,
     )
 
 cost_of-one_less : (target c after : Configuration) (x : Change) (q : ℕ) → Gives c (Simple (x ∷ [])) after → ChangesOneLearnerFirst c (Simple (x ∷ [])) after

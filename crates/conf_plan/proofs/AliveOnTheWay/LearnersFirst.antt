@@ -38,31 +38,31 @@ planned-of_single c target single = elim (cases_Bool (is_same c target)) [
 ]
 
 -- without newcomers it is the plan
-pub learners_first-nobody : (c target : Configuration) → IsSingle c → is_empty (newcomers c target) ≡ true → learners_first_from_single c target ≡ planned_from_single c target
-learners_first-nobody c target single nobody = cond-true (is_empty (newcomers c target)) _ _ nobody ∙ planned-of_single c target single
+pub learners_first-no_voter : (c target : Configuration) → IsSingle c → is_empty (newcomers c target) ≡ true → learners_first_from_single c target ≡ planned_from_single c target
+learners_first-no_voter c target single no_voter = cond-true (is_empty (newcomers c target)) _ _ no_voter ∙ planned-of_single c target single
 
 -- with newcomers, the step that makes them learners is the one by the moves
-pub learners_first-somebody : (c target : Configuration) → IsSingle c → IsValidWithVoter target → is_empty (newcomers c target) ≡ false
+pub learners_first-some_voter : (c target : Configuration) → IsSingle c → IsValidWithVoter target → is_empty (newcomers c target) ≡ false
     → learners_first_from_single c target ≡ single_steps c c.incoming (union c.learners (newcomers c target)) ++ planned_from_single (with_learners c (newcomers c target)) target
-learners_first-somebody c target single settled somebody =
+learners_first-some_voter c target single valid_with_voter some_voter =
     let new = newcomers c target in
     let none = eqb-true (difference_count c.incoming c.incoming) 0 (is_same_set-refl c.incoming) in
     let step : single_steps c c.incoming (union c.learners new) ≡ Simple (learner_changes new) ∷ [] =
     cond-true (nat_le (difference_count c.incoming c.incoming) 1) _ _ (le-leb (difference_count c.incoming c.incoming) 1 (omega arith))
     ∙ ap (λ changes. Simple changes ∷ []) (moves-learner_changes c new (newcomers-strangers c target)) in
-    cond-false (is_empty new) _ _ somebody
-    ∙ (λ i. sym step i ++ planned-of_single (with_learners c new) target (with_newcomers-is_single c target single settled) i)
+    cond-false (is_empty new) _ _ some_voter
+    ∙ (λ i. sym step i ++ planned-of_single (with_learners c new) target (with_newcomers-is_single c target single valid_with_voter) i)
 
 from_single-of_shapes : (c target : Configuration) (P : List Step → Type 0) → IsSingle c → IsValidWithVoter target
     → (is_empty (newcomers c target) ≡ true → P (planned_from_single c target))
     → (is_empty (newcomers c target) ≡ false → P (Simple (learner_changes (newcomers c target)) ∷ planned_from_single (with_learners c (newcomers c target)) target))
     → P (learners_first_from_single c target)
-from_single-of_shapes c target P single settled none some =
+from_single-of_shapes c target P single valid_with_voter none some =
     let learning = with_learners c (newcomers c target) in
     let learn = Simple (learner_changes (newcomers c target)) in
     cond_both (is_empty (newcomers c target)) (planned c target) (learn ∷ planned learning target) P
-    (λ nobody. subst P (sym (planned-of_single c target single)) (none nobody))
-    (λ somebody. subst P (ap (λ steps. learn ∷ steps) (sym (planned-of_single learning target (with_newcomers-is_single c target single settled)))) (some somebody))
+    (λ no_voter. subst P (sym (planned-of_single c target single)) (none no_voter))
+    (λ some_voter. subst P (ap (λ steps. learn ∷ steps) (sym (planned-of_single learning target (with_newcomers-is_single c target single valid_with_voter)))) (some some_voter))
 
 learners_first-of_shapes : (now target : Configuration) (P : List Step → Type 0) → (now ≡ target → P [])
     → (is_joint now ≡ true → is_same now target ≡ false → P (LeaveJoint ∷ learners_first_from_single (after_leave now) target))
@@ -81,27 +81,27 @@ record HoldsByParts (Holds : Configuration → Step → Configuration → Type 0
 
 from_single-holds : (Holds : Configuration → Step → Configuration → Type 0) (now target c : Configuration) → HoldsByParts Holds now target → IsValidWithVoter target
     → c.incoming ≡ now.incoming → IsSingle c → IsRunWith Holds c (learners_first_from_single c target) target
-from_single-holds Holds now target c parts settled same single =
+from_single-holds Holds now target c parts valid_with_voter same single =
     let learning = with_learners c (newcomers c target) in
-    from_single-of_shapes c target (λ steps. IsRunWith Holds c steps target) single settled
-    (λ nobody. parts.planning c same single (HasNoNewcomer-empty c target nobody))
-    (λ somebody. (
+    from_single-of_shapes c target (λ steps. IsRunWith Holds c steps target) single valid_with_voter
+    (λ no_voter. parts.planning c same single (HasNoNewcomer-empty c target no_voter))
+    (λ some_voter. (
       learning,
-      (newcomers-learn c target single settled, parts.learning c same single),
-      parts.planning learning same (with_newcomers-is_single c target single settled) (HasNoNewcomer-with_newcomers c target),
+      (newcomers-learn c target single valid_with_voter, parts.learning c same single),
+      parts.planning learning same (with_newcomers-is_single c target single valid_with_voter) (HasNoNewcomer-with_newcomers c target),
     ))
 
 learners_first-holds : (Holds : Configuration → Step → Configuration → Type 0) (now target : Configuration) → HoldsByParts Holds now target → IsValidWithVoter now → IsValidWithVoter target
     → IsRunWith Holds now (learners_first now target) target
-learners_first-holds Holds now target parts settled_now settled =
+learners_first-holds Holds now target parts now_valid_with_voter valid_with_voter =
     learners_first-of_shapes now target (λ steps. IsRunWith Holds now steps target)
     (λ same. same)
     (λ joint differs. (
       after_leave now,
       (outcome-leave_accepted now joint, parts.leaving),
-      from_single-holds Holds now target (after_leave now) parts settled refl (after_leave-is_single now settled_now joint),
+      from_single-holds Holds now target (after_leave now) parts valid_with_voter refl (after_leave-is_single now now_valid_with_voter joint),
     ))
-    (λ apart. from_single-holds Holds now target now parts settled refl (record { settled = settled_now; single = apart }))
+    (λ apart. from_single-holds Holds now target now parts valid_with_voter refl (record { valid_with_voter = now_valid_with_voter; single = apart }))
 
 -- ---- quorums, and voters that are ready
 -- a configuration that is not joint with these incoming voters
@@ -110,25 +110,25 @@ same_voters now target c d same kept none =
     HasQuorumsOf-covered now target d (subst (AreCovered now target) (sym (kept ∙ same)) (AreCovered-now now target)) (inl none)
 
 quorums_by_parts : (now target : Configuration) → IsValidWithVoter target → HoldsByParts (λ before step after. HasQuorumsOf now target after) now target
-quorums_by_parts now target settled = record {
+quorums_by_parts now target valid_with_voter = record {
   leaving = same_voters now target now (after_leave now) refl refl is_empty-no_ids;
   learning = λ c same single. same_voters now target c (with_learners c (newcomers c target)) same refl (not-false (is_empty c.outgoing) single.single);
-  planning = λ c same single known. planned_from_single-keeps_quorums now c target single settled (subst (AreCovered now target) (sym same) (AreCovered-now now target));
+  planning = λ c same single known. planned_from_single-keeps_quorums now c target single valid_with_voter (subst (AreCovered now target) (sym same) (AreCovered-now now target));
 }
 
 learners_first-keeps_quorums : (now target : Configuration) → IsValidWithVoter now → IsValidWithVoter target → KeepsQuorums now (learners_first now target) target
-learners_first-keeps_quorums now target settled_now settled =
-    learners_first-holds (λ before step after. HasQuorumsOf now target after) now target (quorums_by_parts now target settled) settled_now settled
+learners_first-keeps_quorums now target now_valid_with_voter valid_with_voter =
+    learners_first-holds (λ before step after. HasQuorumsOf now target after) now target (quorums_by_parts now target valid_with_voter) now_valid_with_voter valid_with_voter
 
 ready_by_parts : (now target : Configuration) → IsValidWithVoter target → HoldsByParts MakesVotersOfReady now target
-ready_by_parts now target settled = record {
+ready_by_parts now target valid_with_voter = record {
   leaving = MakesVotersOfReady-same now (after_leave now) LeaveJoint refl;
   learning = λ c same single. MakesVotersOfReady-same c (with_learners c (newcomers c target)) (Simple (learner_changes (newcomers c target))) refl;
-  planning = λ c same single known. planned_from_single-makes_ready c target single settled known;
+  planning = λ c same single known. planned_from_single-makes_ready c target single valid_with_voter known;
 }
 
 learners_first-makes_ready : (now target : Configuration) → IsValidWithVoter now → IsValidWithVoter target → VotersLearnFirst now (learners_first now target) target
-learners_first-makes_ready now target settled_now settled = learners_first-holds MakesVotersOfReady now target (ready_by_parts now target settled) settled_now settled
+learners_first-makes_ready now target now_valid_with_voter valid_with_voter = learners_first-holds MakesVotersOfReady now target (ready_by_parts now target valid_with_voter) now_valid_with_voter valid_with_voter
 
 -- ---- how long it is
 single_steps-length : (c : Configuration) (voters learners : Ids) → length (single_steps c voters learners) ≡ cond (nat_le (difference_count c.incoming voters) 1) 1 2
@@ -144,22 +144,22 @@ single_steps-same_length c d voters learners others same =
 -- with the same voters, the plan is no longer, unless there was nothing to do
 planned-no_longer : (c d target : Configuration) → IsSingle c → IsSingle d → IsValidWithVoter target → d.incoming ≡ c.incoming → (c ≡ target → ⊥)
     → length (planned_from_single d target) ≤ length (planned_from_single c target)
-planned-no_longer c d target single single_d settled same differs =
-    planned_from_single-of_shapes c target (λ xs. length (planned_from_single d target) ≤ length xs) single settled (record {
+planned-no_longer c d target single single_d valid_with_voter same differs =
+    planned_from_single-of_shapes c target (λ xs. length (planned_from_single d target) ≤ length xs) single valid_with_voter (record {
       nothing = λ is. absurd (differs is);
-      apart = λ apart _. planned_from_single-of_shapes d target (λ ys. length ys ≤ length (single_steps c target.incoming target.learners)) single_d settled (record {
+      apart = λ apart _. planned_from_single-of_shapes d target (λ ys. length ys ≤ length (single_steps c target.incoming target.learners)) single_d valid_with_voter (record {
         nothing = λ _. omega arith;
         apart = λ _ _. let alike = single_steps-same_length c d target.incoming target.learners target.learners same in omega arith;
         at_once = λ joint _. absurd (both_ways _ apart joint);
         inserted = λ joint _. absurd (both_ways _ apart joint);
       });
-      at_once = λ joint at. planned_from_single-of_shapes d target (λ ys. length ys ≤ 1) single_d settled (record {
+      at_once = λ joint at. planned_from_single-of_shapes d target (λ ys. length ys ≤ 1) single_d valid_with_voter (record {
         nothing = λ _. omega arith;
         apart = λ apart _. absurd (both_ways _ apart joint);
         at_once = λ _ _. omega arith;
         inserted = λ _ elsewhere. absurd (elsewhere (same ∙ at));
       });
-      inserted = λ joint elsewhere. planned_from_single-of_shapes d target (λ ys. length ys ≤ length (single_steps c target.outgoing (shared_members c target) ++ entering_step (single_with target.outgoing (shared_members c target)) target ∷ [])) single_d settled (record {
+      inserted = λ joint elsewhere. planned_from_single-of_shapes d target (λ ys. length ys ≤ length (single_steps c target.outgoing (shared_members c target) ++ entering_step (single_with target.outgoing (shared_members c target)) target ∷ [])) single_d valid_with_voter (record {
         nothing = λ _. omega arith;
         apart = λ apart _. absurd (both_ways _ apart joint);
         at_once = λ _ at. absurd (elsewhere (sym same ∙ at));
@@ -170,39 +170,39 @@ planned-no_longer c d target single single_d settled same differs =
     })
 
 from_single-no_longer : (c target : Configuration) → IsSingle c → IsValidWithVoter target → length (learners_first_from_single c target) ≤ length (planned_from_single c target) + 1
-from_single-no_longer c target single settled =
-    from_single-of_shapes c target (λ steps. length steps ≤ length (planned_from_single c target) + 1) single settled
-    (λ nobody. omega arith)
-    (λ somebody.
-    let rest = planned-no_longer c (with_learners c (newcomers c target)) target single (with_newcomers-is_single c target single settled) settled refl
-    (λ same. both_ways _ somebody (newcomers-own c target same)) in omega arith)
+from_single-no_longer c target single valid_with_voter =
+    from_single-of_shapes c target (λ steps. length steps ≤ length (planned_from_single c target) + 1) single valid_with_voter
+    (λ no_voter. omega arith)
+    (λ some_voter.
+    let rest = planned-no_longer c (with_learners c (newcomers c target)) target single (with_newcomers-is_single c target single valid_with_voter) valid_with_voter refl
+    (λ same. both_ways _ some_voter (newcomers-own c target same)) in omega arith)
 
 -- at most one step more than the plan
 learners_first-no_longer : (now target : Configuration) → IsValidWithVoter now → IsValidWithVoter target → length (learners_first now target) ≤ length (planned now target) + 1
-learners_first-no_longer now target settled_now settled =
+learners_first-no_longer now target now_valid_with_voter valid_with_voter =
     learners_first-of_shapes now target (λ steps. length steps ≤ length (planned now target) + 1)
     (λ same. omega arith)
     (λ joint differs.
     let whole : planned now target ≡ LeaveJoint ∷ planned_from_single (after_leave now) target = cond-false (is_same now target) _ _ differs ∙ cond-true (is_joint now) _ _ joint in
     let counted = ap length whole in
-    let rest = from_single-no_longer (after_leave now) target (after_leave-is_single now settled_now joint) settled in omega arith)
+    let rest = from_single-no_longer (after_leave now) target (after_leave-is_single now now_valid_with_voter joint) valid_with_voter in omega arith)
     (λ apart.
-    let single : IsSingle now = record { settled = settled_now; single = apart } in
+    let single : IsSingle now = record { valid_with_voter = now_valid_with_voter; single = apart } in
     let counted = ap length (planned-of_single now target single) in
-    let rest = from_single-no_longer now target single settled in omega arith)
+    let rest = from_single-no_longer now target single valid_with_voter in omega arith)
 
 -- ---- all of it
 pub learners_first-serves : (now target : Configuration) → IsValidWithVoter now → IsValidWithVoter target → LearnersFirstServes now (learners_first now target) target
-learners_first-serves now target settled_now settled =
-    let quorums = learners_first-keeps_quorums now target settled_now settled in
+learners_first-serves now target now_valid_with_voter valid_with_voter =
+    let quorums = learners_first-keeps_quorums now target now_valid_with_voter valid_with_voter in
     let run = IsRun-from_IsRunWith (λ before step after. HasQuorumsOf now target after) now target (learners_first now target) quorums in
-    let longer = learners_first-no_longer now target settled_now settled in
+    let longer = learners_first-no_longer now target now_valid_with_voter valid_with_voter in
     record {
       run = run;
-      one_more = λ other is. let least = planned-shortest now target other settled_now settled is in omega arith;
+      one_more = λ other is. let least = planned-shortest now target other now_valid_with_voter valid_with_voter is in omega arith;
       at_most_five = let four = planned-at_most_four now target in omega arith;
       quorums = quorums;
       tolerance = KeepsTolerance-from_quorums now target (learners_first now target) quorums;
-      voters = learners_first-makes_ready now target settled_now settled;
+      voters = learners_first-makes_ready now target now_valid_with_voter valid_with_voter;
       overlap = run-overlaps now target (learners_first now target) run;
     }

@@ -21,7 +21,7 @@ use Rattle.conf_plan.proofs.FindingMoves.OfEachId.{change_of, has-union}
 use Rattle.conf_plan.proofs.FindingMoves.ResultingConfiguration.{IsSingle, AreWanted}
 use Rattle.conf_plan.proofs.PlannedSteps.BetweenSingle.{simple_moves-accepted}
 use Rattle.conf_plan.proofs.PlannedSteps.RunToTarget.{single_with-own, own-are_wanted}
-use Rattle.conf_plan.proofs.Runs.Chains.{run-is_settled, IsRun-one}
+use Rattle.conf_plan.proofs.Runs.Chains.{run-is_valid, IsRun-one}
 
 -- ---- who is one
 pub has-newcomers : (c target : Configuration) (q : ℕ) → has (newcomers c target) q ≡ (not (is_member c q) && (has target.incoming q || has target.outgoing q))
@@ -57,12 +57,12 @@ newcomers-own c target same =
     let P : Configuration → Type 0 = λ d. is_empty (newcomers c d) ≡ true in
     subst P same
     (ap is_empty (has-same_ids (newcomers c c) no_ids (λ q.
-    has-newcomers c c q ∙ nobody (has c.incoming q || has c.outgoing q) (has c.learners q) ∙ sym (has-no_ids q))) ∙ is_empty-no_ids)
+    has-newcomers c c q ∙ no_voter (has c.incoming q || has c.outgoing q) (has c.learners q) ∙ sym (has-no_ids q))) ∙ is_empty-no_ids)
   where
-    nobody : (votes learns : Bool) → (not (votes || learns) && votes) ≡ false
-    nobody true learns = refl
-    nobody false true = refl
-    nobody false false = refl
+    no_voter : (votes learns : Bool) → (not (votes || learns) && votes) ≡ false
+    no_voter true learns = refl
+    no_voter false true = refl
+    no_voter false false = refl
 
 -- ---- the changes
 kind_of_new : (i l n : Bool) → (n ≡ true → (i || l) ≡ false) → kind_by i (l || n) i l ≡ cond n (Some Learner) None
@@ -117,10 +117,10 @@ moves-learner_changes c ids strangers =
 
 -- ---- the step
 newcomers-are_wanted : (c target : Configuration) → IsSingle c → IsValidWithVoter target → AreWanted c.incoming (union c.learners (newcomers c target))
-newcomers-are_wanted c target single settled =
-    let own = own-are_wanted c single.settled in
+newcomers-are_wanted c target single valid_with_voter =
+    let own = own-are_wanted c single.valid_with_voter in
     let new = newcomers c target in
-    let valid = ValidByMember-from_is_valid target settled.valid in
+    let valid = ValidByMember-from_is_valid target valid_with_voter.valid in
     record {
       voter = own.voter;
       zero_voters = own.zero_voters;
@@ -139,22 +139,22 @@ newcomers-are_wanted c target single settled =
 
 pub newcomers-learn : (c target : Configuration) → IsSingle c → IsValidWithVoter target
     → Gives c (Simple (learner_changes (newcomers c target))) (with_learners c (newcomers c target))
-newcomers-learn c target single settled =
+newcomers-learn c target single valid_with_voter =
     let new = newcomers c target in
     let learners = union c.learners new in
     let none = eqb-true (difference_count c.incoming c.incoming) 0 (is_same_set-refl c.incoming) in
     let P : List Change → Configuration → Type 0 = λ changes d. Gives c (Simple changes) d in
     let given : Gives c (Simple (moves c c.incoming learners)) (single_with c.incoming learners) =
-    simple_moves-accepted c c.incoming learners single (newcomers-are_wanted c target single settled) (omega arith) in
+    simple_moves-accepted c c.incoming learners single (newcomers-are_wanted c target single valid_with_voter) (omega arith) in
     let by_list : Gives c (Simple (learner_changes new)) (single_with c.incoming learners) =
     subst (λ changes. P changes (single_with c.incoming learners)) (moves-learner_changes c new (newcomers-strangers c target)) given in
     subst (λ d. P (learner_changes new) d) (ap (λ d. with_learners d new) (single_with-own c single)) by_list
 
 pub with_newcomers-is_single : (c target : Configuration) → IsSingle c → IsValidWithVoter target → IsSingle (with_learners c (newcomers c target))
-with_newcomers-is_single c target single settled = record {
-  settled =
-      run-is_settled c (with_learners c (newcomers c target)) (Simple (learner_changes (newcomers c target)) ∷ []) single.settled
-      (IsRun-one c (with_learners c (newcomers c target)) (Simple (learner_changes (newcomers c target))) (newcomers-learn c target single settled));
+with_newcomers-is_single c target single valid_with_voter = record {
+  valid_with_voter =
+      run-is_valid c (with_learners c (newcomers c target)) (Simple (learner_changes (newcomers c target)) ∷ []) single.valid_with_voter
+      (IsRun-one c (with_learners c (newcomers c target)) (Simple (learner_changes (newcomers c target))) (newcomers-learn c target single valid_with_voter));
   single = single.single;
 }
 

@@ -26,7 +26,7 @@ use Rattle.conf_plan.proofs.AliveOnTheWay.ReadyVoters.{MakesVotersOfReady-same}
 use Rattle.conf_plan.proofs.BestPlan.PreservedMembers.{keeps, is_member-single_with}
 use Rattle.conf_plan.proofs.FindingMoves.OfEachId.{has-union}
 use Rattle.conf_plan.proofs.FindingMoves.ResultingConfiguration.{IsSingle}
-use Rattle.conf_plan.proofs.FindingMoves.RisingIds.{holds, holds-above}
+use Rattle.conf_plan.proofs.FindingMoves.AscendingIds.{holds, holds-above}
 use Rattle.conf_plan.proofs.PlannedSteps.RunToTarget.{single_with-own, after_leave-is_single}
 use Rattle.conf_plan.proofs.Runs.Chains.{IsChain-append}
 
@@ -488,7 +488,7 @@ learner_steps-are_turns bound c target [] learners single valid_c one most once 
     ap (single_with target.incoming) (has-same_ids learners target.learners at) ∙ single_with-own target single
 learner_steps-are_turns bound c target (id ∷ ids) learners single valid_c one most once at =
     learner_step-then bound c target id ids learners (filter_map (λ id. option_map (λ kind. one_change kind id) (learner_change c target id)) ids)
-    valid_c (ValidByMember-from_is_valid target single.settled.valid) one most once.0 at
+    valid_c (ValidByMember-from_is_valid target single.valid_with_voter.valid) one most once.0 at
     (λ others at_others. learner_steps-are_turns bound c target ids others single valid_c one most once.1 at_others)
 
 -- ---- the whole path
@@ -512,8 +512,8 @@ pub from_single-has_turns : (c target : Configuration) → IsSingle c → IsSing
     → IsRunWith (IsTurn (min (size c.incoming) (size target.incoming))) c (one_at_a_time_from_single c target) target
 from_single-has_turns c target single_c single =
     let bound = min (size c.incoming) (size target.incoming) in
-    let valid_c = ValidByMember-from_is_valid c single_c.settled.valid in
-    let valid = ValidByMember-from_is_valid target single.settled.valid in
+    let valid_c = ValidByMember-from_is_valid c single_c.valid_with_voter.valid in
+    let valid = ValidByMember-from_is_valid target single.valid_with_voter.valid in
     let some_c = voter-size c single_c in
     let some = voter-size target single in
     let reached = in_turn-reaches_voters bound c target (joining c target) (retiring c target) c.incoming c.learners valid_c valid
@@ -527,22 +527,22 @@ from_single-has_turns c target single_c single =
   where
     voter-size : (d : Configuration) → IsSingle d → 1 ≤ size d.incoming
     voter-size d is =
-        let some : size d.incoming ≡ 0 → ⊥ = λ none. both_ways (is_empty d.incoming) (not-true (is_empty d.incoming) is.settled.voter) (eq-eqb (size d.incoming) 0 none) in
+        let some : size d.incoming ≡ 0 → ⊥ = λ none. both_ways (is_empty d.incoming) (not-true (is_empty d.incoming) is.valid_with_voter.voter) (eq-eqb (size d.incoming) 0 none) in
         omega (arith, some)
 
 pub one_at_a_time-has_turns : (now target : Configuration) → IsValidWithVoter now → IsValidWithVoter target → has_path OneAtATime now target ≡ true
     → IsRunWith (IsTurn (min (size now.incoming) (size target.incoming))) now (path_by OneAtATime now target) target
-one_at_a_time-has_turns now target settled_now settled way =
+one_at_a_time-has_turns now target now_valid_with_voter valid_with_voter way =
     let bound = min (size now.incoming) (size target.incoming) in
     cond_both (is_same now target) _ _ (λ steps. IsRunWith (IsTurn bound) now steps target) (is_same-equal now target) (λ differs.
     let single : IsSingle target = record {
-      settled = settled;
+      valid_with_voter = valid_with_voter;
       single = not-true (is_joint target) (ap (λ same. same || not (is_joint target)) (sym differs) ∙ way);
     } in
     cond_both (is_joint now) _ _ (λ steps. IsRunWith (IsTurn bound) now steps target)
     (λ joint. (
       after_leave now,
       (outcome-leave_accepted now joint, record { one = tt; ready = MakesVotersOfReady-same now (after_leave now) LeaveJoint refl; single = refl; enough = omega arith }),
-      from_single-has_turns (after_leave now) target (after_leave-is_single now settled_now joint) single,
+      from_single-has_turns (after_leave now) target (after_leave-is_single now now_valid_with_voter joint) single,
     ))
-    (λ apart. from_single-has_turns now target (record { settled = settled_now; single = apart }) single))
+    (λ apart. from_single-has_turns now target (record { valid_with_voter = now_valid_with_voter; single = apart }) single))

@@ -35,16 +35,16 @@ joins true was = refl
 joins false was = refl
 
 leaves_by : (kind : Kind) → (b was : Bool) → is_incoming_after (Some kind) was ≡ false → is_incoming_after (cond b (Some kind) None) was ≡ (not b && was)
-leaves_by kind true was gone = gone
-leaves_by kind false was gone = refl
+leaves_by kind true was is_removed = is_removed
+leaves_by kind false was is_removed = refl
 
 stays_no_learner : (b out was : Bool) → is_learner_after (cond b (Some Voter) None) out was ≡ (not b && was)
 stays_no_learner true out was = refl
 stays_no_learner false out was = refl
 
 no_next : (kind : Kind) → ((was : Bool) → is_next_after (Some kind) false was ≡ false) → (b out was : Bool) → out ≡ false → was ≡ false → is_next_after (cond b (Some kind) None) out was ≡ was
-no_next kind none true out was apart nobody = ap (λ o. is_next_after (Some kind) o was) apart ∙ none was ∙ sym nobody
-no_next kind none false out was apart nobody = refl
+no_next kind none true out was apart no_voter = ap (λ o. is_next_after (Some kind) o was) apart ∙ none was ∙ sym no_voter
+no_next kind none false out was apart no_voter = refl
 
 -- the id becomes a voter
 pub one_change-joins : (voters learners : Ids) (id : ℕ) → (id == 0) ≡ false

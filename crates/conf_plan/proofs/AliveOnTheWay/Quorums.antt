@@ -42,7 +42,7 @@ HasQuorumsOf-single now target voters learners covered = HasQuorumsOf-covered no
 single_steps-keep_quorums : (now target c : Configuration) (voters learners : Ids) → IsSingle c → AreWanted voters learners → AreCovered now target c.incoming → AreCovered now target voters
     → EachOnTheWay (HasQuorumsOf now target) c (single_steps c voters learners) (single_with voters learners)
 single_steps-keep_quorums now target c voters learners single wanted covered_now covered =
-    let moved = moves-has_wanted c c.incoming voters learners false single wanted (ValidByMember-from_is_valid c single.settled.valid).learner_incoming in
+    let moved = moves-has_wanted c c.incoming voters learners false single wanted (ValidByMember-from_is_valid c single.valid_with_voter.valid).learner_incoming in
     let of_end = HasQuorumsOf-single now target voters learners covered in
     single_steps-is_chain (λ before step after. Gives before step after × HasQuorumsOf now target after) c voters learners
     (λ few. (simple_moves-accepted c voters learners single wanted few, of_end)) (
@@ -53,32 +53,32 @@ single_steps-keep_quorums now target c voters learners single wanted covered_now
 
 pub planned_from_single-keeps_quorums : (now c target : Configuration) → IsSingle c → IsValidWithVoter target → AreCovered now target c.incoming
     → EachOnTheWay (HasQuorumsOf now target) c (planned_from_single c target) target
-planned_from_single-keeps_quorums now c target single settled covered =
+planned_from_single-keeps_quorums now c target single valid_with_voter covered =
     let at_outgoing = single_with target.outgoing (shared_members c target) in
     let of_target : HasQuorumsOf now target target = λ ids of_now of_target. of_target in
     let Leads : Configuration → Step → Configuration → Type 0 = λ before step after. Gives before step after × HasQuorumsOf now target after in
-    planned_from_single-of_shapes c target (λ steps. EachOnTheWay (HasQuorumsOf now target) c steps target) single settled (record {
+    planned_from_single-of_shapes c target (λ steps. EachOnTheWay (HasQuorumsOf now target) c steps target) single valid_with_voter (record {
       nothing = λ same. same;
       apart = λ apart differs.
-          let own : IsSingle target = record { settled = settled; single = apart } in
+          let own : IsSingle target = record { valid_with_voter = valid_with_voter; single = apart } in
           let P : Configuration → Type 0 = λ d. EachOnTheWay (HasQuorumsOf now target) c (single_steps c target.incoming target.learners) d in
           subst P (single_with-own target own)
-          (single_steps-keep_quorums now target c target.incoming target.learners single (own-are_wanted target settled) covered (AreCovered-target now target));
-      at_once = λ joint same. (target, (entering-reaches c target single settled same, of_target), refl);
+          (single_steps-keep_quorums now target c target.incoming target.learners single (own-are_wanted target valid_with_voter) covered (AreCovered-target now target));
+      at_once = λ joint same. (target, (entering-reaches c target single valid_with_voter same, of_target), refl);
       inserted = λ joint differs.
-          let to_outgoing = single_steps-keep_quorums now target c target.outgoing (shared_members c target) single (outgoing-are_wanted c target settled joint) covered (AreCovered-outgoing now target joint) in
-          let enters = entering-reaches at_outgoing target (at_outgoing-is_single c target single settled joint) settled refl in
+          let to_outgoing = single_steps-keep_quorums now target c target.outgoing (shared_members c target) single (outgoing-are_wanted c target valid_with_voter joint) covered (AreCovered-outgoing now target joint) in
+          let enters = entering-reaches at_outgoing target (at_outgoing-is_single c target single valid_with_voter joint) valid_with_voter refl in
           IsChain-append Leads c at_outgoing target _ _ to_outgoing (target, (enters, of_target), refl);
     })
 
 -- ---- from any configuration
 pub planned-keeps_quorums : (now target : Configuration) → IsValidWithVoter now → IsValidWithVoter target → KeepsQuorums now (planned now target) target
-planned-keeps_quorums now target settled_now settled =
+planned-keeps_quorums now target now_valid_with_voter valid_with_voter =
     planned-of_shapes now target (λ steps. KeepsQuorums now steps target)
     (λ same. same)
     (λ joint differs. (
       after_leave now,
       (outcome-leave_accepted now joint, HasQuorumsOf-covered now target (after_leave now) (AreCovered-now now target) (inl is_empty-no_ids)),
-      planned_from_single-keeps_quorums now (after_leave now) target (after_leave-is_single now settled_now joint) settled (AreCovered-now now target),
+      planned_from_single-keeps_quorums now (after_leave now) target (after_leave-is_single now now_valid_with_voter joint) valid_with_voter (AreCovered-now now target),
     ))
-    (λ apart. planned_from_single-keeps_quorums now now target (record { settled = settled_now; single = apart }) settled (AreCovered-now now target))
+    (λ apart. planned_from_single-keeps_quorums now now target (record { valid_with_voter = now_valid_with_voter; single = apart }) valid_with_voter (AreCovered-now now target))

@@ -23,7 +23,7 @@ use Rattle.conf_plan.proofs.AliveOnTheWay.Newcomers.{HasNoNewcomer}
 learns : (c : Configuration) (q : ℕ) → (has c.incoming q || has c.outgoing q) ≡ false → is_member c q ≡ true → has c.learners q ≡ true
 learns c q new member = ap (λ votes. votes || has c.learners q) (sym new) ∙ member
 
--- a step that leaves the incoming voters as they are makes nobody one
+-- a step that leaves the incoming voters as they are makes no id a voter
 pub MakesVotersOfReady-same : (before after : Configuration) (step : Step) → after.incoming ≡ before.incoming → MakesVotersOfReady before step after
 MakesVotersOfReady-same before after step same q votes new = absurd (both_ways _ (or_parts _ _ new).0 (ap (λ s. has s q) (sym same) ∙ votes))
 
@@ -39,7 +39,7 @@ ready c after step q new member votes same = record {
 single_steps-make_ready : (c : Configuration) (voters learners : Ids) → IsSingle c → AreWanted voters learners → ((q : ℕ) → has voters q ≡ true → is_member c q ≡ true)
     → VotersLearnFirst c (single_steps c voters learners) (single_with voters learners)
 single_steps-make_ready c voters learners single wanted members =
-    let moved = moves-has_wanted c c.incoming voters learners false single wanted (ValidByMember-from_is_valid c single.settled.valid).learner_incoming in
+    let moved = moves-has_wanted c c.incoming voters learners false single wanted (ValidByMember-from_is_valid c single.valid_with_voter.valid).learner_incoming in
     let stays = λ (q : ℕ) (votes : has voters q ≡ true). moves-remove_no_wanted c voters learners q (or_left (has voters q) _ votes) in
     single_steps-is_chain (λ before step after. Gives before step after × MakesVotersOfReady before step after) c voters learners
     (λ few. (
@@ -64,21 +64,21 @@ entering-makes_ready c target members q votes new =
 
 pub planned_from_single-makes_ready : (c target : Configuration) → IsSingle c → IsValidWithVoter target → HasNoNewcomer c target
     → VotersLearnFirst c (planned_from_single c target) target
-planned_from_single-makes_ready c target single settled known =
+planned_from_single-makes_ready c target single valid_with_voter known =
     let at_outgoing = single_with target.outgoing (shared_members c target) in
     let incoming_known = λ (q : ℕ) (votes : has target.incoming q ≡ true). known q (or_left (has target.incoming q) (has target.outgoing q) votes) in
     let outgoing_known = λ (q : ℕ) (votes : has target.outgoing q ≡ true). known q (or_right (has target.incoming q) (has target.outgoing q) votes) in
     let Leads : Configuration → Step → Configuration → Type 0 = λ before step after. Gives before step after × MakesVotersOfReady before step after in
-    planned_from_single-of_shapes c target (λ steps. VotersLearnFirst c steps target) single settled (record {
+    planned_from_single-of_shapes c target (λ steps. VotersLearnFirst c steps target) single valid_with_voter (record {
       nothing = λ same. same;
       apart = λ apart differs.
-          let own : IsSingle target = record { settled = settled; single = apart } in
+          let own : IsSingle target = record { valid_with_voter = valid_with_voter; single = apart } in
           let P : Configuration → Type 0 = λ d. VotersLearnFirst c (single_steps c target.incoming target.learners) d in
-          subst P (single_with-own target own) (single_steps-make_ready c target.incoming target.learners single (own-are_wanted target settled) incoming_known);
-      at_once = λ joint same. (target, (entering-reaches c target single settled same, entering-makes_ready c target (λ q votes new. incoming_known q votes)), refl);
+          subst P (single_with-own target own) (single_steps-make_ready c target.incoming target.learners single (own-are_wanted target valid_with_voter) incoming_known);
+      at_once = λ joint same. (target, (entering-reaches c target single valid_with_voter same, entering-makes_ready c target (λ q votes new. incoming_known q votes)), refl);
       inserted = λ joint differs.
-          let to_outgoing = single_steps-make_ready c target.outgoing (shared_members c target) single (outgoing-are_wanted c target settled joint) outgoing_known in
-          let enters = entering-reaches at_outgoing target (at_outgoing-is_single c target single settled joint) settled refl in
+          let to_outgoing = single_steps-make_ready c target.outgoing (shared_members c target) single (outgoing-are_wanted c target valid_with_voter joint) outgoing_known in
+          let enters = entering-reaches at_outgoing target (at_outgoing-is_single c target single valid_with_voter joint) valid_with_voter refl in
           IsChain-append Leads c at_outgoing target _ _ to_outgoing (
             target,
             (

@@ -27,9 +27,9 @@ use Rattle.conf_plan.proofs.FindingMoves.ResultingConfiguration.{IsSingle, IsSin
 use Rattle.conf_plan.proofs.FindingMoves.OfEachId.{change_of, has-union}
 use Rattle.conf_plan.proofs.Runs.PartOfEachId.{run-same_part}
 use Rattle.conf_plan.proofs.PlannedSteps.RunToTarget.{single_with-own, after_leave-is_single}
-use Rattle.conf_plan.proofs.FindingMoves.RisingIds.{holds-above, holds}
+use Rattle.conf_plan.proofs.FindingMoves.AscendingIds.{holds-above, holds}
 use Rattle.conf_plan.proofs.Runs.JointEnds.{LeavesFirst-from_IsRun, EntersLast-from_IsRun}
-use Rattle.conf_plan.proofs.Runs.Chains.{run-is_settled, IsRun-one}
+use Rattle.conf_plan.proofs.Runs.Chains.{run-is_valid, IsRun-one}
 use Rattle.conf_plan.proofs.PlannedSteps.Shapes.{planned_from_single-of_shapes, planned-of_shapes}
 
 -- ---- how often steps name an id
@@ -63,8 +63,8 @@ first_names kind_for x q rest later (Some kind) true here is apart fewer =
     at_most_one false = omega arith
 first_names kind_for x q rest later (Some kind) false here is apart fewer =
     let whole = sum_by-cons (λ y. cond (names q y) 1 0) (change_of x kind) rest in
-    let silent : names q (change_of x kind) ≡ false = ap (λ b. b && not (q == 0) && not (is_update kind)) here in
-    let head : ◌≡◌ {A = ℕ} (cond (names q (change_of x kind)) 1 0) 0 = ap (λ b. cond b 1 0) silent in
+    let without_effect : names q (change_of x kind) ≡ false = ap (λ b. b && not (q == 0) && not (is_update kind)) here in
+    let head : ◌≡◌ {A = ℕ} (cond (names q (change_of x kind)) 1 0) 0 = ap (λ b. cond b 1 0) without_effect in
     omega arith
 
 each_named_once : (kind_for : ℕ → Option Kind) (ids : List ℕ) (q : ℕ) → IsStrictlySortedBy nat_cmp ids
@@ -135,7 +135,7 @@ entering_step-names c target q single =
     omega arith
 
 -- ---- by way of the target's outgoing voters
--- who is none of them is passed on as a learner, if it is a member of both, or else as nobody; and no other way is better
+-- who is none of them is passed on as a learner, if it is a member of both, or else not at all; and no other way is better
 as_learner_if_shared : (dl ci cl ti tl : Bool)
     → once (kind_by false ((ti || tl) && (ci || cl)) ci cl) + once (kind_by ti tl false ((ti || tl) && (ci || cl)))
     ≤ once (kind_by false dl ci cl) + once (kind_by ti tl false dl)
@@ -182,10 +182,10 @@ is_member-single c q single =
 shared-is_nearest : (c d target : Configuration) (q : ℕ) → IsSingle c → IsValidWithVoter d → IsValidWithVoter target → d.incoming ≡ target.outgoing
     → differing c (single_with target.outgoing (shared_members c target)) q + differing (single_with target.outgoing (shared_members c target)) target q
     ≤ differing c d q + differing d target q
-shared-is_nearest c d target q single between settled voters =
+shared-is_nearest c d target q single between valid_with_voter voters =
     let reached = single_with target.outgoing (shared_members c target) in
     let of_d = ValidByMember-from_is_valid d between.valid in
-    let waits = (ValidByMember-from_is_valid target settled.valid).next_outgoing q in
+    let waits = (ValidByMember-from_is_valid target valid_with_voter.valid).next_outgoing q in
     let here : has d.incoming q ≡ has target.outgoing q = ap (λ s. has s q) voters in
     let shared : is_any_learner reached q ≡ (is_member target q && not (has target.outgoing q) && (has c.incoming q || is_any_learner c q)) =
     ap (λ b. has (shared_members c target) q || b) (has-no_ids q) ∙ or-false _ ∙ has-shared_members c target q
@@ -202,44 +202,44 @@ shared-is_nearest c d target q single between settled voters =
 
 inserted-fewest : (c target : Configuration) (other : List Step) (q : ℕ) → IsSingle c → IsValidWithVoter target → is_joint target ≡ true → IsRun c other target
     → times_named q (single_steps c target.outgoing (shared_members c target) ++ entering_step (single_with target.outgoing (shared_members c target)) target ∷ []) ≤ times_named q other
-inserted-fewest c target other q single settled joint run =
+inserted-fewest c target other q single valid_with_voter joint run =
     let reached = single_with target.outgoing (shared_members c target) in
     let entering = entering_step reached target in
     let last = EntersLast-from_IsRun c target other single.single joint run in
     let middle = last.opened.middle in
-    let between = run-is_settled c middle last.opened.front single.settled last.opened.run in
+    let between = run-is_valid c middle last.opened.prefix single.valid_with_voter last.opened.run in
     let ours = named_by_both q (single_steps c target.outgoing (shared_members c target)) (entering ∷ []) in
     let there = single_steps-name c target.outgoing (shared_members c target) q single in
-    let in_joint = entering_step-names reached target q (at_outgoing-is_single c target single settled joint) in
-    let theirs = ap (times_named q) last.opened.whole ∙ named_by_both q last.opened.front (last.opened.last ∷ []) in
-    let front = named_where_differing c middle last.opened.front q last.opened.run in
+    let in_joint = entering_step-names reached target q (at_outgoing-is_single c target single valid_with_voter joint) in
+    let theirs = ap (times_named q) last.opened.whole ∙ named_by_both q last.opened.prefix (last.opened.last ∷ []) in
+    let prefix = named_where_differing c middle last.opened.prefix q last.opened.run in
     let end = named_where_differing middle target (last.opened.last ∷ []) q (IsRun-one middle target last.opened.last last.opened.reaches) in
-    let nearest = shared-is_nearest c middle target q single between settled last.voters in
+    let nearest = shared-is_nearest c middle target q single between valid_with_voter last.voters in
     omega arith
 
 -- ---- the plan
 planned_from_single-fewest : (c target : Configuration) (other : List Step) (q : ℕ) → IsSingle c → IsValidWithVoter target → IsRun c other target
     → times_named q (planned_from_single c target) ≤ times_named q other
-planned_from_single-fewest c target other q single settled run =
+planned_from_single-fewest c target other q single valid_with_voter run =
     let needed = named_where_differing c target other q run in
-    planned_from_single-of_shapes c target (λ steps. times_named q steps ≤ times_named q other) single settled (record {
+    planned_from_single-of_shapes c target (λ steps. times_named q steps ≤ times_named q other) single valid_with_voter (record {
       nothing = λ same. omega arith;
       apart = λ apart differs.
           let named = single_steps-name c target.incoming target.learners q single in
-          let own = ap (λ d. differing c d q) (single_with-own target (record { settled = settled; single = apart })) in
+          let own = ap (λ d. differing c d q) (single_with-own target (record { valid_with_voter = valid_with_voter; single = apart })) in
           omega arith;
       at_once = λ joint same. let named = entering_step-names c target q single in omega arith;
-      inserted = λ joint differs. inserted-fewest c target other q single settled joint run;
+      inserted = λ joint differs. inserted-fewest c target other q single valid_with_voter joint run;
     })
 
 pub planned-fewest : (now target : Configuration) (other : List Step) (q : ℕ) → IsValidWithVoter now → IsValidWithVoter target → IsRun now other target
     → times_named q (planned now target) ≤ times_named q other
-planned-fewest now target other q settled_now settled run =
+planned-fewest now target other q now_valid_with_voter valid_with_voter run =
     planned-of_shapes now target (λ steps. times_named q steps ≤ times_named q other) (λ same. omega arith)
     (λ joint differs.
     let left = LeavesFirst-from_IsRun now target other joint differs run in
     let ours = named_by q LeaveJoint (planned_from_single (after_leave now) target) in
     let theirs = ap (times_named q) left.whole ∙ named_by q LeaveJoint left.rest in
-    let fewer = planned_from_single-fewest (after_leave now) target left.rest q (after_leave-is_single now settled_now joint) settled left.run in
+    let fewer = planned_from_single-fewest (after_leave now) target left.rest q (after_leave-is_single now now_valid_with_voter joint) valid_with_voter left.run in
     omega arith)
-    (λ apart. planned_from_single-fewest now target other q (record { settled = settled_now; single = apart }) settled run)
+    (λ apart. planned_from_single-fewest now target other q (record { valid_with_voter = now_valid_with_voter; single = apart }) valid_with_voter run)

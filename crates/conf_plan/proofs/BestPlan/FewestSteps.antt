@@ -22,7 +22,7 @@ one_step_one_voter : (c d : Configuration) (step : Step) → IsSingle c → is_j
 one_step_one_voter c d step single apart e =
     elim (outcome-are_neighbours c d step e) [
       | inl differ ↦ differ.one_at_most
-      | inr (inl goes) ↦ absurd (true≢false (sym single.settled.voter ∙ ap (λ s. not (is_empty s)) (sym goes.outgoing) ∙ apart))
+      | inr (inl goes) ↦ absurd (true≢false (sym single.valid_with_voter.voter ∙ ap (λ s. not (is_empty s)) (sym goes.outgoing) ∙ apart))
       | inr (inr leaves) ↦
           let none = eqb-true (difference_count c.incoming c.incoming) 0 (is_same_set-refl c.incoming) in
           subst (λ s. difference_count c.incoming s ≤ 1) (sym leaves.incoming) (omega arith)
@@ -43,24 +43,24 @@ inserted-shortest : (c target : Configuration) (entering : Step) (other : List S
     → length (single_steps c target.outgoing (shared_members c target) ++ entering ∷ []) ≤ length other
 inserted-shortest c target entering other single joint differs run =
     let last = EntersLast-from_IsRun c target other single.single joint run in
-    let P : Ids → Type 0 = λ voters. length (single_steps c voters (shared_members c target)) ≤ length last.opened.front in
-    let fewer : length (single_steps c target.outgoing (shared_members c target)) ≤ length last.opened.front =
+    let P : Ids → Type 0 = λ voters. length (single_steps c voters (shared_members c target)) ≤ length last.opened.prefix in
+    let fewer : length (single_steps c target.outgoing (shared_members c target)) ≤ length last.opened.prefix =
     subst P last.voters
-    (single_steps-shortest c last.opened.middle (shared_members c target) last.opened.front single last.single
+    (single_steps-shortest c last.opened.middle (shared_members c target) last.opened.prefix single last.single
     (λ same. differs (ap (λ (d : Configuration). d.incoming) same ∙ last.voters)) last.opened.run) in
     let ours = length-append (single_steps c target.outgoing (shared_members c target)) (entering ∷ []) in
-    let theirs = ap length last.opened.whole ∙ length-append last.opened.front (last.opened.last ∷ []) in
+    let theirs = ap length last.opened.whole ∙ length-append last.opened.prefix (last.opened.last ∷ []) in
     omega arith
 
 planned_from_single-shortest : (c target : Configuration) (other : List Step) → IsSingle c → IsValidWithVoter target → IsRun c other target
     → length (planned_from_single c target) ≤ length other
-planned_from_single-shortest c target other single settled run =
-    planned_from_single-of_shapes c target (λ steps. length steps ≤ length other) single settled (record {
+planned_from_single-shortest c target other single valid_with_voter run =
+    planned_from_single-of_shapes c target (λ steps. length steps ≤ length other) single valid_with_voter (record {
       nothing = λ same. omega arith;
       apart = λ apart differs. single_steps-shortest c target target.learners other single apart differs run;
       at_once = λ joint same.
           let last = EntersLast-from_IsRun c target other single.single joint run in
-          let theirs = ap length last.opened.whole ∙ length-append last.opened.front (last.opened.last ∷ []) in
+          let theirs = ap length last.opened.whole ∙ length-append last.opened.prefix (last.opened.last ∷ []) in
           omega arith;
       inserted = λ joint differs. inserted-shortest c target _ other single joint differs run;
     })
@@ -68,11 +68,11 @@ planned_from_single-shortest c target other single settled run =
 -- ---- from any configuration
 pub planned-shortest : (now target : Configuration) (other : List Step) → IsValidWithVoter now → IsValidWithVoter target → IsRun now other target
     → length (planned now target) ≤ length other
-planned-shortest now target other settled_now settled run =
+planned-shortest now target other now_valid_with_voter valid_with_voter run =
     planned-of_shapes now target (λ steps. length steps ≤ length other) (λ same. omega arith)
     (λ joint differs.
     let left = LeavesFirst-from_IsRun now target other joint differs run in
-    let fewer = planned_from_single-shortest (after_leave now) target left.rest (after_leave-is_single now settled_now joint) settled left.run in
+    let fewer = planned_from_single-shortest (after_leave now) target left.rest (after_leave-is_single now now_valid_with_voter joint) valid_with_voter left.run in
     let theirs = ap length left.whole in
     omega arith)
-    (λ apart. planned_from_single-shortest now target other (record { settled = settled_now; single = apart }) settled run)
+    (λ apart. planned_from_single-shortest now target other (record { valid_with_voter = now_valid_with_voter; single = apart }) valid_with_voter run)

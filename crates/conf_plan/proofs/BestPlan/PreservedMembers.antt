@@ -38,7 +38,7 @@ keeps q before step after member stays same = and_from _ _ (and_from _ _ member 
 pub keeps_progress-member : (q : ℕ) (before : Configuration) (step : Step) (after : Configuration) → keeps_progress before step after q ≡ true → is_member after q ≡ true
 keeps_progress-member q before step after kept = (and_parts (is_member before q) (is_member after q) (and_parts _ (not (is_replaced step after q)) kept).0).1
 
--- ---- what any run says of an id that it preserves_all
+-- ---- what any run states of an id that it preserves_all
 preserves-target : (before after : Configuration) (steps : List Step) (q : ℕ) → Preserves before steps after q → is_member after q ≡ true
 preserves-target before after [] q preserves_all = ap (λ c. is_member c q) (sym preserves_all.1) ∙ preserves_all.0
 preserves-target before after (step ∷ steps) q preserves_all =
@@ -51,7 +51,7 @@ preserves-outlasts before after (EnterJoint auto_leave changes ∷ steps) q pres
 preserves-outlasts before after (LeaveJoint ∷ steps) q preserves_all =
     ap (λ c. is_member c q) (LeaveTaken-from_outcome before preserves_all.1.0 preserves_all.1.1.0).made ∙ keeps_progress-member q before LeaveJoint preserves_all.1.0 preserves_all.1.1.1
 
--- ---- the moves remove nobody who is wanted
+-- ---- the moves remove no id that is wanted
 plain_or_no_removal : (kind_for : ℕ → Option Kind) (x q : ℕ) (rest : List Change) (o : Option Kind) → kind_for x ≡ o → IfSome (kind_for q) (λ kind. is_removal kind ≡ false)
     → removes rest q ≡ false → removes (cons_option (option_map (change_of x) o) rest) q ≡ false
 plain_or_no_removal kind_for x q rest None is kept none = none
@@ -89,7 +89,7 @@ single_steps-preserve c voters learners q single wanted member stays =
     let changes = moves c voters learners in
     let target = single_with voters learners in
     let between = entered_by c voters learners in
-    let moved = moves-has_wanted c c.incoming voters learners false single wanted (ValidByMember-from_is_valid c single.settled.valid).learner_incoming in
+    let moved = moves-has_wanted c c.incoming voters learners false single wanted (ValidByMember-from_is_valid c single.valid_with_voter.valid).learner_incoming in
     let member_between : is_member between q ≡ true =
     (λ i. has (moved.incoming i) q || has c.incoming q || moved.learners q i) ∙ voter_or_learner (has voters q) (has c.incoming q) (has learners q) stays in
     let member_after : is_member target q ≡ true = is_member-single_with voters learners q ∙ stays in
@@ -136,21 +136,21 @@ shared_or_out c target q member stays =
 
 planned_from_single-preserves : (c target : Configuration) (q : ℕ) → IsSingle c → IsValidWithVoter target → is_member c q ≡ true → is_member target q ≡ true
     → Preserves c (planned_from_single c target) target q
-planned_from_single-preserves c target q single settled member stays =
+planned_from_single-preserves c target q single valid_with_voter member stays =
     let at_outgoing = single_with target.outgoing (shared_members c target) in
     let Leads : Configuration → Step → Configuration → Type 0 = λ before step after. Gives before step after × Keeps q before step after in
-    planned_from_single-of_shapes c target (λ steps. Preserves c steps target q) single settled (record {
+    planned_from_single-of_shapes c target (λ steps. Preserves c steps target q) single valid_with_voter (record {
       nothing = λ same. (member, same);
       apart = λ apart differs.
-          let own : IsSingle target = record { settled = settled; single = apart } in
+          let own : IsSingle target = record { valid_with_voter = valid_with_voter; single = apart } in
           let P : Configuration → Type 0 = λ d. Preserves c (single_steps c target.incoming target.learners) d q in
           let is : is_member target q ≡ (has target.incoming q || has target.learners q) =
           ap (λ d. is_member d q) (sym (single_with-own target own)) ∙ is_member-single_with target.incoming target.learners q in
-          subst P (single_with-own target own) (single_steps-preserve c target.incoming target.learners q single (own-are_wanted target settled) member (sym is ∙ stays));
-      at_once = λ joint same. (member, (target, (entering-reaches c target single settled same, entering_step-keeps c target q member stays), refl));
+          subst P (single_with-own target own) (single_steps-preserve c target.incoming target.learners q single (own-are_wanted target valid_with_voter) member (sym is ∙ stays));
+      at_once = λ joint same. (member, (target, (entering-reaches c target single valid_with_voter same, entering_step-keeps c target q member stays), refl));
       inserted = λ joint differs.
-          let to_outgoing = single_steps-preserve c target.outgoing (shared_members c target) q single (outgoing-are_wanted c target settled joint) member (shared_or_out c target q member stays) in
-          let enters = entering-reaches at_outgoing target (at_outgoing-is_single c target single settled joint) settled refl in (
+          let to_outgoing = single_steps-preserve c target.outgoing (shared_members c target) q single (outgoing-are_wanted c target valid_with_voter joint) member (shared_or_out c target q member stays) in
+          let enters = entering-reaches at_outgoing target (at_outgoing-is_single c target single valid_with_voter joint) valid_with_voter refl in (
             member,
             IsChain-append Leads c at_outgoing target _ _ to_outgoing.1
                 (target, (enters, entering_step-keeps at_outgoing target q (preserves-target c at_outgoing _ q to_outgoing) stays), refl),
@@ -160,7 +160,7 @@ planned_from_single-preserves c target q single settled member stays =
 -- ---- from any configuration
 pub planned-preserves : (now target : Configuration) (q : ℕ) → IsValidWithVoter now → IsValidWithVoter target → is_member now q ≡ true → is_member target q ≡ true
     → outlasts_leave now (planned now target) q ≡ true → Preserves now (planned now target) target q
-planned-preserves now target q settled_now settled member stays =
+planned-preserves now target q now_valid_with_voter valid_with_voter member stays =
     planned-of_shapes now target (λ steps. outlasts_leave now steps q ≡ true → Preserves now steps target q)
     (λ same outlasts. (member, same))
     (λ joint differs outlasts. (
@@ -168,30 +168,30 @@ planned-preserves now target q settled_now settled member stays =
       (
         after_leave now,
         (outcome-leave_accepted now joint, keeps q now LeaveJoint (after_leave now) member outlasts refl),
-        (planned_from_single-preserves (after_leave now) target q (after_leave-is_single now settled_now joint) settled outlasts stays).1,
+        (planned_from_single-preserves (after_leave now) target q (after_leave-is_single now now_valid_with_voter joint) valid_with_voter outlasts stays).1,
       ),
     ))
-    (λ apart outlasts. planned_from_single-preserves now target q (record { settled = settled_now; single = apart }) settled member stays)
+    (λ apart outlasts. planned_from_single-preserves now target q (record { valid_with_voter = now_valid_with_voter; single = apart }) valid_with_voter member stays)
 
 pub planned-preserved : (now target : Configuration) (q : ℕ) → IsValidWithVoter now → IsValidWithVoter target
     → (Preserves now (planned now target) target q) ↔ ((is_member now q && is_member target q && outlasts_leave now (planned now target) q) ≡ true)
-planned-preserved now target q settled_now settled = (
+planned-preserved now target q now_valid_with_voter valid_with_voter = (
   λ preserves_all. and_from _ _ (and_from _ _ preserves_all.0 (preserves-target now target _ q preserves_all)) (preserves-outlasts now target _ q preserves_all),
   λ each.
       let all = and_parts (is_member now q && is_member target q) _ each in
       let both = and_parts (is_member now q) (is_member target q) all.0 in
-      planned-preserves now target q settled_now settled both.0 both.1 all.1,
+      planned-preserves now target q now_valid_with_voter valid_with_voter both.0 both.1 all.1,
 )
 
 pub planned-preserving : (now target : Configuration) (other : List Step) (q : ℕ) → IsValidWithVoter now → IsValidWithVoter target
     → Preserves now other target q → Preserves now (planned now target) target q
-planned-preserving now target other q settled_now settled preserves_all =
+planned-preserving now target other q now_valid_with_voter valid_with_voter preserves_all =
     let member = preserves_all.0 in
     let stays = preserves-target now target other q preserves_all in
-    planned-preserves now target q settled_now settled member stays
+    planned-preserves now target q now_valid_with_voter valid_with_voter member stays
     (planned-of_shapes now target (λ steps. outlasts_leave now steps q ≡ true) (λ same. refl)
     (λ joint differs.
     let P : List Step → Type 0 = λ steps. outlasts_leave now steps q ≡ true in
     let left = LeavesFirst-from_IsRun now target other joint differs (IsRun-from_IsRunWith _ now target other preserves_all.1) in
     subst P left.whole (preserves-outlasts now target other q preserves_all))
-    (λ apart. preserves-outlasts now target _ q (planned_from_single-preserves now target q (record { settled = settled_now; single = apart }) settled member stays)))
+    (λ apart. preserves-outlasts now target _ q (planned_from_single-preserves now target q (record { valid_with_voter = now_valid_with_voter; single = apart }) valid_with_voter member stays)))

@@ -23,23 +23,23 @@ run-overlaps before after (step ∷ steps) run =
     (run.0, (run.1, outcome-overlaps before run.0 step run.1), run-overlaps run.0 after steps run.2)
 
 pub planned-is_best : (now target : Configuration) → IsValidWithVoter now → IsValidWithVoter target → IsBest now (planned now target) target
-planned-is_best now target settled_now settled = record {
-  run = planned-is_run now target settled_now settled;
-  shortest = λ other run. planned-shortest now target other settled_now settled run;
-  preserving = λ other id preserves_all. planned-preserving now target other id settled_now settled preserves_all;
-  preserved = λ id. planned-preserved now target id settled_now settled;
-  fewest = λ other id run. planned-fewest now target other id settled_now settled run;
-  plain = planned-is_plain now target settled_now settled;
-  overlap = run-overlaps now target (planned now target) (planned-is_run now target settled_now settled);
+planned-is_best now target now_valid_with_voter valid_with_voter = record {
+  run = planned-is_run now target now_valid_with_voter valid_with_voter;
+  shortest = λ other run. planned-shortest now target other now_valid_with_voter valid_with_voter run;
+  preserving = λ other id preserves_all. planned-preserving now target other id now_valid_with_voter valid_with_voter preserves_all;
+  preserved = λ id. planned-preserved now target id now_valid_with_voter valid_with_voter;
+  fewest = λ other id run. planned-fewest now target other id now_valid_with_voter valid_with_voter run;
+  plain = planned-is_plain now target now_valid_with_voter valid_with_voter;
+  overlap = run-overlaps now target (planned now target) (planned-is_run now target now_valid_with_voter valid_with_voter);
 }
 
--- a changer that took the plan made for it stands where the plan leads, and no run there is better
+-- a changer that took the plan made for it is where the plan leads, and no run there is better
 pub Takes-best : (a b : ChangerState) (steps : List Step) (target : Configuration) → Takes a steps b → steps ≡ planned a.tracker.config target
     → IsValidWithVoter a.tracker.config → IsValidWithVoter target → IsBest a.tracker.config steps b.tracker.config
-Takes-best a b steps target taken made settled_now settled =
+Takes-best a b steps target taken made now_valid_with_voter valid_with_voter =
     let now = a.tracker.config in
     let Leads : List Step → Type 0 = λ xs. IsRun now xs target in
-    let there = Takes-to_target a b steps target taken (subst Leads (sym made) (planned-is_run now target settled_now settled)) in
+    let there = Takes-to_target a b steps target taken (subst Leads (sym made) (planned-is_run now target now_valid_with_voter valid_with_voter)) in
     let Best : List Step → Type 0 = λ xs. IsBest now xs target in
     let Reached : Configuration → Type 0 = λ c. IsBest now steps c in
-    subst Reached (sym there) (subst Best (sym made) (planned-is_best now target settled_now settled))
+    subst Reached (sym there) (subst Best (sym made) (planned-is_best now target now_valid_with_voter valid_with_voter))

@@ -14,12 +14,12 @@ use Rattle.conf_change.specs.declared.change.Kind.{Kind}
 use Rattle.conf_plan.specs.Planned.{kind_by, move_of, moves}
 use Rattle.conf_plan.specs.Walking.{IsNoLater, IsEarliest, IsPassed}
 use Rattle.conf_plan.proofs.FindingMoves.OfEachId.{has-union}
-use Rattle.conf_plan.proofs.FindingMoves.RisingIds.{ids_from, ids_from-start, ids_from-later, ids_from-here, holds-none_left, ids_from-nothing, IsFirstFrom-from_ids}
+use Rattle.conf_plan.proofs.FindingMoves.AscendingIds.{ids_from, ids_from-start, ids_from-later, ids_from-here, holds-none_left, ids_from-nothing, IsFirstFrom-from_ids}
 
 -- ---- one set
--- what is left behind the place are the ids from the bound on
+-- what is left after the position are the ids from the bound on
 abbrev pub IsLeft : ℕ → ℕ → Ids → Type 0
-IsLeft place bound s = drop place (ascending s) ≡ ids_from bound (ascending s)
+IsLeft position bound s = drop position (ascending s) ≡ ids_from bound (ascending s)
 
 none-some : (x : ℕ) → None ≡ Some x → ⊥
 none-some x e = cc
@@ -38,15 +38,15 @@ left-some xs k x here =
 same_tail : (x : ℕ) (xs ys : List ℕ) → x ∷ xs ≡ x ∷ ys → xs ≡ ys
 same_tail x xs ys e = ap (drop 1) e
 
--- an id that stands at the place is in the set, and not before the bound
-record IsAtPlace (s : Ids) (bound id : ℕ) : Type 0 where
+-- an id that is at the position is in the set, and not before the bound
+record IsAtPosition (s : Ids) (bound id : ℕ) : Type 0 where
   pub low : bound ≤ id
   pub here : has s id ≡ true
   pub none : (q : ℕ) → bound ≤ q → q < id → has s q ≡ false
 
-at_place : (s : Ids) (bound place id : ℕ) → IsLeft place bound s → slice_get (ascending s) place ≡ Some id → IsAtPlace s bound id
-at_place s bound place id left here =
-    let first = IsFirstFrom-from_ids bound id (ascending s) _ (ascending-is_sorted s) (sym left ∙ left-some (ascending s) place id here) in
+at_position : (s : Ids) (bound position id : ℕ) → IsLeft position bound s → slice_get (ascending s) position ≡ Some id → IsAtPosition s bound id
+at_position s bound position id left here =
+    let first = IsFirstFrom-from_ids bound id (ascending s) _ (ascending-is_sorted s) (sym left ∙ left-some (ascending s) position id here) in
     record { low = first.low; here = has-ascending s id ∙ first.here; none = λ q low high. has-ascending s q ∙ first.none q low high }
 
 -- the walk over one set goes on past an id
@@ -56,60 +56,60 @@ pub record IsStep (s : Ids) (bound id next : ℕ) (found : Bool) : Type 0 where
   pub none : (q : ℕ) → bound ≤ q → q < id → has s q ≡ false
 
 -- past the last one, or where the next one comes later
-step_over : (s : Ids) (bound place id : ℕ) → IsLeft place bound s → bound ≤ id → ((q : ℕ) → bound ≤ q → q < id + 1 → has s q ≡ false) → IsStep s bound id place false
-step_over s bound place id left up none = record {
+step_over : (s : Ids) (bound position id : ℕ) → IsLeft position bound s → bound ≤ id → ((q : ℕ) → bound ≤ q → q < id + 1 → has s q ≡ false) → IsStep s bound id position false
+step_over s bound position id left up none = record {
   here = none id up (omega arith);
   left = left ∙ ids_from-later bound (id + 1) (ascending s) (omega (arith, up)) (λ q low high. sym (has-ascending s q) ∙ none q low high);
   none = λ q low high. none q low (omega (arith, high));
 }
 
-step_past : (s : Ids) (bound place id : ℕ) → IsLeft place bound s → slice_get (ascending s) place ≡ Some id → IsStep s bound id (place + 1) true
-step_past s bound place id left here =
-    let first = at_place s bound place id left here in
+step_past : (s : Ids) (bound position id : ℕ) → IsLeft position bound s → slice_get (ascending s) position ≡ Some id → IsStep s bound id (position + 1) true
+step_past s bound position id left here =
+    let first = at_position s bound position id left here in
     let xs = ascending s in
     record {
       here = first.here;
       left =
-          same_tail id (drop (place + 1) xs) (ids_from (id + 1) xs)
-          (sym (left-some xs place id here) ∙ left
+          same_tail id (drop (position + 1) xs) (ids_from (id + 1) xs)
+          (sym (left-some xs position id here) ∙ left
           ∙ ids_from-later bound id xs first.low (λ q low high. sym (has-ascending s q) ∙ first.none q low high)
           ∙ ids_from-here id xs (ascending-is_sorted s) (sym (has-ascending s id) ∙ first.here));
       none = first.none;
     }
 
-pub IsStep-from_IsPassed : (s : Ids) (bound place id next : ℕ) (found : Bool) → IsLeft place bound s → bound ≤ id → IsNoLater (Some id) (slice_get (ascending s) place)
-    → IsPassed s place id found next → IsStep s bound id next found
-IsStep-from_IsPassed s bound place id next true left up no_later passed =
-    subst (λ k. IsStep s bound id k true) (sym passed.after) (step_past s bound place id left (passed.here.0 refl))
-IsStep-from_IsPassed s bound place id next false left up no_later passed =
-    let same : next ≡ place = omega (arith, passed.after) in
-    subst (λ k. IsStep s bound id k false) (sym same) (by (slice_get (ascending s) place) refl no_later)
+pub IsStep-from_IsPassed : (s : Ids) (bound position id next : ℕ) (found : Bool) → IsLeft position bound s → bound ≤ id → IsNoLater (Some id) (slice_get (ascending s) position)
+    → IsPassed s position id found next → IsStep s bound id next found
+IsStep-from_IsPassed s bound position id next true left up no_later passed =
+    subst (λ k. IsStep s bound id k true) (sym passed.after) (step_past s bound position id left (passed.here.0 refl))
+IsStep-from_IsPassed s bound position id next false left up no_later passed =
+    let same : next ≡ position = omega (arith, passed.after) in
+    subst (λ k. IsStep s bound id k false) (sym same) (by (slice_get (ascending s) position) refl no_later)
   where
-    by : (o : Option ℕ) → slice_get (ascending s) place ≡ o → IsNoLater (Some id) o → IsStep s bound id place false
+    by : (o : Option ℕ) → slice_get (ascending s) position ≡ o → IsNoLater (Some id) o → IsStep s bound id position false
     by None at no_later =
-        step_over s bound place id left up (λ q low high. has-ascending s q ∙ holds-none_left bound (ascending s) (sym left ∙ left-none (ascending s) place at) q low)
+        step_over s bound position id left up (λ q low high. has-ascending s q ∙ holds-none_left bound (ascending s) (sym left ∙ left-none (ascending s) position at) q low)
     by (Some y) at no_later =
-        let first = at_place s bound place y left at in
+        let first = at_position s bound position y left at in
         let differs : id ≡ y → ⊥ = λ e. true≢false (sym (passed.here.1 (at ∙ ap Some (sym e)))) in
-        step_over s bound place id left up (λ q low high. first.none q low (omega (arith, high, no_later, differs)))
+        step_over s bound position id left up (λ q low high. first.none q low (omega (arith, high, no_later, differs)))
 
--- what is behind the place gets shorter where the id was found
-pub IsPassed-shorter : (s : Ids) (place id next : ℕ) (found : Bool) → IsPassed s place id found next
-    → length (drop next (ascending s)) + cond found 1 0 ≡ length (drop place (ascending s))
-IsPassed-shorter s place id next true passed =
-    let here : length (drop place (ascending s)) ≡ length (id ∷ drop (place + 1) (ascending s)) = ap length (left-some (ascending s) place id (passed.here.0 refl)) in
-    let P : ℕ → Type 0 = λ k. length (drop k (ascending s)) + 1 ≡ length (drop place (ascending s)) in
+-- what is after the position gets shorter where the id was found
+pub IsPassed-shorter : (s : Ids) (position id next : ℕ) (found : Bool) → IsPassed s position id found next
+    → length (drop next (ascending s)) + cond found 1 0 ≡ length (drop position (ascending s))
+IsPassed-shorter s position id next true passed =
+    let here : length (drop position (ascending s)) ≡ length (id ∷ drop (position + 1) (ascending s)) = ap length (left-some (ascending s) position id (passed.here.0 refl)) in
+    let P : ℕ → Type 0 = λ k. length (drop k (ascending s)) + 1 ≡ length (drop position (ascending s)) in
     subst P (sym passed.after) (omega (arith, here))
-IsPassed-shorter s place id next false passed =
-    let same : next ≡ place = omega (arith, passed.after) in
-    let P : ℕ → Type 0 = λ k. length (drop k (ascending s)) + 0 ≡ length (drop place (ascending s)) in
+IsPassed-shorter s position id next false passed =
+    let same : next ≡ position = omega (arith, passed.after) in
+    let P : ℕ → Type 0 = λ k. length (drop k (ascending s)) + 0 ≡ length (drop position (ascending s)) in
     subst P (sym same) (omega arith)
 
 -- ---- the first of four
 abbrev pub id_at : Ids → ℕ → Option ℕ
-id_at s place = slice_get (ascending s) place
+id_at s position = slice_get (ascending s) position
 
--- the id is no later than what stands at each of the four places, and stands at one of them
+-- the id is no later than what is at each of the four positions, and is at one of them
 pub record IsFirstOfFour (a b c d : Ids) (p q r s : ℕ) (id : ℕ) : Type 0 where
   pub no_later_a : IsNoLater (Some id) (id_at a p)
   pub no_later_b : IsNoLater (Some id) (id_at b q)
@@ -144,7 +144,7 @@ no_later-none : (a : Option ℕ) → IsNoLater None a → a ≡ None
 no_later-none None e = refl
 no_later-none (Some x) e = absurd e
 
--- nothing stands at any of the four places
+-- nothing is at any of the four positions
 pub record IsNoneOfFour (a b c d : Ids) (p q r s : ℕ) : Type 0 where
   pub none_a : id_at a p ≡ None
   pub none_b : id_at b q ≡ None
@@ -168,18 +168,18 @@ has-all_ids : (a b c d : Ids) (q : ℕ) → has (all_ids a b c d) q ≡ ((has a 
 has-all_ids a b c d q = has-union (union a b) (union c d) q ∙ (λ i. has-union a b q i || has-union c d q i)
 
 -- the changes so far, and those of the ids from the bound on, are the moves
-pub record IsWalked (c : Configuration) (voters learners : Ids) (voter_place learner_place to_voter_place to_learner_place : ℕ) (changes : List Change) : Type 0 where
+pub record IsWalked (c : Configuration) (voters learners : Ids) (voter_position learner_position to_voter_position to_learner_position : ℕ) (changes : List Change) : Type 0 where
   pub bound : ℕ
-  pub to_voters_left : IsLeft to_voter_place bound voters
-  pub to_learners_left : IsLeft to_learner_place bound learners
-  pub voters_left : IsLeft voter_place bound c.incoming
-  pub learners_left : IsLeft learner_place bound c.learners
+  pub to_voters_left : IsLeft to_voter_position bound voters
+  pub to_learners_left : IsLeft to_learner_position bound learners
+  pub voters_left : IsLeft voter_position bound c.incoming
+  pub learners_left : IsLeft learner_position bound c.learners
   pub moved : changes ++ filter_map (move_of c voters learners) (ids_from bound (ascending (all_ids voters learners c.incoming c.learners))) ≡ moves c voters learners
   pub token_ids : All (λ change. change.id < 2 ^ 64) changes
 
--- at the first place all of a set is left
-left-begun : (s : Ids) (place : ℕ) → place ≡ 0 → IsLeft place 0 s
-left-begun s place first = ap (λ k. drop k (ascending s)) first ∙ sym (ids_from-start (ascending s))
+-- at the first position all of a set is left
+left-begun : (s : Ids) (position : ℕ) → position ≡ 0 → IsLeft position 0 s
+left-begun s position first = ap (λ k. drop k (ascending s)) first ∙ sym (ids_from-start (ascending s))
 
 pub IsWalked-begun : (c : Configuration) (voters learners : Ids) (i l v m : ℕ) (changes : List Change) → i ≡ 0 → l ≡ 0 → v ≡ 0 → m ≡ 0 → changes ≡ [] → IsWalked c voters learners i l v m changes
 IsWalked-begun c voters learners i l v m changes i_first l_first v_first m_first none =
@@ -280,10 +280,10 @@ IsWalked-one_more c voters learners i l v m i' l' v' m' id changes in_i in_l in_
 
     by : (id_at voters v ≡ Some id) ⊎ ((id_at learners m ≡ Some id) ⊎ ((id_at c.incoming i ≡ Some id) ⊎ (id_at c.learners l ≡ Some id)))
         → (walked.bound ≤ id) × (has (all_ids voters learners c.incoming c.learners) id ≡ true)
-    by (inl e) = let p = at_place voters walked.bound v id walked.to_voters_left e in (p.low, some_has (inl p.here))
-    by (inr (inl e)) = let p = at_place learners walked.bound m id walked.to_learners_left e in (p.low, some_has (inr (inl p.here)))
-    by (inr (inr (inl e))) = let p = at_place c.incoming walked.bound i id walked.voters_left e in (p.low, some_has (inr (inr (inl p.here))))
-    by (inr (inr (inr e))) = let p = at_place c.learners walked.bound l id walked.learners_left e in (p.low, some_has (inr (inr (inr p.here))))
+    by (inl e) = let p = at_position voters walked.bound v id walked.to_voters_left e in (p.low, some_has (inl p.here))
+    by (inr (inl e)) = let p = at_position learners walked.bound m id walked.to_learners_left e in (p.low, some_has (inr (inl p.here)))
+    by (inr (inr (inl e))) = let p = at_position c.incoming walked.bound i id walked.voters_left e in (p.low, some_has (inr (inr (inl p.here))))
+    by (inr (inr (inr e))) = let p = at_position c.learners walked.bound l id walked.learners_left e in (p.low, some_has (inr (inr (inr p.here))))
 
 pub IsWalked-ended : (c : Configuration) (voters learners : Ids) (i l v m : ℕ) (changes : List Change) → IsWalked c voters learners i l v m changes
     → IsNoneOfFour voters learners c.incoming c.learners v m i l
@@ -293,12 +293,12 @@ IsWalked-ended c voters learners i l v m changes walked none =
     let over : ids_from walked.bound (ascending all) ≡ [] = ids_from-nothing walked.bound (ascending all)
     (λ q low.
     sym (has-ascending all q) ∙ has-all_ids voters learners c.incoming c.learners q
-    ∙ (λ j. (gone voters v walked.to_voters_left none.none_a q low j || gone learners m walked.to_learners_left none.none_b q low j)
-    || (gone c.incoming i walked.voters_left none.none_c q low j || gone c.learners l walked.learners_left none.none_d q low j))) in
+    ∙ (λ j. (is_removed voters v walked.to_voters_left none.none_a q low j || is_removed learners m walked.to_learners_left none.none_b q low j)
+    || (is_removed c.incoming i walked.voters_left none.none_c q low j || is_removed c.learners l walked.learners_left none.none_d q low j))) in
     sym (append-nil changes) ∙ ap (λ ids. changes ++ filter_map (move_of c voters learners) ids) (sym over) ∙ walked.moved
   where
-    gone : (s : Ids) (place : ℕ) → IsLeft place walked.bound s → id_at s place ≡ None → (q : ℕ) → walked.bound ≤ q → has s q ≡ false
-    gone s place left at q low = has-ascending s q ∙ holds-none_left walked.bound (ascending s) (sym left ∙ left-none (ascending s) place at) q low
+    is_removed : (s : Ids) (position : ℕ) → IsLeft position walked.bound s → id_at s position ≡ None → (q : ℕ) → walked.bound ≤ q → has s q ≡ false
+    is_removed s position left at q low = has-ascending s q ∙ holds-none_left walked.bound (ascending s) (sym left ∙ left-none (ascending s) position at) q low
 
 -- ---- that the walk ends
 -- how much is left of the four

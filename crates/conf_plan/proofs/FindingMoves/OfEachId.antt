@@ -1,4 +1,4 @@
--- What the list of moves says of each id.
+-- What the list of moves states of each id.
 use Rattle.std.proofs.Common.{◌≡◌, ℕ, Bool, true, false, cond, not, ◌&&◌, ◌||◌, ◌==◌, List, [], ◌∷◌, reverse, refl, sym, ap, ◌∙◌, eqb-true}
 use Rattle.std.specs.Prelude.{Option, Some, None, IfSome, option_map, filter_map, find}
 use Rattle.std.specs.Option.{option_or}

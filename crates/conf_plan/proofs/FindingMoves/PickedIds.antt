@@ -10,17 +10,17 @@ use Rattle.conf_change.specs.Configuration.{Configuration, members}
 use Rattle.conf_change.proofs.Offered.{is_passed, is_passed-more, is_passed-all}
 use Rattle.conf_plan.specs.Planned.{is_shared, shared_members, single_with}
 
--- of those at the first places, those that pass were put in
+-- of those at the first positions, those that pass were put in
 abbrev pub IsPickedSoFar : Ids → Ids → (ℕ → Bool) → ℕ → Ids → Type 0
-IsPickedSoFar before ids passes place now = (q : ℕ) → has now q ≡ (has before q || (is_passed ids place q && passes q))
+IsPickedSoFar before ids passes position now = (q : ℕ) → has now q ≡ (has before q || (is_passed ids position q && passes q))
 
 -- one more is put in, where it passes
-pub IsPickedSoFar-one_more : (before ids now after : Ids) (passes : ℕ → Bool) (place id : ℕ) → slice_get (ascending ids) place ≡ Some id → IsPickedSoFar before ids passes place now
-    → passes id ≡ true → after ≡ with_id now id → IsPickedSoFar before ids passes (place + 1) after
-IsPickedSoFar-one_more before ids now after passes place id here so_far shared added q =
+pub IsPickedSoFar-one_more : (before ids now after : Ids) (passes : ℕ → Bool) (position id : ℕ) → slice_get (ascending ids) position ≡ Some id → IsPickedSoFar before ids passes position now
+    → passes id ≡ true → after ≡ with_id now id → IsPickedSoFar before ids passes (position + 1) after
+IsPickedSoFar-one_more before ids now after passes position id here so_far shared added q =
     ap (λ s. has s q) added ∙ has-with_id now id q ∙ ap (λ b. (q == id) || b) (so_far q)
-    ∙ in_turn (q == id) (has before q) (is_passed ids place q) (passes q) (λ same. ap (passes) (eqb-true q id same) ∙ shared)
-    ∙ sym (ap (λ b. has before q || (b && passes q)) (is_passed-more ids place id q here))
+    ∙ in_turn (q == id) (has before q) (is_passed ids position q) (passes q) (λ same. ap (passes) (eqb-true q id same) ∙ shared)
+    ∙ sym (ap (λ b. has before q || (b && passes q)) (is_passed-more ids position id q here))
   where
     in_turn : (x y z s : Bool) → (x ≡ true → s ≡ true) → (x || (y || (z && s))) ≡ (y || ((z || x) && s))
     in_turn true true z s own = refl
@@ -36,11 +36,11 @@ IsPickedSoFar-one_more before ids now after passes place id here so_far shared a
     in_turn false false false s own = refl
 
 -- one that does not pass is left out
-pub IsPickedSoFar-same : (before ids now : Ids) (passes : ℕ → Bool) (place id : ℕ) → slice_get (ascending ids) place ≡ Some id → IsPickedSoFar before ids passes place now
-    → passes id ≡ false → IsPickedSoFar before ids passes (place + 1) now
-IsPickedSoFar-same before ids now passes place id here so_far apart q =
-    so_far q ∙ ap (λ b. has before q || b) (left_out (q == id) (is_passed ids place q) (passes q) (λ same. ap (passes) (eqb-true q id same) ∙ apart))
-    ∙ sym (ap (λ b. has before q || (b && passes q)) (is_passed-more ids place id q here))
+pub IsPickedSoFar-same : (before ids now : Ids) (passes : ℕ → Bool) (position id : ℕ) → slice_get (ascending ids) position ≡ Some id → IsPickedSoFar before ids passes position now
+    → passes id ≡ false → IsPickedSoFar before ids passes (position + 1) now
+IsPickedSoFar-same before ids now passes position id here so_far apart q =
+    so_far q ∙ ap (λ b. has before q || b) (left_out (q == id) (is_passed ids position q) (passes q) (λ same. ap (passes) (eqb-true q id same) ∙ apart))
+    ∙ sym (ap (λ b. has before q || (b && passes q)) (is_passed-more ids position id q here))
   where
     left_out : (x z s : Bool) → (x ≡ true → s ≡ false) → (z && s) ≡ ((z || x) && s)
     left_out true true s own = refl
@@ -48,9 +48,9 @@ IsPickedSoFar-same before ids now passes place id here so_far apart q =
     left_out false true s own = refl
     left_out false false s own = refl
 
-pub IsPickedSoFar-all : (before ids now : Ids) (passes : ℕ → Bool) (place : ℕ) → size ids ≤ place → IsPickedSoFar before ids passes place now
+pub IsPickedSoFar-all : (before ids now : Ids) (passes : ℕ → Bool) (position : ℕ) → size ids ≤ position → IsPickedSoFar before ids passes position now
     → (q : ℕ) → has now q ≡ (has before q || (has ids q && passes q))
-IsPickedSoFar-all before ids now passes place end so_far q = so_far q ∙ ap (λ b. has before q || (b && passes q)) (is_passed-all ids place q end)
+IsPickedSoFar-all before ids now passes position end so_far q = so_far q ∙ ap (λ b. has before q || (b && passes q)) (is_passed-all ids position q end)
 
 -- those of a set that pass, from none on
 pub ids_where-picked : (ids none picked : Ids) (passes : ℕ → Bool) → none ≡ no_ids → ((q : ℕ) → has picked q ≡ (has none q || (has ids q && passes q)))

@@ -13,14 +13,14 @@ use Rattle.conf_plan.proofs.FindingMoves.OfEachId.{last_effective-moves}
 
 -- ---- a configuration that is valid with a voter, and not joint
 pub record IsSingle (c : Configuration) : Type 0 where
-  pub settled : IsValidWithVoter c
+  pub valid_with_voter : IsValidWithVoter c
   pub single : is_joint c ≡ false
 
--- nobody waits in it
+-- no id waits in it
 pub IsSingle-no_next : (c : Configuration) → IsSingle c → (q : ℕ) → has c.learners_next q ≡ false
 IsSingle-no_next c s q =
     false_from_ne_true _ (λ waits.
-    true≢false (sym ((ValidByMember-from_is_valid c s.settled.valid).next_outgoing q waits) ∙ has-none_in_empty c.outgoing (not-false _ s.single) q))
+    true≢false (sym ((ValidByMember-from_is_valid c s.valid_with_voter.valid).next_outgoing q waits) ∙ has-none_in_empty c.outgoing (not-false _ s.single) q))
 
 -- ---- voters and learners that can be wanted
 pub record AreWanted (voters learners : Ids) : Type 0 where
@@ -77,7 +77,7 @@ pub moves-has_wanted : (c : Configuration) (out voters learners : Ids) (flag : B
     → ((q : ℕ) → has c.learners q ≡ true → has out q ≡ false) → HasWanted (result_of (with_out c out flag) (moves c voters learners)) voters learners
 moves-has_wanted c out voters learners flag single wanted apart_out =
     let start = with_out c out flag in
-    let valid = ValidByMember-from_is_valid c single.settled.valid in
+    let valid = ValidByMember-from_is_valid c single.valid_with_voter.valid in
     let token = λ (q : ℕ). last_effective-moves c voters learners q (kind_of_move-zero c voters learners valid wanted) in
     record {
       incoming = has-same_ids _ _ (λ q.

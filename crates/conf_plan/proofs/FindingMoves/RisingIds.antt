@@ -14,7 +14,7 @@ less x y e = subst (λ r. MatchOrdering r (x < y) (x ≡ y) (y < x)) e (ranks x 
 abbrev pub holds : ℕ → List ℕ → Bool
 holds q xs = list_any (λ x. q == x) xs
 
--- those behind the first are above it
+-- those after the first are above it
 pub holds-above : (z q : ℕ) (zs : List ℕ) → AllByRecursion (λ y. nat_cmp z y ≡ Less) zs → holds q zs ≡ true → z < q
 holds-above z q [] up here = cc
 holds-above z q (y ∷ ys) up here = elim (or_cases (q == y) (holds q ys) here) [

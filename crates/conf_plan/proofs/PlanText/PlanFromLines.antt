@@ -40,7 +40,7 @@ steps_in-long before (first ∷ lines) (step ∷ steps) fifth after h four =
     rw (ne_eqb before 4 (λ same. omega arith), step_in-some first step h.0, steps_in-long (before + 1) lines steps fifth after h.1 (omega arith)) refl
 
 -- ---- from the function to the relations
--- the first bad line, behind this many lines
+-- the first bad line, after this many lines
 record IsBadAfter (count : ℕ) (lines : List (List ℕ)) (number : ℕ) : Type 0 where
   before : List (List ℕ)
   line : List ℕ
@@ -61,17 +61,17 @@ record IsLongAfter (count : ℕ) (lines : List (List ℕ)) : Type 0 where
   four : count + length before ≡ 4
   parsed : AllZip IsLineOf before steps
 
--- what an answer says of the lines that follow this many
-abbrev Tells : ℕ → List (List ℕ) → Result (List Step) PlanTextFault → Type 0
-Tells count lines (Ok steps) = (count + length steps ≤ 4) × AllZip IsLineOf lines steps
-Tells count lines (Err (BadLine number)) = IsBadAfter count lines number
-Tells count lines (Err TooManySteps) = IsLongAfter count lines
-Tells count lines (Err NoMemory) = ⊥
+-- what an answer states of the lines that follow this many
+abbrev IsAnswerAfter : ℕ → List (List ℕ) → Result (List Step) PlanTextFault → Type 0
+IsAnswerAfter count lines (Ok steps) = (count + length steps ≤ 4) × AllZip IsLineOf lines steps
+IsAnswerAfter count lines (Err (BadLine number)) = IsBadAfter count lines number
+IsAnswerAfter count lines (Err TooManySteps) = IsLongAfter count lines
+IsAnswerAfter count lines (Err NoMemory) = ⊥
 
-Tells-step : (count : ℕ) (line : List ℕ) (lines : List (List ℕ)) (step : Step) (rest : Result (List Step) PlanTextFault) → IsLineOf line step → Tells (count + 1) lines rest
-    → Tells count (line ∷ lines) (and_steps (count + 1) (Some step) rest)
-Tells-step count line lines step (Ok steps) is h = (omega (arith, h.0), (is, h.1))
-Tells-step count line lines step (Err (BadLine number)) is h = record {
+IsAnswerAfter-step : (count : ℕ) (line : List ℕ) (lines : List (List ℕ)) (step : Step) (rest : Result (List Step) PlanTextFault) → IsLineOf line step → IsAnswerAfter (count + 1) lines rest
+    → IsAnswerAfter count (line ∷ lines) (and_steps (count + 1) (Some step) rest)
+IsAnswerAfter-step count line lines step (Ok steps) is h = (omega (arith, h.0), (is, h.1))
+IsAnswerAfter-step count line lines step (Err (BadLine number)) is h = record {
   before = line ∷ h.before;
   line = h.line;
   after = h.after;
@@ -82,7 +82,7 @@ Tells-step count line lines step (Err (BadLine number)) is h = record {
   parsed = (is, h.parsed);
   bad = h.bad;
 }
-Tells-step count line lines step (Err TooManySteps) is h = record {
+IsAnswerAfter-step count line lines step (Err TooManySteps) is h = record {
   before = line ∷ h.before;
   fifth = h.fifth;
   after = h.after;
@@ -91,13 +91,13 @@ Tells-step count line lines step (Err TooManySteps) is h = record {
   four = omega (arith, h.four);
   parsed = (is, h.parsed);
 }
-Tells-step count line lines step (Err NoMemory) is h = absurd h
+IsAnswerAfter-step count line lines step (Err NoMemory) is h = absurd h
 
-Tells-steps_in : (count : ℕ) (lines : List (List ℕ)) → count ≤ 4 → Tells count lines (steps_in count lines)
-Tells-steps_in count [] small = (omega arith, tt)
-Tells-steps_in count (line ∷ lines) small = go (eqb count 4) (step_in (tokens_in line)) refl refl (Tells-steps_in (count + 1) lines) where
-  go : (full : Bool) (found : Option Step) → eqb count 4 ≡ full → step_in (tokens_in line) ≡ found → (count + 1 ≤ 4 → Tells (count + 1) lines (steps_in (count + 1) lines))
-      → Tells count (line ∷ lines) (cond full (Err TooManySteps) (and_steps (count + 1) found (steps_in (count + 1) lines)))
+IsAnswerAfter-steps_in : (count : ℕ) (lines : List (List ℕ)) → count ≤ 4 → IsAnswerAfter count lines (steps_in count lines)
+IsAnswerAfter-steps_in count [] small = (omega arith, tt)
+IsAnswerAfter-steps_in count (line ∷ lines) small = go (eqb count 4) (step_in (tokens_in line)) refl refl (IsAnswerAfter-steps_in (count + 1) lines) where
+  go : (full : Bool) (found : Option Step) → eqb count 4 ≡ full → step_in (tokens_in line) ≡ found → (count + 1 ≤ 4 → IsAnswerAfter (count + 1) lines (steps_in (count + 1) lines))
+      → IsAnswerAfter count (line ∷ lines) (cond full (Err TooManySteps) (and_steps (count + 1) found (steps_in (count + 1) lines)))
   go true found is_full is_found later = record { before = []; fifth = line; after = lines; steps = []; position = refl; four = grind (arith, nat_tests); parsed = tt }
   go false None is_full is_found later = record {
     before = [];
@@ -112,31 +112,31 @@ Tells-steps_in count (line ∷ lines) small = go (eqb count 4) (step_in (tokens_
   }
   go false (Some step) is_full is_found later =
       let room : count + 1 ≤ 4 = grind (arith, nat_tests) in
-      Tells-step count line lines step (steps_in (count + 1) lines) (IsLineOf-from_some line step is_found) (later room)
+      IsAnswerAfter-step count line lines step (steps_in (count + 1) lines) (IsLineOf-from_some line step is_found) (later room)
 
--- ---- the line that says that there is nothing to do
+-- ---- the line that states that there is nothing to do
 nothing_tokens-from_true : (tokens : List (List ℕ)) → is_nothing tokens ≡ true → tokens ≡ codes "nothing" ∷ codes "to" ∷ codes "do" ∷ []
 nothing_tokens-from_true [] e = absurd (true≢false (sym e))
 nothing_tokens-from_true (a ∷ []) e = absurd (true≢false (sym e))
 nothing_tokens-from_true (a ∷ b ∷ []) e = absurd (true≢false (sym e))
 nothing_tokens-from_true (a ∷ b ∷ c ∷ []) e =
     let all = and_parts (bytes_eq a (codes "nothing") && bytes_eq b (codes "to")) (bytes_eq c (codes "do")) e in
-    let front = and_parts (bytes_eq a (codes "nothing")) (bytes_eq b (codes "to")) all.0 in
-    rw ((bytes_eq-Decides a (codes "nothing")).0 front.0, (bytes_eq-Decides b (codes "to")).0 front.1, (bytes_eq-Decides c (codes "do")).0 all.1) refl
+    let prefix = and_parts (bytes_eq a (codes "nothing")) (bytes_eq b (codes "to")) all.0 in
+    rw ((bytes_eq-Decides a (codes "nothing")).0 prefix.0, (bytes_eq-Decides b (codes "to")).0 prefix.1, (bytes_eq-Decides c (codes "do")).0 all.1) refl
 nothing_tokens-from_true (a ∷ b ∷ c ∷ d ∷ tokens) e = absurd (true≢false (sym e))
 
-plan_in-says_nothing : (text : List ℕ) → IsNothingToDo text → plan_in text ≡ Ok []
-plan_in-says_nothing text h = ap plan_in_lines h.alone ∙ rw h.line_tokens refl
+plan_in-nothing_to_do : (text : List ℕ) → IsNothingToDo text → plan_in text ≡ Ok []
+plan_in-nothing_to_do text h = ap plan_in_lines h.alone ∙ rw h.line_tokens refl
 
 alone_same : (a b : List ℕ) → a ∷ [] ≡ b ∷ [] → a ≡ b
 alone_same a b e = cc
 
--- a line that is all of such a text has its words
+-- a line that is all of such a text has its tokens
 is_nothing_alone : (text line : List ℕ) → plan_lines text ≡ line ∷ [] → IsNothingToDo text → is_nothing (tokens_in line) ≡ true
 is_nothing_alone text line are h = ap is_nothing (ap tokens_in (alone_same line h.line (sym are ∙ h.alone)) ∙ h.line_tokens)
 
 pub something-other_tokens : (text line : List ℕ) → plan_lines text ≡ line ∷ [] → is_nothing (tokens_in line) ≡ false → ¬ (IsNothingToDo text)
-something-other_tokens text line are says h = true≢false (sym (is_nothing_alone text line are h) ∙ says)
+something-other_tokens text line are is_alone h = true≢false (sym (is_nothing_alone text line are h) ∙ is_alone)
 
 pub something-more_lines : (text line rest : List ℕ) → plan_lines text ≡ line ∷ plan_lines rest → ¬ (IsNothingToDo text)
 something-more_lines text line rest are h = let none = sym (are ∙ ap (λ lines. line ∷ lines) (lines_of-some rest).are) ∙ h.alone in absurd cc
@@ -144,11 +144,11 @@ something-more_lines text line rest are h = let none = sym (are ∙ ap (λ lines
 -- whether it is said, by the lines of the text
 decided : (text : List ℕ) → IsNothingToDo text ⊎ (¬ (IsNothingToDo text) × (plan_in text ≡ steps_in 0 (plan_lines text)))
 decided text = go (plan_lines text) refl where
-  single : (line : List ℕ) (says : Bool) → plan_lines text ≡ line ∷ [] → is_nothing (tokens_in line) ≡ says → IsNothingToDo text ⊎ (¬ (IsNothingToDo text) × (plan_in text ≡ steps_in 0 (plan_lines text)))
-  single line true are says = inl (record { line = line; alone = are; line_tokens = nothing_tokens-from_true (tokens_in line) says })
-  single line false are says = inr (
-    something-other_tokens text line are says,
-    ap plan_in_lines are ∙ rw says (sym (ap (steps_in 0) are)),
+  single : (line : List ℕ) (is_alone : Bool) → plan_lines text ≡ line ∷ [] → is_nothing (tokens_in line) ≡ is_alone → IsNothingToDo text ⊎ (¬ (IsNothingToDo text) × (plan_in text ≡ steps_in 0 (plan_lines text)))
+  single line true are is_alone = inl (record { line = line; alone = are; line_tokens = nothing_tokens-from_true (tokens_in line) is_alone })
+  single line false are is_alone = inr (
+    something-other_tokens text line are is_alone,
+    ap plan_in_lines are ∙ rw is_alone (sym (ap (steps_in 0) are)),
   )
 
   go : (lines : List (List ℕ)) → plan_lines text ≡ lines → IsNothingToDo text ⊎ (¬ (IsNothingToDo text) × (plan_in text ≡ steps_in 0 (plan_lines text)))
@@ -158,21 +158,21 @@ decided text = go (plan_lines text) refl where
 
 pub plan_in-steps : (text : List ℕ) → ¬ (IsNothingToDo text) → plan_in text ≡ steps_in 0 (plan_lines text)
 plan_in-steps text none = elim (decided text) [
-  | inl says ↦ absurd (none says)
+  | inl is_alone ↦ absurd (none is_alone)
   | inr other ↦ other.1
 ]
 
 -- ---- the whole text
-steps_say_something : (text : List ℕ) (steps : List Step) → AllZip IsLineOf (plan_lines text) steps → ¬ (IsNothingToDo text)
-steps_say_something text steps lines h = go steps (rw h.alone at lines) where
+steps_are_something : (text : List ℕ) (steps : List Step) → AllZip IsLineOf (plan_lines text) steps → ¬ (IsNothingToDo text)
+steps_are_something text steps lines h = go steps (rw h.alone at lines) where
   go : (steps : List Step) → AllZip IsLineOf (h.line ∷ []) steps → ⊥
   go [] none = none
   go (step ∷ steps) is = let some = sym (step_in-some h.line step is.0) ∙ ap step_in h.line_tokens in cc
 
 pub plan_in-ok : (text : List ℕ) (steps : List Step) → ParsesToPlan text steps → plan_in text ≡ Ok steps
 plan_in-ok text steps h = elim h [
-  | inl nothing ↦ plan_in-says_nothing text nothing.1 ∙ ap (λ all. Ok all) (sym nothing.0)
-  | inr is ↦ plan_in-steps text (steps_say_something text steps is.lines) ∙ steps_in-ok 0 (plan_lines text) steps is.lines (omega (arith, is.at_most_four))
+  | inl nothing ↦ plan_in-nothing_to_do text nothing.1 ∙ ap (λ all. Ok all) (sym nothing.0)
+  | inr is ↦ plan_in-steps text (steps_are_something text steps is.lines) ∙ steps_in-ok 0 (plan_lines text) steps is.lines (omega (arith, is.at_most_four))
 ]
 
 pub plan_in-fault : (text : List ℕ) (fault : PlanTextFault) → HasFault text fault → plan_in text ≡ Err fault
@@ -183,14 +183,14 @@ plan_in-fault text TooManySteps h =
     plan_in-steps text long ∙ ap (steps_in 0) h.position ∙ steps_in-long 0 h.before h.steps h.fifth h.after h.parsed (omega (arith, h.four))
 plan_in-fault text NoMemory h = absurd h
 
--- what an answer says of the text
-abbrev TellsOf : List ℕ → Result (List Step) PlanTextFault → Type 0
-TellsOf text (Ok steps) = ParsesToPlan text steps
-TellsOf text (Err fault) = HasFault text fault
+-- what an answer states of the text
+abbrev IsAnswerOf : List ℕ → Result (List Step) PlanTextFault → Type 0
+IsAnswerOf text (Ok steps) = ParsesToPlan text steps
+IsAnswerOf text (Err fault) = HasFault text fault
 
-TellsOf-lines : (text : List ℕ) → ¬ (IsNothingToDo text) → (answer : Result (List Step) PlanTextFault) → Tells 0 (plan_lines text) answer → TellsOf text answer
-TellsOf-lines text something (Ok steps) h = inr (record { at_most_four = omega (arith, h.0); lines = h.1 })
-TellsOf-lines text something (Err (BadLine number)) h = record {
+IsAnswerOf-lines : (text : List ℕ) → ¬ (IsNothingToDo text) → (answer : Result (List Step) PlanTextFault) → IsAnswerAfter 0 (plan_lines text) answer → IsAnswerOf text answer
+IsAnswerOf-lines text something (Ok steps) h = inr (record { at_most_four = omega (arith, h.0); lines = h.1 })
+IsAnswerOf-lines text something (Err (BadLine number)) h = record {
   before = h.before;
   line = h.line;
   after = h.after;
@@ -202,24 +202,24 @@ TellsOf-lines text something (Err (BadLine number)) h = record {
   bad = h.bad;
   something = something;
 }
-TellsOf-lines text something (Err TooManySteps) h = record { before = h.before; fifth = h.fifth; after = h.after; steps = h.steps; position = h.position; four = omega (arith, h.four); parsed = h.parsed }
-TellsOf-lines text something (Err NoMemory) h = absurd h
+IsAnswerOf-lines text something (Err TooManySteps) h = record { before = h.before; fifth = h.fifth; after = h.after; steps = h.steps; position = h.position; four = omega (arith, h.four); parsed = h.parsed }
+IsAnswerOf-lines text something (Err NoMemory) h = absurd h
 
-TellsOf-plan_in : (text : List ℕ) → TellsOf text (plan_in text)
-TellsOf-plan_in text = elim (decided text) [
-  | inl says ↦ subst (TellsOf text) (sym (plan_in-says_nothing text says)) (inl (refl, says))
-  | inr other ↦ subst (TellsOf text) (sym other.1) (TellsOf-lines text other.0 (steps_in 0 (plan_lines text)) (Tells-steps_in 0 (plan_lines text) (omega arith)))
+IsAnswerOf-plan_in : (text : List ℕ) → IsAnswerOf text (plan_in text)
+IsAnswerOf-plan_in text = elim (decided text) [
+  | inl is_alone ↦ subst (IsAnswerOf text) (sym (plan_in-nothing_to_do text is_alone)) (inl (refl, is_alone))
+  | inr other ↦ subst (IsAnswerOf text) (sym other.1) (IsAnswerOf-lines text other.0 (steps_in 0 (plan_lines text)) (IsAnswerAfter-steps_in 0 (plan_lines text) (omega arith)))
 ]
 
 pub ParsesToPlan-from_ok : (text : List ℕ) (steps : List Step) → plan_in text ≡ Ok steps → ParsesToPlan text steps
-ParsesToPlan-from_ok text steps e = subst (TellsOf text) e (TellsOf-plan_in text)
+ParsesToPlan-from_ok text steps e = subst (IsAnswerOf text) e (IsAnswerOf-plan_in text)
 
 pub HasFault-from_err : (text : List ℕ) (fault : PlanTextFault) → plan_in text ≡ Err fault → HasFault text fault
-HasFault-from_err text fault e = subst (TellsOf text) e (TellsOf-plan_in text)
+HasFault-from_err text fault e = subst (IsAnswerOf text) e (IsAnswerOf-plan_in text)
 
 pub text-plan_or_fault : (text : List ℕ) → ((steps : List Step) × ParsesToPlan text steps) ⊎ ((fault : PlanTextFault) × HasFault text fault)
-text-plan_or_fault text = go (plan_in text) (TellsOf-plan_in text) where
-  go : (answer : Result (List Step) PlanTextFault) → TellsOf text answer → ((steps : List Step) × ParsesToPlan text steps) ⊎ ((fault : PlanTextFault) × HasFault text fault)
+text-plan_or_fault text = go (plan_in text) (IsAnswerOf-plan_in text) where
+  go : (answer : Result (List Step) PlanTextFault) → IsAnswerOf text answer → ((steps : List Step) × ParsesToPlan text steps) ⊎ ((fault : PlanTextFault) × HasFault text fault)
   go (Ok steps) h = inl (steps, h)
   go (Err fault) h = inr (fault, h)
 
@@ -227,12 +227,12 @@ text-plan_or_fault text = go (plan_in text) (TellsOf-plan_in text) where
 abbrev IsAnswer : List ℕ → Result (List Step) PlanTextFault → Type 0
 IsAnswer text result = (result ≡ plan_in text) ⊎ (result ≡ Err NoMemory)
 
-pub IsAnswer-stands : (text : List ℕ) (result : Result (List Step) PlanTextFault) → IsAnswer text result → IfOk result (ParsesToPlan text)
-IsAnswer-stands text (Ok steps) h = elim h [
+pub IsAnswer-holds : (text : List ℕ) (result : Result (List Step) PlanTextFault) → IsAnswer text result → IfOk result (ParsesToPlan text)
+IsAnswer-holds text (Ok steps) h = elim h [
   | inl same ↦ ParsesToPlan-from_ok text steps (sym same)
   | inr none ↦ absurd cc
 ]
-IsAnswer-stands text (Err fault) h = tt
+IsAnswer-holds text (Err fault) h = tt
 
 pub IsAnswer-fault : (text : List ℕ) (result : Result (List Step) PlanTextFault) → IsAnswer text result → IfErr result (λ fault. (fault ≡ NoMemory) ⊎ HasFault text fault)
 IsAnswer-fault text (Ok steps) h = tt
@@ -242,8 +242,8 @@ IsAnswer-fault text (Err fault) h = elim h [
 ]
 
 pub IsAnswer-read : (text : List ℕ) (result : Result (List Step) PlanTextFault) → IsAnswer text result → (steps : List Step) → ParsesToPlan text steps → (result ≡ Ok steps) ⊎ (result ≡ Err NoMemory)
-IsAnswer-read text result h steps stands = elim h [
-  | inl same ↦ inl (same ∙ plan_in-ok text steps stands)
+IsAnswer-read text result h steps holds = elim h [
+  | inl same ↦ inl (same ∙ plan_in-ok text steps holds)
   | inr none ↦ inr none
 ]
 
@@ -253,4 +253,4 @@ IsAnswer-refused text result h fault has = elim h [
   | inr none ↦ inr none
 ]
 
-pub ruleset answer_laws = (IsAnswer-stands, IsAnswer-fault)
+pub ruleset answer_laws = (IsAnswer-holds, IsAnswer-fault)

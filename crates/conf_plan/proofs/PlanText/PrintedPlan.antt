@@ -26,17 +26,17 @@ use Rattle.conf_plan.specs.PlanCode.{plan_in}
 use Rattle.conf_plan.proofs.PlanText.LineByLine.{lines_of-on, lines_of-alone}
 use Rattle.conf_plan.proofs.PlanText.PlanFromLines.{plan_in-ok}
 
--- ---- words
+-- ---- tokens
 -- it is no white space
 abbrev IsBlack : ℕ → Type 0
 IsBlack byte = is_space byte ≡ false
 
--- a word has a byte and no white space
+-- a token has a byte and no white space
 record IsToken (token : List ℕ) : Type 0 where
   some : 0 < length token
   black : All IsBlack token
 
--- the words of words with one space between
+-- the tokens of tokens with one space between
 tokens_in-join : (token : List ℕ) (more : List (List ℕ)) → All IsToken (token ∷ more) → tokens_in (join_with_byte 32 (token ∷ more)) ≡ token ∷ more
 tokens_in-join token [] h =
     let is = All-head IsToken token [] h in
@@ -60,7 +60,7 @@ IsNoNewline-join (token ∷ next ∷ more) h =
     All-append IsNoNewline token (32 ∷ join_with_byte 32 (next ∷ more)) (All-weaker IsBlack IsNoNewline IsNoNewline-black token (All-head IsToken token (next ∷ more) h).black)
     (All-cons IsNoNewline 32 (join_with_byte 32 (next ∷ more)) refl (IsNoNewline-join (next ∷ more) (All-tail IsToken token (next ∷ more) h)))
 
--- ---- the words of a step
+-- ---- the tokens of a step
 IsBlack-digit : (byte : ℕ) → 48 ≤ byte → byte ≤ 57 → IsBlack byte
 IsBlack-digit byte low high = grind (arith, nat_tests)
 
@@ -84,7 +84,7 @@ black_from_not : (white : Bool) → not white ≡ true → white ≡ false
 black_from_not true e = sym e
 black_from_not false e = refl
 
--- a word that is written out
+-- a token that is written out
 IsToken-written : (token : List ℕ) → 0 < length token → list_all (λ byte. not (is_space byte)) token ≡ true → IsToken token
 IsToken-written token some black = record {
   some = some;
@@ -123,7 +123,7 @@ Denotes-printed [] h = tt
 Denotes-printed (change ∷ changes) h =
     rw (tokens_in-join (change_text change) (map change_text changes) (changes_are_tokens (change ∷ changes) h)) (parsed-printed (change ∷ changes) h)
 
--- the words of a line are its command and its changes
+-- the tokens of a line are its command and its changes
 abbrev all_tokens : Step → List (List ℕ)
 all_tokens step = command_tokens step ++ map change_text (changes_of step)
 

@@ -14,7 +14,7 @@ use Rattle.conf_plan.proofs.PlanText.LineByLine.{lines_of-some}
 use Rattle.conf_plan.proofs.PlanText.StepFromTokens.{IsLineOf-from_some, HasTokenIds-from_line}
 use Rattle.conf_plan.proofs.PlanText.PlanFromLines.{plan_in-steps}
 
--- steps that were read, before what the rest stands for
+-- steps that were read, before what the rest denotes
 abbrev onto : List Step → Result (List Step) PlanTextFault → Result (List Step) PlanTextFault
 onto done (Ok more) = Ok (done ++ more)
 onto done (Err fault) = Err fault
@@ -54,10 +54,10 @@ IsPlan-push steps step line h not_four is = record {
   token_ids = All-push HasTokenIds steps step h.token_ids (HasTokenIds-from_line line step (IsLineOf-from_some line step is));
 }
 
-pub IsReadSoFar-more : (text rest line behind : List ℕ) (steps : List Step) (step : Step) → IsReadSoFar text rest steps → length steps ≢ 4 → plan_lines rest ≡ line ∷ plan_lines behind → step_in (tokens_in line) ≡ Some step
-    → IsReadSoFar text behind (steps ++ step ∷ [])
-IsReadSoFar-more text rest line behind steps step h not_four are is = record {
-  decides = with_step text rest line (plan_lines behind) steps step h not_four are is ∙ ap (λ n. onto (steps ++ step ∷ []) (steps_in n (plan_lines behind))) (sym (length-append steps (step ∷ [])));
+pub IsReadSoFar-more : (text rest line later : List ℕ) (steps : List Step) (step : Step) → IsReadSoFar text rest steps → length steps ≢ 4 → plan_lines rest ≡ line ∷ plan_lines later → step_in (tokens_in line) ≡ Some step
+    → IsReadSoFar text later (steps ++ step ∷ [])
+IsReadSoFar-more text rest line later steps step h not_four are is = record {
+  decides = with_step text rest line (plan_lines later) steps step h not_four are is ∙ ap (λ n. onto (steps ++ step ∷ []) (steps_in n (plan_lines later))) (sym (length-append steps (step ∷ [])));
   plan = IsPlan-push steps step line h.plan not_four is;
 }
 

@@ -1,4 +1,4 @@
--- The function that reads a step from the words of a line, against the relation.
+-- The function that reads a step from the tokens of a line, against the relation.
 use Rattle.std.proofs.Common.{◌≡◌, ℕ, ◌<◌, ◌^◌, Bool, true, false, List, [], ◌∷◌, ◌++◌, Option, Some, None, Result, Ok, Err, refl, ap, ◌∙◌}
 use Rattle.std.specs.Prelude.{codes, option_map, bytes_eq}
 use Rattle.std.specs.List.{All, AllZip}
@@ -25,7 +25,7 @@ step_in-tokens_in LeaveJoint (token ∷ tokens) h = absurd h
 pub step_in-some : (line : List ℕ) (step : Step) → IsLineOf line step → step_in (tokens_in line) ≡ Some step
 step_in-some line step h = ap step_in h.line_tokens ∙ step_in-tokens_in step h.tokens h.parsed
 
--- ---- what the words are, where a step was read from them
+-- ---- what the tokens are, where a step was read from them
 -- the changes from which a step was made
 record IsMade (make : List Change → Step) (tokens : List (List ℕ)) (step : Step) : Type 0 where
   changes : List Change
@@ -45,7 +45,7 @@ flag_token-from_some token flag e = go (bytes_eq token (flag_token true)) (bytes
   go false true first second = let f = rw (first, second) at e in let same : flag ≡ false = cc in rw same ((bytes_eq-Decides token (flag_token false)).0 second)
   go false false first second = let f = rw (first, second) at e in absurd cc
 
--- the words are the step's command and then its changes
+-- the tokens are the step's command and then its changes
 record IsTokensOf (tokens : List (List ℕ)) (step : Step) : Type 0 where
   changes : List (List ℕ)
   are : tokens ≡ command_tokens step ++ changes
@@ -72,7 +72,7 @@ IsTokensOf-simple tokens step e =
     let made = IsMade-from_some Simple tokens step e in
     rw made.made (record { changes = tokens; are = refl; parsed = made.parsed })
 
--- the first word is the command
+-- the first token is the command
 IsTokensOf-first : (command token : List ℕ) (tokens : List (List ℕ)) (step : Step) → bytes_eq command token ≡ true → IsTokensOf (token ∷ tokens) step → IsTokensOf (command ∷ tokens) step
 IsTokensOf-first command token tokens step same h = rw ((bytes_eq-Decides command token).0 same) h
 

@@ -18,7 +18,7 @@ use Rattle.conf_plan.proofs.FindingMoves.ResultingConfiguration.{IsSingle, AreWa
 -- ---- one voter at a time
 simple_moves : (c : Configuration) (voters learners : Ids) → IsSingle c → AreWanted voters learners → result_of c (moves c voters learners) ≡ single_with voters learners
 simple_moves c voters learners single wanted =
-    let valid = ValidByMember-from_is_valid c single.settled.valid in
+    let valid = ValidByMember-from_is_valid c single.valid_with_voter.valid in
     let moved = moves-has_wanted c c.outgoing voters learners c.auto_leave single wanted valid.learner_outgoing in
     let out : (q : ℕ) → has c.outgoing q ≡ false = λ q. ap (λ s. has s q) (outgoing-none c single.single) ∙ has-no_ids q in
     configuration-by_members (result_of c (moves c voters learners)) (single_with voters learners)
@@ -36,7 +36,7 @@ either_way false b = refl
 leave_moves : (c : Configuration) (voters learners : Ids) → IsSingle c → AreWanted voters learners
     → after_leave (result_of (with_outgoing c false) (moves c voters learners)) ≡ single_with voters learners
 leave_moves c voters learners single wanted =
-    let valid = ValidByMember-from_is_valid c single.settled.valid in
+    let valid = ValidByMember-from_is_valid c single.valid_with_voter.valid in
     let moved = moves-has_wanted c c.incoming voters learners false single wanted valid.learner_incoming in
     let entered = result_of (with_outgoing c false) (moves c voters learners) in
     configuration-by_members (after_leave entered) (single_with voters learners)
@@ -57,14 +57,14 @@ simple_moves-accepted c voters learners single wanted few =
 pub enter_moves-accepted : (c : Configuration) (voters learners : Ids) → IsSingle c → AreWanted voters learners
     → Gives c (EnterJoint false (moves c voters learners)) (entered_by c voters learners)
 enter_moves-accepted c voters learners single wanted =
-    let moved = moves-has_wanted c c.incoming voters learners false single wanted (ValidByMember-from_is_valid c single.settled.valid).learner_incoming in
-    outcome-enter_accepted c (entered_by c voters learners) false (moves c voters learners) single.single single.settled.voter refl
+    let moved = moves-has_wanted c c.incoming voters learners false single wanted (ValidByMember-from_is_valid c single.valid_with_voter.valid).learner_incoming in
+    outcome-enter_accepted c (entered_by c voters learners) false (moves c voters learners) single.single single.valid_with_voter.voter refl
     (ap (λ s. not (is_empty s)) moved.incoming ∙ not_from_false _ wanted.voter)
 
 pub leave_moves-accepted : (c : Configuration) (voters learners : Ids) → IsSingle c → AreWanted voters learners
     → Gives (entered_by c voters learners) LeaveJoint (single_with voters learners)
 leave_moves-accepted c voters learners single wanted =
-    outcome-leave_accepted (entered_by c voters learners) single.settled.voter ∙ ap Ok (leave_moves c voters learners single wanted)
+    outcome-leave_accepted (entered_by c voters learners) single.valid_with_voter.voter ∙ ap Ok (leave_moves c voters learners single wanted)
 
 pub single_steps-is_chain : (Leads : Configuration → Step → Configuration → Type 0) (c : Configuration) (voters learners : Ids)
     → (difference_count c.incoming voters ≤ 1 → Leads c (Simple (moves c voters learners)) (single_with voters learners))

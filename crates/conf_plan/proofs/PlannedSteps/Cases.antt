@@ -48,7 +48,7 @@ OnOk-weaker (Err _) f p = tt
 pub joint_steps-inserted : (c target : Configuration) → IsSingle c → IsValidWithVoter target → is_joint target ≡ true → is_same_set c.incoming target.outgoing ≡ false
     → joint_steps c target
     ≡ single_steps c target.outgoing (shared_members c target) ++ entering_step (single_with target.outgoing (shared_members c target)) target ∷ []
-joint_steps-inserted c target single settled joint differs = λ i. inserted i ++ entering_step (reached i) target ∷ []
+joint_steps-inserted c target single valid_with_voter joint differs = λ i. inserted i ++ entering_step (reached i) target ∷ []
   where
     inserted : inserted_steps c target ≡ single_steps c target.outgoing (shared_members c target)
     inserted = cond-false (is_same_set c.incoming target.outgoing) _ _ differs
@@ -56,11 +56,11 @@ joint_steps-inserted c target single settled joint differs = λ i. inserted i ++
     reached : configuration_after c (inserted_steps c target) ≡ single_with target.outgoing (shared_members c target)
     reached =
         ap (configuration_after c) inserted
-        ∙ configuration_after-run c _ _ (single_steps-is_run c target.outgoing (shared_members c target) single (outgoing-are_wanted c target settled joint))
+        ∙ configuration_after-run c _ _ (single_steps-is_run c target.outgoing (shared_members c target) single (outgoing-are_wanted c target valid_with_voter joint))
 
 -- ---- from a configuration that is not joint
 pub single_with-is_single : (voters learners : Ids) → IsValidWithVoter (single_with voters learners) → IsSingle (single_with voters learners)
-single_with-is_single voters learners settled = record { settled = settled; single = ap not is_empty-no_ids }
+single_with-is_single voters learners valid_with_voter = record { valid_with_voter = valid_with_voter; single = ap not is_empty-no_ids }
 
 pub from_single-joint : (voters learners : Ids) (target : Configuration) → is_joint target ≡ true
     → planned_from_single (single_with voters learners) target ≡ joint_steps (single_with voters learners) target
@@ -72,11 +72,11 @@ from_single-joint voters learners target joint =
 
 pub from_single-nothing : (voters learners : Ids) (target : Configuration) → IsValidWithVoter target → is_joint target ≡ false
     → is_same_set voters target.incoming ≡ true → is_same_set learners target.learners ≡ true → planned_from_single (single_with voters learners) target ≡ []
-from_single-nothing voters learners target settled single voters_same learners_same =
+from_single-nothing voters learners target valid_with_voter single voters_same learners_same =
     let c = single_with voters learners in
     let equal : c ≡ target =
     (λ i. single_with (is_same_set-equal voters target.incoming voters_same i) (is_same_set-equal learners target.learners learners_same i))
-    ∙ single_with-own target (record { settled = settled; single = single }) in
+    ∙ single_with-own target (record { valid_with_voter = valid_with_voter; single = single }) in
     cond-true (is_same c target) _ _ ((is_same-is_equality c target).1 equal)
 
 -- the same configurations have the same voters and learners
@@ -113,11 +113,11 @@ pub path_by-leaving : (strategy : Strategy) (now target : Configuration) → is_
     → path_by strategy now target ≡ LeaveJoint ∷ from_single_by strategy (single_with now.incoming (union now.learners now.learners_next)) target
 path_by-leaving strategy now target joint other = cond-false (is_same now target) _ _ other ∙ cond-true (is_joint now) _ _ joint
 
-pub left-is_settled : (now : Configuration) → IsValidWithVoter now → is_joint now ≡ true → IsValidWithVoter (single_with now.incoming (union now.learners now.learners_next))
-left-is_settled now settled joint = (after_leave-is_single now settled joint).settled
+pub left-is_valid : (now : Configuration) → IsValidWithVoter now → is_joint now ≡ true → IsValidWithVoter (single_with now.incoming (union now.learners now.learners_next))
+left-is_valid now valid_with_voter joint = (after_leave-is_single now valid_with_voter joint).valid_with_voter
 
-pub own-is_settled : (now : Configuration) → IsSingle now → IsValidWithVoter (single_with now.incoming now.learners)
-own-is_settled now single = subst IsValidWithVoter (sym (single_with-own now single)) single.settled
+pub own-is_valid : (now : Configuration) → IsSingle now → IsValidWithVoter (single_with now.incoming now.learners)
+own-is_valid now single = subst IsValidWithVoter (sym (single_with-own now single)) single.valid_with_voter
 
 -- ---- steps that are added
 pub added-nothing : (before : List Step) → IsAdded before [] before

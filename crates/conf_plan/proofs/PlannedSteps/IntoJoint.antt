@@ -12,7 +12,7 @@ use Rattle.conf_change.specs.declared.step.Step.{Step}
 use Rattle.conf_change.proofs.Offered.{outcome-enter_accepted, any-members, configuration-by_members, ValidByMember-from_is_valid, is_empty-no_ids, is_same_set-equal}
 use Rattle.conf_plan.specs.Run.{IsValidWithVoter, Gives, IsRun}
 use Rattle.conf_plan.specs.Planned.{single_with, moves, shared_members, inserted_steps, configuration_after, entering_step, joint_steps}
-use Rattle.conf_plan.proofs.Runs.Chains.{run-is_settled, IsChain-append, IsRun-one, configuration_after-run}
+use Rattle.conf_plan.proofs.Runs.Chains.{run-is_valid, IsChain-append, IsRun-one, configuration_after-run}
 use Rattle.conf_plan.proofs.FindingMoves.OfEachId.{has-union}
 use Rattle.conf_plan.proofs.FindingMoves.ResultingConfiguration.{IsSingle, AreWanted, moves-has_wanted}
 use Rattle.conf_plan.proofs.PlannedSteps.BetweenSingle.{single_steps-is_run, single_steps-at_most_two}
@@ -32,8 +32,8 @@ not_shared : (c target : Configuration) (q : ℕ) → (is_member target q && not
 not_shared c target q e = has-shared_members c target q ∙ ap (λ b. b && is_member c q) e
 
 pub outgoing-are_wanted : (c target : Configuration) → IsValidWithVoter target → is_joint target ≡ true → AreWanted target.outgoing (shared_members c target)
-outgoing-are_wanted c target settled joint =
-    let valid = ValidByMember-from_is_valid target settled.valid in
+outgoing-are_wanted c target valid_with_voter joint =
+    let valid = ValidByMember-from_is_valid target valid_with_voter.valid in
     record {
       voter = not-true (is_empty target.outgoing) joint;
       zero_voters = valid.zero_outgoing;
@@ -44,20 +44,20 @@ outgoing-are_wanted c target settled joint =
 -- the configuration that is reached there
 pub at_outgoing-is_single : (c target : Configuration) → IsSingle c → IsValidWithVoter target → is_joint target ≡ true
     → IsSingle (single_with target.outgoing (shared_members c target))
-at_outgoing-is_single c target single settled joint =
-    let run = single_steps-is_run c target.outgoing (shared_members c target) single (outgoing-are_wanted c target settled joint) in
-    record { settled = run-is_settled c (single_with target.outgoing (shared_members c target)) _ single.settled run; single = ap not is_empty-no_ids }
+at_outgoing-is_single c target single valid_with_voter joint =
+    let run = single_steps-is_run c target.outgoing (shared_members c target) single (outgoing-are_wanted c target valid_with_voter joint) in
+    record { valid_with_voter = run-is_valid c (single_with target.outgoing (shared_members c target)) _ single.valid_with_voter run; single = ap not is_empty-no_ids }
 
 -- the inserted steps lead to a configuration whose incoming voters are the target's outgoing ones
 abbrev Inserted : Configuration → Configuration → List Step → Type 0
 Inserted c target steps = (reached : Configuration) × IsRun c steps reached × IsSingle reached × (reached.incoming ≡ target.outgoing)
 
 inserted : (c target : Configuration) → IsSingle c → IsValidWithVoter target → is_joint target ≡ true → Inserted c target (inserted_steps c target)
-inserted c target single settled joint =
-    let run = single_steps-is_run c target.outgoing (shared_members c target) single (outgoing-are_wanted c target settled joint) in
+inserted c target single valid_with_voter joint =
+    let run = single_steps-is_run c target.outgoing (shared_members c target) single (outgoing-are_wanted c target valid_with_voter joint) in
     cond_both (is_same_set c.incoming target.outgoing) _ _ (Inserted c target)
     (λ same. (c, refl, single, is_same_set-equal c.incoming target.outgoing same))
-    (λ other. (single_with target.outgoing (shared_members c target), run, at_outgoing-is_single c target single settled joint, refl))
+    (λ other. (single_with target.outgoing (shared_members c target), run, at_outgoing-is_single c target single valid_with_voter joint, refl))
 
 inserted_steps-at_most_two : (c target : Configuration) → length (inserted_steps c target) ≤ 2
 inserted_steps-at_most_two c target =
@@ -76,10 +76,10 @@ next_kept false true o learns waits apart = waits refl
 next_kept false false o learns waits apart = refl
 
 pub incoming-are_wanted : (target : Configuration) → IsValidWithVoter target → AreWanted target.incoming (union target.learners target.learners_next)
-incoming-are_wanted target settled =
-    let valid = ValidByMember-from_is_valid target settled.valid in
+incoming-are_wanted target valid_with_voter =
+    let valid = ValidByMember-from_is_valid target valid_with_voter.valid in
     record {
-      voter = not-true (is_empty target.incoming) settled.voter;
+      voter = not-true (is_empty target.incoming) valid_with_voter.voter;
       zero_voters = valid.zero_incoming;
       zero_learners = has-union target.learners target.learners_next 0 ∙ or_from _ _ valid.zero_learners valid.zero_next;
       apart = λ q here.
@@ -88,12 +88,12 @@ incoming-are_wanted target settled =
     }
 
 pub entering-reaches : (c target : Configuration) → IsSingle c → IsValidWithVoter target → c.incoming ≡ target.outgoing → outcome c (entering_step c target) ≡ Ok target
-entering-reaches c target single settled same =
-    let valid = ValidByMember-from_is_valid target settled.valid in
+entering-reaches c target single valid_with_voter same =
+    let valid = ValidByMember-from_is_valid target valid_with_voter.valid in
     let wanted = union target.learners target.learners_next in
     let changes = moves c target.incoming wanted in
-    let moved = moves-has_wanted c c.incoming target.incoming wanted target.auto_leave single (incoming-are_wanted target settled)
-    (ValidByMember-from_is_valid c single.settled.valid).learner_incoming in
+    let moved = moves-has_wanted c c.incoming target.incoming wanted target.auto_leave single (incoming-are_wanted target valid_with_voter)
+    (ValidByMember-from_is_valid c single.valid_with_voter.valid).learner_incoming in
     let made : result_of (with_outgoing c target.auto_leave) changes ≡ target =
     configuration-by_members (result_of (with_outgoing c target.auto_leave) changes) target
     (λ q. ap (λ s. has s q) moved.incoming) same
@@ -103,16 +103,16 @@ entering-reaches c target single settled same =
     ∙ next_kept (has target.learners q) (has target.learners_next q) (has target.outgoing q) (valid.learner_outgoing q) (valid.next_outgoing q)
     (λ learns. false_from_ne_true _ (λ waits. true≢false (sym (valid.next_outgoing q waits) ∙ valid.learner_outgoing q learns))))
     refl in
-    outcome-enter_accepted c target target.auto_leave changes single.single single.settled.voter made settled.voter
+    outcome-enter_accepted c target target.auto_leave changes single.single single.valid_with_voter.voter made valid_with_voter.voter
 
 -- ---- the steps
 pub joint_steps-is_run : (c target : Configuration) → IsSingle c → IsValidWithVoter target → is_joint target ≡ true → IsRun c (joint_steps c target) target
-joint_steps-is_run c target single settled joint =
-    let first = inserted c target single settled joint in
+joint_steps-is_run c target single valid_with_voter joint =
+    let first = inserted c target single valid_with_voter joint in
     let is = configuration_after-run c first.0 (inserted_steps c target) first.1 in
     let P : Configuration → Type 0 = λ d. outcome first.0 (entering_step d target) ≡ Ok target in
     IsChain-append Gives c first.0 target (inserted_steps c target) _ first.1
-    (IsRun-one first.0 target (entering_step (configuration_after c (inserted_steps c target)) target) (subst P (sym is) (entering-reaches first.0 target first.2 settled first.3)))
+    (IsRun-one first.0 target (entering_step (configuration_after c (inserted_steps c target)) target) (subst P (sym is) (entering-reaches first.0 target first.2 valid_with_voter first.3)))
 
 pub joint_steps-at_most_three : (c target : Configuration) → length (joint_steps c target) ≤ 3
 joint_steps-at_most_three c target =

@@ -11,37 +11,37 @@ use Rattle.conf_change.specs.declared.step.Step.TheVariants.{LeaveJoint}
 use Rattle.conf_change.proofs.Offered.{outgoing-none, outcome-leave_accepted, configuration-by_members, outcome-are_neighbours, ValidByMember-from_is_valid, is_empty-no_ids, is_same-equal}
 use Rattle.conf_plan.specs.Run.{IsValidWithVoter, IsRun}
 use Rattle.conf_plan.specs.Planned.{single_with, single_steps, planned_from_single, planned}
-use Rattle.conf_plan.proofs.Runs.Chains.{run-is_settled, IsRun-one}
+use Rattle.conf_plan.proofs.Runs.Chains.{run-is_valid, IsRun-one}
 use Rattle.conf_plan.proofs.FindingMoves.ResultingConfiguration.{IsSingle, AreWanted, IsSingle-no_next}
 use Rattle.conf_plan.proofs.PlannedSteps.BetweenSingle.{single_steps-is_run, single_steps-at_most_two}
 use Rattle.conf_plan.proofs.Runs.JointEnds.{is_joint-from_no_outgoing}
 use Rattle.conf_plan.proofs.PlannedSteps.IntoJoint.{joint_steps-is_run, joint_steps-at_most_three}
 
 -- ---- from a configuration that is not joint
--- one that is not joint is told by its voters and learners
+-- one that is not joint is decided by its voters and learners
 pub single_with-own : (c : Configuration) → IsSingle c → single_with c.incoming c.learners ≡ c
 single_with-own c single =
     configuration-by_members (single_with c.incoming c.learners) c (λ q. refl) (sym (outgoing-none c single.single)) (λ q. refl)
-    (λ q. has-no_ids q ∙ sym (IsSingle-no_next c single q)) (sym ((ValidByMember-from_is_valid c single.settled.valid).auto_leave single.single))
+    (λ q. has-no_ids q ∙ sym (IsSingle-no_next c single q)) (sym ((ValidByMember-from_is_valid c single.valid_with_voter.valid).auto_leave single.single))
 
 pub own-are_wanted : (c : Configuration) → IsValidWithVoter c → AreWanted c.incoming c.learners
-own-are_wanted c settled =
-    let valid = ValidByMember-from_is_valid c settled.valid in
+own-are_wanted c valid_with_voter =
+    let valid = ValidByMember-from_is_valid c valid_with_voter.valid in
     record {
-      voter = not-true (is_empty c.incoming) settled.voter;
+      voter = not-true (is_empty c.incoming) valid_with_voter.voter;
       zero_voters = valid.zero_incoming;
       zero_learners = valid.zero_learners;
       apart = λ q votes. false_from_ne_true _ (λ learns. true≢false (sym votes ∙ valid.learner_incoming q learns));
     }
 
 planned_from_single-is_run : (c target : Configuration) → IsSingle c → IsValidWithVoter target → IsRun c (planned_from_single c target) target
-planned_from_single-is_run c target single settled =
+planned_from_single-is_run c target single valid_with_voter =
     let P : List Step → Type 0 = λ steps. IsRun c steps target in
     let Q : Configuration → Type 0 = λ d. IsRun c (single_steps c target.incoming target.learners) d in
     cond_both (is_same c target) _ _ P (is_same-equal c target) (λ _.
-    cond_both (is_joint target) _ _ P (joint_steps-is_run c target single settled) (λ apart.
-    subst Q (single_with-own target (record { settled = settled; single = apart }))
-    (single_steps-is_run c target.incoming target.learners single (own-are_wanted target settled))))
+    cond_both (is_joint target) _ _ P (joint_steps-is_run c target single valid_with_voter) (λ apart.
+    subst Q (single_with-own target (record { valid_with_voter = valid_with_voter; single = apart }))
+    (single_steps-is_run c target.incoming target.learners single (own-are_wanted target valid_with_voter))))
 
 planned_from_single-at_most_three : (c target : Configuration) → length (planned_from_single c target) ≤ 3
 planned_from_single-at_most_three c target =
@@ -58,18 +58,18 @@ planned_from_single-at_most_two c target single =
 
 -- ---- from any
 pub after_leave-is_single : (c : Configuration) → IsValidWithVoter c → is_joint c ≡ true → IsSingle (after_leave c)
-after_leave-is_single c settled joint = record {
-  settled = run-is_settled c (after_leave c) (LeaveJoint ∷ []) settled (IsRun-one c (after_leave c) LeaveJoint (outcome-leave_accepted c joint));
+after_leave-is_single c valid_with_voter joint = record {
+  valid_with_voter = run-is_valid c (after_leave c) (LeaveJoint ∷ []) valid_with_voter (IsRun-one c (after_leave c) LeaveJoint (outcome-leave_accepted c joint));
   single = ap not is_empty-no_ids;
 }
 
 pub planned-is_run : (now target : Configuration) → IsValidWithVoter now → IsValidWithVoter target → IsRun now (planned now target) target
-planned-is_run now target settled_now settled =
+planned-is_run now target now_valid_with_voter valid_with_voter =
     let P : List Step → Type 0 = λ steps. IsRun now steps target in
     cond_both (is_same now target) _ _ P (is_same-equal now target) (λ _.
     cond_both (is_joint now) _ _ P
-    (λ joint. (after_leave now, outcome-leave_accepted now joint, planned_from_single-is_run (after_leave now) target (after_leave-is_single now settled_now joint) settled))
-    (λ single. planned_from_single-is_run now target (record { settled = settled_now; single = single }) settled))
+    (λ joint. (after_leave now, outcome-leave_accepted now joint, planned_from_single-is_run (after_leave now) target (after_leave-is_single now now_valid_with_voter joint) valid_with_voter))
+    (λ single. planned_from_single-is_run now target (record { valid_with_voter = now_valid_with_voter; single = single }) valid_with_voter))
 
 pub planned-at_most_four : (now target : Configuration) → length (planned now target) ≤ 4
 planned-at_most_four now target =

@@ -34,16 +34,16 @@ joint_steps-at_once c target same =
 
 joint_steps-of_shapes : (c target : Configuration) (P : List Step → Type 0) → IsSingle c → IsValidWithVoter target → OfShapes c target P → is_joint target ≡ true
     → (same : Bool) → is_same_set c.incoming target.outgoing ≡ same → P (joint_steps c target)
-joint_steps-of_shapes c target P single settled shapes joint true same =
+joint_steps-of_shapes c target P single valid_with_voter shapes joint true same =
     subst P (sym (joint_steps-at_once c target same)) (shapes.at_once joint (is_same_set-equal c.incoming target.outgoing same))
-joint_steps-of_shapes c target P single settled shapes joint false differs =
-    subst P (sym (joint_steps-inserted c target single settled joint differs)) (shapes.inserted joint (other_set c.incoming target.outgoing differs))
+joint_steps-of_shapes c target P single valid_with_voter shapes joint false differs =
+    subst P (sym (joint_steps-inserted c target single valid_with_voter joint differs)) (shapes.inserted joint (other_set c.incoming target.outgoing differs))
 
 pub planned_from_single-of_shapes : (c target : Configuration) (P : List Step → Type 0) → IsSingle c → IsValidWithVoter target → OfShapes c target P
     → P (planned_from_single c target)
-planned_from_single-of_shapes c target P single settled shapes =
+planned_from_single-of_shapes c target P single valid_with_voter shapes =
     cond_both (is_same c target) _ _ P (λ same. shapes.nothing (is_same-equal c target same)) (λ differs.
-    cond_both (is_joint target) _ _ P (λ joint. joint_steps-of_shapes c target P single settled shapes joint (is_same_set c.incoming target.outgoing) refl)
+    cond_both (is_joint target) _ _ P (λ joint. joint_steps-of_shapes c target P single valid_with_voter shapes joint (is_same_set c.incoming target.outgoing) refl)
     (λ apart. shapes.apart apart (other_configuration c target differs)))
 
 -- ---- from any

@@ -10,14 +10,14 @@ use Rattle.conf_change.proofs.Offered.{outcome-is_restorable, outcome-has_voter}
 use Rattle.conf_plan.specs.Run.{IsValidWithVoter, IsChain, IsRun, IsRunWith}
 use Rattle.conf_plan.specs.Planned.{configuration_after}
 
-outcome-is_settled : (c after : Configuration) (step : Step) → IsValidWithVoter c → outcome c step ≡ Ok after → IsValidWithVoter after
-outcome-is_settled c after step settled e =
-    let restorable : is_restorable c ≡ true = and_from (is_valid c) _ settled.valid (or_left (has_voter c) _ settled.voter) in
+outcome-is_valid : (c after : Configuration) (step : Step) → IsValidWithVoter c → outcome c step ≡ Ok after → IsValidWithVoter after
+outcome-is_valid c after step valid_with_voter e =
+    let restorable : is_restorable c ≡ true = and_from (is_valid c) _ valid_with_voter.valid (or_left (has_voter c) _ valid_with_voter.voter) in
     record { valid = (and_parts (is_valid after) _ (outcome-is_restorable c after step restorable e)).0; voter = outcome-has_voter c after step restorable e }
 
-pub run-is_settled : (before after : Configuration) (steps : List Step) → IsValidWithVoter before → IsRun before steps after → IsValidWithVoter after
-run-is_settled before after [] settled run = subst IsValidWithVoter run settled
-run-is_settled before after (step ∷ steps) settled run = run-is_settled run.0 after steps (outcome-is_settled before run.0 step settled run.1) run.2
+pub run-is_valid : (before after : Configuration) (steps : List Step) → IsValidWithVoter before → IsRun before steps after → IsValidWithVoter after
+run-is_valid before after [] valid_with_voter run = subst IsValidWithVoter run valid_with_voter
+run-is_valid before after (step ∷ steps) valid_with_voter run = run-is_valid run.0 after steps (outcome-is_valid before run.0 step valid_with_voter run.1) run.2
 
 -- one chain after another
 pub IsChain-append : {S : Type 0} (Leads : S → Step → S → Type 0) (a b c : S) (xs ys : List Step)

@@ -9,7 +9,7 @@ use Rattle.conf_change.specs.declared.step.Step.{Step}
 use Rattle.conf_change.proofs.Offered.{changer_after-from_Accepts, Accepts-from_changer_after}
 use Rattle.conf_plan.specs.Run.{IsRun, Takes, after_steps}
 
--- the steps behind one that is accepted
+-- the steps after one that is accepted
 after_accepted : (before next : ChangerState) (step : Step) (steps : List Step) → changer_after before step ≡ Ok next
     → after_steps before (step ∷ steps) ≡ after_steps next steps
 after_accepted before next step steps e = ap (λ given. option_and_then (λ n. after_steps n steps) (result_ok given)) e

@@ -33,20 +33,20 @@ LeavesFirst-from_IsRun now target (LeaveJoint ∷ steps) joint differs run =
 
 -- ---- the last step
 pub record LastStep (before after : Configuration) (steps : List Step) : Type 0 where
-  pub front : List Step
+  pub prefix : List Step
   pub last : Step
   pub middle : Configuration
-  pub whole : steps ≡ front ++ last ∷ []
-  pub run : IsRun before front middle
+  pub whole : steps ≡ prefix ++ last ∷ []
+  pub run : IsRun before prefix middle
   pub reaches : outcome middle last ≡ Ok after
 
 -- a run that is not empty, opened at its last step
 last_step : (before after : Configuration) (step : Step) (steps : List Step) → IsRun before (step ∷ steps) after → LastStep before after (step ∷ steps)
-last_step before after step [] run = record { front = []; last = step; middle = before; whole = refl; run = refl; reaches = run.1 ∙ ap Ok run.2 }
+last_step before after step [] run = record { prefix = []; last = step; middle = before; whole = refl; run = refl; reaches = run.1 ∙ ap Ok run.2 }
 last_step before after step (next ∷ steps) run =
     let rest = last_step run.0 after next steps run.2 in
     record {
-      front = step ∷ rest.front;
+      prefix = step ∷ rest.prefix;
       last = rest.last;
       middle = rest.middle;
       whole = ap (λ ys. step ∷ ys) rest.whole;

@@ -13,7 +13,7 @@ use Rattle.conf_change.proofs.Offered.{get-after, moved_to-is_sound, has-none_in
 use Rattle.conf_plan.specs.Best.{Preserves}
 use Rattle.conf_plan.specs.Planned.{planned}
 use Rattle.conf_plan.specs.Run.{IsValidWithVoter, Takes, HasKeptProgress}
-use Rattle.conf_plan.proofs.Runs.Chains.{run-is_settled, IsRun-from_IsRunWith}
+use Rattle.conf_plan.proofs.Runs.Chains.{run-is_valid, IsRun-from_IsRunWith}
 use Rattle.conf_plan.proofs.BestPlan.PreservedMembers.{keeps_progress-member, planned-preserving}
 use Rattle.conf_plan.proofs.Runs.TakenInOrder.{Ok-same}
 
@@ -91,15 +91,15 @@ takes-keep a b (step ∷ steps) target q sound taken preserves_all =
 
 -- ---- a plan that was made for the changer
 -- where there is a member there is a voter
-member-is_settled : (c : Configuration) (q : ℕ) → is_restorable c ≡ true → is_member c q ≡ true → IsValidWithVoter c
-member-is_settled c q ok member =
+member-is_valid : (c : Configuration) (q : ℕ) → is_restorable c ≡ true → is_member c q ≡ true → IsValidWithVoter c
+member-is_valid c q ok member =
     let both = and_parts (is_valid c) _ ok in
     record {
       valid = both.0;
       voter = elim (or_cases (has_voter c) _ both.1) [
         | inl voter ↦ voter
-        | inr nobody ↦
-            let three = and_parts (is_empty c.incoming && is_empty c.outgoing && is_empty c.learners) (is_empty c.learners_next) nobody in
+        | inr no_voter ↦
+            let three = and_parts (is_empty c.incoming && is_empty c.outgoing && is_empty c.learners) (is_empty c.learners_next) no_voter in
             let two = and_parts (is_empty c.incoming && is_empty c.outgoing) (is_empty c.learners) three.0 in
             let one = and_parts (is_empty c.incoming) (is_empty c.outgoing) two.0 in
             absurd (true≢false (sym member
@@ -111,7 +111,7 @@ pub takes-keep_planned : (a b : ChangerState) (steps other : List Step) (target 
     → steps ≡ planned a.tracker.config target → Preserves a.tracker.config other target q → HasKeptProgress a b q
 takes-keep_planned a b steps other target q sound taken made preserves_all =
     let now = a.tracker.config in
-    let settled_now = member-is_settled now q sound.restorable preserves_all.0 in
-    let settled = run-is_settled now target other settled_now (IsRun-from_IsRunWith _ now target other preserves_all.1) in
+    let now_valid_with_voter = member-is_valid now q sound.restorable preserves_all.0 in
+    let valid_with_voter = run-is_valid now target other now_valid_with_voter (IsRun-from_IsRunWith _ now target other preserves_all.1) in
     let P : List Step → Type 0 = λ xs. Preserves now xs target q in
-    takes-keep a b steps target q sound taken (subst P (sym made) (planned-preserving now target other q settled_now settled preserves_all))
+    takes-keep a b steps target q sound taken (subst P (sym made) (planned-preserving now target other q now_valid_with_voter valid_with_voter preserves_all))

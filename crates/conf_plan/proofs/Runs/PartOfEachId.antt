@@ -20,7 +20,7 @@ use Rattle.conf_plan.specs.Run.{IsRun}
 use Rattle.conf_plan.specs.Best.{times_named, is_any_learner, HasSameRoles}
 use Rattle.conf_plan.proofs.FindingMoves.OfEachId.{last_effective-cons}
 
--- ---- a step decides by its last word alone, whether the id goes out or not
+-- ---- a step decides by its last effective change alone, whether the id goes out or not
 record PartAfter (before after : Configuration) (token : Option Kind) (id : ℕ) : Type 0 where
   voter : has after.incoming id ≡ is_incoming_after token (has before.incoming id)
   learner : is_any_learner after id ≡ is_learner_after token false (is_any_learner before id)
@@ -70,10 +70,10 @@ no_token q (x ∷ xs) none =
 outcome-same_part : (c after : Configuration) (step : Step) (q : ℕ) → outcome c step ≡ Ok after → count_by (names q) (changes_of step) ≡ 0 → HasSameRoles c after q
 outcome-same_part c after step q e none =
     let part = outcome-part c after step q e in
-    let silent = no_token q (changes_of step) none in
+    let without_effect = no_token q (changes_of step) none in
     record {
-      voter = part.voter ∙ ap (λ token. is_incoming_after token (has c.incoming q)) silent;
-      learner = part.learner ∙ ap (λ token. is_learner_after token false (is_any_learner c q)) silent;
+      voter = part.voter ∙ ap (λ token. is_incoming_after token (has c.incoming q)) without_effect;
+      learner = part.learner ∙ ap (λ token. is_learner_after token false (is_any_learner c q)) without_effect;
     }
 
 pub run-same_part : (before after : Configuration) (steps : List Step) (q : ℕ) → IsRun before steps after → times_named q steps ≡ 0 → HasSameRoles before after q

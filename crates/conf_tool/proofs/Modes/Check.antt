@@ -27,7 +27,7 @@ positive mismatches true d = let some : nat_lt 0 (mismatches + 1) ≡ true = sea
   at false = refl
 positive mismatches false d = let same : mismatches + 0 ≡ mismatches = omega arith in rw same refl
 
--- an entry in front
+-- an entry before the others
 rest-first : (directives mismatches : ℕ) (e : Entry) (entries : List Entry) (fault : Option FileFault) →
     rest_checked directives mismatches (e ∷ entries) fault
     ≡ with_prefix (report e) (rest_checked (directives + cond (is_directive e.item) 1 0) (mismatches + cond (differs e) 1 0) entries fault)

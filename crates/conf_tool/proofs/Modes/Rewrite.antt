@@ -30,7 +30,7 @@ rewritten-nothing history floor session rewriter buffered is_new ready nothing =
   is = λ rest. ap (λ s. ended (rewrite_left s rest)) (sym is_new);
 }
 
--- an item in front
+-- an item before the others
 rest-first : (s t : SessionState) (item : Item) (rest : Script Item) → t ≡ session_after s item →
     rewrite_left s (prepended (item ∷ []) rest) ≡ with_prefix (entry_text item (actual_for s item)) (rewrite_left t rest)
 rest-first s t item rest is = ap (λ u. with_prefix (entry_text item (actual_for s item)) (rewrite_left u rest)) (sym is)
@@ -85,7 +85,7 @@ pub rewritten-end_part : (s : SessionState) (rewriter : RewriterState) (total : 
 rewritten-end_part s rewriter total parts fault before mid new rewritten finishes =
     subst (λ (o : Output). AppendsPart before new o.text) (sym (whole s rewriter total parts fault before mid rewritten)) (finishes before rewritten.text rewritten.wrote)
 
--- what a call says where it succeeds, or where it fails
+-- what a call states where it succeeds, or where it fails
 pub ok-by : {T E P Q : Type 0} (r : Result T E) → (P → Q) → OnOk r P → OnOk r Q
 ok-by (Ok x) f p = f p
 ok-by (Err e) f p = tt

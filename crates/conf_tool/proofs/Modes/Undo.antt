@@ -62,34 +62,34 @@ map-append : (xs ys : List Step) → map step_directive (xs ++ ys) ≡ map step_
 map-append [] ys = refl
 map-append (x ∷ xs) ys = ap (λ t. step_directive x ∷ t) (map-append xs ys)
 
-directives-more : (plan : List Step) (place : ℕ) (step : Step) → slice_get plan place ≡ Some step →
-    map step_directive (take (place + 1) plan) ≡ map step_directive (take place plan) ++ step_directive step ∷ []
-directives-more plan place step here = ap (map step_directive) (take-one_more plan place step here) ∙ map-append (take place plan) (step ∷ [])
+directives-more : (plan : List Step) (index : ℕ) (step : Step) → slice_get plan index ≡ Some step →
+    map step_directive (take (index + 1) plan) ≡ map step_directive (take index plan) ++ step_directive step ∷ []
+directives-more plan index step here = ap (map step_directive) (take-one_more plan index step here) ∙ map-append (take index plan) (step ∷ [])
 
 -- the items that a session obeyed so far, and that were written
 pub record ItemsWritten (s now : SessionState) (a b : ℕ) (old new : Option (List ℕ)) (items : List Item) : Type 0 where
   pub session : now ≡ session_after_all s items
   pub written : Continues a b old new (answered_text s items)
 
--- the directives of the steps up to a place
+-- the directives of the steps up to a position
 abbrev pub directives : List Step → ℕ → List Item
-directives plan place = map step_directive (take place plan)
+directives plan index = map step_directive (take index plan)
 
-text-more : (s now : SessionState) (plan : List Step) (place : ℕ) (step : Step) → slice_get plan place ≡ Some step → now ≡ session_after_all s (directives plan place) →
-    answered_text s (directives plan (place + 1)) ≡ answered_text s (directives plan place) ++ answered_text now (step_directive step ∷ [])
-text-more s now plan place step here so_far =
-    ap (answered_text s) (directives-more plan place step here) ∙ text-append s (directives plan place) (step_directive step ∷ [])
-    ∙ ap (λ u. answered_text s (directives plan place) ++ answered_text u (step_directive step ∷ [])) (sym so_far)
+text-more : (s now : SessionState) (plan : List Step) (index : ℕ) (step : Step) → slice_get plan index ≡ Some step → now ≡ session_after_all s (directives plan index) →
+    answered_text s (directives plan (index + 1)) ≡ answered_text s (directives plan index) ++ answered_text now (step_directive step ∷ [])
+text-more s now plan index step here so_far =
+    ap (answered_text s) (directives-more plan index step here) ∙ text-append s (directives plan index) (step_directive step ∷ [])
+    ∙ ap (λ u. answered_text s (directives plan index) ++ answered_text u (step_directive step ∷ [])) (sym so_far)
 
-pub steps-more : (s now after : SessionState) (a b c : ℕ) (old mid new : Option (List ℕ)) (plan : List Step) (place : ℕ) (step : Step) (item : Item) → slice_get plan place ≡ Some step →
-    item ≡ step_directive step → ItemsWritten s now a b old mid (directives plan place) → after ≡ session_after now item → Continues b c mid new (answered_text now (item ∷ [])) →
-    ItemsWritten s after a c old new (directives plan (place + 1))
-steps-more s now after a b c old mid new plan place step item here is so_far ran more = record {
+pub steps-more : (s now after : SessionState) (a b c : ℕ) (old mid new : Option (List ℕ)) (plan : List Step) (index : ℕ) (step : Step) (item : Item) → slice_get plan index ≡ Some step →
+    item ≡ step_directive step → ItemsWritten s now a b old mid (directives plan index) → after ≡ session_after now item → Continues b c mid new (answered_text now (item ∷ [])) →
+    ItemsWritten s after a c old new (directives plan (index + 1))
+steps-more s now after a b c old mid new plan index step item here is so_far ran more = record {
   session =
       ran ∙ ap (session_after now) is ∙ ap (λ u. session_after u (step_directive step)) so_far.session
-      ∙ sym (ap (session_after_all s) (directives-more plan place step here) ∙ session-append s (directives plan place) (step_directive step ∷ []));
-  written = subst (Continues a c old new) (sym (text-more s now plan place step here so_far.session))
-      (continues-append a b c old mid new (answered_text s (directives plan place)) (answered_text now (step_directive step ∷ [])) so_far.written
+      ∙ sym (ap (session_after_all s) (directives-more plan index step here) ∙ session-append s (directives plan index) (step_directive step ∷ []));
+  written = subst (Continues a c old new) (sym (text-more s now plan index step here so_far.session))
+      (continues-append a b c old mid new (answered_text s (directives plan index)) (answered_text now (step_directive step ∷ [])) so_far.written
       (subst (λ i. Continues b c mid new (answered_text now (i ∷ []))) is more));
 }
 
@@ -98,11 +98,11 @@ record HasRest (whole prefix : List ℕ) : Type 0 where
   rest : List ℕ
   is : whole ≡ prefix ++ rest
 
-text-rest : (s : SessionState) (plan : List Step) (place : ℕ) → HasRest (answered_text s (map step_directive plan)) (answered_text s (directives plan place))
-text-rest s plan place = record {
-  rest = answered_text (session_after_all s (directives plan place)) (map step_directive (drop place plan));
-  is = ap (λ steps. answered_text s (map step_directive steps)) (sym (take-append-drop place plan))
-      ∙ ap (answered_text s) (map-append (take place plan) (drop place plan)) ∙ text-append s (directives plan place) (map step_directive (drop place plan));
+text-rest : (s : SessionState) (plan : List Step) (index : ℕ) → HasRest (answered_text s (map step_directive plan)) (answered_text s (directives plan index))
+text-rest s plan index = record {
+  rest = answered_text (session_after_all s (directives plan index)) (map step_directive (drop index plan));
+  is = ap (λ steps. answered_text s (map step_directive steps)) (sym (take-append-drop index plan))
+      ∙ ap (answered_text s) (map-append (take index plan) (drop index plan)) ∙ text-append s (directives plan index) (map step_directive (drop index plan));
 }
 
 -- a plan with a step has no comment
@@ -110,37 +110,37 @@ some-steps : (plan : List Step) → (length plan ≡ 0 → ⊥) → step_items p
 some-steps [] some = absurd (some refl)
 some-steps (first ∷ plan) some = refl
 
-has-step : (plan : List Step) (place : ℕ) (step : Step) → slice_get plan place ≡ Some step → length plan ≡ 0 → ⊥
-has-step [] place step here none = cc
-has-step (first ∷ plan) place step here none = omega (arith, none)
+has-step : (plan : List Step) (index : ℕ) (step : Step) → slice_get plan index ≡ Some step → length plan ≡ 0 → ⊥
+has-step [] index step here none = cc
+has-step (first ∷ plan) index step here none = omega (arith, none)
 
 pub no-steps : (plan : List Step) → length plan ≡ 0 → step_items plan ≡ comment (codes "nothing to do") ∷ []
 no-steps [] none = refl
 no-steps (first ∷ plan) none = absurd (omega (arith, none))
 
 -- no step more was written, or a part of one
-pub steps-stopped : (s now : SessionState) (a b : ℕ) (old mid : Option (List ℕ)) (plan : List Step) (place : ℕ) (step : Step) → slice_get plan place ≡ Some step →
-    ItemsWritten s now a b old mid (directives plan place) → BreaksOff a old mid (answered_text s (step_items plan))
-steps-stopped s now a b old mid plan place step here so_far =
-    let rest = text-rest s plan place in
-    let whole = ap (answered_text s) (some-steps plan (has-step plan place step here)) ∙ rest.is in
-    subst (BreaksOff a old mid) (sym whole) (breaks-second a b old mid mid (answered_text s (directives plan place)) rest.rest so_far.written (breaks-nothing b mid rest.rest))
+pub steps-stopped : (s now : SessionState) (a b : ℕ) (old mid : Option (List ℕ)) (plan : List Step) (index : ℕ) (step : Step) → slice_get plan index ≡ Some step →
+    ItemsWritten s now a b old mid (directives plan index) → BreaksOff a old mid (answered_text s (step_items plan))
+steps-stopped s now a b old mid plan index step here so_far =
+    let rest = text-rest s plan index in
+    let whole = ap (answered_text s) (some-steps plan (has-step plan index step here)) ∙ rest.is in
+    subst (BreaksOff a old mid) (sym whole) (breaks-second a b old mid mid (answered_text s (directives plan index)) rest.rest so_far.written (breaks-nothing b mid rest.rest))
 
-pub steps-broken : (s now : SessionState) (a b : ℕ) (old mid new : Option (List ℕ)) (plan : List Step) (place : ℕ) (step : Step) (item : Item) → slice_get plan place ≡ Some step →
-    item ≡ step_directive step → ItemsWritten s now a b old mid (directives plan place) → BreaksOff b mid new (answered_text now (item ∷ [])) → BreaksOff a old new (answered_text s (step_items plan))
-steps-broken s now a b old mid new plan place step item here is so_far broken =
-    let rest = text-rest s plan (place + 1) in
-    let prefix = answered_text s (directives plan place) in
+pub steps-broken : (s now : SessionState) (a b : ℕ) (old mid new : Option (List ℕ)) (plan : List Step) (index : ℕ) (step : Step) (item : Item) → slice_get plan index ≡ Some step →
+    item ≡ step_directive step → ItemsWritten s now a b old mid (directives plan index) → BreaksOff b mid new (answered_text now (item ∷ [])) → BreaksOff a old new (answered_text s (step_items plan))
+steps-broken s now a b old mid new plan index step item here is so_far broken =
+    let rest = text-rest s plan (index + 1) in
+    let prefix = answered_text s (directives plan index) in
     let last = answered_text now (step_directive step ∷ []) in
-    let whole = ap (answered_text s) (some-steps plan (has-step plan place step here)) ∙ rest.is ∙ ap (λ t. t ++ rest.rest) (text-more s now plan place step here so_far.session) in
+    let whole = ap (answered_text s) (some-steps plan (has-step plan index step here)) ∙ rest.is ∙ ap (λ t. t ++ rest.rest) (text-more s now plan index step here so_far.session) in
     subst (BreaksOff a old new) (sym whole)
     (breaks-first a old new (prefix ++ last) rest.rest
     (breaks-second a b old mid new prefix last so_far.written (subst (λ i. BreaksOff b mid new (answered_text now (i ∷ []))) is broken)))
 
-pub steps-over : (s now : SessionState) (a b : ℕ) (old new : Option (List ℕ)) (plan : List Step) (place n : ℕ) → n ≡ length plan → (n ≡ 0 → ⊥) → n ≤ place →
-    ItemsWritten s now a b old new (directives plan place) → Continues a b old new (answered_text s (step_items plan))
-steps-over s now a b old new plan place n is some past so_far =
-    let whole = some-steps plan (λ none. some (is ∙ none)) ∙ ap (map step_directive) (sym (take_all place plan (subst (λ k. k ≤ place) is past))) in
+pub steps-over : (s now : SessionState) (a b : ℕ) (old new : Option (List ℕ)) (plan : List Step) (index n : ℕ) → n ≡ length plan → (n ≡ 0 → ⊥) → n ≤ index →
+    ItemsWritten s now a b old new (directives plan index) → Continues a b old new (answered_text s (step_items plan))
+steps-over s now a b old new plan index n is some past so_far =
+    let whole = some-steps plan (λ none. some (is ∙ none)) ∙ ap (map step_directive) (sym (take_all index plan (subst (λ k. k ≤ index) is past))) in
     subst (Continues a b old new) (sym (ap (answered_text s) whole)) so_far.written
 
 -- ---- the end of the input, or a fault of it

@@ -36,7 +36,7 @@ use Rattle.conf_session.specs.declared.undo_fault.UndoFault.{UndoFault}
 use Rattle.conf_session.proofs.Offered.{and-first, and-second, and-both, reply_line-bytes, undo_fault-in_lines, spaced-tokens_in, changes-tokens_in}
 use Rattle.conf_tool.proofs.Theorems.RewrittenScript.{ActualIsValid, actual-outputs, items-of, clean-items}
 
--- ---- whether a script is clean is told by its directives
+-- ---- whether a script is clean is decided by its directives
 -- one of the directives in turn differs
 abbrev any_differs : SessionState → List DirectiveText → Bool
 any_differs session [] = false
@@ -165,19 +165,19 @@ pub undo-read : WrittenScript → DirectiveIsWellFormed → ActualIsValid → (s
     let entries = answered_entries session (undo_items plan) in
     length (rewritten_text entries) ≤ longest_input →
     let again = script_of (rewritten_text entries) in (again.fault ≡ None) × AreReadAgain entries again.items
-undo-read written given stands session plan fits =
+undo-read written given holds session plan fits =
     let items = undo_items plan in
     let entries = answered_entries session items in
     let same = items-of session items in
-    written entries (subst AreWellFormed (sym same) (undo-given given plan)) (actual-outputs stands session items (undo-keys plan)) (ap ends_in_long_blank same ∙ undo-short plan) fits
+    written entries (subst AreWellFormed (sym same) (undo-given given plan)) (actual-outputs holds session items (undo-keys plan)) (ap ends_in_long_blank same ∙ undo-short plan) fits
 
 undo-clean : WrittenScript → DirectiveIsWellFormed → ActualIsValid → (session : SessionState) (plan : Result (List Step) UndoFault) →
     let again = script_of (rewritten_text (answered_entries session (undo_items plan))) in
     length (rewritten_text (answered_entries session (undo_items plan))) ≤ longest_input → IsCleanScript (answered_entries session again.items) again.fault
-undo-clean written given stands session plan fits =
+undo-clean written given holds session plan fits =
     let items = undo_items plan in
     let entries = answered_entries session items in
-    let read = undo-read written given stands session plan fits in
+    let read = undo-read written given holds session plan fits in
     record { same = clean-items session items entries (script_of (rewritten_text entries)).items refl read.1; whole = read.0 }
 
 joined-text : WrittenScript → DirectiveIsWellFormed → JoinedItems → ActualIsValid → (script : List ℕ) (history : ℕ) (floor : Floor) (count : ℕ) →
@@ -185,7 +185,7 @@ joined-text : WrittenScript → DirectiveIsWellFormed → JoinedItems → Actual
     let text = rewritten_text (answered_entries session (undo_items (undo_plan_of session count))) in
     IsComplete 1 (lines_of script) → IsCleanScript (answered_entries (new_session history floor) (script_of script).items) (script_of script).fault →
     length ((script ++ newline ++ newline) ++ text) ≤ longest_input → (checked ((script ++ newline ++ newline) ++ text) history floor).outcome ≡ Ok Clean
-joined-text written given joined_items stands script history floor count complete clean fits =
+joined-text written given joined_items holds script history floor count complete clean fits =
     let begin = new_session history floor in
     let items = (script_of script).items in
     let session = session_after_all begin items in
@@ -195,7 +195,7 @@ joined-text written given joined_items stands script history floor count complet
     let before = length (lines_of prefix) in
     let again = (script_of text).items in
     let sum = length-append prefix text in
-    let read = undo-clean written given stands session plan (omega (arith, sum, fits)) in
+    let read = undo-clean written given holds session plan (omega (arith, sum, fits)) in
     let joined = joined_items script text complete fits in
     let none : list_any differs (answered_entries begin (script_of (prefix ++ text)).items) ≡ false =
     differs-by begin (script_of (prefix ++ text)).items ∙ ap (any_differs begin) joined.0 ∙ differs-append begin (directives_of items) (map (moved before) (directives_of again))
@@ -206,9 +206,9 @@ joined-text written given joined_items stands script history floor count complet
     ∙ ap (λ b. Ok (check_status b)) none
 
 pub joined-clean : WrittenScript → DirectiveIsWellFormed → JoinedItems → ActualIsValid → JoinedClean
-joined-clean written given joined_items stands script history floor count complete clean fits =
+joined-clean written given joined_items holds script history floor count complete clean fits =
     let session = session_after_all (new_session history floor) (script_of script).items in
     let is_clean = clean-script (answered_entries (new_session history floor) (script_of script).items) (script_of script).fault clean in
     let same = ap (λ fault. (undone_unless session count fault).text) is_clean.whole in
     subst (λ text. length ((script ++ newline ++ newline) ++ text) ≤ longest_input → (checked ((script ++ newline ++ newline) ++ text) history floor).outcome ≡ Ok Clean) (sym same)
-    (joined-text written given joined_items stands script history floor count complete is_clean) fits
+    (joined-text written given joined_items holds script history floor count complete is_clean) fits

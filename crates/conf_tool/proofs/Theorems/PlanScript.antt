@@ -38,5 +38,5 @@ script-short now (step ∷ steps) = undo-short (Ok (step ∷ steps))
 
 pub script-clean : WrittenScript → DirectiveIsWellFormed → ActualIsValid → PlanScriptClean
 unfolding script_text usual_session
-script-clean written given stands now steps fits =
-    written-clean written stands 100 One (script_items now steps) (script-given given now steps) (script-keys now steps) (script-short now steps) fits
+script-clean written given holds now steps fits =
+    written-clean written holds 100 One (script_items now steps) (script-given given now steps) (script-keys now steps) (script-short now steps) fits

@@ -26,14 +26,14 @@ abbrev pub ActualIsValid : Type 0
 ActualIsValid = (session : SessionState) (directive : DirectiveText) → has_keys directive.arguments ≡ true → IsValidOutput (answer session directive).actual
 
 actual-output : ActualIsValid → (session : SessionState) (item : Item) → item_has_keys item ≡ true → is_output (actual_for session item) ≡ true
-actual-output stands session (Comment lines) keys = refl
-actual-output stands session (Blank lines) keys = refl
-actual-output stands session (Directive directive) keys = (stands session directive keys).output
+actual-output holds session (Comment lines) keys = refl
+actual-output holds session (Blank lines) keys = refl
+actual-output holds session (Directive directive) keys = (holds session directive keys).output
 
 -- so each text that is found for a script is an output
 pub actual-outputs : ActualIsValid → (session : SessionState) (items : List Item) → list_all item_has_keys items ≡ true → list_all (λ entry. is_output entry.output) (answered_entries session items) ≡ true
-actual-outputs stands session [] keys = refl
-actual-outputs stands session (item ∷ items) keys = and-both _ _ (actual-output stands session item (and-first _ _ keys)) (actual-outputs stands (session_after session item) items (and-second _ _ keys))
+actual-outputs holds session [] keys = refl
+actual-outputs holds session (item ∷ items) keys = and-both _ _ (actual-output holds session item (and-first _ _ keys)) (actual-outputs holds (session_after session item) items (and-second _ _ keys))
 
 pub items-of : (session : SessionState) (items : List Item) → map (λ entry. entry.item) (answered_entries session items) ≡ items
 items-of session [] = refl
@@ -69,14 +69,14 @@ clean-items session (one ∷ items) entries again e (ReadAgain n item other actu
 -- items of the grammar that are written with their actual outputs check clean
 pub written-clean : WrittenScript → ActualIsValid → (history : ℕ) (floor : Floor) (items : List Item) → AreWellFormed items → list_all item_has_keys items ≡ true → ends_in_long_blank items ≡ false →
     let text = rewritten_text (answered_entries (new_session history floor) items) in length text ≤ longest_input → (checked text history floor).outcome ≡ Ok Clean
-written-clean written stands history floor items given keys short fits =
+written-clean written holds history floor items given keys short fits =
     let session = new_session history floor in
     let entries = answered_entries session items in
     let same = items-of session items in
-    let read = written entries (subst AreWellFormed (sym same) given) (actual-outputs stands session items keys) (ap ends_in_long_blank same ∙ short) fits in
+    let read = written entries (subst AreWellFormed (sym same) given) (actual-outputs holds session items keys) (ap ends_in_long_blank same ∙ short) fits in
     let again = (script_of (rewritten_text entries)).items in
     ap (λ fault. (checked_entries (answered_entries session again) fault).outcome) read.0
     ∙ ap (λ b. Ok (check_status b)) (clean-items session items entries again refl read.1)
 
 pub rewritten-clean : WrittenScript → ItemsAreWellFormed → ItemsHaveKeys → ActualIsValid → RewrittenClean
-rewritten-clean written given keys stands input history floor short fits = written-clean written stands history floor (script_of input).items (given input) (keys input) short fits
+rewritten-clean written given keys holds input history floor short fits = written-clean written holds history floor (script_of input).items (given input) (keys input) short fits

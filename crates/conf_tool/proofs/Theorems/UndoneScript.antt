@@ -62,20 +62,20 @@ trimmed-letter Remove rest = refl
 trimmed-letter Update rest = refl
 
 -- what follows the first letter
-abbrev behind_letter : Change → List Change → List ℕ
-behind_letter change [] = decimal change.id
-behind_letter change (next ∷ changes) = decimal change.id ++ 32 ∷ join_with_byte 32 (map change_text (next ∷ changes))
+abbrev after_letter : Change → List Change → List ℕ
+after_letter change [] = decimal change.id
+after_letter change (next ∷ changes) = decimal change.id ++ 32 ∷ join_with_byte 32 (map change_text (next ∷ changes))
 
-begins-letter : (change : Change) (changes : List Change) → join_with_byte 32 (map change_text (change ∷ changes)) ≡ letter_of change.kind ∷ behind_letter change changes
+begins-letter : (change : Change) (changes : List Change) → join_with_byte 32 (map change_text (change ∷ changes)) ≡ letter_of change.kind ∷ after_letter change changes
 begins-letter change [] = refl
 begins-letter change (next ∷ changes) = refl
 
--- a line of input has the words of its text
+-- a line of input has the tokens of its text
 tokens_in-of_input : (change : Change) (changes : List Change) → tokens_in (input_of (change ∷ changes)) ≡ tokens_in (join_with_byte 32 (map change_text (change ∷ changes)))
 tokens_in-of_input change changes =
     let line = join_with_byte 32 (map change_text (change ∷ changes)) in
     let letter = letter_of change.kind in
-    let rest = behind_letter change changes in
+    let rest = after_letter change changes in
     let begins = begins-letter change changes in
     ap (λ text. tokens_in (trimmed text)) (append-nil (line ++ newline))
     ∙ ap (λ text. tokens_in (trimmed (text ++ newline))) begins
@@ -202,8 +202,8 @@ undo-again session (step ∷ steps) again read taken = steps-again session (step
 
 undo_of-session : WrittenScript → DirectiveIsWellFormed → ActualIsValid → ChangesAreRead → (session : SessionState) (count : ℕ) (steps : List Step) → LeadsBack session count steps → IsPlan steps →
     length (rewritten_text (answered_entries session (undo_items (Ok steps)))) ≤ longest_input → LeadsBackBy session count steps (script_of (rewritten_text (answered_entries session (undo_items (Ok steps)))))
-undo_of-session written given stands changes session count steps back plan fits =
-    let read = undo-read written given stands session (Ok steps) fits in
+undo_of-session written given holds changes session count steps back plan fits =
+    let read = undo-read written given holds session (Ok steps) fits in
     let comes = run-comes changes session steps back.older plan.token_ids back.run in
     let again = undo-again session steps _ read.1 comes.taken in
     record { whole = read.0; taken = again.taken; back = back.is_kept ∙ ap Some (sym (ap current again.after ∙ comes.there)) }
@@ -212,7 +212,7 @@ pub undo_script-leads_back : WrittenScript → DirectiveIsWellFormed → ActualI
     → ((history : ℕ) (floor : Floor) (directives : List DirectiveText) → IsSession (after_answers (new_session history floor) directives))
     → ((session : SessionState) (count : ℕ) (steps : List Step) → IsSession session → 1 ≤ count → undo_plan_of session count ≡ Ok steps → LeadsBack session count steps)
     → ChangesAreRead → UndoScriptLeadsBack
-undo_script-leads_back written given stands sessions leads changes script history floor count steps whole some made plan fits =
+undo_script-leads_back written given holds sessions leads changes script history floor count steps whole some made plan fits =
     let begin = new_session history floor in
     let items = (script_of script).items in
     let session = session_after_all begin items in
@@ -220,4 +220,4 @@ undo_script-leads_back written given stands sessions leads changes script histor
     let back = leads session count steps is some made in
     let text = ap (λ fault. (undone_unless session count fault).text) whole ∙ ap (λ (p : Result (List Step) UndoFault). rewritten_text (answered_entries session (undo_items p))) made in
     let Fits : List ℕ → Type 0 = λ t. length t ≤ longest_input → LeadsBackBy session count steps (script_of t) in
-    subst Fits (sym text) (undo_of-session written given stands changes session count steps back plan) fits
+    subst Fits (sym text) (undo_of-session written given holds changes session count steps back plan) fits

@@ -1,4 +1,4 @@
--- The first word of a text, and the words behind it.
+-- The first token of a text, and the tokens after it.
 use Rattle.std.proofs.Common.{◌≡◌, ℕ, ◌≤◌, ◌<◌, suc, Bool, true, false, not, cond, ◌&&◌, ◌||◌, List, [], ◌∷◌, length, take, drop, refl, sym, ◌∙◌, ap, subst, arith, rules}
 use Rattle.std.specs.Prelude.{◌==◌, filter}
 use Rattle.ascii_text.specs.WhiteSpace.{is_space, without_leading_space}
@@ -12,11 +12,11 @@ opening-space b false e h = refl
 inside_after-space : (b : ℕ) → is_space b ≡ true → inside_after false b ≡ false
 inside_after-space b h = ap (λ c. c || false) (opening-space b (b == 40) refl h)
 
--- the words of what a text was cut into
+-- the tokens of what a text was cut into
 abbrev tokens : List (List ℕ) → List (List ℕ)
 tokens cut = filter (λ token. not (length token == 0)) cut
 
--- white space before the first word
+-- white space before the first token
 tokens_of-space : (b : ℕ) (bs : List ℕ) → is_space b ≡ true → tokens_of bs ≡ tokens_of (b ∷ bs)
 tokens_of-space b bs h =
     sym (ap (λ c. tokens (split_or_prepend (c && true) b (split_at_spaces (inside_after false b) bs))) h
@@ -30,7 +30,7 @@ tokens_of-without_leading_space (b ∷ bs) = at (is_space b) refl (tokens_of-wit
   at true e h = h ∙ tokens_of-space b bs e
   at false e h = refl
 
--- the first of the words and spaces, and what follows it: behind it stands white space or nothing
+-- the first of the tokens and spaces, and what follows it: after it is white space or nothing
 abbrev FirstCut : Bool → List ℕ → ℕ → Type 0
 FirstCut inside bytes n =
     (others : List (List ℕ)) × (split_at_spaces inside bytes ≡ take n bytes ∷ others) × (split_at_spaces false (drop n bytes) ≡ [] ∷ others)
@@ -46,7 +46,7 @@ first_cut inside (b ∷ bs) = at inside (is_space b) refl (first_cut (inside_aft
   at true true e h = (h.0, ap (split_or_prepend false b) h.1, h.2)
   at i false e h = (h.0, ap (split_or_prepend false b) h.1, h.2)
 
--- a text that begins with no white space: its first word, and the words behind it
+-- a text that begins with no white space: its first token, and the tokens after it
 tokens_of-begun : (b : ℕ) (bs : List ℕ) → is_space b ≡ false →
     tokens_of (b ∷ bs) ≡ take (token_len false (b ∷ bs)) (b ∷ bs) ∷ tokens_of (drop (token_len false (b ∷ bs)) (b ∷ bs))
 tokens_of-begun b bs h =
@@ -61,7 +61,7 @@ tokens_of-begun b bs h =
     let others : tokens_of (drop n bs) ≡ tokens cut.0 = ap tokens cut.2 in
     first ∙ ap (λ ws. (b ∷ take n bs) ∷ ws) (sym others) ∙ sym (ap (λ k. take k (b ∷ bs) ∷ tokens_of (drop k (b ∷ bs))) len)
 
--- the first word of a text and the words behind it, if it is not empty
+-- the first token of a text and the tokens after it, if it is not empty
 abbrev BeginsWithToken : List ℕ → Type 0
 BeginsWithToken begun = (length begun == 0) ≡ false → tokens_of begun ≡ take (token_len false begun) begun ∷ tokens_of (drop (token_len false begun) begun)
 
@@ -85,7 +85,7 @@ token_len-bound inside (b ∷ bs) = at (is_space b && not inside) (token_len-bou
   at true h = omega arith
   at false h = omega (arith, h)
 
--- a text that is not empty once white space before it is gone has a word
+-- a text that is not empty without the white space before it has a token
 abbrev HasToken : List ℕ → Type 0
 HasToken begun = (length begun == 0) ≡ false → 0 < token_len false begun
 

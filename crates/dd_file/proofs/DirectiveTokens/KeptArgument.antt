@@ -1,4 +1,4 @@
--- What a word says as an argument, from the end of its key on.
+-- What a token is as an argument, from the end of its key on.
 use Rattle.std.proofs.Common.{◌≡◌, ℕ, ◌+◌, ◌≤◌, ◌<◌, Bool, true, false, List, [], ◌∷◌, length, take, drop, get_or, refl, sym, ◌∙◌, ap, arith, rules}
 use Rattle.std.specs.Prelude.{◌==◌, Option, Some, None, is_some, option_map, unwrap_or}
 use Rattle.std.proofs.lemmas.List.{drop_more, take_all, length-drop}
@@ -6,7 +6,7 @@ use Rattle.dd_file.specs.ArgumentValues.{is_argument, argument_in, has_values, v
 use Rattle.dd_file.specs.DirectiveLine.{ArgumentText, is_equals, with_key, values_of, parsed_argument}
 use Rattle.dd_file.proofs.DirectiveTokens.LoneKey.{key_len, argument_of-no_key, argument_of-alone, argument_of-values, argument_of-other}
 
--- ---- what stands behind the key
+-- ---- what is after the key
 pub suffix-key : (token : List ℕ) (n b : ℕ) → n ≡ key_len token → n < length token → b ≡ get_or token n 0 → drop (key_len token) token ≡ b ∷ drop (n + 1) token
 suffix-key token n b is lt found = ap (λ m. drop m token) (sym is) ∙ drop_more token n 0 lt ∙ ap (λ x. x ∷ drop (n + 1) token) (sym found)
 
@@ -14,21 +14,21 @@ pub is_some-option_map : {X Y : Type 0} (f : X → Y) (o : Option X) → is_some
 is_some-option_map f None = refl
 is_some-option_map f (Some x) = refl
 
--- ---- the argument that a word says, by its key and by what stands behind that
-record Said (token : List ℕ) (argument : ArgumentText) : Type 0 where
+-- ---- the argument that a token denotes, by its key and by what is after that
+record HasValues (token : List ℕ) (argument : ArgumentText) : Type 0 where
   key : argument.key ≡ take (key_len token) token
   values : argument.values ≡ values_after (drop (key_len token) token)
   parses : has_values (drop (key_len token) token) ≡ true
 
-said-by : (token : List ℕ) → is_argument token ≡ true → Said token (argument_in token)
-said-by token parses = at (key_len token == 0) refl (drop (key_len token) token) refl where
+value-by : (token : List ℕ) → is_argument token ≡ true → HasValues token (argument_in token)
+value-by token parses = at (key_len token == 0) refl (drop (key_len token) token) refl where
   refused : parsed_argument token ≡ None → ⊥
   refused none = let e : is_some {T = ArgumentText} None ≡ true = sym (ap is_some none) ∙ parses in absurd (search rules)
 
   from : (argument : ArgumentText) → Some argument ≡ parsed_argument token → argument ≡ argument_in token
   from argument is = ap (λ o. unwrap_or o (with_key [] [])) is
 
-  valued : (b : ℕ) (text : List ℕ) → (key_len token == 0) ≡ false → drop (key_len token) token ≡ b ∷ text → (c : Bool) → is_equals b ≡ c → (values : Option (List (List ℕ))) → values_of text ≡ values → Said token (argument_in token)
+  valued : (b : ℕ) (text : List ℕ) → (key_len token == 0) ≡ false → drop (key_len token) token ≡ b ∷ text → (c : Bool) → is_equals b ≡ c → (values : Option (List (List ℕ))) → values_of text ≡ values → HasValues token (argument_in token)
   valued b text some cut true equals (Some values) is =
       let argument = from (with_key (take (key_len token) token) values) (sym (ap (option_map (with_key (take (key_len token) token))) is) ∙ argument_of-values token b text some cut equals) in record {
         key = ap (λ (a : ArgumentText). a.key) (sym argument);
@@ -46,7 +46,7 @@ said-by token parses = at (key_len token == 0) refl (drop (key_len token) token)
   ends : (w : List ℕ) → drop (key_len w) w ≡ [] → length w ≤ key_len w
   ends w cut = omega (arith, ap length cut, length-drop (key_len w) w)
 
-  at : (c : Bool) → (key_len token == 0) ≡ c → (text : List ℕ) → drop (key_len token) token ≡ text → Said token (argument_in token)
+  at : (c : Bool) → (key_len token == 0) ≡ c → (text : List ℕ) → drop (key_len token) token ≡ text → HasValues token (argument_in token)
   at true none text cut = absurd (refused (sym (argument_of-no_key token (search rules))))
   at false some [] cut =
       let filled : (length token == 0) ≡ false = full token some in
@@ -59,10 +59,10 @@ said-by token parses = at (key_len token == 0) refl (drop (key_len token) token)
   at false some (b ∷ text) cut = valued b text some cut (is_equals b) refl (values_of text) refl
 
 pub argument_in-key : (token : List ℕ) → is_argument token ≡ true → (argument_in token).key ≡ take (key_len token) token
-argument_in-key token parses = (said-by token parses).key
+argument_in-key token parses = (value-by token parses).key
 
 pub argument_in-values : (token : List ℕ) → is_argument token ≡ true → (argument_in token).values ≡ values_after (drop (key_len token) token)
-argument_in-values token parses = (said-by token parses).values
+argument_in-values token parses = (value-by token parses).values
 
 pub argument_in-parses : (token : List ℕ) → is_argument token ≡ true → has_values (drop (key_len token) token) ≡ true
-argument_in-parses token parses = (said-by token parses).parses
+argument_in-parses token parses = (value-by token parses).parses

@@ -36,7 +36,7 @@ have-keys : (tokens : List (List ℕ)) → HaveKeys (arguments_of tokens)
 have-keys [] = refl
 have-keys (token ∷ tokens) = before-others (parsed_argument token) (arguments_of tokens) (argument_of-key token) (have-keys tokens)
 
--- the arguments that words say
+-- the arguments that tokens denote
 pub arguments_of-keys : (tokens : List (List ℕ)) (arguments : List ArgumentText) → arguments_of tokens ≡ Some arguments → has_keys arguments ≡ true
 arguments_of-keys tokens arguments is = at (arguments_of tokens) (have-keys tokens) is where
   at : (found : Option (List ArgumentText)) → HaveKeys found → found ≡ Some arguments → has_keys arguments ≡ true

@@ -18,7 +18,7 @@ ends-other x xs h = ap (λ d. (d || list_any is_closing xs) && (length (cond d x
 ends-closing : (x : ℕ) (xs : List ℕ) → is_closing x ≡ true → ends_at_closing (x ∷ xs) ≡ (length xs == 0)
 ends-closing x xs h = ap (λ d. (d || list_any is_closing xs) && (length (cond d xs (suffix is_closing xs)) == 0)) h
 
--- it comes last exactly where its place is that of the last byte
+-- it comes last exactly where its position is that of the last byte
 pub ends_at_closing-position : (inside : List ℕ) → (position_or_len is_closing inside + 1 == length inside) ≡ ends_at_closing inside
 ends_at_closing-position [] = refl
 ends_at_closing-position (x ∷ xs) = at (is_closing x) refl (ends_at_closing-position xs) where
@@ -35,7 +35,7 @@ ends_at_closing-position (x ∷ xs) = at (is_closing x) refl (ends_at_closing-po
   at true c ih = none (length xs) ∙ sym (ends-closing x xs c)
   at false c ih = let next : 1 + n + 1 ≡ 1 + (n + 1) = omega arith in ap (λ k. k == suc (length xs)) next ∙ less (n + 1) (length xs) ∙ ih ∙ sym (ends-other x xs c)
 
--- what stands before it then
+-- what is before it then
 pub up_to-closing : (inside : List ℕ) → ends_at_closing inside ≡ true → up_to is_closing inside ≡ take (length inside - 1) inside
 up_to-closing [] ends = cc
 up_to-closing (x ∷ xs) ends = at (is_closing x) refl xs refl (up_to-closing xs) where
@@ -49,7 +49,7 @@ up_to-closing (x ∷ xs) ends = at (is_closing x) refl xs refl (up_to-closing xs
       let n : suc (length xs) - 1 ≡ suc (length xs - 1) = omega (arith, ap length e) in
       up_to-other x xs c ∙ ap (λ t. x ∷ t) (ih (sym (ends-other x xs c) ∙ ends)) ∙ sym (ap (λ m. take m (x ∷ xs)) n)
 
--- what a list says
+-- what a list states
 pub values_of-list : (inside : List ℕ) → is_some (values_of (40 ∷ inside)) ≡ true → unwrap_or (values_of (40 ∷ inside)) [] ≡ list_values (take (length inside - 1) inside)
 values_of-list inside parses = at (ends_at_closing inside) refl parses where
   at : (c : Bool) → ends_at_closing inside ≡ c → is_some (cond c (Some (list_values (up_to is_closing inside))) None) ≡ true →
@@ -58,7 +58,7 @@ values_of-list inside parses = at (ends_at_closing inside) refl parses where
   at false ends some = cc
 
 -- ---- the commas
--- the first value, and what stands behind it
+-- the first value, and what is after it
 record FirstValue (text : List ℕ) (n : ℕ) : Type 0 where
   last : drop n text ≡ [] → split_at_commas text ≡ take n text ∷ []
   comma : (b : ℕ) (rest : List ℕ) → drop n text ≡ b ∷ rest → split_at_commas text ≡ take n text ∷ split_at_commas rest

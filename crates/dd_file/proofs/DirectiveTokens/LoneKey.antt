@@ -1,4 +1,4 @@
--- What a word says as an argument, by the bytes of a key that come first.
+-- What a token is as an argument, by the bytes of a key that come first.
 use Rattle.std.proofs.Common.{◌≡◌, ℕ, ◌+◌, suc, Bool, true, false, not, cond, ◌&&◌, List, [], ◌∷◌, length, take, drop, Some, None, refl, sym, ◌∙◌, ap, arith, rules}
 use Rattle.std.specs.Prelude.{◌==◌, Option, option_map}
 use Rattle.std.proofs.Math.Bool.{and-false}
@@ -39,7 +39,7 @@ argument_of-no_key (b ∷ bs) none = at (is_key_byte b) refl none where
         prefix true = refl
         prefix false = is_key-none (b ∷ up_to is_equals bs) (ap (λ c. cond c (1 + key_len (up_to is_equals bs)) 0) e)
 
--- a word of key bytes alone
+-- a token of key bytes alone
 all-keys : (token : List ℕ) → drop (key_len token) token ≡ [] → list_all is_key_byte token ≡ true
 all-keys [] h = refl
 all-keys (b ∷ bs) h = at (is_key_byte b) refl h (all-keys bs) where
@@ -54,7 +54,7 @@ pub argument_of-alone : (token : List ℕ) → (length token == 0) ≡ false →
 argument_of-alone token some whole =
     sym (ap (λ c. cond c (Some (with_key token [])) (cond (is_key (up_to is_equals token)) (option_map (with_key (up_to is_equals token)) (values_of (suffix is_equals token))) None)) (is_key-alone token some whole))
 
--- a word with another byte behind the bytes of a key
+-- a token with another byte after the bytes of a key
 pub record KeyThen (token : List ℕ) (b : ℕ) (text : List ℕ) : Type 0 where
   pub some : list_all is_key_byte token ≡ false
   pub keys : list_all is_key_byte (take (key_len token) token) ≡ true
@@ -99,12 +99,12 @@ key-then (x ∷ xs) b text h = at (is_key_byte x) refl h (key-then xs b text) wh
 pub is_key-more : (token : List ℕ) (b : ℕ) (text : List ℕ) → drop (key_len token) token ≡ b ∷ text → is_key token ≡ false
 is_key-more token b text cut = ap (λ c. not (length token == 0) && c) (key-then token b text cut).some ∙ and-false (not (length token == 0))
 
--- what a word says that is no key
+-- what a token states that is no key
 parted : (token : List ℕ) → is_key token ≡ false →
     parsed_argument token ≡ cond (is_key (up_to is_equals token)) (option_map (with_key (up_to is_equals token)) (values_of (suffix is_equals token))) None
 parted token more = ap (λ c. cond c (Some (with_key token [])) (cond (is_key (up_to is_equals token)) (option_map (with_key (up_to is_equals token)) (values_of (suffix is_equals token))) None)) more
 
--- a key, and `=` behind it
+-- a key, and `=` after it
 pub argument_of-values : (token : List ℕ) (b : ℕ) (text : List ℕ) → (key_len token == 0) ≡ false → drop (key_len token) token ≡ b ∷ text → is_equals b ≡ true →
     option_map (with_key (take (key_len token) token)) (values_of text) ≡ parsed_argument token
 argument_of-values token b text some cut is =
@@ -116,7 +116,7 @@ argument_of-values token b text some cut is =
     ∙ ap (λ k. option_map (with_key k) (values_of (suffix is_equals token))) (r.equals is).0
     ∙ ap (λ t. option_map (with_key (take (key_len token) token)) (values_of t)) (r.equals is).1)
 
--- a key, and another byte behind it
+-- a key, and another byte after it
 pub argument_of-other : (token : List ℕ) (b : ℕ) (text : List ℕ) → drop (key_len token) token ≡ b ∷ text → is_equals b ≡ false → None ≡ parsed_argument token
 argument_of-other token b text cut is =
     let r = key-then token b text cut in

@@ -1,4 +1,4 @@
--- The word that a text begins with, read from its front on.
+-- The token that a text begins with, read from its beginning on.
 use Rattle.std.proofs.Common.{◌≡◌, ℕ, zero, ◌+◌, ◌<◌, suc, Bool, true, false, not, cond, ◌&&◌, ◌||◌, List, [], ◌∷◌, length, take, drop, get_or, refl, sym, ◌∙◌, ap, arith, rules}
 use Rattle.std.specs.Prelude.{◌==◌, Option, Some, None, is_some}
 use Rattle.std.specs.List.{prefix_len, list_all, position_or_len}
@@ -18,7 +18,7 @@ use Rattle.dd_file.proofs.DirectiveTokens.ListedValues.{ends_at_closing-position
 use Rattle.dd_file.proofs.DirectiveTokens.FirstToken.{token_len-bound}
 
 -- ---- the bytes that come first
--- what is cut behind them has as many
+-- what is cut after them has as many
 pub prefix_len-prefix : (p : ℕ → Bool) (xs : List ℕ) (m : ℕ) → prefix_len p (take (prefix_len p xs + m) xs) ≡ prefix_len p xs
 prefix_len-prefix p [] m = none (0 + m) where
   none : (k : ℕ) → prefix_len p (take k []) ≡ 0
@@ -38,7 +38,7 @@ prefix_len-prefix p (x ∷ xs) m = at (p x) refl (prefix_len-prefix p xs m) m wh
       ap (λ l. prefix_len p (take l (x ∷ xs))) next ∙ ap (λ c. cond c (1 + prefix_len p (take (n + m) xs)) 0) is ∙ ap (λ l. 1 + l) ih
   at false is ih k = none is (0 + m)
 
--- bytes that end no word there
+-- bytes that end no token there
 pub token_len-suffix : (p : ℕ → Bool) → ((b : ℕ) → p b ≡ true → is_space b ≡ false) → ((b : ℕ) → p b ≡ true → is_opening b ≡ false) → (text : List ℕ) →
     token_len false text ≡ prefix_len p text + token_len false (drop (prefix_len p text) text)
 token_len-suffix p no_space no_opening [] = refl
@@ -54,7 +54,7 @@ token_len-suffix p no_space no_opening (x ∷ xs) = at (p x) refl (token_len-suf
       ∙ ap (λ k. 1 + n + token_len false (drop k (x ∷ xs))) (sym one)
   at false is ih = omega arith
 
--- the word behind them
+-- the token after them
 pub record FirstItem (p : ℕ → Bool) (text : List ℕ) : Type 0 where
   pub len : token_len false text ≡ prefix_len p text + token_len false (drop (prefix_len p text) text)
   pub first : prefix_len p (first_token text) ≡ prefix_len p text
@@ -97,7 +97,7 @@ prefix-key = prefix is_key_byte key-no_space key-no_opening
 pub prefix-plain : (text : List ℕ) → FirstItem is_plain_byte text
 prefix-plain = prefix is_plain_byte plain-no_space plain-no_opening
 
--- ---- where a word ends
+-- ---- where a token ends
 pub token_len-ends : (text : List ℕ) → ends_token text ≡ true → token_len false text ≡ 0
 token_len-ends [] ends = refl
 token_len-ends (b ∷ bs) ends = ap (λ c. cond (c && true) 0 (suc (token_len (inside_after false b) bs))) ends
@@ -115,7 +115,7 @@ first_token-ends text ends = ap (λ k. take k text) (token_len-ends text ends)
 first_token-goes_on : (b : ℕ) (bs : List ℕ) → is_space b ≡ false → first_token (b ∷ bs) ≡ b ∷ take (token_len (inside_after false b) bs) bs
 first_token-goes_on b bs goes = ap (λ k. take k (b ∷ bs)) (token_len-goes_on b bs goes)
 
--- ---- what the word says as an argument
+-- ---- what the token states as an argument
 filled : (token : List ℕ) → (key_len token ≡ 0 → ⊥) → (length token == 0) ≡ false
 filled token some = let no : length token ≡ 0 → ⊥ = λ none. some (omega (arith, none, prefix_len-le-length is_key_byte token)) in search rules
 
@@ -151,17 +151,17 @@ key-more text goes = at (drop (key_len text) text) refl goes where
   at [] cut goes = cc
   at (b ∷ rest) cut goes = is_key-more (first_token text) b _ (cut-prefix text (b ∷ rest) cut ∙ first_token-goes_on b rest goes)
 
--- a key, and `=` behind it
-pub argument-said : (text rest : List ℕ) → (key_len text ≡ 0 → ⊥) → drop (key_len text) text ≡ 61 ∷ rest →
+-- a key, and `=` after it
+pub argument-value : (text rest : List ℕ) → (key_len text ≡ 0 → ⊥) → drop (key_len text) text ≡ 61 ∷ rest →
     (token_len false text ≡ key_len text + 1 + token_len false rest) × (is_some (parsed_argument (first_token text)) ≡ is_some (values_of (first_token rest)))
-argument-said text rest some cut =
+argument-value text rest some cut =
     let token : List ℕ = first_token text in
     let more : token_len false (drop (key_len text) text) ≡ suc (token_len false rest) = ap (token_len false) cut in (
       omega (arith, (prefix-key text).len, more),
       sym (ap is_some (argument_of-values token 61 (first_token rest) (unkeyed token (keyed text some)) (cut-prefix text (61 ∷ rest) cut) refl)) ∙ is_some-option_map (with_key (take (key_len token) token)) (values_of (first_token rest)),
     )
 
--- a key, and another byte behind it
+-- a key, and another byte after it
 pub argument-other : (text : List ℕ) (b : ℕ) (rest : List ℕ) → drop (key_len text) text ≡ b ∷ rest → is_space b ≡ false → is_equals b ≡ false → parsed_argument (first_token text) ≡ None
 argument-other text b rest cut goes other =
     sym (argument_of-other (first_token text) b _ (cut-prefix text (b ∷ rest) cut ∙ first_token-goes_on b rest goes) other)
@@ -170,7 +170,7 @@ pub none-if : {X : Type 0} (found : Option X) → is_some found ≡ false → fo
 none-if None none = refl
 none-if (Some x) none = cc
 
--- ---- what it says as values
+-- ---- what it states as values
 -- one plain value
 all-plain : (text : List ℕ) → list_all is_plain_byte (take (prefix_len is_plain_byte text) text) ≡ true
 all-plain [] = refl
@@ -283,7 +283,7 @@ values-open inside is =
     let last : (p + 1 == length inside) ≡ false = let no : p + 1 ≡ length inside → ⊥ = λ e. omega (arith, e, is) in search rules in
     ap (λ w. is_some (values_of w)) whole ∙ listed-parses inside ∙ sym (ends_at_closing-position inside) ∙ last
 
--- how far the word of a list goes that is closed
+-- how far the token of a list goes that is closed
 record Closed (inside : List ℕ) (m : ℕ) : Type 0 where
   len : token_len true inside ≡ position_or_len is_closing inside + (1 + m)
   parses : is_some (values_of (first_token (40 ∷ inside))) ≡ (position_or_len is_closing inside + 1 == position_or_len is_closing inside + (1 + m))

@@ -4,7 +4,7 @@ use Rattle.std.proofs.lemmas.List.{append-nil, append_assoc, length-append, take
 use Rattle.ascii_text.specs.WhiteSpace.{without_leading_space, without_trailing_space}
 use Rattle.ascii_text.proofs.Offered.{take-without_trailing_space, without_leading_space-split}
 
--- the trimmed part ends at a place of the text
+-- the trimmed part ends at a position of the text
 pub record TrimmedAt (text begun : List ℕ) (end : ℕ) : Type 0 where
   pub begins : length begun ≤ end
   pub within : end ≤ length text
@@ -45,7 +45,7 @@ trimmed-at text before part rest ended begun whole ends begins = record {
   start : length (before ++ space) ≡ end - length begun
   start = omega (arith, endeds, length-append before space)
 
--- the end of a text, where it ends that far from its front as white space is behind
+-- the end of a text, where it ends that far from its beginning as white space is after
 pub record TrimmedIn (text suffix ended begun : List ℕ) (end : ℕ) : Type 0 where
   pub shorter : length ended ≤ length suffix
   pub within : length suffix - length ended ≤ length text

@@ -1,4 +1,4 @@
--- What the bytes that are held say of the next line and of the next item.
+-- What the bytes that are buffered say of the next line and of the next item.
 use Rattle.std.proofs.Common.{◌≡◌, ℕ, ◌+◌, ◌≤◌, ◌<◌, Bool, true, false, List, [], ◌∷◌, length, take, drop, map, refl, sym, ◌∙◌, ap, subst, arith, inl}
 use Rattle.std.specs.Prelude.{filter, Option, Some, None, Result, Ok, IfErr}
 use Rattle.std.specs.List.{list_any}
@@ -28,16 +28,16 @@ keeps : (bytes : Option (List ℕ)) → Consumes bytes bytes []
 keeps None = tt
 keeps (Some bytes) = refl
 
--- the first piece, told by its length
+-- the first full line, by its length
 pub same-full_line : (bytes buffered : List ℕ) (len : ℕ) → bytes ≡ buffered → len ≡ first_len bytes → take len bytes ≡ take (first_len buffered) buffered
 same-full_line bytes buffered len is count = ap (λ n. take n bytes) count ∙ ap (λ b. take (first_len b) b) is
 
--- a piece with its newline has a byte
+-- a full line with its newline has a byte
 pub whole-some : (buffered : List ℕ) → is_whole (take (first_len buffered) buffered) ≡ true → 0 < first_len buffered
 whole-some [] h = cc
 whole-some (b ∷ bytes) h = first_len-some (b ∷ bytes) (omega arith)
 
--- the first piece of what is held is the next line, where it has its newline
+-- the first full line of what is buffered is the next line, where it has its newline
 pub buffered-line : {R V : Type 0} (remaining : R → Option (List ℕ)) (has_failed : R → Bool) (view : V → List ℕ) (old : ReaderState) (reader : R) (line : V) → CanReadBuffered old → Within old →
     is_whole (take (first_len old.buffered) old.buffered) ≡ true → view line ≡ line_of (take (first_len old.buffered) old.buffered) →
     ReadsOn remaining has_failed view (next_line longest_input) IsLineFault old (passed old 1 (first_len old.buffered)) reader reader (Ok (Some line))
@@ -65,7 +65,7 @@ buffered-line remaining has_failed view old reader line can within whole is =
     (or-false (has_failed reader))
     (is, omega (arith, len, some), omega (arith, limit, counted, bound, some), ap (λ n. record mid { position = record { lines = old.position.lines + 1; bytes = old.position.bytes + n } }) (sym len))
 
--- no newline is held
+-- no newline is buffered
 no-whole : (buffered : List ℕ) → is_whole (take (first_len buffered) buffered) ≡ false → filter is_whole (full_lines buffered) ≡ []
 no-whole [] h = refl
 no-whole (b ∷ bytes) h =
@@ -73,12 +73,12 @@ no-whole (b ∷ bytes) h =
     let none : drop (first_len buffered) buffered ≡ [] = unfinished-rest [] buffered h in
     ap (filter is_whole) (full_lines-first buffered (omega arith)) ∙ rw h (ap (λ r. filter is_whole (full_lines r)) none)
 
--- the first of the whole pieces, and the others
+-- the first of the whole full lines, and the others
 one-whole : (buffered : List ℕ) → is_whole (take (first_len buffered) buffered) ≡ true → filter is_whole (full_lines buffered) ≡ take (first_len buffered) buffered ∷ filter is_whole (full_lines (drop (first_len buffered) buffered))
 one-whole [] h = cc
 one-whole (b ∷ bytes) h = ap (filter is_whole) (full_lines-first (b ∷ bytes) (omega arith)) ∙ rw h refl
 
--- The lines so far of what is held are the item's.
+-- The lines so far of what is buffered are the item's.
 pub record BufferedSoFar {R : Type 0} (remaining : R → Option (List ℕ)) (old : ReaderState) (reader : R) (draft : DraftText) (count consumed : ℕ) : Type 0 where
   pub reading : ReadingItem remaining old (passed old count consumed) reader reader draft
   pub within : consumed ≤ length old.buffered
@@ -159,7 +159,7 @@ buffered-done remaining has_failed old new reader draft count consumed result ca
     subst (λ (s : ReaderState). ReadsOn remaining has_failed (λ item. item) (next_item longest_input) IsItemFault old (record s { fault = fault_of result }) reader reader result) (sym is)
     (done-reads remaining has_failed old now reader reader draft result can.faultless can.unended so_far.reading done (passed-within old count consumed can within so_far.within so_far.counted).ahead refl found kind)
 
--- no item ends in what is held
+-- no item ends in what is buffered
 open-prefix : (count : ℕ) (found : Option FirstItem) → Ends false count found → is_ended_item found ≡ false
 open-prefix count None ends = refl
 open-prefix count (Some prefix) ends = ends.ended

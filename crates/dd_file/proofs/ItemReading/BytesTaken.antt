@@ -50,7 +50,7 @@ directive_lines-some line lines = at (is_continued line) where
   at true = omega arith
   at false = omega arith
 
--- a front has a line
+-- a first item has a line
 abbrev HasLine : Option FirstItem → Type 0
 HasLine None = Unit {0}
 HasLine (Some prefix) = 0 < prefix.count
@@ -68,7 +68,7 @@ has-line n (line ∷ lines) =
     let count = at_directive-count n directive_lines (drop (length directive_lines) (line ∷ lines)) in
     has-line_at (is_comment line) (is_blank line) _ _ _ (omega arith) (omega arith) (omega (arith, some, count))
 
--- so many pieces, at least one, have a byte
+-- this many full lines, at least one, have a byte
 full_lines-some : (count : ℕ) (bytes : List ℕ) → 0 < count → 0 < length bytes → 0 < length (concat (take count (full_lines bytes)))
 full_lines-some zero bytes some has = absurd (omega (arith, some))
 full_lines-some (suc count) bytes some has =
@@ -95,7 +95,7 @@ some-leaves position suffix bytes left item Over h e = cc
 some-leaves position suffix bytes left item (Parsed x p l) h e = let same : l ≡ left = cc in subst (λ (t : List ℕ). length t < length bytes) same h
 some-leaves position suffix bytes left item (Faulty fault) h e = cc
 
--- no bytes have no pieces
+-- no bytes have no full lines
 pub none-within : (limit : ℕ) (position : Position) → full_lines_within limit position [] ≡ []
 none-within limit position = at (is_too_long limit position []) (limit - position.bytes) where
   at : (c : Bool) (k : ℕ) → cond c (filter is_whole (full_lines (take k []))) [] ≡ []

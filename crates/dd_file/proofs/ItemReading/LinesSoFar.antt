@@ -21,7 +21,7 @@ as_next (Ok None) now rest = Over
 as_next (Ok (Some item)) now rest = Parsed item now rest
 as_next (Err fault) now rest = Faulty fault
 
--- the front of the lines so far and those behind them decides
+-- the first item of the lines so far and those after them decides
 item-at : (limit : ℕ) (position now : Position) (bytes rest : List ℕ) (lines : List (List ℕ)) (draft : DraftText) → LinesOn limit position bytes lines now rest →
     ((more : List (List ℕ)) → first_item_of draft more ≡ first_of (position.lines + 1) (lines ++ more)) →
     next_item limit position bytes ≡ from_first_item (is_too_long limit now rest) (first_item_of draft (map line_of (full_lines_within limit now rest))) position bytes
@@ -64,7 +64,7 @@ done-some (Pair command) draft fits done = cc
 done-some (Complete command) draft fits done = refl
 done-some AfterPair draft fits done = refl
 
--- a front comes of each line
+-- each line begins an item
 pub first_item_in-begun : (state : DraftState) (draft : DraftText) → FitsIn state draft → (draft.count ≡ 0) ⊎ (is_some (first_item_in state draft []) ≡ true)
 first_item_in-begun Begin draft fits = inl fits.3
 first_item_in-begun CommentLine draft fits = inr refl

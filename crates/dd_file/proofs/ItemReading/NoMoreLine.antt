@@ -18,7 +18,7 @@ use Rattle.dd_file.specs.declared.fault.FileFault.{FileFault}
 use Rattle.dd_file.specs.declared.fault.FileFault.TheVariants.{BadDirective, UnclosedDouble}
 use Rattle.dd_file.proofs.ItemReading.OneMoreLine.{first_of-begins, none-step}
 
--- the front of the lines so far, in which an item has all of them
+-- the first item of the lines so far, in which an item has all of them
 pub record EndsWith (done : Bool) (count : ℕ) (last : FirstItem) : Type 0 where
   pub ended : last.is_ended ≡ done
   pub all : (item : Item) → last.result ≡ Ok item → last.count ≡ count

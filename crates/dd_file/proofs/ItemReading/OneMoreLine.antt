@@ -42,7 +42,7 @@ pub body-separator : (n : ℕ) (command : CommandText) (directive_lines input : 
 body-separator n command directive_lines input line more none is =
     rw (any-at is_separator input line more is, up_to-at is_separator input line more none is, suffix-at is_separator input line more none is) refl
 
--- the blank line behind an expected output
+-- the blank line after an expected output
 pub single-blank : (n : ℕ) (command : CommandText) (directive_lines input expected : List (List ℕ)) (line : List ℕ) (more : List (List ℕ)) → list_any is_blank expected ≡ false → is_blank line ≡ true →
     in_single n command directive_lines input (expected ++ line ∷ more) ≡ first_item (Ok (directive n command directive_lines input expected)) (length directive_lines + length input + 1 + length expected + 1) true
 single-blank n command directive_lines input expected line more none is =

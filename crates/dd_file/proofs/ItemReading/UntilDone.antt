@@ -1,4 +1,4 @@
--- What reading the lines of an item says of the next item.
+-- What reading the lines of an item states of the next item.
 use Rattle.std.proofs.Common.{◌≡◌, ℕ, zero, suc, ◌+◌, ◌≤◌, ◌<◌, Bool, true, false, List, [], ◌∷◌, ◌++◌, length, refl, sym, ◌∙◌, ap, arith, inl, inr}
 use Rattle.std.specs.Prelude.{◌||◌, Option, Some, None, is_some, Result, Ok, Err, IfErr, IfOk, IfSome, OnOk}
 use Rattle.std.proofs.lemmas.List.{append_assoc, length-append}

@@ -1,4 +1,4 @@
--- The next line of some bytes, told by their first piece.
+-- The next line of some bytes, by their first full line.
 use Rattle.std.proofs.Common.{◌≡◌, ℕ, zero, suc, ◌+◌, ◌-◌, ◌≤◌, ◌<◌, true, false, List, [], ◌∷◌, ◌++◌, length, take, drop, refl, sym, ◌∙◌, ap, arith, inl, inr}
 use Rattle.std.specs.Prelude.{◌==◌, ◌⊎◌, filter}
 use Rattle.std.specs.List.{concat}
@@ -12,7 +12,7 @@ use Rattle.dd_file.specs.declared.fault.FileFault.TheVariants.{InputTooLong}
 use Rattle.ascii_text.proofs.Offered.{full_lines-first, cond-longer, cond-shorter}
 use Rattle.dd_file.proofs.TextLines.TextAfter.{is_whole_text, full_lines-append, full_lines_within-whole}
 
--- one piece alone
+-- one full line alone
 pub full_lines-one : (full_line : List ℕ) → first_len full_line ≡ length full_line → 0 < length full_line → full_lines full_line ≡ full_line ∷ []
 full_lines-one full_line one some =
     full_lines-first full_line some ∙ ap (λ n. take n full_line ∷ full_lines (drop n full_line)) one
@@ -23,7 +23,7 @@ whole-text [] h = cc
 whole-text (b ∷ []) h = h
 whole-text (b ∷ c ∷ bytes) h = whole-text (c ∷ bytes) h
 
--- the first piece gives the line, and the bytes behind it are left
+-- the first full line gives the line, and the bytes after it are left
 from-first : (limit : ℕ) (position : Position) (full_line more : List ℕ) (within suffix : List (List ℕ)) →
     full_lines_within limit position (full_line ++ more) ≡ full_line ∷ within → full_lines (full_line ++ more) ≡ full_line ∷ suffix →
     next_line limit position (full_line ++ more) ≡ Parsed (line_of full_line) (record { lines = position.lines + 1; bytes = position.bytes + length full_line }) more
@@ -33,7 +33,7 @@ from-first limit position full_line more within suffix first all =
     ∙ ap (λ ps. at (length (concat (take 1 ps)))) all ∙ ap (λ t. at (length t)) (append-nil full_line)
     ∙ ap (λ rest. Parsed (line_of full_line) (record { lines = position.lines + 1; bytes = position.bytes + length full_line }) rest) (drop-append_seam full_line more)
 
--- a whole piece within the limit, or one that goes up to the end
+-- a whole full line within the limit, or one that goes up to the end
 pub next_line-found : (limit : ℕ) (position : Position) (full_line more : List ℕ) → first_len full_line ≡ length full_line → position.bytes + length full_line ≤ limit → 0 < length full_line →
     (is_whole full_line ≡ true) ⊎ (more ≡ []) → next_line limit position (full_line ++ more) ≡ Parsed (line_of full_line) (record { lines = position.lines + 1; bytes = position.bytes + length full_line }) more
 next_line-found limit position full_line more one fits some (inl whole) =
@@ -55,7 +55,7 @@ next_line-over limit position fits = rw short refl where
   short : is_too_long limit position [] ≡ false
   short = grind (arith, nat_tests)
 
--- a front part of a piece is not whole
+-- a prefix of a full line is not whole
 prefix-step : (b j : ℕ) (bytes : List ℕ) → (b == 10) ≡ false → j < length bytes → (first_len (take j bytes) ≡ j) × (is_whole (take j bytes) ≡ false) →
     (first_len (b ∷ take j bytes) ≡ suc j) × (is_whole (b ∷ take j bytes) ≡ false)
 prefix-step b zero bytes other lt h = (rw other refl, other)
@@ -71,12 +71,12 @@ prefix-part (suc k) (b ∷ c ∷ full_line) one lt =
     let rest : first_len (c ∷ full_line) ≡ length (c ∷ full_line) = cond-shorter (b == 10) (first_len (c ∷ full_line)) (suc (length full_line)) other one in
     prefix-step b k (c ∷ full_line) other (omega (arith, lt)) (prefix-part k (c ∷ full_line) rest (omega (arith, lt)))
 
--- so it has no whole piece
-no-whole_piece : (bytes : List ℕ) → first_len bytes ≡ length bytes → is_whole bytes ≡ false → filter is_whole (full_lines bytes) ≡ []
-no-whole_piece [] one open_end = refl
-no-whole_piece (b ∷ bytes) one open_end = ap (filter is_whole) (full_lines-one (b ∷ bytes) one (omega arith)) ∙ rw open_end refl
+-- so it has no whole full line
+no-whole_line : (bytes : List ℕ) → first_len bytes ≡ length bytes → is_whole bytes ≡ false → filter is_whole (full_lines bytes) ≡ []
+no-whole_line [] one open_end = refl
+no-whole_line (b ∷ bytes) one open_end = ap (filter is_whole) (full_lines-one (b ∷ bytes) one (omega arith)) ∙ rw open_end refl
 
--- a piece that passes the limit
+-- a full line that passes the limit
 pub next_line-long : (limit : ℕ) (position : Position) (full_line more : List ℕ) → first_len full_line ≡ length full_line → position.bytes ≤ limit → limit < position.bytes + length full_line →
     next_line limit position (full_line ++ more) ≡ Faulty (InputTooLong (position.lines + 1))
 next_line-long limit position full_line more one fits passes =
@@ -86,5 +86,5 @@ next_line-long limit position full_line more one fits passes =
     let long : is_too_long limit position (full_line ++ more) ≡ true = grind (arith, nat_tests, length-append full_line more) in
     let cut : take k (full_line ++ more) ≡ take k full_line = take-append-le k full_line more (omega (arith, lt)) in
     let length-cut : length (take k full_line) ≡ k = simp length-take (omega (arith, lt)) in
-    let none : filter is_whole (full_lines (take k (full_line ++ more))) ≡ [] = ap (λ t. filter is_whole (full_lines t)) cut ∙ no-whole_piece (take k full_line) (part.0 ∙ sym length-cut) part.1 in
+    let none : filter is_whole (full_lines (take k (full_line ++ more))) ≡ [] = ap (λ t. filter is_whole (full_lines t)) cut ∙ no-whole_line (take k full_line) (part.0 ∙ sym length-cut) part.1 in
     rw long (rw none refl)

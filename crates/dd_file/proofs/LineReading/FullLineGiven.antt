@@ -1,4 +1,4 @@
--- What the piece that was read says of the next line.
+-- What the full line that was read states of the next line.
 use Rattle.std.proofs.Common.{◌≡◌, ℕ, ◌+◌, ◌≤◌, ◌<◌, Bool, true, false, List, [], ◌++◌, length, refl, sym, ◌∙◌, ap, subst, arith, inl, inr}
 use Rattle.std.specs.Prelude.{◌⊎◌, ◌||◌, Option, Some, None, Ok, Err, MatchOption}
 use Rattle.std.proofs.lemmas.List.{append_assoc, append_cancel_right}
@@ -13,7 +13,7 @@ use Rattle.dd_file.specs.declared.fault.FileFault.{FileFault}
 use Rattle.dd_file.specs.declared.fault.FileFault.TheVariants.{Read, NoMemory, BadDirective, AfterDouble, UnclosedDouble, InputTooLong}
 use Rattle.dd_file.proofs.LineReading.FirstFullLine.{next_line-found, next_line-over, next_line-long}
 
--- an input that agrees goes on as the part that was read and what is held behind it
+-- an input that agrees goes on as the part that was read and what is buffered after it
 part-input : (old : ReaderState) (rest before after input more part : List ℕ) → PartRead old.buffered rest (Some before) (Some after) part → AgreesWith old before after input more →
     input ≡ part ++ (rest ++ more)
 part-input old rest before after input more part read agrees =
@@ -108,7 +108,7 @@ found-reads remaining has_failed view old mid before after full_line line faultl
   read = λ _. sound;
 }
 
--- what a piece gives
+-- what a full line gives
 pub full_line-reads : {R V : Type 0} (remaining : R → Option (List ℕ)) (has_failed : R → Bool) (view : V → List ℕ) (old mid new : ReaderState) (before after : R) (full_line : List ℕ) (found : Option V) →
     old.fault ≡ None → old.is_ended ≡ false → MovesOn remaining old mid before after → mid.position ≡ old.position → mid.fault ≡ None → FullLineRead old mid (remaining before) (remaining after) full_line →
     has_failed after ≡ (has_failed before || false) →
@@ -119,7 +119,7 @@ full_line-reads remaining has_failed view old mid new before after full_line Non
 full_line-reads remaining has_failed view old mid new before after full_line (Some line) faultless unended moves position mid-faultless read sound consumed =
     rw (consumed.3) (found-reads remaining has_failed view old mid before after full_line line faultless unended moves position mid-faultless read sound consumed.0 consumed.1 consumed.2)
 
--- why no piece was read
+-- why no full line was read
 faulty-line : {V : Type 0} (view : V → List ℕ) (old mid new : ReaderState) (before after : Option (List ℕ)) (fault : FileFault) → old.position.bytes ≤ longest_input → FullLineFault old mid before after fault →
     IsNextOfInput view (next_line longest_input) old new before after (Err fault)
 faulty-line view old mid new before after Read fits why input more agrees = inl (inl refl)
@@ -156,7 +156,7 @@ faulty-reads remaining has_failed view old mid before after fault faultless unen
   read = λ _. sound;
 }
 
--- the same where the state with its fault is told by another name of the state before it
+-- the same where the state with its fault is decided by another name of the state before it
 pub fault-reads : {R V : Type 0} (remaining : R → Option (List ℕ)) (has_failed : R → Bool) (view : V → List ℕ) (old mid state : ReaderState) (before after : R) (fault : FileFault) → state ≡ mid →
     old.fault ≡ None → old.is_ended ≡ false → old.position.bytes ≤ longest_input → MovesOn remaining old mid before after → FullLineFault old mid (remaining before) (remaining after) fault →
     has_failed after ≡ (has_failed before || is_read_fault {X = Option V} (Err fault)) →

@@ -11,7 +11,7 @@ use Rattle.dd_file.specs.declared.fault.FileFault.{FileFault}
 use Rattle.ascii_text.proofs.Offered.{full_lines-first, first_len-bound, length-first, unfinished-rest}
 use Rattle.dd_file.proofs.ItemReading.BytesTaken.{none-within}
 
--- a first piece that is whole stays the first, whatever follows
+-- a first full line that is whole stays the first, whatever follows
 whole-step : (c : Bool) (b : ℕ) (bytes more : List ℕ) → (b == 10) ≡ c → (is_whole (take (first_len bytes) bytes) ≡ true → first_len (bytes ++ more) ≡ first_len bytes) →
     is_whole (take (cond c 1 (suc (first_len bytes))) (b ∷ bytes)) ≡ true → cond c 1 (suc (first_len (bytes ++ more))) ≡ cond c 1 (suc (first_len bytes))
 whole-step true b bytes more e ih h = refl
@@ -25,7 +25,7 @@ first_len-whole : (bytes more : List ℕ) → is_whole (take (first_len bytes) b
 first_len-whole [] more h = cc
 first_len-whole (b ∷ bytes) more h = whole-step (b == 10) b bytes more refl (first_len-whole bytes more) h
 
--- the whole pieces of a front part: none, or the first piece and the whole ones of the rest
+-- the whole lines of a prefix: none, or the first full line and the whole ones of the rest
 long-at : (c : Bool) (k : ℕ) (bytes : List ℕ) → is_whole (take (first_len (take k bytes)) (take k bytes)) ≡ c →
     (filter is_whole (full_lines (take k bytes)) ≡ []) ⊎ (filter is_whole (full_lines (take k bytes)) ≡ take (first_len bytes) bytes ∷ filter is_whole (full_lines (take (k - first_len bytes) (drop (first_len bytes) bytes))))
 long-at true k bytes whole =
@@ -49,19 +49,19 @@ long-at false k bytes open_end = inl (none (take k bytes) open_end) where
   none [] h = refl
   none (x ∷ xs) h = ap (filter is_whole) (full_lines-first (x ∷ xs) (omega arith)) ∙ rw h (ap (λ r. filter is_whole (full_lines r)) (unfinished-rest [] (x ∷ xs) h))
 
--- the place behind the first piece
-abbrev behind_first : Position → List ℕ → Position
-behind_first position bytes = record { lines = position.lines + 1; bytes = position.bytes + first_len bytes }
+-- the position after the first full line
+abbrev after_first : Position → List ℕ → Position
+after_first position bytes = record { lines = position.lines + 1; bytes = position.bytes + first_len bytes }
 
-long-same : (limit : ℕ) (position : Position) (bytes : List ℕ) → is_too_long limit position bytes ≡ is_too_long limit (behind_first position bytes) (drop (first_len bytes) bytes)
+long-same : (limit : ℕ) (position : Position) (bytes : List ℕ) → is_too_long limit position bytes ≡ is_too_long limit (after_first position bytes) (drop (first_len bytes) bytes)
 long-same limit position bytes =
     let bound = first_len-bound bytes in
     let len = length-drop (first_len bytes) bytes in
     ap (nat_lt limit) (omega (arith, bound, len))
 
 within-first : (limit : ℕ) (position : Position) (bytes : List ℕ) → 0 < length bytes →
-    (full_lines_within limit position bytes ≡ []) ⊎ (full_lines_within limit position bytes ≡ take (first_len bytes) bytes ∷ full_lines_within limit (behind_first position bytes) (drop (first_len bytes) bytes))
-within-first limit position bytes some = at (is_too_long limit position bytes) (is_too_long limit (behind_first position bytes) rest) (long-same limit position bytes) where
+    (full_lines_within limit position bytes ≡ []) ⊎ (full_lines_within limit position bytes ≡ take (first_len bytes) bytes ∷ full_lines_within limit (after_first position bytes) (drop (first_len bytes) bytes))
+within-first limit position bytes some = at (is_too_long limit position bytes) (is_too_long limit (after_first position bytes) rest) (long-same limit position bytes) where
   rest : List ℕ
   rest = drop (first_len bytes) bytes
 
@@ -79,7 +79,7 @@ within-first limit position bytes some = at (is_too_long limit position bytes) (
   at false true e = cc
   at false false e = inr (full_lines-first bytes some)
 
--- The lines were read from a place and bytes to a later place and the rest.
+-- The lines were read from a position and bytes to a later position and the rest.
 pub record LinesOn (limit : ℕ) (position : Position) (bytes : List ℕ) (lines : List (List ℕ)) (now : Position) (rest : List ℕ) : Type 0 where
   pub within : map line_of (full_lines_within limit position bytes) ≡ lines ++ map line_of (full_lines_within limit now rest)
   pub long : is_too_long limit position bytes ≡ is_too_long limit now rest
@@ -113,19 +113,19 @@ step-on limit position (b ∷ bytes) line now rest e = at (within-first limit po
   one : length (concat (take 1 (full_lines (b ∷ bytes)))) ≡ first_len (b ∷ bytes)
   one = ap (λ ps. length (concat (take 1 ps))) (full_lines-first (b ∷ bytes) (omega arith)) ∙ ap length (append-nil (take (first_len (b ∷ bytes)) (b ∷ bytes))) ∙ length-first (b ∷ bytes)
 
-  at : (full_lines_within limit position (b ∷ bytes) ≡ []) ⊎ (full_lines_within limit position (b ∷ bytes) ≡ take (first_len (b ∷ bytes)) (b ∷ bytes) ∷ full_lines_within limit (behind_first position (b ∷ bytes)) (drop (first_len (b ∷ bytes)) (b ∷ bytes))) →
+  at : (full_lines_within limit position (b ∷ bytes) ≡ []) ⊎ (full_lines_within limit position (b ∷ bytes) ≡ take (first_len (b ∷ bytes)) (b ∷ bytes) ∷ full_lines_within limit (after_first position (b ∷ bytes)) (drop (first_len (b ∷ bytes)) (b ∷ bytes))) →
       StepOn limit position (b ∷ bytes) line now rest
   at (inl none) = no-end (is_too_long limit position (b ∷ bytes)) position now line rest (ap from (sym none) ∙ e)
   at (inr first) =
       let found : next_of_lines 1 (line_of full_line) position (b ∷ bytes) ≡ Parsed line now rest = ap from (sym first) ∙ e in
       let consumed : ℕ → Next (List ℕ) = λ n. Parsed (line_of full_line) (record { lines = position.lines + 1; bytes = position.bytes + n }) (drop n (b ∷ bytes)) in
-      let is : Parsed (line_of full_line) (behind_first position (b ∷ bytes)) (drop (first_len (b ∷ bytes)) (b ∷ bytes)) ≡ Parsed line now rest = ap consumed (sym one) ∙ found in
+      let is : Parsed (line_of full_line) (after_first position (b ∷ bytes)) (drop (first_len (b ∷ bytes)) (b ∷ bytes)) ≡ Parsed line now rest = ap consumed (sym one) ∙ found in
       let same-line : line_of full_line ≡ line = cc in
-      let same-position : behind_first position (b ∷ bytes) ≡ now = cc in
+      let same-position : after_first position (b ∷ bytes) ≡ now = cc in
       let same-rest : drop (first_len (b ∷ bytes)) (b ∷ bytes) ≡ rest = cc in
       record {
         full_line = full_line;
-        within = ap (map line_of) first ∙ ap (λ l. l ∷ map line_of (full_lines_within limit (behind_first position (b ∷ bytes)) (drop (first_len (b ∷ bytes)) (b ∷ bytes)))) same-line
+        within = ap (map line_of) first ∙ ap (λ l. l ∷ map line_of (full_lines_within limit (after_first position (b ∷ bytes)) (drop (first_len (b ∷ bytes)) (b ∷ bytes)))) same-line
             ∙ ap (λ (p : Position). line ∷ map line_of (full_lines_within limit p (drop (first_len (b ∷ bytes)) (b ∷ bytes)))) same-position ∙ ap (λ r. line ∷ map line_of (full_lines_within limit now r)) same-rest;
         long = long-same limit position (b ∷ bytes) ∙ ap (λ (p : Position). is_too_long limit p (drop (first_len (b ∷ bytes)) (b ∷ bytes))) same-position ∙ ap (is_too_long limit now) same-rest;
         count = ap (λ (p : Position). p.lines) (sym same-position);

@@ -1,4 +1,4 @@
--- A piece that is read part by part.
+-- A full line that is read part by part.
 use Rattle.std.proofs.Common.{◌≡◌, ℕ, suc, ◌+◌, ◌-◌, ◌≤◌, ◌<◌, Bool, true, false, cond, List, [], ◌∷◌, ◌++◌, length, take, drop, refl, sym, ◌∙◌, ap, arith, rules}
 use Rattle.std.specs.Prelude.{◌==◌, Option, Some, None}
 use Rattle.std.proofs.lemmas.List.{append_assoc, append-nil, take-append-drop, length-append, length-drop, drop-drop, drop-take}
@@ -7,7 +7,7 @@ use Rattle.ascii_text.specs.Lines.{first_len, is_whole}
 use Rattle.dd_file.specs.FullLineRead.{PartRead}
 use Rattle.ascii_text.proofs.Offered.{first_len-append, first_len-bound, first_len-take, length-first}
 
--- the first piece of what is held, behind a part without newline
+-- the first full line of what is buffered, after a part without newline
 pub part-moved : (buffered rest suffix : List ℕ) (before after : Option (List ℕ)) (part full_line : List ℕ) → PartRead buffered rest before after part → is_whole part ≡ false →
     full_line ≡ part ++ take (first_len rest) rest → suffix ≡ drop (first_len rest) rest → PartRead buffered suffix before after full_line
 part-moved buffered rest suffix before after part full_line read unfinished is left =
@@ -26,7 +26,7 @@ consumes-append (Some o) None new xs ys a b = absurd a
 consumes-append (Some o) (Some m) None xs ys a b = absurd b
 consumes-append (Some o) (Some m) (Some n) xs ys a b = a ∙ ap (λ t. xs ++ t) b ∙ sym (append_assoc xs ys n)
 
--- one more read, where nothing was held
+-- one more read, where nothing was buffered
 pub part-filled : (buffered rest bytes : List ℕ) (before mid after : Option (List ℕ)) (part : List ℕ) → PartRead buffered rest before mid part → rest ≡ [] →
     Consumes mid after bytes → PartRead buffered bytes before after part
 part-filled buffered rest bytes before mid after part read none more = record {
@@ -45,7 +45,7 @@ pub some-bytes : (bytes : List ℕ) → (length bytes == 0) ≡ false → 0 < le
 some-bytes [] h = cc
 some-bytes (b ∷ bytes) h = omega arith
 
--- how long the part is when all that was held was moved behind it
+-- how long the part is when all that was buffered was moved after it
 pub length-moved : (part rest full_line suffix : List ℕ) → full_line ≡ part ++ take (first_len rest) rest → suffix ≡ drop (first_len rest) rest → suffix ≡ [] →
     length full_line ≡ length part + length rest
 length-moved part rest full_line suffix is left none =

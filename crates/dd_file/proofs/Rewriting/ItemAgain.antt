@@ -23,23 +23,23 @@ use Rattle.dd_file.proofs.ScriptGrammar.OpenItem.{up_to-all}
 use Rattle.dd_file.proofs.TextLines.EqualButReturns.{input-again}
 use Rattle.dd_file.proofs.ScriptGrammar.LinesOfItem.{IsHead, ReadItem, ReadComment, ReadBlank, ReadBlankHead, ReadDirective}
 
--- the lines of an output behind its separator, with the blank line that ends it or without
-abbrev pub output_behind : Bool → Bool → List (List ℕ) → List (List ℕ)
-output_behind true false lines = lines ++ [] ∷ []
-output_behind true true lines = dashes_line ∷ lines ++ dashes_line ∷ dashes_line ∷ [] ∷ []
-output_behind false false lines = lines
-output_behind false true lines = dashes_line ∷ lines ++ dashes_line ∷ dashes_line ∷ []
+-- the lines of an output after its separator, with the blank line that ends it or without
+abbrev pub output_after : Bool → Bool → List (List ℕ) → List (List ℕ)
+output_after true false lines = lines ++ [] ∷ []
+output_after true true lines = dashes_line ∷ lines ++ dashes_line ∷ dashes_line ∷ [] ∷ []
+output_after false false lines = lines
+output_after false true lines = dashes_line ∷ lines ++ dashes_line ∷ dashes_line ∷ []
 
--- behind the blank line may stand any lines, without it none
-abbrev pub lines_behind : Bool → List (List ℕ) → List (List ℕ)
-lines_behind true more = more
-lines_behind false more = []
+-- after the blank line may stand any lines, without it none
+abbrev pub lines_after : Bool → List (List ℕ) → List (List ℕ)
+lines_after true more = more
+lines_after false more = []
 
 -- the lines that are written of a directive
 abbrev pub lines_of_written : Bool → List (List ℕ) → Bool → List (List ℕ) → List (List ℕ)
-lines_of_written is_ended raw double lines = raw ++ dashes_line ∷ output_behind is_ended double lines
+lines_of_written is_ended raw double lines = raw ++ dashes_line ∷ output_after is_ended double lines
 
-output_text-lines : (double : Bool) (lines : List (List ℕ)) → (opening double ++ text_of lines) ++ closing double ≡ text_of (dashes_line ∷ output_behind true double lines)
+output_text-lines : (double : Bool) (lines : List (List ℕ)) → (opening double ++ text_of lines) ++ closing double ≡ text_of (dashes_line ∷ output_after true double lines)
 output_text-lines false lines = append_assoc (opening false) (text_of lines) newline ∙ ap (λ t. opening false ++ t) (sym (text_of-append lines ([] ∷ [])))
 output_text-lines true lines =
     append_assoc (opening true) (text_of lines) (closing true) ∙ ap (λ t. opening true ++ t) (sym (text_of-append lines (dashes_line ∷ dashes_line ∷ [] ∷ [])))
@@ -49,34 +49,34 @@ pub directive-text : (raw lines : List (List ℕ)) (found : List ℕ) → IsOutp
 directive-text raw lines found is =
     let double = has_blank_line found in
     ap (λ t. text_of raw ++ ((opening double ++ t) ++ closing double)) is.text ∙ ap (λ t. text_of raw ++ t) (output_text-lines double lines)
-    ∙ sym (text_of-append raw (dashes_line ∷ output_behind true double lines))
+    ∙ sym (text_of-append raw (dashes_line ∷ output_after true double lines))
 
-output_behind-returns : (is_ended double : Bool) (lines : List (List ℕ)) → list_all is_output_line lines ≡ true → without_returns (output_behind is_ended double lines) ≡ output_behind is_ended double lines
-output_behind-returns true false lines h = map-append without_return lines ([] ∷ []) ∙ ap (λ t. t ++ [] ∷ []) (output-returns lines h)
-output_behind-returns true true lines h =
+output_after-returns : (is_ended double : Bool) (lines : List (List ℕ)) → list_all is_output_line lines ≡ true → without_returns (output_after is_ended double lines) ≡ output_after is_ended double lines
+output_after-returns true false lines h = map-append without_return lines ([] ∷ []) ∙ ap (λ t. t ++ [] ∷ []) (output-returns lines h)
+output_after-returns true true lines h =
     ap (λ t. dashes_line ∷ t) (map-append without_return lines (dashes_line ∷ dashes_line ∷ [] ∷ []) ∙ ap (λ t. t ++ dashes_line ∷ dashes_line ∷ [] ∷ []) (output-returns lines h))
-output_behind-returns false false lines h = output-returns lines h
-output_behind-returns false true lines h =
+output_after-returns false false lines h = output-returns lines h
+output_after-returns false true lines h =
     ap (λ t. dashes_line ∷ t) (map-append without_return lines (dashes_line ∷ dashes_line ∷ []) ∙ ap (λ t. t ++ dashes_line ∷ dashes_line ∷ []) (output-returns lines h))
 
-output_behind-lines : (is_ended double : Bool) (lines : List (List ℕ)) → list_all is_line lines ≡ true → list_all is_line (output_behind is_ended double lines) ≡ true
-output_behind-lines true false lines h = list_all-append is_line lines ([] ∷ []) ∙ ap (λ b. b && true) h
-output_behind-lines true true lines h = list_all-append is_line lines (dashes_line ∷ dashes_line ∷ [] ∷ []) ∙ ap (λ b. b && true) h
-output_behind-lines false false lines h = h
-output_behind-lines false true lines h = list_all-append is_line lines (dashes_line ∷ dashes_line ∷ []) ∙ ap (λ b. b && true) h
+output_after-lines : (is_ended double : Bool) (lines : List (List ℕ)) → list_all is_line lines ≡ true → list_all is_line (output_after is_ended double lines) ≡ true
+output_after-lines true false lines h = list_all-append is_line lines ([] ∷ []) ∙ ap (λ b. b && true) h
+output_after-lines true true lines h = list_all-append is_line lines (dashes_line ∷ dashes_line ∷ [] ∷ []) ∙ ap (λ b. b && true) h
+output_after-lines false false lines h = h
+output_after-lines false true lines h = list_all-append is_line lines (dashes_line ∷ dashes_line ∷ []) ∙ ap (λ b. b && true) h
 
 pub lines_of_written-are : (is_ended double : Bool) (raw lines : List (List ℕ)) → list_all is_line raw ≡ true → list_all is_line lines ≡ true → list_all is_line (lines_of_written is_ended raw double lines) ≡ true
 lines_of_written-are is_ended double raw lines h k =
-    list_all-append is_line raw (dashes_line ∷ output_behind is_ended double lines) ∙ ap (λ b. b && list_all is_line (output_behind is_ended double lines)) h ∙ output_behind-lines is_ended double lines k
+    list_all-append is_line raw (dashes_line ∷ output_after is_ended double lines) ∙ ap (λ b. b && list_all is_line (output_after is_ended double lines)) h ∙ output_after-lines is_ended double lines k
 
 -- those lines, written and cut again
 written_lines : (is_ended double : Bool) (raw lines : List (List ℕ)) → list_all is_line raw ≡ true → list_all is_line lines ≡ true → list_all is_output_line lines ≡ true →
-    lines_of (text_of (lines_of_written is_ended raw double lines)) ≡ without_returns raw ++ dashes_line ∷ output_behind is_ended double lines
+    lines_of (text_of (lines_of_written is_ended raw double lines)) ≡ without_returns raw ++ dashes_line ∷ output_after is_ended double lines
 written_lines is_ended double raw lines h k output =
-    lines_of-text_of (lines_of_written is_ended raw double lines) (lines_of_written-are is_ended double raw lines h k) ∙ map-append without_return raw (dashes_line ∷ output_behind is_ended double lines)
-    ∙ ap (λ t. without_returns raw ++ dashes_line ∷ t) (output_behind-returns is_ended double lines output)
+    lines_of-text_of (lines_of_written is_ended raw double lines) (lines_of_written-are is_ended double raw lines h k) ∙ map-append without_return raw (dashes_line ∷ output_after is_ended double lines)
+    ∙ ap (λ t. without_returns raw ++ dashes_line ∷ t) (output_after-returns is_ended double lines output)
 
--- lines with a separator, and the output behind it
+-- lines with a separator, and the output after it
 body-at : (m : ℕ) (command : CommandText) (directive_lines lines input output : List (List ℕ)) → list_any is_separator lines ≡ true → up_to is_separator lines ≡ input →
     suffix is_separator lines ≡ output → body m command directive_lines lines ≡ output_at m command directive_lines input output
 body-at m command directive_lines lines input output some before after = rw (some, before, after) refl
@@ -90,22 +90,22 @@ double-at : (m : ℕ) (command : CommandText) (directive_lines input lines expec
     in_double m command directive_lines input lines ≡ after_pair m (length directive_lines + length input + length expected + 4) (directive m command directive_lines input expected) more
 double-at m command directive_lines input lines expected more some before after = rw (some, before, after) refl
 
--- an output between double dashes, and the lines behind it
+-- an output between double dashes, and the lines after it
 pair-again : (m : ℕ) (command : CommandText) (directive_lines input lines more : List (List ℕ)) → list_all is_output_line lines ≡ true →
     in_double m command directive_lines input (lines ++ dashes_line ∷ dashes_line ∷ more) ≡ after_pair m (length directive_lines + length input + length lines + 4) (directive m command directive_lines input lines) more
 pair-again m command directive_lines input lines more output =
-    let behind_pair : drop (length lines + 2) (lines ++ dashes_line ∷ dashes_line ∷ more) ≡ more = drop-append-add lines (dashes_line ∷ dashes_line ∷ more) 2 in
-    double-at m command directive_lines input (lines ++ dashes_line ∷ dashes_line ∷ more) lines more (has_pair-output lines more) (before_pair-output lines more output) behind_pair
+    let after_a_pair : drop (length lines + 2) (lines ++ dashes_line ∷ dashes_line ∷ more) ≡ more = drop-append-add lines (dashes_line ∷ dashes_line ∷ more) 2 in
+    double-at m command directive_lines input (lines ++ dashes_line ∷ dashes_line ∷ more) lines more (has_pair-output lines more) (before_pair-output lines more output) after_a_pair
 
 -- no line of an output is four dashes, so the first is not
 no-dashes : (lines : List (List ℕ)) → list_all is_output_line lines ≡ true → begins_with_dashes lines ≡ false
 no-dashes [] h = refl
 no-dashes (line ∷ lines) h = output_line-dashes line (and-parts (is_output_line line) _ h).0
 
--- an output behind a separator, read again
+-- an output after a separator, read again
 output-again : (is_ended double : Bool) (m : ℕ) (command : CommandText) (directive_lines input lines more : List (List ℕ)) → list_all is_output_line lines ≡ true → list_any is_blank lines ≡ double →
-    output_at m command directive_lines input (output_behind is_ended double lines ++ lines_behind is_ended more) ≡
-    first_item (Ok (directive m command directive_lines input lines)) (length directive_lines + length input + length (dashes_line ∷ output_behind is_ended double lines)) is_ended
+    output_at m command directive_lines input (output_after is_ended double lines ++ lines_after is_ended more) ≡
+    first_item (Ok (directive m command directive_lines input lines)) (length directive_lines + length input + length (dashes_line ∷ output_after is_ended double lines)) is_ended
 output-again true false m command directive_lines input lines more output blank =
     let count : length directive_lines + length input + 1 + length lines + 1 ≡ length directive_lines + length input + length (dashes_line ∷ (lines ++ [] ∷ [])) = rw (length-append lines ([] ∷ [])) (omega arith) in
     let is = ap (output_at m command directive_lines input) (append_assoc lines ([] ∷ []) more) in
@@ -130,18 +130,18 @@ output-again false true m command directive_lines input lines more output blank 
 
 body-again : (is_ended double : Bool) (m : ℕ) (command : CommandText) (directive_lines input lines more : List (List ℕ)) → list_any is_separator input ≡ false →
     list_all is_output_line lines ≡ true → list_any is_blank lines ≡ double →
-    body m command directive_lines (input ++ dashes_line ∷ (output_behind is_ended double lines ++ lines_behind is_ended more)) ≡
-    first_item (Ok (directive m command directive_lines input lines)) (length directive_lines + length input + length (dashes_line ∷ output_behind is_ended double lines)) is_ended
+    body m command directive_lines (input ++ dashes_line ∷ (output_after is_ended double lines ++ lines_after is_ended more)) ≡
+    first_item (Ok (directive m command directive_lines input lines)) (length directive_lines + length input + length (dashes_line ∷ output_after is_ended double lines)) is_ended
 body-again is_ended double m command directive_lines input lines more none output blank =
-    let out = output_behind is_ended double lines ++ lines_behind is_ended more in
+    let out = output_after is_ended double lines ++ lines_after is_ended more in
     body-at m command directive_lines (input ++ dashes_line ∷ out) input out (any-seam is_separator input dashes_line out refl) (up_to-seam is_separator input dashes_line out none refl)
     (suffix-seam is_separator input dashes_line out none refl) ∙ output-again is_ended double m command directive_lines input lines more output blank
 
 -- The lines of this text are read as the item again, ended by the last of them whatever lines follow, or by the end.
 abbrev pub IsReadAs : Bool → ℕ → List (List ℕ) → List ℕ → List ℕ → Item → Type 0
-IsReadAs is_ended m more text found item = (again : Item) × (first_of m (lines_of text ++ lines_behind is_ended more) ≡ Some (first_item (Ok again) (length (lines_of text)) is_ended)) × IsSameItem m found item again
+IsReadAs is_ended m more text found item = (again : Item) × (first_of m (lines_of text ++ lines_after is_ended more) ≡ Some (first_item (Ok again) (length (lines_of text)) is_ended)) × IsSameItem m found item again
 
--- what the law says of an item
+-- what the law states of an item
 abbrev pub IsReadAgain : ℕ → List (List ℕ) → List ℕ → Item → Type 0
 IsReadAgain m more found item = IsReadAs true m more (entry_text item found) found item
 
@@ -168,16 +168,16 @@ directive-again is_ended n m command line rest input expected more lines found i
     let double = has_blank_line found in
     let H = without_returns directive_lines in
     let I = without_returns input in
-    let behind_raw = dashes_line ∷ output_behind is_ended double lines in
-    let after = lines_behind is_ended more in
+    let after_raw = dashes_line ∷ output_after is_ended double lines in
+    let after = lines_after is_ended more in
     let joined_is = joined-without_returns directive_lines in
-    let written : lines_of (text_of (lines_of_written is_ended (directive_lines ++ input) double lines)) ≡ (H ++ I) ++ behind_raw =
-    written_lines is_ended double (directive_lines ++ input) lines are found_is.are_lines found_is.are_output ∙ ap (λ t. t ++ behind_raw) (map-append without_return directive_lines input) in
-    let whole : ((H ++ I) ++ behind_raw) ++ after ≡ H ++ (I ++ (behind_raw ++ after)) = append_assoc (H ++ I) behind_raw after ∙ append_assoc H I (behind_raw ++ after) in
-    let count : length H + length I + length behind_raw ≡ length ((H ++ I) ++ behind_raw) = sym (length-append (H ++ I) behind_raw ∙ ap (λ k. k + length behind_raw) (length-append H I)) in
-    let read : first_of m (((H ++ I) ++ behind_raw) ++ after) ≡ Some (first_item (Ok (directive m command H I lines)) (length ((H ++ I) ++ behind_raw)) is_ended) =
-    ap (first_of m) whole ∙ first_of-again m line rest (I ++ (behind_raw ++ after)) is
-    ∙ ap Some (at_directive-command m H (I ++ (behind_raw ++ after)) command (all_continued-without_returns directive_lines ∙ is.ends) (ap is_blank joined_is ∙ parses) (ap command_of joined_is ∙ command_is)
+    let written : lines_of (text_of (lines_of_written is_ended (directive_lines ++ input) double lines)) ≡ (H ++ I) ++ after_raw =
+    written_lines is_ended double (directive_lines ++ input) lines are found_is.are_lines found_is.are_output ∙ ap (λ t. t ++ after_raw) (map-append without_return directive_lines input) in
+    let whole : ((H ++ I) ++ after_raw) ++ after ≡ H ++ (I ++ (after_raw ++ after)) = append_assoc (H ++ I) after_raw after ∙ append_assoc H I (after_raw ++ after) in
+    let count : length H + length I + length after_raw ≡ length ((H ++ I) ++ after_raw) = sym (length-append (H ++ I) after_raw ∙ ap (λ k. k + length after_raw) (length-append H I)) in
+    let read : first_of m (((H ++ I) ++ after_raw) ++ after) ≡ Some (first_item (Ok (directive m command H I lines)) (length ((H ++ I) ++ after_raw)) is_ended) =
+    ap (first_of m) whole ∙ first_of-again m line rest (I ++ (after_raw ++ after)) is
+    ∙ ap Some (at_directive-command m H (I ++ (after_raw ++ after)) command (all_continued-without_returns directive_lines ∙ is.ends) (ap is_blank joined_is ∙ parses) (ap command_of joined_is ∙ command_is)
     ∙ body-again is_ended double m command H I lines more (any_separator-without_returns input ∙ none) found_is.are_output (sym (has_blank_line-lines lines found found_is))
     ∙ ap (λ (k : ℕ). first_item (Ok (directive m command H I lines)) k is_ended) count) in (
       directive m command H I lines,

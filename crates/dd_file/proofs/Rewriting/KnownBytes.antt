@@ -39,33 +39,33 @@ append-part (Some o) (Some m) (Some n) xs ys a b =
 pub not-failed : (before : Bool) (count : ℕ) → (count ≡ 0 → ⊥) → (before || (count == 0)) ≡ before
 not-failed before count h = search (rules, common_steps)
 
--- some of the bytes from a place on, behind those before it
+-- some of the bytes from a position on, after those before it
 pub take-more : (n k : ℕ) (bytes : List ℕ) → take (n + k) bytes ≡ take n bytes ++ take k (drop n bytes)
 take-more n k [] = search (rules, common_steps)
 take-more zero k (b ∷ bytes) = search (rules, common_steps)
 take-more (suc n) k (b ∷ bytes) = let e : suc n + k ≡ suc (n + k) = omega arith in rw e (ap (λ t. b ∷ t) (take-more n k bytes))
 
--- all bytes from a place on
+-- all bytes from a position on
 pub rest-whole : (n : ℕ) (bytes : List ℕ) → take (length bytes - n) (drop n bytes) ≡ drop n bytes
 rest-whole n bytes = take_all _ _ (subst (λ m. m ≤ length bytes - n) (sym (length-drop n bytes)) (omega arith))
 
--- a front of some bytes, and a front of the rest
+-- a prefix of some bytes, and a prefix of the rest
 pub prefix-more : (old mid new : Option (List ℕ)) (n k : ℕ) (bytes : List ℕ) → n ≤ length bytes →
     Appends old mid (take n bytes) → Appends mid new (take k (take (length bytes - n) (drop n bytes))) → Appends old new (take (n + k) bytes)
 prefix-more old mid new n k bytes le a b =
     subst (λ t. Appends old new t) (sym (take-more n k bytes)) (appends-append old mid new _ _ a (subst (λ t. Appends mid new (take k t)) (rest-whole n bytes) b))
 
--- a front of some bytes is a part of them
+-- a prefix of some bytes is a part of them
 pub prefix-part : (old new : Option (List ℕ)) (n : ℕ) (bytes : List ℕ) → Appends old new (take n bytes) → AppendsPart old new bytes
 prefix-part old new n bytes a = subst (λ t. AppendsPart old new t) (take-append-drop n bytes) (part-append old new (take n bytes) (drop n bytes) a)
 
--- a front of what waits that is passed on is a part of it
+-- a prefix of what waits that is passed on is a part of it
 pub gathered-part : (old new : Option (List ℕ)) (n k : ℕ) (bytes block : List ℕ) → bytes ≡ block →
     Appends old new (take k (take (length bytes - n) (drop n bytes))) → AppendsPart old new (drop n block)
 gathered-part old new n k bytes block e a =
     subst (λ t. AppendsPart old new (drop n t)) e (prefix-part old new k (drop n bytes) (subst (λ t. Appends old new (take k t)) (rest-whole n bytes) a))
 
--- a front of what waits that is passed on leaves all bytes so far as they were
+-- a prefix of what waits that is passed on leaves all bytes so far as they were
 pub gathered-more : (old new : Option (List ℕ)) (n k : ℕ) (bytes block : List ℕ) → bytes ≡ block →
     Appends old new (take k (take (length bytes - n) (drop n bytes))) → Keeps (append_known old (drop n block)) (append_known new (drop (n + k) block))
 gathered-more old new n k bytes block e a =
@@ -76,7 +76,7 @@ gathered-more old new n k bytes block e a =
       at (Some o) (Some x) b = ap (λ t. t ++ drop (n + k) bytes) b ∙ append_assoc o (take k (drop n bytes)) (drop (n + k) bytes)
           ∙ ap (λ t. o ++ (take k (drop n bytes) ++ t)) (sym (drop-drop k n bytes)) ∙ ap (λ t. o ++ t) (take-append-drop k (drop n bytes))
 
--- nothing behind known bytes
+-- nothing after known bytes
 pub append_known-nothing : (known : Option (List ℕ)) → append_known known [] ≡ known
 append_known-nothing None = refl
 append_known-nothing (Some bytes) = ap Some (append-nil bytes)

@@ -1,4 +1,4 @@
--- What is written of an output: the newline that is held back with the dashes, the output, and what stands behind it.
+-- What is written of an output: the newline that is buffered with the dashes, the output, and what is after it.
 use Rattle.std.proofs.Common.{◌≡◌, ℕ, Bool, true, false, List, [], ◌∷◌, ◌++◌, length, sym, ◌∙◌, ap, subst, rules}
 use Rattle.std.specs.Prelude.{◌==◌, Option}
 use Rattle.std.specs.Io.KnownBytes.{Appends}
@@ -44,7 +44,7 @@ found_counted double text inside suffix counts_text counts_closing before =
     let with_text = counts_text (before ++ opening double) (opening_end double before) ∙ ap newlines_at_end (append_assoc before (opening double) text) in
     counts_closing (before ++ (opening double ++ text)) with_text ∙ ap newlines_at_end (append_assoc before (opening double ++ text) (closing double))
 
--- the parts are written: what is held back and the dashes, the output, and what stands behind it without its last newline
+-- the parts are written: what is buffered and the dashes, the output, and what is after it without its last newline
 abbrev pub parts : ℕ → Bool → List ℕ → List ℕ
 parts newlines double text = (buffered newlines ++ opening double) ++ (text ++ without_last 10 (closing double))
 

@@ -11,7 +11,7 @@ use Rattle.dd_file.proofs.Rewriting.KnownBytes.{appends-append, append-part, par
 use Rattle.dd_file.proofs.TextLines.LastNewlines.{text-buffered, text-ended, without_last-prefix}
 use Rattle.ascii_text.proofs.Offered.{without_last-append}
 
--- the newline that is held back behind so many
+-- the newline that is buffered after this many
 abbrev pub buffered : ℕ → List ℕ
 buffered newlines = if newlines == 0 then [] else newline
 
@@ -41,7 +41,7 @@ text-more newlines start now text (x ∷ more) some is =
     sym (append_assoc (without_last 10 text) (buffered newlines) (without_last 10 (x ∷ more)))
     ∙ ap (λ t. t ++ without_last 10 (x ∷ more)) (ap (λ n. without_last 10 text ++ buffered n) is.counted ∙ text-buffered text) ∙ sym (without_last-append 10 text x more)
 
--- bytes are written: what is held back, and then they without a newline at their end
+-- bytes are written: what is buffered, and then they without a newline at their end
 pub continues-bytes : (newlines count : ℕ) (old new : Option (List ℕ)) (more : List ℕ) → (length more == 0) ≡ false →
     Appends old new (buffered newlines ++ without_last 10 more) → ((text : List ℕ) → newlines ≡ newlines_at_end text → count ≡ newlines_at_end (text ++ more)) → Continues newlines count old new more
 continues-bytes newlines count old new more some bytes counts start text is =
@@ -53,7 +53,7 @@ pub breaks-bytes : (newlines : ℕ) (old new : Option (List ℕ)) (more : List �
 breaks-bytes newlines old new more some part start text is =
     begun-part start new (text ++ more) (subst (λ t. AppendsPart start new t) (text-more newlines start old text more some is) (append-part start old new _ _ is.gained part))
 
--- the end: the newline that is held back, where it is the only one
+-- the end: the newline that is buffered, where it is the only one
 abbrev pub last : ℕ → List ℕ
 last newlines = if newlines == 1 then newline else []
 

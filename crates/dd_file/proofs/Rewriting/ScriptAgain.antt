@@ -21,7 +21,7 @@ use Rattle.dd_file.proofs.TextLines.CutAgain.{and-parts, lines-lines, full_lines
 use Rattle.dd_file.proofs.ScriptGrammar.FoundInLines.{dashes_line}
 use Rattle.dd_file.proofs.ScriptGrammar.LinesOfItem.{IsHead, ReadItem, ReadComment, ReadBlank, ReadBlankHead, ReadDirective, given-read}
 use Rattle.dd_file.proofs.ScriptGrammar.AllItems.{items_of, items_of-first, script_of-lines}
-use Rattle.dd_file.proofs.Rewriting.ItemAgain.{read-again, directive-again, directive-text, lines_of_written, lines_of_written-are, output_behind}
+use Rattle.dd_file.proofs.Rewriting.ItemAgain.{read-again, directive-again, directive-text, lines_of_written, lines_of_written-are, output_after}
 
 -- the entries are read again as the items of this script, which has no fault
 abbrev IsAgain : List Entry → Script Item → Type 0
@@ -58,7 +58,7 @@ lines-append : (text more : List ℕ) → HasLines text → lines_of (text ++ mo
 lines-append text more has =
     ap (λ t. lines_of (t ++ more)) has.1 ∙ lines-lines has.0 more has.2 ∙ sym (ap (λ t. lines_of t ++ lines_of more) has.1 ∙ ap (λ ps. map line_of ps ++ lines_of more) (full_lines-text_of has.0 has.2))
 
--- an entry that is read again first, and others behind it
+-- an entry that is read again first, and others after it
 read-first : (m : ℕ) (lines more : List (List ℕ)) (is_ended : Bool) (e : Entry) (entries : List Entry) (again : Item) → first_of m (lines ++ more) ≡ Some (first_item (Ok again) (length lines) is_ended) →
     IsSameItem m e.output e.item again → IsAgain entries (items_of (m + length lines) more) → IsAgain (e ∷ entries) (items_of m (lines ++ more))
 read-first m lines more is_ended e entries again read same rest =
@@ -81,7 +81,7 @@ no-entries k = (refl, AreOver)
 abbrev texts_of : List Entry → List ℕ
 texts_of entries = flat_map (λ e. entry_text e.item e.output) entries
 
--- behind this text: what is left of the entries at the end of a script is read as they are
+-- after this text: what is left of the entries at the end of a script is read as they are
 abbrev IsLeft : List ℕ → List Entry → Type 0
 IsLeft before entries = (left : List ℕ) × (without_double_end (before ++ texts_of entries) ≡ before ++ left) × ((m : ℕ) → IsAgain entries (items_of m (lines_of left)))
 
@@ -94,7 +94,7 @@ text-end : (line : List ℕ) (lines : List (List ℕ)) → (part : List ℕ) × 
 text-end line [] = (line, append-nil (line ++ newline))
 text-end line (next ∷ lines) = let more = text-end next lines in ((line ++ newline) ++ more.0, ap (λ t. (line ++ newline) ++ t) more.1 ∙ sym (append_assoc (line ++ newline) more.0 newline))
 
--- the empty line behind lines is dropped
+-- the empty line after lines is dropped
 empty-dropped : (before line : List ℕ) (lines : List (List ℕ)) → without_double_end (before ++ (text_of (line ∷ lines) ++ newline)) ≡ before ++ text_of (line ∷ lines)
 empty-dropped before line lines =
     let part = text-end line lines in
@@ -125,7 +125,7 @@ line-left : (before line : List ℕ) (e : Entry) → ReadItem e.item → is_outp
 line-left before line e read output text are some =
     all-left before e read output (ap (λ t. without_double_end (before ++ t)) text ∙ line-kept before line are some ∙ ap (λ t. before ++ t) (sym text))
 
--- a line that is empty is dropped behind others, and stays where it is alone
+-- a line that is empty is dropped after others, and stays where it is alone
 blank-left : (before line : List ℕ) (lines : List (List ℕ)) (found : List ℕ) → before ≡ text_of lines → is_output found ≡ true → is_line line ≡ true → is_comment line ≡ false → is_blank line ≡ true →
     IsLeft before (entry (Blank (line ∷ [])) found ∷ [])
 blank-left before (b ∷ line) lines found is output are comment blank =
@@ -140,12 +140,12 @@ blank-left before [] (first ∷ lines) found is output are comment blank = (
 
 -- the lines of a directive are those that are left and an empty one
 suffix-blank : (raw : List (List ℕ)) (double : Bool) (lines : List (List ℕ)) → lines_of_written true raw double lines ≡ lines_of_written false raw double lines ++ [] ∷ []
-suffix-blank raw double lines = ap (λ t. raw ++ dashes_line ∷ t) (at double) ∙ sym (append_assoc raw (dashes_line ∷ output_behind false double lines) ([] ∷ [])) where
-  at : (d : Bool) → output_behind true d lines ≡ output_behind false d lines ++ [] ∷ []
+suffix-blank raw double lines = ap (λ t. raw ++ dashes_line ∷ t) (at double) ∙ sym (append_assoc raw (dashes_line ∷ output_after false double lines) ([] ∷ [])) where
+  at : (d : Bool) → output_after true d lines ≡ output_after false d lines ++ [] ∷ []
   at false = refl
   at true = ap (λ t. dashes_line ∷ t) (sym (append_assoc lines (dashes_line ∷ dashes_line ∷ []) ([] ∷ [])))
 
--- the empty line behind a directive is dropped
+-- the empty line after a directive is dropped
 directive-left : (before : List ℕ) (n : ℕ) (command : CommandText) (line : List ℕ) (rest input expected : List (List ℕ)) (found : List ℕ) → is_output found ≡ true → IsHead line rest →
     is_blank (joined (line ∷ rest)) ≡ false → command_of (joined (line ∷ rest)) ≡ Some command → list_any is_separator input ≡ false → list_all is_line ((line ∷ rest) ++ input) ≡ true →
     IsLeft before (entry (directive n command (line ∷ rest) input expected) found ∷ [])
@@ -176,13 +176,13 @@ last-left before lines item found is (ReadBlankHead line (next ∷ rest) directi
 last-left before lines item found is (ReadDirective n command line rest input expected directive_lines parses command_is none are) output short =
     directive-left before n command line rest input expected found output directive_lines parses command_is none are
 
--- the end of a script is told by its last item
+-- the end of a script is decided by its last item
 ends-next : (item next : Item) (items : List Item) → ends_in_long_blank (item ∷ next ∷ items) ≡ ends_in_long_blank (next ∷ items)
 ends-next (Comment lines) next items = refl
 ends-next (Blank lines) next items = refl
 ends-next (Directive directive) next items = refl
 
--- behind lines: the rest of a script
+-- after lines: the rest of a script
 rest-left : (before : List ℕ) (lines : List (List ℕ)) → before ≡ text_of lines → (e : Entry) (entries : List Entry) → AreWritten (e ∷ entries) → ends_in_long_blank (map (λ e. e.item) (e ∷ entries)) ≡ false →
     IsLeft before (e ∷ entries)
 rest-left before lines is e [] written short = last-left before lines e.item e.output is written.0 written.1 short

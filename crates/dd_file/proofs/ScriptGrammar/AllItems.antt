@@ -1,4 +1,4 @@
--- The items of a script, told by its lines.
+-- The items of a script, by its lines.
 use Rattle.std.proofs.Common.{◌≡◌, ℕ, zero, suc, ◌+◌, ◌≤◌, Bool, true, false, cond, List, [], ◌∷◌, ◌++◌, length, take, drop, map, refl, sym, ◌∙◌, ap, length-append, length-drop, length-take-le, arith, rules}
 use Rattle.std.specs.Prelude.{◌==◌, Option, Some, None, option_map, Result, Ok, Err}
 use Rattle.std.specs.List.{concat}
@@ -11,12 +11,12 @@ use Rattle.dd_file.specs.Laws.{moved_fault}
 use Rattle.dd_file.specs.declared.item.Item.{Item}
 use Rattle.dd_file.specs.declared.fault.FileFault.{FileFault}
 use Rattle.ascii_text.proofs.Offered.{full_lines-first, first_len-bound}
-use Rattle.dd_file.proofs.ScriptGrammar.ItemLength.{first_of-fits, first_of-moved, moved_item, moved_front}
+use Rattle.dd_file.proofs.ScriptGrammar.ItemLength.{first_of-fits, first_of-moved, moved_item, moved_first_item}
 
 abbrev pub no_items : Script Item
 no_items = record { items = []; fault = None }
 
--- a front, and the items of the lines behind it
+-- a first item, and the items of the lines after it
 abbrev pub from_found : (ℕ → List (List ℕ) → Script Item) → ℕ → List (List ℕ) → ℕ → Result Item FileFault → Script Item
 from_found rest n lines count (Ok item) = with_first item (rest (n + count) (drop count lines))
 from_found rest n lines count (Err fault) = record { items = []; fault = Some fault }
@@ -25,7 +25,7 @@ abbrev pub from_first : (ℕ → List (List ℕ) → Script Item) → ℕ → Li
 from_first rest n lines None = no_items
 from_first rest n lines (Some f) = from_found rest n lines f.count f.result
 
--- at most so many items of the lines from number n on
+-- at most this many items of the lines from number n on
 abbrev pub items_at : ℕ → ℕ → List (List ℕ) → Script Item
 items_at zero n lines = no_items
 items_at (suc fuel) n lines = from_first (items_at fuel) n lines (first_of n lines)
@@ -57,7 +57,7 @@ items_at-enough zero j n (line ∷ lines) hk hj = absurd (omega (arith, hk))
 items_at-enough (suc k) zero n (line ∷ lines) hk hj = absurd (omega (arith, hj))
 items_at-enough (suc k) (suc j) n (line ∷ lines) hk hj = from_first-same k j n (line ∷ lines) (first_of n (line ∷ lines)) refl hk hj (items_at-enough k j)
 
--- the first item, and those of the lines behind it
+-- the first item, and those of the lines after it
 pub items_of-first : (n : ℕ) (lines : List (List ℕ)) (f : FirstItem) (item : Item) → first_of n lines ≡ Some f → f.result ≡ Ok item →
     items_of n lines ≡ with_first item (items_of (n + f.count) (drop f.count lines))
 items_of-first n [] f item e is = cc
@@ -76,18 +76,18 @@ pub items_at-moved : (fuel k n : ℕ) (lines : List (List ℕ)) → items_at fue
 items_at-moved zero k n lines = refl
 items_at-moved (suc fuel) k n lines = ap (from_first (items_at fuel) (k + n) lines) (first_of-moved k n lines) ∙ at (first_of n lines) (items_at-moved fuel) where
   found : (count : ℕ) (found : Result Item FileFault) → ((k n : ℕ) (lines : List (List ℕ)) → items_at fuel (k + n) lines ≡ moved_script k (items_at fuel n lines)) →
-      from_found (items_at fuel) (k + n) lines count (moved_front k (first_item found count true)).result ≡ moved_script k (from_found (items_at fuel) n lines count found)
+      from_found (items_at fuel) (k + n) lines count (moved_first_item k (first_item found count true)).result ≡ moved_script k (from_found (items_at fuel) n lines count found)
   found count (Ok item) ih =
       let sum : (k + n) + count ≡ k + (n + count) = omega arith in
       ap (with_first (moved_item k item)) (ap (λ (m : ℕ). items_at fuel m (drop count lines)) sum ∙ ih k (n + count) (drop count lines))
   found count (Err fault) ih = refl
 
   at : (f : Option FirstItem) → ((k n : ℕ) (lines : List (List ℕ)) → items_at fuel (k + n) lines ≡ moved_script k (items_at fuel n lines)) →
-      from_first (items_at fuel) (k + n) lines (option_map (moved_front k) f) ≡ moved_script k (from_first (items_at fuel) n lines f)
+      from_first (items_at fuel) (k + n) lines (option_map (moved_first_item k) f) ≡ moved_script k (from_first (items_at fuel) n lines f)
   at None ih = refl
   at (Some f) ih = found f.count f.result ih
 
--- the first pieces, and those behind them
+-- the first full lines, and those after them
 full_lines-drop : (count : ℕ) (bytes : List ℕ) → full_lines (drop (length (concat (take count (full_lines bytes)))) bytes) ≡ drop count (full_lines bytes)
 full_lines-drop zero bytes = refl
 full_lines-drop (suc count) [] = refl

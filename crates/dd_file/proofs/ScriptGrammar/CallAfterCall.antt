@@ -28,7 +28,7 @@ first_items-fuel next takes zero m position bytes hn hm = absurd (omega (arith, 
 first_items-fuel next takes (suc n) zero position bytes hn hm = absurd (omega (arith, hm))
 first_items-fuel next takes (suc n) (suc m) position bytes hn hm = followed-same next position bytes n m (next position bytes) refl takes hn hm (first_items-fuel next takes n m)
 
--- what is read from a place on is what comes next, and then what is read behind it
+-- what is read from a position on is what comes next, and then what is read after it
 script_from-at : {A : Type 0} (next : Position → List ℕ → Next A) → TakesBytes next → (position : Position) (bytes : List ℕ) (found : Next A) → next position bytes ≡ found →
     followed (first_items next (length bytes)) found ≡ followed (script_from next) found
 script_from-at next takes position bytes Over e = refl
@@ -43,8 +43,8 @@ script_from-followed next takes position bytes =
     let one : length bytes + 1 ≡ suc (length bytes) = omega arith in
     ap (λ n. first_items next n position bytes) one ∙ script_from-at next takes position bytes (next position bytes) refl
 
--- the items that were read stand at the front of the script, and the fault is that of the rest
-pub record IsFront {A : Type 0} (prefix : List A) (script rest : Script A) : Type 0 where
+-- the items that were read are the first of the script, and the fault is that of the rest
+pub record IsFirstItem {A : Type 0} (prefix : List A) (script rest : Script A) : Type 0 where
   pub items : script.items ≡ prefix ++ rest.items
   pub fault : script.fault ≡ rest.fault
 
@@ -125,7 +125,7 @@ given-none remaining next old before = record {
       let nothing : agrees.bytes_read ≡ [] = append_cancel_right _ _ bytes (sym agrees.consumed) in
       (refl, sym (agrees.whole ∙ ap (λ t. (old.buffered ++ t) ++ more) nothing ∙ ap (λ t. t ++ more) (append-nil old.buffered)))
 
--- what an answer other than a fault says
+-- what an answer other than a fault states
 pub answer-whole : {X : Type 0} {P : Type 0} (found : X) → IsInterrupted (Ok found) ⊎ P → P
 answer-whole found (inl (inl e)) = cc
 answer-whole found (inl (inr e)) = cc

@@ -99,7 +99,7 @@ pair-bound [] h = cc
 pair-bound (l ∷ []) h = absurd (no-pair (is_dashes l) h)
 pair-bound (l ∷ k ∷ ls) h = bound-step (is_dashes l && is_dashes k) l k (before_pair (k ∷ ls)) ls (has_pair (k ∷ ls)) (pair-bound (k ∷ ls)) h
 
--- the line behind a pair
+-- the line after a pair
 after-local : (n count : ℕ) (item : _) (ls ms : List (List ℕ)) → (after_pair n count item ls).is_ended ≡ true → after_pair n count item (ls ++ ms) ≡ after_pair n count item ls
 after-local n count item [] ms h = cc
 after-local n count item (l ∷ ls) ms h = refl
@@ -122,7 +122,7 @@ double-local : (n : ℕ) (command : CommandText) (directive_lines input lines mo
     (in_double n command directive_lines input lines).is_ended ≡ true → in_double n command directive_lines input (lines ++ more) ≡ in_double n command directive_lines input lines
 double-local n command directive_lines input lines more = double-at (has_pair lines) n command directive_lines input lines more refl
 
--- what stands behind a separator
+-- what is after a separator
 abbrev pub output_at : ℕ → CommandText → List (List ℕ) → List (List ℕ) → List (List ℕ) → FirstItem
 output_at n command directive_lines input output = cond (begins_with_dashes output) (in_double n command directive_lines input (drop 1 output)) (in_single n command directive_lines input output)
 
@@ -132,7 +132,7 @@ output-local n command directive_lines input [] more h = cc
 output-local n command directive_lines input (l ∷ ls) more h =
     choice (is_dashes l) _ _ _ _ (double-local n command directive_lines input ls more) (single-local n command directive_lines input (l ∷ ls) more) h
 
--- the lines behind a head
+-- the lines after a head
 body-at : (c : Bool) (n : ℕ) (command : CommandText) (directive_lines lines more : List (List ℕ)) → list_any is_separator lines ≡ c →
     (body n command directive_lines lines).is_ended ≡ true → body n command directive_lines (lines ++ more) ≡ body n command directive_lines lines
 body-at true n command directive_lines lines more e h =
@@ -148,7 +148,7 @@ command-local : (n : ℕ) (command : Option CommandText) (directive_lines lines 
 command-local n None directive_lines lines more h = refl
 command-local n (Some command) directive_lines lines more h = body-at (list_any is_separator lines) n command directive_lines lines more refl h
 
--- the head and the lines behind it
+-- the head and the lines after it
 headed : (c d : Bool) (a b x x' : FirstItem) → a.is_ended ≡ false → (x.is_ended ≡ true → x' ≡ x) → (cond c a (cond d b x)).is_ended ≡ true → cond c a (cond d b x') ≡ cond c a (cond d b x)
 headed true d a b x x' f hx h = refl
 headed false true a b x x' f hx h = refl
@@ -169,18 +169,18 @@ directive-local n lines more h =
     rw (directive_lines-local lines more last, drop-append-le (length (directive_lines_of lines)) lines more (directive_lines-length lines))
     (at_directive-local n (directive_lines_of lines) (drop (length (directive_lines_of lines)) lines) more h)
 
--- the front of some lines, if it is ended
-abbrev pub ended_front : Option FirstItem → Bool
-ended_front None = false
-ended_front (Some prefix) = prefix.is_ended
+-- the first item of some lines, if it is ended
+abbrev pub ended_first_item : Option FirstItem → Bool
+ended_first_item None = false
+ended_first_item (Some prefix) = prefix.is_ended
 
-prefix-at : (c d : Bool) (a b x x' : FirstItem) → (x.is_ended ≡ true → x' ≡ x) → ended_front (cond c (Some a) (cond d (Some b) (Some x))) ≡ true →
+prefix-at : (c d : Bool) (a b x x' : FirstItem) → (x.is_ended ≡ true → x' ≡ x) → ended_first_item (cond c (Some a) (cond d (Some b) (Some x))) ≡ true →
     cond c (Some a) (cond d (Some b) (Some x')) ≡ cond c (Some a) (cond d (Some b) (Some x))
 prefix-at true d a b x x' hx h = refl
 prefix-at false true a b x x' hx h = refl
 prefix-at false false a b x x' hx h = ap Some (hx h)
 
 -- What lines begin with stays what it is, whatever lines follow, once it is ended.
-pub first_of-local : (n : ℕ) (lines more : List (List ℕ)) → ended_front (first_of n lines) ≡ true → first_of n (lines ++ more) ≡ first_of n lines
+pub first_of-local : (n : ℕ) (lines more : List (List ℕ)) → ended_first_item (first_of n lines) ≡ true → first_of n (lines ++ more) ≡ first_of n lines
 first_of-local n [] more h = cc
 first_of-local n (line ∷ lines) more h = prefix-at (is_comment line) (is_blank line) _ _ _ _ (directive-local n (line ∷ lines) more) h

@@ -12,27 +12,27 @@ use Rattle.dd_file.specs.declared.fault.FileFault.{FileFault}
 use Rattle.dd_file.proofs.TextLines.CutAgain.{and-parts}
 use Rattle.dd_file.proofs.ScriptGrammar.FoundInLines.{all-filter, all-without_last}
 
--- a piece has no newline but at its end
-abbrev is_piece : List ℕ → Bool
-is_piece full_line = is_line (without_last 10 full_line)
+-- a full line has no newline but at its end
+abbrev is_full_line : List ℕ → Bool
+is_full_line full_line = is_line (without_last 10 full_line)
 
-full_lines-are : (bytes : List ℕ) → list_all is_piece (full_lines bytes) ≡ true
+full_lines-are : (bytes : List ℕ) → list_all is_full_line (full_lines bytes) ≡ true
 full_lines-are [] = refl
 full_lines-are (b ∷ bytes) = at (b == 10) refl (full_lines bytes) (full_lines-are bytes) where
-  more : (b == 10) ≡ false → (full_line : List ℕ) → is_piece full_line ≡ true → is_piece (b ∷ full_line) ≡ true
+  more : (b == 10) ≡ false → (full_line : List ℕ) → is_full_line full_line ≡ true → is_full_line (b ∷ full_line) ≡ true
   more e [] h = rw (e, e) refl
   more e (x ∷ full_line) h = rw e h
 
-  at : (c : Bool) → (b == 10) ≡ c → (ps : List (List ℕ)) → list_all is_piece ps ≡ true → list_all is_piece (cond c (newline ∷ ps) (before_first_line b ps)) ≡ true
+  at : (c : Bool) → (b == 10) ≡ c → (ps : List (List ℕ)) → list_all is_full_line ps ≡ true → list_all is_full_line (cond c (newline ∷ ps) (before_first_line b ps)) ≡ true
   at true e ps h = h
   at false e [] h = ap (λ c. c && true) (more e [] refl)
-  at false e (full_line ∷ ps) h = let k = and-parts (is_piece full_line) (list_all is_piece ps) h in ap (λ c. c && list_all is_piece ps) (more e full_line k.0) ∙ k.1
+  at false e (full_line ∷ ps) h = let k = and-parts (is_full_line full_line) (list_all is_full_line ps) h in ap (λ c. c && list_all is_full_line ps) (more e full_line k.0) ∙ k.1
 
--- the lines of some pieces have no newline
-lines-are : (ps : List (List ℕ)) → list_all is_piece ps ≡ true → list_all is_line (map line_of ps) ≡ true
+-- the lines of some full lines have no newline
+lines-are : (ps : List (List ℕ)) → list_all is_full_line ps ≡ true → list_all is_line (map line_of ps) ≡ true
 lines-are [] h = refl
 lines-are (full_line ∷ ps) h =
-    let k = and-parts (is_piece full_line) (list_all is_piece ps) h in
+    let k = and-parts (is_full_line full_line) (list_all is_full_line ps) h in
     ap (λ c. c && list_all is_line (map line_of ps)) (all-without_last (λ b. not (b == 10)) 13 (without_last 10 full_line) k.0) ∙ lines-are ps k.1
 
 full_lines_within-are : (limit : ℕ) (position : Position) (bytes : List ℕ) → list_all is_line (map line_of (full_lines_within limit position bytes)) ≡ true
@@ -41,10 +41,10 @@ full_lines_within-are limit position bytes = at (is_too_long limit position byte
   cut = take (limit - position.bytes) bytes
 
   at : (c : Bool) → list_all is_line (map line_of (cond c (filter is_whole (full_lines cut)) (full_lines bytes))) ≡ true
-  at true = lines-are (filter is_whole (full_lines cut)) (all-filter is_piece is_whole (full_lines cut) (full_lines-are cut))
+  at true = lines-are (filter is_whole (full_lines cut)) (all-filter is_full_line is_whole (full_lines cut) (full_lines-are cut))
   at false = lines-are (full_lines bytes) (full_lines-are bytes)
 
--- at most so many items
+-- at most this many items
 first_items-given : (limit fuel : ℕ) (position : Position) (bytes : List ℕ) → AreWellFormed (first_items (next_item limit) fuel position bytes).items
 first_items-given limit zero position bytes = tt
 first_items-given limit (suc fuel) position bytes = at (is_too_long limit position bytes) (first_of (position.lines + 1) lines) refl (first_items-given limit fuel) where

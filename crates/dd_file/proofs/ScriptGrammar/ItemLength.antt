@@ -1,4 +1,4 @@
--- How many lines a front has, what it is further down, and where a blank line ends it.
+-- How many lines a first item has, what it is further down, and where a blank line ends it.
 use Rattle.std.proofs.Common.{◌≡◌, ℕ, ◌+◌, ◌-◌, ◌≤◌, Bool, true, false, not, cond, ◌&&◌, ◌||◌, List, [], ◌∷◌, length, drop, refl, ap, subst, length-drop, arith}
 use Rattle.std.specs.Prelude.{Option, Some, None, option_map, Result, Ok, Err}
 use Rattle.std.specs.List.{list_all, list_any}
@@ -13,7 +13,7 @@ use Rattle.dd_file.specs.declared.fault.FileFault.{FileFault}
 use Rattle.dd_file.specs.declared.fault.FileFault.TheVariants.{AfterDouble, UnclosedDouble}
 use Rattle.dd_file.proofs.ScriptGrammar.EndedItem.{directive_lines-length, pair-bound}
 
--- a front of a line at least and of so many at most
+-- a first item of a line at least and of this many at most
 abbrev pub Fits : ℕ → FirstItem → Type 0
 Fits most f = (1 ≤ f.count) × (f.count ≤ most)
 
@@ -96,7 +96,7 @@ directive_lines-some line lines = at (is_continued line) where
   at true = omega arith
   at false = omega arith
 
--- the front of some lines has a line at least, and no more than they are
+-- the first item of some lines has a line at least, and no more than they are
 pub first_of-fits : (n : ℕ) (lines : List (List ℕ)) (f : FirstItem) → first_of n lines ≡ Some f → Fits (length lines) f
 first_of-fits n [] f e = cc
 first_of-fits n (line ∷ lines) f e = at (is_comment line) (is_blank line) e where
@@ -115,7 +115,7 @@ first_of-fits n (line ∷ lines) f e = at (is_comment line) (is_blank line) e wh
   at false true k = some-is _ (omega arith, omega arith) k
   at false false k = some-is _ headed k
 
--- an item and a front so many lines further down
+-- an item and a first item this many lines further down
 abbrev pub moved_item : ℕ → Item → Item
 moved_item lines (Comment raw) = Comment raw
 moved_item lines (Blank raw) = Blank raw
@@ -125,40 +125,40 @@ abbrev pub moved_found : ℕ → Result Item FileFault → Result Item FileFault
 moved_found lines (Ok item) = Ok (moved_item lines item)
 moved_found lines (Err fault) = Err (moved_fault lines fault)
 
-abbrev pub moved_front : ℕ → FirstItem → FirstItem
-moved_front lines f = first_item (moved_found lines f.result) f.count f.is_ended
+abbrev pub moved_first_item : ℕ → FirstItem → FirstItem
+moved_first_item lines f = first_item (moved_found lines f.result) f.count f.is_ended
 
-moved-choice : (k : ℕ) (c : Bool) (a b a' b' : FirstItem) → a' ≡ moved_front k a → b' ≡ moved_front k b → cond c a' b' ≡ moved_front k (cond c a b)
+moved-choice : (k : ℕ) (c : Bool) (a b a' b' : FirstItem) → a' ≡ moved_first_item k a → b' ≡ moved_first_item k b → cond c a' b' ≡ moved_first_item k (cond c a b)
 moved-choice k true a b a' b' ha hb = ha
 moved-choice k false a b a' b' ha hb = hb
 
-after_pair-moved : (k n count : ℕ) (item : Item) (lines : List (List ℕ)) → after_pair (k + n) count (moved_item k item) lines ≡ moved_front k (after_pair n count item lines)
+after_pair-moved : (k n count : ℕ) (item : Item) (lines : List (List ℕ)) → after_pair (k + n) count (moved_item k item) lines ≡ moved_first_item k (after_pair n count item lines)
 after_pair-moved k n count item [] = refl
 after_pair-moved k n count item (line ∷ lines) =
     let sum : (k + n) + count ≡ k + (n + count) = omega arith in
     moved-choice k (is_blank line) _ _ _ _ refl (ap (λ (m : ℕ). first_item (Err (AfterDouble m)) (count + 1) true) sum)
 
-in_double-moved : (k n : ℕ) (command : CommandText) (directive_lines input lines : List (List ℕ)) → in_double (k + n) command directive_lines input lines ≡ moved_front k (in_double n command directive_lines input lines)
+in_double-moved : (k n : ℕ) (command : CommandText) (directive_lines input lines : List (List ℕ)) → in_double (k + n) command directive_lines input lines ≡ moved_first_item k (in_double n command directive_lines input lines)
 in_double-moved k n command directive_lines input lines = at (has_pair lines) where
   at : (c : Bool) →
       cond c (after_pair (k + n) (length directive_lines + length input + length (before_pair lines) + 4) (directive (k + n) command directive_lines input (before_pair lines)) (drop (length (before_pair lines) + 2) lines))
       (first_item (Err (UnclosedDouble (k + n))) (length directive_lines + length input + length (before_pair lines) + 2) false) ≡
-      moved_front k (cond c (after_pair n (length directive_lines + length input + length (before_pair lines) + 4) (directive n command directive_lines input (before_pair lines)) (drop (length (before_pair lines) + 2) lines))
+      moved_first_item k (cond c (after_pair n (length directive_lines + length input + length (before_pair lines) + 4) (directive n command directive_lines input (before_pair lines)) (drop (length (before_pair lines) + 2) lines))
       (first_item (Err (UnclosedDouble n)) (length directive_lines + length input + length (before_pair lines) + 2) false))
   at true = after_pair-moved k n (length directive_lines + length input + length (before_pair lines) + 4) (directive n command directive_lines input (before_pair lines)) (drop (length (before_pair lines) + 2) lines)
   at false = refl
 
-in_single-moved : (k n : ℕ) (command : CommandText) (directive_lines input lines : List (List ℕ)) → in_single (k + n) command directive_lines input lines ≡ moved_front k (in_single n command directive_lines input lines)
+in_single-moved : (k n : ℕ) (command : CommandText) (directive_lines input lines : List (List ℕ)) → in_single (k + n) command directive_lines input lines ≡ moved_first_item k (in_single n command directive_lines input lines)
 in_single-moved k n command directive_lines input lines = at (list_any is_blank lines) where
   at : (c : Bool) →
       cond c (first_item (Ok (directive (k + n) command directive_lines input (up_to is_blank lines))) (length directive_lines + length input + 1 + length (up_to is_blank lines) + 1) true)
       (first_item (Ok (directive (k + n) command directive_lines input (up_to is_blank lines))) (length directive_lines + length input + 1 + length (up_to is_blank lines)) false) ≡
-      moved_front k (cond c (first_item (Ok (directive n command directive_lines input (up_to is_blank lines))) (length directive_lines + length input + 1 + length (up_to is_blank lines) + 1) true)
+      moved_first_item k (cond c (first_item (Ok (directive n command directive_lines input (up_to is_blank lines))) (length directive_lines + length input + 1 + length (up_to is_blank lines) + 1) true)
       (first_item (Ok (directive n command directive_lines input (up_to is_blank lines))) (length directive_lines + length input + 1 + length (up_to is_blank lines)) false))
   at true = refl
   at false = refl
 
-body-moved : (k n : ℕ) (command : CommandText) (directive_lines lines : List (List ℕ)) → body (k + n) command directive_lines lines ≡ moved_front k (body n command directive_lines lines)
+body-moved : (k n : ℕ) (command : CommandText) (directive_lines lines : List (List ℕ)) → body (k + n) command directive_lines lines ≡ moved_first_item k (body n command directive_lines lines)
 body-moved k n command directive_lines lines =
     let input = up_to is_separator lines in
     let output = suffix is_separator lines in
@@ -167,21 +167,21 @@ body-moved k n command directive_lines lines =
     moved-choice k (not (list_any is_separator lines)) (first_item (Ok (directive n command directive_lines lines [])) (length directive_lines + length lines) false) (cond (begins_with_dashes output) double single) _ _ refl
     (moved-choice k (begins_with_dashes output) double single _ _ (in_double-moved k n command directive_lines input (drop 1 output)) (in_single-moved k n command directive_lines input output))
 
-at_command-moved : (k n : ℕ) (command : Option CommandText) (directive_lines lines : List (List ℕ)) → at_command (k + n) command directive_lines lines ≡ moved_front k (at_command n command directive_lines lines)
+at_command-moved : (k n : ℕ) (command : Option CommandText) (directive_lines lines : List (List ℕ)) → at_command (k + n) command directive_lines lines ≡ moved_first_item k (at_command n command directive_lines lines)
 at_command-moved k n None directive_lines lines = refl
 at_command-moved k n (Some command) directive_lines lines = body-moved k n command directive_lines lines
 
-at_directive-moved : (k n : ℕ) (directive_lines lines : List (List ℕ)) → at_directive (k + n) directive_lines lines ≡ moved_front k (at_directive n directive_lines lines)
+at_directive-moved : (k n : ℕ) (directive_lines lines : List (List ℕ)) → at_directive (k + n) directive_lines lines ≡ moved_first_item k (at_directive n directive_lines lines)
 at_directive-moved k n directive_lines lines =
     moved-choice k (list_all is_continued directive_lines) _ _ _ _ refl (moved-choice k (is_blank (joined directive_lines)) _ _ _ _ refl (at_command-moved k n (command_of (joined directive_lines)) directive_lines lines))
 
--- the front of the same lines further down
-pub first_of-moved : (k n : ℕ) (lines : List (List ℕ)) → first_of (k + n) lines ≡ option_map (moved_front k) (first_of n lines)
+-- the first item of the same lines further down
+pub first_of-moved : (k n : ℕ) (lines : List (List ℕ)) → first_of (k + n) lines ≡ option_map (moved_first_item k) (first_of n lines)
 first_of-moved k n [] = refl
 first_of-moved k n (line ∷ lines) = at (is_comment line) (is_blank line) _ _ (at_directive-moved k n (directive_lines_of (line ∷ lines)) (drop (length (directive_lines_of (line ∷ lines))) (line ∷ lines))) where
-  at : (c d : Bool) (a b : FirstItem) → b ≡ moved_front k a →
+  at : (c d : Bool) (a b : FirstItem) → b ≡ moved_first_item k a →
       cond c (Some (first_item (Ok (Comment (line ∷ []))) 1 true)) (cond d (Some (first_item (Ok (Blank (line ∷ []))) 1 true)) (Some b)) ≡
-      option_map (moved_front k) (cond c (Some (first_item (Ok (Comment (line ∷ []))) 1 true)) (cond d (Some (first_item (Ok (Blank (line ∷ []))) 1 true)) (Some a)))
+      option_map (moved_first_item k) (cond c (Some (first_item (Ok (Comment (line ∷ []))) 1 true)) (cond d (Some (first_item (Ok (Blank (line ∷ []))) 1 true)) (Some a)))
   at true d a b e = refl
   at false true a b e = refl
   at false false a b e = ap Some e

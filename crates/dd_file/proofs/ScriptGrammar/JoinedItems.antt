@@ -13,7 +13,7 @@ use Rattle.dd_file.specs.Laws.{is_line, has_separator, IsComplete, Done, More, d
 use Rattle.dd_file.specs.declared.item.Item.{Item}
 use Rattle.dd_file.specs.declared.item.Item.TheVariants.{Comment, Blank, Directive}
 use Rattle.dd_file.specs.declared.fault.FileFault.{FileFault}
-use Rattle.dd_file.proofs.ScriptGrammar.EndedItem.{first_of-local, ended_front}
+use Rattle.dd_file.proofs.ScriptGrammar.EndedItem.{first_of-local, ended_first_item}
 use Rattle.dd_file.proofs.TextLines.CarriageReturns.{without_return}
 use Rattle.dd_file.proofs.TextLines.CutAgain.{and-parts, ended, lines-lines, text_of-append}
 use Rattle.ascii_text.proofs.Offered.{without_last-push}
@@ -106,12 +106,12 @@ items_of-blank n lines =
     let first = items_of-first n ([] ∷ lines) (first_item (Ok (Blank ([] ∷ []))) 1 true) (Blank ([] ∷ [])) refl refl in
     record { directives = ap (λ (s : Script Item). directives_of s.items) first; fault = ap (λ (s : Script Item). s.fault) first }
 
--- the item of a front with its separator
+-- the item of a first item with its separator
 item-of : (count : ℕ) (found : Result Item FileFault) → has_separator count found ≡ true → (item : Item) × (found ≡ Ok item)
 item-of count (Ok item) h = (item, refl)
 item-of count (Err fault) h = cc
 
--- one item more in front
+-- one item more before the others
 joined-first : (joined before suffix joined' before' : Script Item) (item : Item) → joined' ≡ with_first item joined → before' ≡ with_first item before →
     AreJoined joined before suffix → AreJoined joined' before' suffix
 joined-first joined before suffix joined' before' item ej eb are = record {
@@ -131,7 +131,7 @@ items_of-joined n lines more (More m ls f e sep rest) = at f.is_ended refl (item
       let item = item-of f.count f.result sep in
       let bound = (first_of-fits m ls f e).1 in
       let left = length-drop f.count ls in
-      let still : first_of m (ls ++ [] ∷ more) ≡ Some f = first_of-local m ls ([] ∷ more) (ap ended_front e ∙ ended) ∙ e in
+      let still : first_of m (ls ++ [] ∷ more) ≡ Some f = first_of-local m ls ([] ∷ more) (ap ended_first_item e ∙ ended) ∙ e in
       let whole : items_of m (ls ++ [] ∷ more) ≡ with_first item.0 (items_of (m + f.count) (drop f.count ls ++ [] ∷ more)) =
       items_of-first m (ls ++ [] ∷ more) f item.0 still item.1 ∙ ap (λ (t : List (List ℕ)). with_first item.0 (items_of (m + f.count) t)) (drop-append-le f.count ls ([] ∷ more) bound) in
       let sum : m + f.count + length (drop f.count ls) + 1 ≡ m + length ls + 1 = omega (arith, bound, left) in

@@ -33,7 +33,7 @@ pub data ReadItem : Item → Type 0 where
       command_of (joined (line ∷ rest)) ≡ Some command → list_any is_separator input ≡ false → list_all is_line ((line ∷ rest) ++ input) ≡ true →
       ReadItem (directive n command (line ∷ rest) input expected)
 
--- the item of a front, or this one, and whether it has one
+-- the item of a first item, or this one, and whether it has one
 abbrev item_or : Item → Result Item FileFault → Item
 item_or other (Ok item) = item
 item_or other (Err fault) = other
@@ -42,11 +42,11 @@ abbrev has_item : Result Item FileFault → Bool
 has_item (Ok item) = true
 has_item (Err fault) = false
 
-abbrev front_or : FirstItem → Option FirstItem → FirstItem
-front_or other None = other
-front_or other (Some prefix) = prefix
+abbrev first_item_or : FirstItem → Option FirstItem → FirstItem
+first_item_or other None = other
+first_item_or other (Some prefix) = prefix
 
--- a front with this item
+-- a first item with this item
 abbrev HasItem : FirstItem → Item → Type 0
 HasItem f item = (count : ℕ) × (is_ended : Bool) × (f ≡ first_item (Ok item) count is_ended)
 
@@ -92,14 +92,14 @@ body-item n command directive_lines lines item is = at (list_any is_separator li
   separated : (expected : List (List ℕ)) × (directive n command directive_lines (up_to is_separator lines) expected ≡ item) → IsDirective n command directive_lines lines item
   separated e = record { input = up_to is_separator lines; expected = e.0; is = e.1; none = up_to-none is_separator lines; are_lines = all-up_to is_line is_separator lines }
 
-  behind_at : (c : Bool) → HasItem (cond c (in_double n command directive_lines (up_to is_separator lines) (drop 1 (suffix is_separator lines))) (in_single n command directive_lines (up_to is_separator lines) (suffix is_separator lines))) item →
+  after_at : (c : Bool) → HasItem (cond c (in_double n command directive_lines (up_to is_separator lines) (drop 1 (suffix is_separator lines))) (in_single n command directive_lines (up_to is_separator lines) (suffix is_separator lines))) item →
       (expected : List (List ℕ)) × (directive n command directive_lines (up_to is_separator lines) expected ≡ item)
-  behind_at true k = in_double-item n command directive_lines (up_to is_separator lines) (drop 1 (suffix is_separator lines)) item k
-  behind_at false k = in_single-item n command directive_lines (up_to is_separator lines) (suffix is_separator lines) item k
+  after_at true k = in_double-item n command directive_lines (up_to is_separator lines) (drop 1 (suffix is_separator lines)) item k
+  after_at false k = in_single-item n command directive_lines (up_to is_separator lines) (suffix is_separator lines) item k
 
   at : (c : Bool) → list_any is_separator lines ≡ c → HasItem (cond (not c) (first_item (Ok (directive n command directive_lines lines [])) (length directive_lines + length lines) false)
       (output_at n command directive_lines (up_to is_separator lines) (suffix is_separator lines))) item → IsDirective n command directive_lines lines item
-  at true e k = separated (behind_at (begins_with_dashes (suffix is_separator lines)) k)
+  at true e k = separated (after_at (begins_with_dashes (suffix is_separator lines)) k)
   at false e k = record { input = lines; expected = []; is = item-is _ item _ _ k; none = e; are_lines = λ h. h }
 
 -- lines that begin with a head
@@ -139,9 +139,9 @@ first_of-item n count is_ended (line ∷ lines) item are is = at (is_comment lin
   at : (c d : Bool) → is_comment line ≡ c → is_blank line ≡ d → is_line line ≡ true →
       cond c (Some (first_item (Ok (Comment (line ∷ []))) 1 true)) (cond d (Some (first_item (Ok (Blank (line ∷ []))) 1 true)) (Some (at_directive n (directive_lines_of (line ∷ lines)) (drop (length (directive_lines_of (line ∷ lines))) (line ∷ lines))))) ≡ Some (first_item (Ok item) count is_ended) →
       ReadItem item
-  at true d ec ed h e = subst ReadItem (item-is _ item _ _ (count, is_ended, ap (front_or (first_item (Ok item) 0 true)) e)) (ReadComment line h ec)
-  at false true ec ed h e = subst ReadItem (item-is _ item _ _ (count, is_ended, ap (front_or (first_item (Ok item) 0 true)) e)) (ReadBlank line h ec ed)
-  at false false ec ed h e = headed-item n line lines item are ec ed (count, is_ended, ap (front_or (first_item (Ok item) 0 true)) e)
+  at true d ec ed h e = subst ReadItem (item-is _ item _ _ (count, is_ended, ap (first_item_or (first_item (Ok item) 0 true)) e)) (ReadComment line h ec)
+  at false true ec ed h e = subst ReadItem (item-is _ item _ _ (count, is_ended, ap (first_item_or (first_item (Ok item) 0 true)) e)) (ReadBlank line h ec ed)
+  at false false ec ed h e = headed-item n line lines item are ec ed (count, is_ended, ap (first_item_or (first_item (Ok item) 0 true)) e)
 
 pub given-read : (item : Item) → IsWellFormed item → ReadItem item
 given-read item given = first_of-item given.number given.count given.is_ended given.lines item given.are_lines given.first

@@ -1,4 +1,4 @@
--- A directive with its separator that is not ended is the last of its lines, and a blank line behind them ends it.
+-- A directive with its separator that is not ended is the last of its lines, and a blank line after them ends it.
 use Rattle.std.proofs.Common.{◌≡◌, ℕ, ◌+◌, ◌-◌, ◌<◌, Bool, true, false, cond, ◌||◌, List, [], ◌∷◌, ◌++◌, length, drop, refl, sym, ◌∙◌, ap, subst, length-append, length-drop, arith, rules}
 use Rattle.std.specs.Prelude.{Option, Some, None, Result, Ok, Err, nat_lt}
 use Rattle.std.specs.List.{list_all, list_any}
@@ -16,7 +16,7 @@ use Rattle.dd_file.proofs.ScriptGrammar.EndedItem.{output_at, directive_lines-le
 use Rattle.dd_file.proofs.ScriptGrammar.FoundInLines.{any-seam, up_to-seam}
 use Rattle.dd_file.proofs.ScriptGrammar.ItemLength.{up_to-suffix}
 
--- a front of so many lines, and what a blank line and more behind them make of it
+-- a first item of this many lines, and what a blank line and more after them make of it
 abbrev pub Closes : FirstItem → ℕ → (List (List ℕ) → FirstItem) → Type 0
 Closes f total closed = f.is_ended ≡ false → has_separator f.count f.result ≡ true → (f.count ≡ total) × ((more : List (List ℕ)) → closed more ≡ first_item f.result (f.count + 1) true)
 
@@ -80,7 +80,7 @@ in_single-closes n command directive_lines input lines = at (list_any is_blank l
       λ more. rw (any-seam is_blank lines [] more refl, up_to-seam is_blank lines [] more e refl) refl in
       closes-is _ _ _ _ _ (λ more. first_item (Ok (directive n command directive_lines input lines)) (length directive_lines + length input + 1 + length lines + 1) true) is refl same (λ ended sep. (refl, λ more. refl))
 
--- what stands behind a separator
+-- what is after a separator
 output-closes : (n : ℕ) (command : CommandText) (directive_lines input output : List (List ℕ)) →
     Closes (output_at n command directive_lines input output) (length directive_lines + length input + 1 + length output) (λ more. output_at n command directive_lines input (output ++ [] ∷ more))
 output-closes n command directive_lines input [] = in_single-closes n command directive_lines input []
@@ -135,7 +135,7 @@ headed-closes n lines ended sep =
     let closed = at_directive-closes n directive_lines rest ended sep in
     (closed.0 ∙ total, λ more. rw (directive_lines-local lines ([] ∷ more) last, drop-append-le (length directive_lines) lines ([] ∷ more) bound) (closed.1 more))
 
--- such a front, and the same with a blank line behind it
+-- such a first item, and the same with a blank line after it
 pub open-prefix : (n : ℕ) (lines : List (List ℕ)) (f : FirstItem) → first_of n lines ≡ Some f → f.is_ended ≡ false → has_separator f.count f.result ≡ true →
     (f.count ≡ length lines) × ((more : List (List ℕ)) → first_of n (lines ++ [] ∷ more) ≡ Some (first_item f.result (f.count + 1) true))
 open-prefix n [] f e = cc

@@ -17,7 +17,7 @@ pub and-parts : (a b : Bool) → (a && b) ≡ true → (a ≡ true) × (b ≡ tr
 and-parts true b h = (refl, h)
 and-parts false b h = cc
 
--- a line with its newline is a piece
+-- a line with its newline is a full line
 pub full_lines-line : (line rest : List ℕ) → is_line line ≡ true → full_lines ((line ++ newline) ++ rest) ≡ (line ++ newline) ∷ full_lines rest
 full_lines-line [] rest h = refl
 full_lines-line (b ∷ line) rest h = at (b == 10) (full_lines-line line rest) h where
@@ -32,7 +32,7 @@ full_lines-lines [] rest h = refl
 full_lines-lines (line ∷ lines) rest h = let k = and-parts (is_line line) (list_all is_line lines) h in
     ap full_lines (append_assoc (line ++ newline) (text_of lines) rest) ∙ full_lines-line line (text_of lines ++ rest) k.0 ∙ ap (λ ps. (line ++ newline) ∷ ps) (full_lines-lines lines rest k.1)
 
--- the lines of those pieces
+-- the lines of those full lines
 abbrev pub ended : List (List ℕ) → List (List ℕ)
 ended lines = map line_of (map (λ line. line ++ newline) lines)
 

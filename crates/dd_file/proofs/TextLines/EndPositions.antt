@@ -1,4 +1,4 @@
--- Lines that lie in one text, found by the places where they end.
+-- Lines that lie in one text, found by the positions where they end.
 use Rattle.std.proofs.Common.{◌≡◌, ℕ, suc, zero, ◌+◌, ◌-◌, ◌<◌, ◌≤◌, List, [], ◌∷◌, ◌++◌, length, take, drop, get_or, refl, sym, ◌∙◌, ap, arith}
 use Rattle.std.proofs.lemmas.List.{append_assoc, append-nil, length-append, take_at, drop_at, take-append-drop}
 use Rattle.ascii_text.specs.Lines.{newline, text_of}
@@ -90,7 +90,7 @@ next-start lines i lt = at lines i lt ∙ ap (λ n. length (text_of (take n line
 pub end-within : (lines : List (List ℕ)) (i end : ℕ) → i < length lines → end ≡ length (text_of (take i lines)) + length (get_or lines i []) → end < length (text_of lines)
 end-within lines i end lt is = omega (arith, is, next-start lines i lt, start-bound lines (i + 1) _ refl)
 
--- a line is the front of the text from it on
+-- a line is a prefix of the text from it on
 pub first-suffix : (lines : List (List ℕ)) (i len : ℕ) → i < length lines → len ≡ length (get_or lines i []) → take len (text_of (drop i lines)) ≡ get_or lines i []
 first-suffix [] i len lt is = absurd (omega arith)
 first-suffix (line ∷ lines) zero len lt is = ap (take len) (append_assoc line newline (text_of lines)) ∙ take_at line (newline ++ text_of lines) len (sym is)

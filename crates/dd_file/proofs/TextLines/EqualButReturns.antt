@@ -48,36 +48,36 @@ without_trailing_space-same s t (Return s' t' same) = at (is_blank s') (is_blank
 trimmed-same : (s t : List ℕ) → SameText s t → SameText (trimmed s) (trimmed t)
 trimmed-same s t same = without_leading_space-same _ _ (without_trailing_space-same s t same)
 
--- what a piece ends as, behind some bytes
+-- what a full line ends as, after some bytes
 abbrev ended : List ℕ → List ℕ → List ℕ
 ended before full_line = without_trailing_space (without_last 10 (before ++ full_line))
 
--- pieces that are the same but for what ends them
-data SamePieces : List (List ℕ) → List (List ℕ) → Type 0 where
-  NoPiece : SamePieces [] []
-  Piece : (p q : List ℕ) (ps qs : List (List ℕ)) → ((before : List ℕ) → ended before p ≡ ended before q) → SamePieces ps qs → SamePieces (p ∷ ps) (q ∷ qs)
+-- full lines that are the same but for what ends them
+data SameFullLines : List (List ℕ) → List (List ℕ) → Type 0 where
+  NoLines : SameFullLines [] []
+  NextLine : (p q : List ℕ) (ps qs : List (List ℕ)) → ((before : List ℕ) → ended before p ≡ ended before q) → SameFullLines ps qs → SameFullLines (p ∷ ps) (q ∷ qs)
 
-before_first-same : (b : ℕ) (ps qs : List (List ℕ)) → SamePieces ps qs → SamePieces (before_first_line b ps) (before_first_line b qs)
-before_first-same b ps qs NoPiece = Piece (b ∷ []) (b ∷ []) [] [] (λ before. refl) NoPiece
-before_first-same b ps qs (Piece p q ps' qs' h same) = Piece (b ∷ p) (b ∷ q) ps' qs' more same where
+before_first-same : (b : ℕ) (ps qs : List (List ℕ)) → SameFullLines ps qs → SameFullLines (before_first_line b ps) (before_first_line b qs)
+before_first-same b ps qs NoLines = NextLine (b ∷ []) (b ∷ []) [] [] (λ before. refl) NoLines
+before_first-same b ps qs (NextLine p q ps' qs' h same) = NextLine (b ∷ p) (b ∷ q) ps' qs' more same where
   more : (before : List ℕ) → ended before (b ∷ p) ≡ ended before (b ∷ q)
   more before = ap (λ t. without_trailing_space (without_last 10 t)) (sym (append_assoc before (b ∷ []) p)) ∙ h (before ++ b ∷ []) ∙ ap (λ t. without_trailing_space (without_last 10 t)) (append_assoc before (b ∷ []) q)
 
-full_lines-same : (s t : List ℕ) → SameText s t → SamePieces (full_lines s) (full_lines t)
-full_lines-same s t Empty = NoPiece
+full_lines-same : (s t : List ℕ) → SameText s t → SameFullLines (full_lines s) (full_lines t)
+full_lines-same s t Empty = NoLines
 full_lines-same s t (Byte b s' t' same) = at (b == 10) (full_lines-same s' t' same) where
-  at : (c : Bool) → SamePieces (full_lines s') (full_lines t') → SamePieces (cond c (newline ∷ full_lines s') (before_first_line b (full_lines s'))) (cond c (newline ∷ full_lines t') (before_first_line b (full_lines t')))
-  at true ih = Piece newline newline _ _ (λ before. refl) ih
+  at : (c : Bool) → SameFullLines (full_lines s') (full_lines t') → SameFullLines (cond c (newline ∷ full_lines s') (before_first_line b (full_lines s'))) (cond c (newline ∷ full_lines t') (before_first_line b (full_lines t')))
+  at true ih = NextLine newline newline _ _ (λ before. refl) ih
   at false ih = before_first-same b _ _ ih
-full_lines-same s t (Return s' t' same) = Piece newline (13 ∷ newline) _ _ return (full_lines-same s' t' same) where
+full_lines-same s t (Return s' t' same) = NextLine newline (13 ∷ newline) _ _ return (full_lines-same s' t' same) where
   return : (before : List ℕ) → ended before newline ≡ ended before (13 ∷ newline)
   return before = ap without_trailing_space (without_last-push 10 10 before)
       ∙ sym (ap without_trailing_space (ap (without_last 10) (sym (append_assoc before (13 ∷ []) newline)) ∙ without_last-push 10 10 (before ++ 13 ∷ []))
       ∙ sym (without_trailing_space-without_last 13 (before ++ 13 ∷ []) refl) ∙ ap without_trailing_space (without_last-push 13 13 before))
 
-lines-same : (ps qs : List (List ℕ)) → SamePieces ps qs → SameButEnds (map line_of ps) (map line_of qs)
-lines-same ps qs NoPiece = refl
-lines-same ps qs (Piece p q ps' qs' h same) =
+lines-same : (ps qs : List (List ℕ)) → SameFullLines ps qs → SameButEnds (map line_of ps) (map line_of qs)
+lines-same ps qs NoLines = refl
+lines-same ps qs (NextLine p q ps' qs' h same) =
     let here : without_trailing_space (line_of p) ≡ without_trailing_space (line_of q) =
     without_trailing_space-without_last 13 (without_last 10 p) refl ∙ h [] ∙ sym (without_trailing_space-without_last 13 (without_last 10 q) refl) in
     ap (λ t. t ∷ map without_trailing_space (map line_of ps')) here ∙ ap (λ ts. without_trailing_space (line_of q) ∷ ts) (lines-same ps' qs' same)

@@ -9,7 +9,7 @@ use Rattle.ascii_text.specs.Lines.{newline, without_last}
 use Rattle.dd_file.specs.Rewritten.{newlines_at_end, without_double_end}
 use Rattle.ascii_text.proofs.Offered.{list-by_last, without_last-append, without_last-push}
 
--- what a text ends in is told by its last bytes
+-- what a text ends in is decided by its last bytes
 pub ends_with-append : (xs ys needle : List ℕ) → length ys ≡ length needle → ends_with nat_eq (xs ++ ys) needle ≡ pointwise nat_eq needle ys
 ends_with-append xs ys needle e =
     let k : length (xs ++ ys) - length needle ≡ length xs = rw (length-append xs ys) (omega arith) in
@@ -53,7 +53,7 @@ counted-zero false p = refl
 counted-zero true false = refl
 counted-zero true true = refl
 
--- the last byte tells whether a newline ends the text
+-- the last byte decides whether a newline ends the text
 newlines_at_end-zero : (text : List ℕ) (b : ℕ) → (newlines_at_end (text ++ b ∷ []) == 0) ≡ not (nat_eq 10 b)
 newlines_at_end-zero text b = elim (list-by_last text) [
   | inl e ↦ ap (λ t. newlines_at_end (t ++ b ∷ []) == 0) e ∙ ap (λ n. n == 0) (newlines_at_end-one b) ∙ counted-zero (nat_eq 10 b) false
@@ -99,7 +99,7 @@ text-ended text = at (ends_with nat_eq text (newline ++ newline)) (ends_with nat
   at false true prefix h = h
   at false false prefix h = h
 
--- without its last newline the text is a front part of itself with more behind it
+-- without its last newline the text is a prefix of itself with more after it
 pub without_last-prefix : (xs ys : List ℕ) → (part : List ℕ) × (without_last 10 (xs ++ ys) ≡ without_last 10 xs ++ part)
 without_last-prefix xs [] = ([], ap (without_last 10) (append-nil xs) ∙ sym (append-nil (without_last 10 xs)))
 without_last-prefix xs (y ∷ ys) = let buffered = if newlines_at_end xs == 0 then [] else newline in (
@@ -107,7 +107,7 @@ without_last-prefix xs (y ∷ ys) = let buffered = if newlines_at_end xs == 0 th
   without_last-append 10 xs y ys ∙ ap (λ t. t ++ without_last 10 (y ∷ ys)) (sym (text-buffered xs)) ∙ append_assoc (without_last 10 xs) buffered (without_last 10 (y ∷ ys)),
 )
 
--- a text behind whose last byte a newline is put
+-- a text after whose last byte a newline is put
 pub double_end-pushed : (xs : List ℕ) (a : ℕ) → without_double_end ((xs ++ a ∷ []) ++ newline) ≡ cond (nat_eq 10 a) (xs ++ a ∷ []) ((xs ++ a ∷ []) ++ newline)
 double_end-pushed xs a =
     let text = (xs ++ a ∷ []) ++ newline in

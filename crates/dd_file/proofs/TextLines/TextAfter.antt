@@ -1,4 +1,4 @@
--- A text that ends in a newline, and more behind it.
+-- A text that ends in a newline, and more after it.
 use Rattle.std.proofs.Common.{◌≡◌, ℕ, ◌+◌, ◌-◌, ◌≤◌, Bool, true, false, cond, ◌&&◌, List, [], ◌∷◌, ◌++◌, length, take, refl, ◌∙◌, ap, arith}
 use Rattle.std.specs.Prelude.{◌==◌, filter}
 use Rattle.std.specs.List.{list_all}
@@ -14,7 +14,7 @@ is_whole_text [] = true
 is_whole_text (b ∷ []) = b == 10
 is_whole_text (b ∷ c ∷ bytes) = is_whole_text (c ∷ bytes)
 
--- bytes have a first piece
+-- bytes have a first full line
 abbrev has_some : List (List ℕ) → Bool
 has_some [] = false
 has_some (full_line ∷ ps) = true
@@ -37,13 +37,13 @@ append-more : (c : Bool) (b : ℕ) (ps qs rs : List (List ℕ)) → has_some ps 
 append-more true b ps qs rs h e = ap (λ t. newline ∷ t) e
 append-more false b ps qs rs h e = ap (before_first_line b) e ∙ before-append b ps qs h
 
--- the pieces of a whole text, and then those behind it
+-- the full lines of a whole text, and then those after it
 pub full_lines-append : (xs ys : List ℕ) → is_whole_text xs ≡ true → full_lines (xs ++ ys) ≡ full_lines xs ++ full_lines ys
 full_lines-append [] ys h = refl
 full_lines-append (b ∷ []) ys h = append-last (b == 10) b ys h
 full_lines-append (b ∷ c ∷ xs) ys h = append-more (b == 10) b (full_lines (c ∷ xs)) (full_lines ys) (full_lines (c ∷ xs ++ ys)) (some-step (c == 10) c (full_lines xs)) (full_lines-append (c ∷ xs) ys h)
 
--- each piece of a whole text is whole
+-- each full line of a whole text is whole
 whole-more : (b : ℕ) (full_line : List ℕ) → is_whole full_line ≡ true → is_whole (b ∷ full_line) ≡ true
 whole-more b [] h = cc
 whole-more b (c ∷ full_line) h = h
@@ -80,7 +80,7 @@ filter-all : {X : Type 0} (test : X → Bool) (xs : List X) → list_all test xs
 filter-all test [] h = refl
 filter-all test (x ∷ xs) h = filter-step (test x) x _ xs (list_all test xs) (filter-all test xs) h
 
--- The pieces that are looked at are those of a whole text within the limit, and some behind them.
+-- The full lines that are looked at are those of a whole text within the limit, and some after them.
 pub full_lines_within-whole : (limit : ℕ) (position : Position) (bs more : List ℕ) → is_whole_text bs ≡ true → position.bytes + length bs ≤ limit →
     (suffix : List (List ℕ)) × (full_lines_within limit position (bs ++ more) ≡ full_lines bs ++ suffix)
 full_lines_within-whole limit position bs more whole fits = at (is_too_long limit position (bs ++ more)) where

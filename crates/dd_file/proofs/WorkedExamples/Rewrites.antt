@@ -17,7 +17,7 @@ three_newlines = refl
 pub counted : newlines_at_end (((codes "a" ++ newline) ++ newline) ++ newline) ≡ 2
 counted = refl
 
--- an output with a blank line stands between double dashes
+-- an output with a blank line is between double dashes
 pub doubled : lines_of (output_text ((codes "a" ++ newline) ++ newline)) ≡ codes "----" ∷ codes "----" ∷ codes "a" ∷ [] ∷ codes "----" ∷ codes "----" ∷ [] ∷ []
 doubled = refl
 

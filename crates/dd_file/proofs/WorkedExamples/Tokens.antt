@@ -15,7 +15,7 @@ cut_at_end = refl
 pub trim : trimmed (codes " \t a b \r") ≡ codes "a b"
 trim = refl
 
--- white space parts words, but not between parentheses, which do not nest
+-- white space separates tokens, but not between parentheses, which do not nest
 pub parted : tokens_of (codes " a  b=(c d)e\tf((g )h i) ") ≡ codes "a" ∷ codes "b=(c d)e" ∷ codes "f((g )h" ∷ codes "i)" ∷ []
 parted = refl
 
@@ -36,7 +36,7 @@ empty_list = refl
 pub blank_list : parsed_argument (codes "a=( \t)") ≡ Some (a_with [])
 blank_list = refl
 
--- a plain value is one value, empty or not; a comma in it parts nothing
+-- a plain value is one value, empty or not; a comma in it separates nothing
 pub empty_value : parsed_argument (codes "a=") ≡ Some (a_with ([] ∷ []))
 empty_value = refl
 
@@ -46,7 +46,7 @@ comma_alone = refl
 pub second_equals : parsed_argument (codes "a==1") ≡ Some (a_with (codes "=1" ∷ []))
 second_equals = refl
 
--- in a list each piece between commas is a value, and is trimmed
+-- in a list each part between commas is a value, and is trimmed
 pub empty_values : parsed_argument (codes "a=(,)") ≡ Some (a_with ([] ∷ [] ∷ []))
 empty_values = refl
 
@@ -72,8 +72,8 @@ glued = refl
 pub glued_list : parsed_argument (codes "a=(1)(2)") ≡ None
 glued_list = refl
 
-pub list_behind_value : command_of (codes "simple a=b(c d)") ≡ None
-list_behind_value = refl
+pub list_after_value : command_of (codes "simple a=b(c d)") ≡ None
+list_after_value = refl
 
 pub closing_alone : parsed_argument (codes "a=1)") ≡ None
 closing_alone = refl

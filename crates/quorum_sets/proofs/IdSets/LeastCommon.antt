@@ -12,18 +12,18 @@ use Rattle.quorum_sets.specs.Ids.{Ids, has, ascending}
 use Rattle.quorum_sets.specs.Overlap.{IsCommon, IsLeastCommon}
 use Rattle.quorum_sets.proofs.IdSets.Members.{has-ascending, ascending-is_sorted}
 
--- the id at a place
+-- the id at a position
 abbrev pub id_at : Ids → ℕ → ℕ
 id_at s position = get_or (ascending s) position 0
 
--- an id of a set stands at a place
-pub record HasPlace (s : Ids) (id : ℕ) : Type 0 where
+-- an id of a set is at a position
+pub record HasPosition (s : Ids) (id : ℕ) : Type 0 where
   pub position : ℕ
   pub within : position < length (ascending s)
   pub here : id_at s position ≡ id
 
-has_place : (s : Ids) (id : ℕ) → has s id ≡ true → HasPlace s id
-has_place s id among =
+has_position : (s : Ids) (id : ℕ) → has s id ≡ true → HasPosition s id
+has_position s id among =
     let found = Any-from_list_any (λ x. id == x) (ascending s) (sym (has-ascending s id) ∙ among) in
     record {
       position = found.0;
@@ -38,7 +38,7 @@ has-id_at s position within =
 ascends : (s : Ids) (i j : ℕ) → i ≤ j → j < length (ascending s) → id_at s i ≤ id_at s j
 ascends s i j before within = non_decreasing_from_sorted (ascending s) (ascending-is_sorted s) i j 0 before within
 
--- the other set has no id from before the place
+-- the other set has no id from before the position
 abbrev pub NoneBefore : Ids → Ids → ℕ → Type 0
 NoneBefore s other position = (k : ℕ) → k < position → has other (id_at s k) ≡ false
 
@@ -47,10 +47,10 @@ pub none_before-more : (a b : Ids) (i j : ℕ) → NoneBefore a b i → NoneBefo
 none_before-more a b i j none_a none_b in_a in_b less k before = elim (cases_lt k i) [
   | inl earlier ↦ none_a k earlier
   | inr late ↦ (let e : k ≡ i = omega arith in rw e (false_from_ne_true (has b (id_at a i)) (λ among.
-      let stands = has_place b (id_at a i) among in
-      elim (cases_lt stands.position j) [
-        | inl passed ↦ both_ways (has a (id_at b stands.position)) (none_b stands.position passed) (ap (has a) stands.here ∙ has-id_at a i in_a)
-        | inr ahead ↦ (let low = ascends b j stands.position ahead stands.within in absurd (omega (arith, stands.here)))
+      let holds = has_position b (id_at a i) among in
+      elim (cases_lt holds.position j) [
+        | inl passed ↦ both_ways (has a (id_at b holds.position)) (none_b holds.position passed) (ap (has a) holds.here ∙ has-id_at a i in_a)
+        | inr ahead ↦ (let low = ascends b j holds.position ahead holds.within in absurd (omega (arith, holds.here)))
       ])))
 ]
 
@@ -58,23 +58,23 @@ pub least_common-found : (a b : Ids) (i j : ℕ) → NoneBefore a b i → i < le
 least_common-found a b i j none in_a in_b same = record {
   common = record { in_first = has-id_at a i in_a; in_second = ap (has b) same ∙ has-id_at b j in_b };
   least = λ other shared.
-      let stands = has_place a other shared.in_first in
-      elim (cases_lt stands.position i) [
-        | inl passed ↦ absurd (both_ways (has b (id_at a stands.position)) (none stands.position passed) (ap (has b) stands.here ∙ shared.in_second))
-        | inr ahead ↦ (let low = ascends a i stands.position ahead stands.within in omega (arith, stands.here))
+      let holds = has_position a other shared.in_first in
+      elim (cases_lt holds.position i) [
+        | inl passed ↦ absurd (both_ways (has b (id_at a holds.position)) (none holds.position passed) (ap (has b) holds.here ∙ shared.in_second))
+        | inr ahead ↦ (let low = ascends a i holds.position ahead holds.within in omega (arith, holds.here))
       ];
 }
 
--- all places of the first set are passed
+-- all positions of the first set are passed
 pub IsCommon-none : (a b : Ids) (i : ℕ) → NoneBefore a b i → length (ascending a) ≤ i → (id : ℕ) → IsCommon a b id → ⊥
 IsCommon-none a b i none past id shared =
-    let stands = has_place a id shared.in_first in
-    both_ways (has b (id_at a stands.position)) (none stands.position (omega (arith, stands.within))) (ap (has b) stands.here ∙ shared.in_second)
+    let holds = has_position a id shared.in_first in
+    both_ways (has b (id_at a holds.position)) (none holds.position (omega (arith, holds.within))) (ap (has b) holds.here ∙ shared.in_second)
 
 pub IsCommon-sym : (a b : Ids) (id : ℕ) → IsCommon a b id → IsCommon b a id
 IsCommon-sym a b id shared = record { in_first = shared.in_second; in_second = shared.in_first }
 
--- ---- what stands at a place
+-- ---- what is at a position
 pub at-id_at : (s : Ids) (position : ℕ) (found : Option ℕ) → found ≡ slice_get (ascending s) position → position < length (ascending s) → found ≡ Some (id_at s position)
 at-id_at s position found is within = is ∙ slice_get-get_or (ascending s) position 0 within
 

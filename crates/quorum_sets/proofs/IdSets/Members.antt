@@ -1,4 +1,4 @@
--- What the words on finite sets of ids say of one another.
+-- How the definitions of sets of ids relate.
 use Rattle.std.proofs.Common.{◌≡◌, ℕ, Bool, true, false, cond, not, ◌&&◌, ◌||◌, T, List, [], ◌∷◌, map, length, is_some, refl, sym, ap, subst, ◌∙◌, arith, eqb→eq, ◌==◌, ◌+◌, ◌<◌, take, get_or}
 use Rattle.std.specs.Prelude.{Option, Some, None, filter}
 use Rattle.std.specs.declared.cmp.Ordering.{Ordering}

@@ -61,20 +61,20 @@ not_falling xs up i j le within =
       | inr (inr gt) ↦ absurd (omega arith)
     ]
 
-pub search-in_rising : (xs : List ℕ) (x : ℕ) (r : Result ℕ ℕ) → IsBinarySearchResult (λ y. nat_cmp y x) xs r → IsAscending xs → MatchResult r (IsAtPosition xs x) (IsInsertionPoint xs x)
-search-in_rising xs x r search_result up =
+pub search-in_ascending : (xs : List ℕ) (x : ℕ) (r : Result ℕ ℕ) → IsBinarySearchResult (λ y. nat_cmp y x) xs r → IsAscending xs → MatchResult r (IsAtPosition xs x) (IsInsertionPoint xs x)
+search-in_ascending xs x r search_result up =
     MatchResult-weaker r (searched xs x r search_result (not_falling xs up))
     (λ i there. record { within = there.0; there = there.1 })
     (λ i there. record { within = there.0; below = there.1; above = there.2 })
 
-pub has-stands : (xs : List ℕ) (x i : ℕ) → IsAtPosition xs x i → has (ids_of xs) x ≡ true
-has-stands xs x i at = has-ids_of xs x ∙ list_any_at (λ y. x == y) xs i 0 at.within (eq-eqb x _ (sym at.there))
+pub has-holds : (xs : List ℕ) (x i : ℕ) → IsAtPosition xs x i → has (ids_of xs) x ≡ true
+has-holds xs x i at = has-ids_of xs x ∙ list_any_at (λ y. x == y) xs i 0 at.within (eq-eqb x _ (sym at.there))
 
 apart : (xs : List ℕ) (x i : ℕ) → IsInsertionPoint xs x i → (k : ℕ) → k < length xs → x ≡ get_or xs k 0 → ⊥
 apart xs x i goes k within same =
     elim (cases_lt k i) [
       | inl before ↦ (let lt = goes.below k before in omega arith)
-      | inr behind ↦ (let gt = goes.above k behind within in omega arith)
+      | inr later ↦ (let gt = goes.above k later within in omega arith)
     ]
 
 pub has-goes : (xs : List ℕ) (x i : ℕ) → IsInsertionPoint xs x i → has (ids_of xs) x ≡ false
@@ -83,7 +83,7 @@ has-goes xs x i goes =
     ap (λ y. x == y) (get_or_default xs k d 0 within) ∙ ne_eqb x _ (apart xs x i goes k within))
 
 pub has-found : (xs : List ℕ) (x : ℕ) (r : Result ℕ ℕ) → MatchResult r (IsAtPosition xs x) (IsInsertionPoint xs x) → is_ok r ≡ has (ids_of xs) x
-has-found xs x (Ok i) at = sym (has-stands xs x i at)
+has-found xs x (Ok i) at = sym (has-holds xs x i at)
 has-found xs x (Err i) goes = sym (has-goes xs x i goes)
 
 -- ---- an id that is put in
@@ -104,7 +104,7 @@ ids_of-insert xs i x =
     ∙ sym (has-with_id _ x q ∙ ap (λ b. (q == x) || b) (has-ids_of xs q ∙ any_split (λ y. q == y) xs i)))
 
 insert_after : (xs : List ℕ) (i x k : ℕ) → i < k → i ≤ length xs → get_or (insert xs i x) k 0 ≡ get_or xs (k - 1) 0
-insert_after xs i x k behind within =
+insert_after xs i x k later within =
     let e : k ≡ k - 1 + 1 = omega arith in
     ap (λ n. get_or (insert xs i x) n 0) e ∙ get_or-insert_above xs i x 0 (k - 1) (omega arith) within
 
@@ -122,8 +122,8 @@ ascends-insert xs i x up goes a b lt inside =
           (let first = get_or-insert_below xs i x 0 a (omega arith) within in
           let second = get_or-insert_below xs i x 0 b before within in
           rw (first, second) (up a b lt (omega arith)))
-      | inr (inr behind) ↦
-          (let second = insert_after xs i x b behind within in
+      | inr (inr later) ↦
+          (let second = insert_after xs i x b later within in
           elim (cases_order a i) [
             | inl here ↦
                 (let first = ap (λ n. get_or (insert xs i x) n 0) here ∙ get_or-insert_at xs i x 0 within in
@@ -142,7 +142,7 @@ remove_at : (xs : List ℕ) (i k : ℕ) → i < length xs → (get_or (remove xs
 remove_at xs i k within =
     elim (cases_lt k i) [
       | inl before ↦ inl (get_or-remove_below xs i 0 k before within, before)
-      | inr behind ↦ inr (get_or-remove_above xs i 0 k behind within, behind)
+      | inr later ↦ inr (get_or-remove_above xs i 0 k later within, later)
     ]
 
 pub ascends-remove : (xs : List ℕ) (i : ℕ) → IsAscending xs → i < length xs → IsAscending (remove xs i)
@@ -159,9 +159,9 @@ ascends-remove xs i up within a b lt inside =
       ])
     ]
 
--- no other place has the id
-gone : (xs : List ℕ) (i x k : ℕ) → IsAscending xs → IsAtPosition xs x i → k < length (remove xs i) → x ≡ get_or (remove xs i) k 0 → ⊥
-gone xs i x k up at inside same =
+-- no other position has the id
+removed : (xs : List ℕ) (i x k : ℕ) → IsAscending xs → IsAtPosition xs x i → k < length (remove xs i) → x ≡ get_or (remove xs i) k 0 → ⊥
+removed xs i x k up at inside same =
     let long = length-remove xs i at.within in
     let there = at.there in
     elim (remove_at xs i k at.within) [
@@ -190,7 +190,7 @@ ids_of-remove xs i x up at =
       | inl same ↦
           has-ids_of (remove xs i) q
           ∙ none_left _ (q == x) (has (ids_of xs) q) (list_any_none p (remove xs i) (λ k d inside.
-          ap p (get_or_default (remove xs i) k d 0 inside) ∙ ne_eqb q _ (λ e. gone xs i x k up at inside (sym (eqb-true q x same) ∙ e)))) same
+          ap p (get_or_default (remove xs i) k d 0 inside) ∙ ne_eqb q _ (λ e. removed xs i x k up at inside (sym (eqb-true q x same) ∙ e)))) same
           ∙ sym (has-without_id _ x q)
       | inr other ↦
           has-ids_of (remove xs i) q
@@ -216,7 +216,7 @@ pub without_id-absent : (s : Ids) (x : ℕ) → has s x ≡ false → s ≡ with
 without_id-absent s x absent =
     has-same_ids _ _ (λ q. and_absent (q == x) (has s q) (λ e. ap (has s) (eqb-true q x e) ∙ absent) ∙ sym (has-without_id s x q))
 
--- ---- an id behind the last one
+-- ---- an id after the last one
 pub ascends-push : (xs : List ℕ) (y : ℕ) → IsAscending xs → ((k : ℕ) → k < length xs → get_or xs k 0 < y) → IsAscending (xs ++ y ∷ [])
 ascends-push xs y up below i j lt within =
     let long = length-append xs (y ∷ []) in

@@ -88,7 +88,7 @@ climb m (suc d) xs top start =
 pub most-above_top : (m : ℕ) (xs : List ℕ) → IsTop m xs → most (nat_lt m) xs ≡ false
 most-above_top m xs top = false_from_ne_true _ (λ start.
     let far = climb m (sum xs) xs top start in
-    let nobody = count_above-sum (m + sum xs) xs (omega arith) in
+    let no_voter = count_above-sum (m + sum xs) xs (omega arith) in
     let less = ltb-true (length xs) (2 * count_by (nat_lt (m + sum xs)) xs) far in
     absurd (omega arith))
 
@@ -110,8 +110,8 @@ count_at_least-zero (x ∷ xs) =
     sum_by-cons (λ y. cond (nat_le 0 y) 1 0) x xs ∙ (λ i. cond (here i) 1 0 + rest i) ∙ omega arith
 
 zero_is_reached : (ids : Ids) (acks : Acks) → is_empty ids ≡ false → is_reached ids acks 0 ≡ true
-zero_is_reached ids acks somebody =
-    let some = eqb-false (size ids) 0 somebody in
+zero_is_reached ids acks some_voter =
+    let some = eqb-false (size ids) 0 some_voter in
     let same = length-acked_indexes ids acks in
     let all = count_at_least-zero (acked_indexes ids acks) in
     is_reached-acked ids acks 0 ∙ lt-ltb _ _ (omega arith)
@@ -120,12 +120,12 @@ pub IsCommitted-committed_index : (ids : Ids) (acks : Acks) → IsCommitted ids 
 IsCommitted-committed_index ids acks =
     let xs = acked_indexes ids acks in
     let top : ℕ = fold max 0 (filter (is_reached ids acks) xs) in
-    let top_is : is_empty ids ≡ false → top ≡ committed_index ids acks = λ somebody. sym (cond-false (is_empty ids) greatest_index top somebody) in
+    let top_is : is_empty ids ≡ false → top ≡ committed_index ids acks = λ some_voter. sym (cond-false (is_empty ids) greatest_index top some_voter) in
     record {
-      of_empty = λ nobody. cond-true _ _ _ nobody;
-      reached = λ somebody. ap (is_reached ids acks) (sym (top_is somebody)) ∙ fold_max_filter-passes (is_reached ids acks) 0 xs (zero_is_reached ids acks somebody);
-      not_passed = λ somebody.
-          ap (is_passed ids acks) (sym (top_is somebody)) ∙ is_passed-acked ids acks top
+      of_empty = λ no_voter. cond-true _ _ _ no_voter;
+      reached = λ some_voter. ap (is_reached ids acks) (sym (top_is some_voter)) ∙ fold_max_filter-passes (is_reached ids acks) 0 xs (zero_is_reached ids acks some_voter);
+      not_passed = λ some_voter.
+          ap (is_passed ids acks) (sym (top_is some_voter)) ∙ is_passed-acked ids acks top
           ∙ most-above_top top xs (λ x among here. fold_max_filter-bound (is_reached ids acks) 0 x xs (is_reached-acked ids acks x ∙ here) among);
     }
 
@@ -137,11 +137,11 @@ passed_below ids acks j k below reached =
 
 pub IsCommitted-alone : (ids : Ids) (acks : Acks) (j k : ℕ) → IsCommitted ids acks j → IsCommitted ids acks k → j ≡ k
 IsCommitted-alone ids acks j k first second = elim (cases_Bool (is_empty ids)) [
-  | inl nobody ↦ first.of_empty nobody ∙ sym (second.of_empty nobody)
-  | inr somebody ↦ elim (cases_order j k) [
+  | inl no_voter ↦ first.of_empty no_voter ∙ sym (second.of_empty no_voter)
+  | inr some_voter ↦ elim (cases_order j k) [
     | inl same ↦ same
-    | inr (inl below) ↦ absurd (both_ways _ (first.not_passed somebody) (passed_below ids acks j k below (second.reached somebody)))
-    | inr (inr above) ↦ absurd (both_ways _ (second.not_passed somebody) (passed_below ids acks k j above (first.reached somebody)))
+    | inr (inl below) ↦ absurd (both_ways _ (first.not_passed some_voter) (passed_below ids acks j k below (second.reached some_voter)))
+    | inr (inr above) ↦ absurd (both_ways _ (second.not_passed some_voter) (passed_below ids acks k j above (first.reached some_voter)))
   ]
 ]
 
@@ -150,7 +150,7 @@ pub IsCommitted-from_indexes : (ids : Ids) (acks : Acks) (k : ℕ) (xs : List �
 IsCommitted-from_indexes ids acks k xs e of_none reached not_passed =
     let same : length xs ≡ size ids = ap length e ∙ length-acked_indexes ids acks in
     record {
-      of_empty = λ nobody. of_none (same ∙ eqb-true (size ids) 0 nobody);
-      reached = λ somebody. is_reached-acked ids acks k ∙ subst (λ ys. most (nat_le k) ys ≡ true) e (lt-ltb _ _ (reached (let some = eqb-false (size ids) 0 somebody in omega arith)));
-      not_passed = λ somebody. is_passed-acked ids acks k ∙ subst (λ ys. most (nat_lt k) ys ≡ false) e (le-ltb _ _ (not_passed (let some = eqb-false (size ids) 0 somebody in omega arith)));
+      of_empty = λ no_voter. of_none (same ∙ eqb-true (size ids) 0 no_voter);
+      reached = λ some_voter. is_reached-acked ids acks k ∙ subst (λ ys. most (nat_le k) ys ≡ true) e (lt-ltb _ _ (reached (let some = eqb-false (size ids) 0 some_voter in omega arith)));
+      not_passed = λ some_voter. is_passed-acked ids acks k ∙ subst (λ ys. most (nat_lt k) ys ≡ false) e (le-ltb _ _ (not_passed (let some = eqb-false (size ids) 0 some_voter in omega arith)));
     }

@@ -1,4 +1,4 @@
--- The place of the majority in a sorted list, against the counts of the list.
+-- The position of the majority in a sorted list, against the counts of the list.
 use Rattle.std.proofs.Common.{◌≡◌, ℕ, zero, suc, ◌+◌, ◌-◌, ◌*◌, ◌/◌, ◌<◌, ◌≤◌, Bool, true, false, cond, List, [], ◌∷◌, ◌++◌, length, map, take, drop, get_or, slice_get, refl, sym, ap, ◌∙◌, arith, length-drop}
 use Rattle.std.specs.Prelude.{Some, nat_lt, nat_le, count_by}
 use Rattle.std.specs.Ordering.{nat_cmp}
@@ -37,9 +37,9 @@ none_before p ys (suc i) within fails =
 count_by-permuted : (p : ℕ → Bool) (xs ys : List ℕ) → IsPermutation xs ys → count_by p ys ≡ count_by p xs
 count_by-permuted p xs ys moved = sum_by-IsPermutation (λ x. cond (p x) 1 0) xs ys moved
 
--- what stands at place i of the sorted list is reached by all from there on, and passed by none up to there
-at_place : (xs ys : List ℕ) (i : ℕ) → IsPermutation xs ys → IsSorted nat_cmp ys → i < length ys → (length xs ≤ i + count_by (nat_le (get_or ys i 0)) xs) × (i + 1 + count_by (nat_lt (get_or ys i 0)) xs ≤ length xs)
-at_place xs ys i moved sorted within =
+-- what is at position i of the sorted list is reached by all from there on, and passed by none up to there
+at_position : (xs ys : List ℕ) (i : ℕ) → IsPermutation xs ys → IsSorted nat_cmp ys → i < length ys → (length xs ≤ i + count_by (nat_le (get_or ys i 0)) xs) × (i + 1 + count_by (nat_lt (get_or ys i 0)) xs ≤ length xs)
+at_position xs ys i moved sorted within =
     let v : ℕ = get_or ys i 0 in
     let ascends = IsNonDecreasingBy-from_sort (λ x. x) ys sorted in
     let same = length_permutation xs ys moved in
@@ -54,9 +54,9 @@ at_place xs ys i moved sorted within =
     let pass = count_by-permuted (nat_lt v) xs ys moved in
     (omega arith, omega arith)
 
--- the place of the majority
+-- the position of the majority
 pub majority-position : (xs ys : List ℕ) (i : ℕ) → IsPermutation xs ys → IsSorted nat_cmp ys → 0 < length ys → i ≡ length ys - (length ys / 2 + 1) → (length xs < 2 * count_by (nat_le (get_or ys i 0)) xs) × (2 * count_by (nat_lt (get_or ys i 0)) xs ≤ length xs)
 majority-position xs ys i moved sorted some here =
-    let counts = at_place xs ys i moved sorted (omega arith) in
+    let counts = at_position xs ys i moved sorted (omega arith) in
     let same = length_permutation xs ys moved in
     (omega arith, omega arith)

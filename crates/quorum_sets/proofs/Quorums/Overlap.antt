@@ -104,17 +104,17 @@ passes_in voters p = on_most p voters.incoming && (is_empty voters.outgoing || o
 most_from_test : (p : ℕ → Bool) (ids : Ids) → on_most p ids ≡ true → Most p (ascending ids)
 most_from_test p ids passes = ltb-true _ _ passes
 
--- where more than half pass, there is somebody
+-- where more than half pass, there is some id
 not_both : (p : ℕ → Bool) (ids : Ids) → on_most p ids ≡ true → is_empty ids ≡ true → ⊥
-not_both p ids passes nobody =
+not_both p ids passes no_voter =
     let some = ltb-true _ _ passes in
-    let none = eqb-true (size ids) 0 nobody in
+    let none = eqb-true (size ids) 0 no_voter in
     let all = count_by-le-length p (ascending ids) in
     absurd (omega arith)
 
 meet_in_set : (p q : ℕ → Bool) (ids : Ids) → on_most p ids ≡ true → (is_empty ids || on_most q ids) ≡ true → Shared p q
 meet_in_set p q ids first second = elim (or_cases (is_empty ids) (on_most q ids) second) [
-  | inl nobody ↦ absurd (not_both p ids first nobody)
+  | inl no_voter ↦ absurd (not_both p ids first no_voter)
   | inr passes ↦ meet_in_one p q (ascending ids) (most_from_test p ids first) (most_from_test q ids passes)
 ]
 
@@ -145,15 +145,15 @@ QuorumsMeet-from_neighbours before after neighbours first second quorums =
 
 -- a majority has acknowledged what is committed
 acknowledged : (ids : Ids) (acks : Acks) (index : ℕ) → is_empty ids ≡ false → index ≤ committed_index ids acks → on_most (λ id. nat_le index (acked_index acks id)) ids ≡ true
-acknowledged ids acks index somebody low =
-    let reached = ltb-true _ _ ((IsCommitted-committed_index ids acks).reached somebody) in
+acknowledged ids acks index some_voter low =
+    let reached = ltb-true _ _ ((IsCommitted-committed_index ids acks).reached some_voter) in
     let more = count_by-mono (λ id. nat_le (committed_index ids acks) (acked_index acks id)) (λ id. nat_le index (acked_index acks id)) (λ id enough. le-leb _ _ (let at_least = leb-true _ _ enough in omega arith)) (ascending ids) in
     lt-ltb _ _ (omega arith)
 
 acknowledged_or_empty : (ids : Ids) (acks : Acks) (index : ℕ) → index ≤ committed_index ids acks → (is_empty ids || on_most (λ id. nat_le index (acked_index acks id)) ids) ≡ true
 acknowledged_or_empty ids acks index low = elim (cases_Bool (is_empty ids)) [
-  | inl nobody ↦ or_left _ _ nobody
-  | inr somebody ↦ or_right _ _ (acknowledged ids acks index somebody low)
+  | inl no_voter ↦ or_left _ _ no_voter
+  | inr some_voter ↦ or_right _ _ (acknowledged ids acks index some_voter low)
 ]
 
 won_in_both : (a b l m : Bool) → (if a && b then VoteWon else (if l || m then VoteLost else VotePending)) ≡ VoteWon → (a ≡ true) × (b ≡ true)

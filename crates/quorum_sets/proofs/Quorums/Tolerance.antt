@@ -162,8 +162,8 @@ pub Endures-from_counts : (voters : Voters) (uncounted : Ids) (k : ℕ) → Have
 Endures-from_counts voters uncounted k more down few =
     commits_without-on_most voters (union down uncounted)
     ∙ and_from _ _ (on_most-lasts voters.incoming uncounted down k more.incoming few) (elim (cases_Bool (is_empty voters.outgoing)) [
-      | inl nobody ↦ or_left _ _ nobody
-      | inr somebody ↦ or_right _ _ (on_most-lasts voters.outgoing uncounted down k (more.outgoing somebody) few)
+      | inl no_voter ↦ or_left _ _ no_voter
+      | inr some_voter ↦ or_right _ _ (on_most-lasts voters.outgoing uncounted down k (more.outgoing some_voter) few)
     ])
 
 or_second : (a b : Bool) → a ≡ false → (a || b) ≡ true → b ≡ true
@@ -173,7 +173,7 @@ or_second a b not_first some = elim (or_cases a b some) [ inl first ↦ absurd (
 stays_in : (voters : Voters) (away : Ids) → commits_without voters away ≡ true → (on_most (stay away) voters.incoming ≡ true) × (is_empty voters.outgoing ≡ false → on_most (stay away) voters.outgoing ≡ true)
 stays_in voters away commits =
     let parts = and_parts _ _ (sym (commits_without-on_most voters away) ∙ commits) in
-    (parts.0, λ somebody. or_second _ _ somebody parts.1)
+    (parts.0, λ some_voter. or_second _ _ some_voter parts.1)
 
 counted-from_lasting : (ids uncounted : Ids) (k : ℕ) → ((down : Ids) → size down ≤ k → on_most (stay (union down uncounted)) ids ≡ true) → majority (size ids) + k ≤ counted ids uncounted
 counted-from_lasting ids uncounted k lasts = elim (cases_Bool (nat_le (majority (size ids) + k) (counted ids uncounted))) [
@@ -186,7 +186,7 @@ counted-from_lasting ids uncounted k lasts = elim (cases_Bool (nat_le (majority 
 pub counts-from_Endures : (voters : Voters) (uncounted : Ids) (k : ℕ) → Endures voters uncounted k → HaveMore voters uncounted k
 counts-from_Endures voters uncounted k endures = record {
   incoming = counted-from_lasting voters.incoming uncounted k (λ down few. (stays_in voters _ (endures down few)).0);
-  outgoing = λ somebody. counted-from_lasting voters.outgoing uncounted k (λ down few. (stays_in voters _ (endures down few)).1 somebody);
+  outgoing = λ some_voter. counted-from_lasting voters.outgoing uncounted k (λ down few. (stays_in voters _ (endures down few)).1 some_voter);
 }
 
 -- ---- the answer by counting
@@ -207,7 +207,7 @@ most_of_one voters uncounted None single a_is = record {
   none = λ endures. let more = (counts-from_Endures voters uncounted 0 endures).incoming in absurd (omega arith);
 }
 most_of_one voters uncounted (Some k) single a_is = record {
-  endured = Endures-from_counts voters uncounted k (record { incoming = omega arith; outgoing = λ somebody. absurd (both_ways _ somebody single) });
+  endured = Endures-from_counts voters uncounted k (record { incoming = omega arith; outgoing = λ some_voter. absurd (both_ways _ some_voter single) });
   greatest = λ other endures. let more = (counts-from_Endures voters uncounted other endures).incoming in omega arith;
   none = tt;
 }
@@ -225,7 +225,7 @@ most_of_both voters uncounted (Some a) None joint a_is b_is = record {
   none = λ endures. let more = (counts-from_Endures voters uncounted 0 endures).outgoing joint in absurd (omega arith);
 }
 most_of_both voters uncounted (Some a) (Some b) joint a_is b_is = record {
-  endured = Endures-from_counts voters uncounted (min a b) (record { incoming = omega arith; outgoing = λ somebody. omega arith });
+  endured = Endures-from_counts voters uncounted (min a b) (record { incoming = omega arith; outgoing = λ some_voter. omega arith });
   greatest = λ other endures.
       let more = counts-from_Endures voters uncounted other endures in
       let of_incoming = more.incoming in
@@ -258,28 +258,28 @@ IsMostDown-alone voters uncounted (Some a) (Some b) a_is b_is =
     ap Some same
 
 -- ---- where every id counts
-count_of-nobody : (ids : Ids) → count_of (has no_ids) ids ≡ 0
-count_of-nobody ids = count_by-none (has no_ids) (ascending ids) (λ x here. has-no_ids x)
+count_of-no_voter : (ids : Ids) → count_of (has no_ids) ids ≡ 0
+count_of-no_voter ids = count_by-none (has no_ids) (ascending ids) (λ x here. has-no_ids x)
 
 pub counted-all : (ids : Ids) → count_of (λ id. not (has no_ids id)) ids ≡ size ids
-counted-all ids = let all = count_of-rest ids no_ids in let none = count_of-nobody ids in omega arith
+counted-all ids = let all = count_of-rest ids no_ids in let none = count_of-no_voter ids in omega arith
 
 surplus-all : (ids : Ids) → is_empty ids ≡ false → surplus ids no_ids ≡ Some (size ids - majority (size ids))
-surplus-all ids somebody =
-    let some = eqb-false (size ids) 0 somebody in
+surplus-all ids some_voter =
+    let some = eqb-false (size ids) 0 some_voter in
     let all = counted-all ids in
     cond-true (nat_le (majority (size ids)) (counted ids no_ids)) _ _ (le-leb _ _ (omega arith)) ∙ ap (λ n. Some (n - majority (size ids))) all
 
 pub may_be_down-all : (voters : Voters) → is_empty voters.incoming ≡ false → may_be_down voters no_ids ≡ Some (least_minority voters)
-may_be_down-all voters somebody = elim (cases_Bool (is_empty voters.outgoing)) [
-  | inl single ↦ cond-true _ _ _ single ∙ surplus-all voters.incoming somebody ∙ ap Some (sym (cond-true _ _ _ single))
-  | inr joint ↦ cond-false _ _ _ joint ∙ (λ i. least (surplus-all voters.incoming somebody i) (surplus-all voters.outgoing joint i)) ∙ ap Some (sym (cond-false _ _ _ joint))
+may_be_down-all voters some_voter = elim (cases_Bool (is_empty voters.outgoing)) [
+  | inl single ↦ cond-true _ _ _ single ∙ surplus-all voters.incoming some_voter ∙ ap Some (sym (cond-true _ _ _ single))
+  | inr joint ↦ cond-false _ _ _ joint ∙ (λ i. least (surplus-all voters.incoming some_voter i) (surplus-all voters.outgoing joint i)) ∙ ap Some (sym (cond-false _ _ _ joint))
 ]
 
--- ---- where nobody votes
+-- ---- where no id votes
 pub may_be_down-no_voter : (voters : Voters) (uncounted : Ids) → is_empty voters.incoming ≡ true → may_be_down voters uncounted ≡ None
-may_be_down-no_voter voters uncounted nobody =
-    let none = eqb-true (size voters.incoming) 0 nobody in
+may_be_down-no_voter voters uncounted no_voter =
+    let none = eqb-true (size voters.incoming) 0 no_voter in
     let within = count_by-le-length (stay uncounted) (ascending voters.incoming) in
     let no_surplus : surplus voters.incoming uncounted ≡ None = cond-false (nat_le (majority (size voters.incoming)) (counted voters.incoming uncounted)) _ _ (lt-leb (majority (size voters.incoming)) (counted voters.incoming uncounted) (omega arith)) in
     cond_both (is_empty voters.outgoing) _ _ (λ answer. answer ≡ None) (λ single. no_surplus) (λ joint. ap (λ a. least a (surplus voters.outgoing uncounted)) no_surplus)
@@ -293,7 +293,7 @@ commits_with_answer voters away None is = false_from_ne_true _ (λ commits.
     let stays = stays_in voters away commits in
     is.none (Endures-from_counts voters away 0 (record {
       incoming = let most = ltb-true _ _ stays.0 in omega arith;
-      outgoing = λ somebody. let most = ltb-true _ _ (stays.1 somebody) in omega arith;
+      outgoing = λ some_voter. let most = ltb-true _ _ (stays.1 some_voter) in omega arith;
     })))
 
 pub commits_without-is_some : (voters : Voters) (away : Ids) → commits_without voters away ≡ is_some (may_be_down voters away)

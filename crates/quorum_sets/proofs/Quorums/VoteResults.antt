@@ -1,4 +1,4 @@
--- What the words on votes say of one another.
+-- How the definitions of votes relate.
 use Rattle.std.proofs.Common.{◌≡◌, Bool, true, false, ◌≤◌, ◌&&◌, ◌||◌, refl, arith}
 use Rattle.std.proofs.lemmas.Bool.Decides.{nat_tests}
 use Rattle.std.specs.Prelude.{Option, Some, None, unwrap_or, if◌then◌else◌}
@@ -9,9 +9,9 @@ use Rattle.quorum_sets.specs.Votes.{Votes, is_yes, may_be_yes, is_won, is_lost, 
 use Rattle.quorum_sets.specs.declared.voting.VoteResult.TheVariants.{VotePending, VoteLost, VoteWon}
 use Rattle.quorum_sets.proofs.Quorums.Counts.{count_by-mono}
 
-yes_may_be : (said : Option Bool) → unwrap_or said false ≡ true → unwrap_or said true ≡ true
-yes_may_be None said_so = cc
-yes_may_be (Some vote) said_so = said_so
+yes_may_be : (vote_cast : Option Bool) → unwrap_or vote_cast false ≡ true → unwrap_or vote_cast true ≡ true
+yes_may_be None is_yes_vote = cc
+yes_may_be (Some vote) is_yes_vote = is_yes_vote
 
 is_won-is_lost : (ids : Ids) (votes : Votes) → is_won ids votes ≡ true → is_lost ids votes ≡ false
 is_won-is_lost ids votes won =

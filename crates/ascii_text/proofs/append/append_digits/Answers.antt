@@ -15,7 +15,7 @@ write_digits-requires c =
 
 pub returns-clause-ok : goal.returns-clause-ok
 returns-clause-ok c =
-    let front = c.args.text.now.items in
+    let prefix = c.args.text.now.items in
     let digits = decimal c.args.number in
     let items = c.as_mut_slice.result.now in
     let buf = c.write_digits.new.buf in
@@ -25,21 +25,21 @@ returns-clause-ok c =
     let wrote = c.write_digits.ensures in
     let few = c.ilog10.ensures.bound in
     let len = c.len.ensures in
-    let whole : items ≡ front ++ codes "00000000000000000000" = c.as_mut_slice.ensures.value ∙ c.in_ok-extend_from_slice.ensures.items in
-    let items_len = ap length whole ∙ length-append front (codes "00000000000000000000") in
-    let at : length front ≡ start = omega arith in
-    let parts : buf ≡ (front ++ digits) ++ drop end items =
+    let whole : items ≡ prefix ++ codes "00000000000000000000" = c.as_mut_slice.ensures.value ∙ c.in_ok-extend_from_slice.ensures.items in
+    let items_len = ap length whole ∙ length-append prefix (codes "00000000000000000000") in
+    let at : length prefix ≡ start = omega arith in
+    let parts : buf ≡ (prefix ++ digits) ++ drop end items =
     sym (take-append-drop start buf) ∙ (λ i. wrote.before i ++ wrote.written i)
-    ∙ ap (λ xs. xs ++ (digits ++ drop end items)) (ap (take start) whole ∙ take_at front (codes "00000000000000000000") start at) ∙ sym (append_assoc front digits (drop end items)) in
-    let front_len = length-append front digits in
-    let buf_len = ap length parts ∙ length-append (front ++ digits) (drop end items) in
+    ∙ ap (λ xs. xs ++ (digits ++ drop end items)) (ap (take start) whole ∙ take_at prefix (codes "00000000000000000000") start at) ∙ sym (append_assoc prefix digits (drop end items)) in
+    let prefix_len = length-append prefix digits in
+    let buf_len = ap length parts ∙ length-append (prefix ++ digits) (drop end items) in
     let rest_len = length-drop end items in
     let all = c.as_mut_slice.ensures.len in
     let same : length buf ≡ c.extend_from_slice.new.self.len = omega arith in
     c.truncate.ensures.items ∙ ap (take end) (take_at buf (drop (length buf) c.extend_from_slice.new.self.items) c.extend_from_slice.new.self.len same ∙ parts)
-    ∙ take_at (front ++ digits) (drop end items) end (omega arith)
+    ∙ take_at (prefix ++ digits) (drop end items) end (omega arith)
 
 pub returns-clause-extends : goal.returns-clause-extends
 returns-clause-extends c =
-    let front = c.args.text.now.items in
-    ap (take (length front)) (returns-clause-ok c) ∙ take_at front (decimal c.args.number) (length front) refl
+    let prefix = c.args.text.now.items in
+    ap (take (length prefix)) (returns-clause-ok c) ∙ take_at prefix (decimal c.args.number) (length prefix) refl

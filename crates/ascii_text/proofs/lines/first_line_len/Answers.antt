@@ -3,7 +3,7 @@ use Rattle.std.specs.Prelude.{◌==◌, slice_index}
 use Rattle.ascii_text.specs.Lines.{first_len}
 use Rattle.ascii_text.proofs.lines.first_line_len.Goals as goal
 
--- without a newline the first piece is all
+-- without a newline the first full line is all
 first_len-all : (bytes : List ℕ) → ((k : ℕ) → k < length bytes → (slice_index bytes k == 10) ≡ true → ⊥) → first_len bytes ≡ length bytes
 first_len-all [] none = refl
 first_len-all (b ∷ bytes) none = at (b == 10) refl (first_len-all bytes (λ k lt is. none (suc k) (omega (arith, lt)) is)) where

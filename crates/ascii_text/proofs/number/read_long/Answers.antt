@@ -3,7 +3,7 @@ use Rattle.std.specs.Char.{is_ascii_digit}
 use Rattle.std.specs.Str.Parse.{AllDigits, digits_value}
 use Rattle.std.proofs.lemmas.List.{take_all}
 use Rattle.std.proofs.lemmas.Int.Digits.{digits_more}
-use Rattle.ascii_text.proofs.NumberLemmas.{number_in-none_at, number_in-none_front, number_in-some, digits_value-take_more, digit_value-lt}
+use Rattle.ascii_text.proofs.NumberLemmas.{number_in-none_at, number_in-none_prefix, number_in-some, digits_value-take_more, digit_value-lt}
 use Rattle.ascii_text.proofs.number.read_long.Goals as goal
 
 pub returns-then-not-is_ascii_digit : goal.returns-then-not-is_ascii_digit
@@ -15,14 +15,14 @@ returns-in_err-checked_mul c =
     let ds = c.args.digits.now in
     let i = c.loop-digit.digit-index in
     let more = digits_value-take_more ds i c.loop-digit-test.true (sym c.is_ascii_digit.ensures.value ∙ c.if-not-is_ascii_digit.false) in
-    rw c.from_residual.ensures (sym (number_in-none_front ds (i + 1) (omega (arith, c.in_err-checked_mul.ensures))))
+    rw c.from_residual.ensures (sym (number_in-none_prefix ds (i + 1) (omega (arith, c.in_err-checked_mul.ensures))))
 
 pub returns-in_err-number : goal.returns-in_err-number
 returns-in_err-number c =
     let ds = c.args.digits.now in
     let i = c.loop-digit.digit-index in
     let more = digits_value-take_more ds i c.loop-digit-test.true (sym c.is_ascii_digit.ensures.value ∙ c.if-not-is_ascii_digit.false) in
-    rw c.from_residual-in_err-number.ensures (sym (number_in-none_front ds (i + 1) (omega (arith, c.in_err-number.ensures, c.in_ok-checked_mul.ensures))))
+    rw c.from_residual-in_err-number.ensures (sym (number_in-none_prefix ds (i + 1) (omega (arith, c.in_err-number.ensures, c.in_ok-checked_mul.ensures))))
 
 pub loop-digit-preserved : goal.loop-digit-preserved
 loop-digit-preserved c =

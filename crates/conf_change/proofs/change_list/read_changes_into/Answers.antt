@@ -7,7 +7,7 @@ use Rattle.conf_change.proofs.change_list.read_changes_into.Goals as goal
 
 pub returns-then-is_err-clause-first_bad : goal.returns-then-is_err-clause-first_bad
 returns-then-is_err-clause-first_bad c =
-    IfErr-weaker _ _ _ (λ fault told. IfSome_then (bad_token fault) told (λ bad is. IsFirstBad-from_err (tokens_in c.args.text.now) bad is)) c.read_over-read.ensures.fault
+    IfErr-weaker _ _ _ (λ fault known. IfSome_then (bad_token fault) known (λ bad is. IsFirstBad-from_err (tokens_in c.args.text.now) bad is)) c.read_over-read.ensures.fault
 
 pub returns-else-is_err-clause-denotes : goal.returns-else-is_err-clause-denotes
 returns-else-is_err-clause-denotes c = on_ok_weaker c.read_over-read.result (λ read. AllZip-from_ok (tokens_in c.args.text.now) _ read) c.read_over-read.ensures.value

@@ -3,7 +3,7 @@ use Rattle.std.specs.Ordering.{nat_cmp}
 use Rattle.std.specs.FinMap as finite
 use Rattle.conf_change.specs.Changer.{tracker_of}
 use Rattle.conf_change.specs.TrackerEdits.{Applies}
-use Rattle.conf_change.proofs.ListsOfChanges.ChangeByChange.{Follows-told, MadeSoFar-none, MadeSoFar-one_more}
+use Rattle.conf_change.proofs.ListsOfChanges.ChangeByChange.{Follows-known, MadeSoFar-none, MadeSoFar-one_more}
 use Rattle.conf_change.proofs.tracker.make_each.Goals as goal
 
 pub loop-change-init : goal.loop-change-init
@@ -14,7 +14,7 @@ loop-change-preserved g c =
     MadeSoFar-one_more c.args.next_index c.args.config.now c.args.members.now.items c.args.changes.now c.loop-change.change-index _
     c.loop-change.config c.apply.new.config c.loop-change.members.items c.update_member.new.members.items
     c.requires.expected c.loop-change-test.true c.loop-change.invariant c.in_ok-id_is.ensures.ok c.update_member.ensures.ascends
-    (Follows-told c.args.next_index _ c.apply.new.config c.in_ok-id_is.id_is _ _ c.in_ok-id_is.ensures.membership c.in_ok-update_member.ensures.entries)
+    (Follows-known c.args.next_index _ c.apply.new.config c.in_ok-id_is.id_is _ _ c.in_ok-id_is.ensures.membership c.in_ok-update_member.ensures.entries)
 
 pub returns-clause-made : goal.returns-clause-made
 returns-clause-made g c floor =

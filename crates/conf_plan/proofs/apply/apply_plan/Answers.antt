@@ -23,10 +23,10 @@ loop-index-preserved g c = elim c.match-step.branch [
 ]
 
 -- the whole plan was taken
-all_taken : (old now : ChangerState) (plan : List Step) (place n : ℕ) → n ≡ length plan → n ≤ place → Takes old (take place plan) now → Takes old plan now
-all_taken old now plan place n is past taken =
+all_taken : (old now : ChangerState) (plan : List Step) (position n : ℕ) → n ≡ length plan → n ≤ position → Takes old (take position plan) now → Takes old plan now
+all_taken old now plan position n is past taken =
     let P : List Step → Type 0 = λ xs. Takes old xs now in
-    subst P (take_all place plan (subst (λ k. k ≤ place) is past)) taken
+    subst P (take_all position plan (subst (λ k. k ≤ position) is past)) taken
 
 pub returns-clause-sound : goal.returns-clause-sound
 returns-clause-sound g c = takes-is_sound _ _ _ c.tracker-tracker.ensures.sound c.loop-index.invariant
@@ -42,9 +42,9 @@ returns-clause-preserving g c = λ target other id made preserves_all.
     (all_taken _ _ c.args.plan.now c.loop-index.index _ c.len-index-end.ensures.len c.loop-index-test.false c.loop-index.invariant) made preserves_all
 
 pub returns-clause-best : goal.returns-clause-best
-returns-clause-best g c = λ target made settled_now settled.
+returns-clause-best g c = λ target made now_valid_with_voter valid_with_voter.
     Takes-best _ _ c.args.plan.now target
-    (all_taken _ _ c.args.plan.now c.loop-index.index _ c.len-index-end.ensures.len c.loop-index-test.false c.loop-index.invariant) made settled_now settled
+    (all_taken _ _ c.args.plan.now c.loop-index.index _ c.len-index-end.ensures.len c.loop-index-test.false c.loop-index.invariant) made now_valid_with_voter valid_with_voter
 
 pub returns-clause-reached : goal.returns-clause-reached
 returns-clause-reached g c = λ target run.

@@ -18,8 +18,8 @@ returns g c =
     let removed = g.S.MemberSet.ids c.add_removed.new.removed in
     let voters_are = c.in_ok-voters.ensures ∙ ap (λ (d : Configuration). union d.incoming d.outgoing) c.after.view_is in
     let members_are = c.in_ok-members.ensures ∙ ap (λ (d : Configuration). union voters d.learners) c.after.view_is in
-    let gone : (q : ℕ) → has removed q ≡ removes (changes_of step) q =
+    let is_removed : (q : ℕ) → has removed q ≡ removes (changes_of step) q =
     λ q. c.in_ok-add_removed.ensures q ∙ (λ i. (ap (λ s. has s q) c.empty-removed.ensures ∙ has-no_ids q) i || removes (c.changes.ensures i) q) in
     IfOk-weaker c.picked.result (λ ids. g.S.MemberSet.ids ids ≡ ids_where (λ id. not (is_member before id) || (has removed id && not (has after.outgoing id))) (ascending members)) _
-    (λ ids is. catching_up-picked before after step voters members removed (g.S.MemberSet.ids ids) voters_are members_are gone is)
+    (λ ids is. catching_up-picked before after step voters members removed (g.S.MemberSet.ids ids) voters_are members_are is_removed is)
     (c.picked.ensures (λ id. not (is_member before id) || (has removed id && not (has after.outgoing id))) (λ id answer given. search rules))

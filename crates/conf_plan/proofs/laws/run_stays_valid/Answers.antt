@@ -1,5 +1,5 @@
-use Rattle.conf_plan.proofs.Runs.Chains.{run-is_settled}
+use Rattle.conf_plan.proofs.Runs.Chains.{run-is_valid}
 use Rattle.conf_plan.proofs.laws.run_stays_valid.Goals as goal
 
 pub returns : goal.returns
-returns c = run-is_settled
+returns c = run-is_valid

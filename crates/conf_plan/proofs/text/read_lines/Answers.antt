@@ -34,10 +34,10 @@ of_steps-requires-then-is_empty-2 c =
 pub loop-rest-preserved : goal.loop-rest-preserved
 loop-rest-preserved c =
     let line = c.first_line-in-loop-rest.result.0.now in
-    let behind = c.first_line-in-loop-rest.result.1.now in
+    let later = c.first_line-in-loop-rest.result.1.now in
     let steps = c.loop-rest.steps.items in
     let step = c.in_ok-step.step in
     let is : step_in (tokens_in line) ≡ Some step = grind (arith, common_steps) in
     let not_four : length steps ≢ 4 = grind (arith, nat_tests, common_steps) in
-    let more : 0 < length behind = grind (arith, nat_tests) in
-    rw c.in_ok-push.ensures.items (IsReadSoFar-more c.args.text.now c.loop-rest.rest.now line behind steps step c.loop-rest.invariant not_four (c.first_line-in-loop-rest.ensures.more more) is)
+    let more : 0 < length later = grind (arith, nat_tests) in
+    rw c.in_ok-push.ensures.items (IsReadSoFar-more c.args.text.now c.loop-rest.rest.now line later steps step c.loop-rest.invariant not_four (c.first_line-in-loop-rest.ensures.more more) is)

@@ -5,5 +5,5 @@ use Rattle.conf_session.proofs.reply_texts.conf_state_line.Goals as goal
 
 pub returns : goal.returns
 returns c =
-    let told = append-begun _ _ _ _ c.in_ok-text.ensures.items c.in_ok-write_conf_state.ensures.ok (ap conf_state_text c.in_ok-state.ensures.ascending) in
-    rw told at c.end_line.ensures
+    let known = append-begun _ _ _ _ c.in_ok-text.ensures.items c.in_ok-write_conf_state.ensures.ok (ap conf_state_text c.in_ok-state.ensures.ascending) in
+    rw known at c.end_line.ensures

@@ -12,13 +12,13 @@ use Rattle.conf_tool.specs.declared.tool_fault.ToolFault.TheVariants.{Script, Co
 use Rattle.conf_tool.specs.AnsweredLaws.{kept-part}
 use Rattle.conf_tool.proofs.run.run_and_flush.Goals as goal
 
--- a whole text is a front part of it
+-- a whole text is a prefix of it
 whole-part : (before after : Option (List ℕ)) (text : List ℕ) → Appends before after text → AppendsPart before after text
 whole-part None after text all = tt
 whole-part (Some o) None text all = absurd all
 whole-part (Some o) (Some n) text all = (text, [], sym (append-nil text), all)
 
--- whatever the answer, what was written is a front part of the output
+-- whatever the answer, what was written is a prefix of the output
 means-part : (output : Output) (result : Result Status ToolFault) (before after : Option (List ℕ)) → Means output result before after → AppendsPart before after output.text
 means-part output (Ok status) before after wrote = whole-part before after output.text wrote.1
 means-part output (Err (Script fault)) before after wrote = whole-part before after output.text wrote.1

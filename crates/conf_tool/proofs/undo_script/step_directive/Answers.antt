@@ -9,12 +9,12 @@ use Rattle.conf_change.specs.declared.step.Step.TheVariants.{Simple, EnterJoint,
 use Rattle.conf_tool.specs.UndoScript.{step_command, step_line, change_lines, step_directive}
 use Rattle.conf_tool.proofs.undo_script.step_directive.Goals as goal
 
--- a step's line says its command
-says-command : (step : Step) → command_of (step_line step) ≡ Some (step_command step)
-says-command (Simple changes) = refl
-says-command (EnterJoint true changes) = refl
-says-command (EnterJoint false changes) = refl
-says-command LeaveJoint = refl
+-- a step's line states its command
+parses-command : (step : Step) → command_of (step_line step) ≡ Some (step_command step)
+parses-command (Simple changes) = refl
+parses-command (EnterJoint true changes) = refl
+parses-command (EnterJoint false changes) = refl
+parses-command LeaveJoint = refl
 
 pub returns : goal.returns
 returns c =
@@ -24,5 +24,5 @@ returns c =
     let D : List ℕ → List (List ℕ) → Option CommandText → Option Item = λ l i k. option_map (λ command. directive 1 command (l ∷ []) i []) k in
     let actual : Some c.in-Some.item ≡ Some (step_directive step) =
     sym c.in-Some.is ∙ c.in_ok-item.ensures ∙ ap (λ l. D l (map vec_items c.as_slice.result.now) (command_of l)) line
-    ∙ ap (λ i. D (step_line step) i (command_of (step_line step))) (ap (map vec_items) c.as_slice.ensures.value ∙ input) ∙ ap (D (step_line step) (change_lines (changes_of step))) (says-command step) in
+    ∙ ap (λ i. D (step_line step) i (command_of (step_line step))) (ap (map vec_items) c.as_slice.ensures.value ∙ input) ∙ ap (D (step_line step) (change_lines (changes_of step))) (parses-command step) in
     cc

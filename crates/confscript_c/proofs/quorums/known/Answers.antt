@@ -28,7 +28,7 @@ loop-index-init g c =
     let none : c.new-map.result.entries ≡ [] = c.new-map.ensures.empty in
     let past : length ids ≤ length ids = omega arith in
     ap finite.from_entries none
-    ∙ sym (ap (λ front. finite.from_entries (zip front (drop (length ids) c.args.values.now))) (drop_all (length ids) ids past))
+    ∙ sym (ap (λ prefix. finite.from_entries (zip prefix (drop (length ids) c.args.values.now))) (drop_all (length ids) ids past))
 
 pub returns : goal.returns
 returns g c =

@@ -7,7 +7,7 @@ use Rattle.dd_file.specs.DirectiveLine.{is_equals, token_len, values_of}
 use Rattle.dd_file.proofs.DirectiveTokens.LoneKey.{key_len, argument_of-no_key}
 use Rattle.dd_file.proofs.DirectiveTokens.KeptArgument.{suffix-key}
 use Rattle.dd_file.proofs.DirectiveTokens.FirstToken.{token_len-bound}
-use Rattle.dd_file.proofs.DirectiveTokens.TokenPrefix.{prefix-key, argument-alone, argument-said, argument-other, none-if}
+use Rattle.dd_file.proofs.DirectiveTokens.TokenPrefix.{prefix-key, argument-alone, argument-value, argument-other, none-if}
 use Rattle.dd_file.proofs.arguments.argument_len.Goals as goal
 
 pub returns-then-key_len-eq0-clause-argument : goal.returns-then-key_len-eq0-clause-argument
@@ -22,7 +22,7 @@ returns-in_err-values_len-in-Some-eq61-clause-argument c =
     let rest = take_rest text (n + 1) in
     let tail = suffix-key text n 61 c.requires at.3.0 (sym c.in-Some-eq61.field-0-test ∙ at.4 (omega arith) 0) in
     let some : key_len text ≡ 0 → ⊥ = λ none. c.if-key_len-eq0.false (c.requires ∙ none) in
-    let parses = argument-said text (drop (n + 1) text) some tail in
+    let parses = argument-value text (drop (n + 1) text) some tail in
     let none = sym (ap (λ t. is_some (values_of (first_token t))) rest) ∙ c.in_err-values_len-in-Some-eq61.ensures in
     rw c.from_residual.ensures (none-if _ (parses.1 ∙ none))
 
@@ -52,7 +52,7 @@ returns-in_ok-values_len-in-Some-eq61-clause-argument c =
     let rest = take_rest text (n + 1) in
     let tail = suffix-key text n 61 c.requires at.3.0 (sym c.in-Some-eq61.field-0-test ∙ at.4 (omega arith) 0) in
     let some : key_len text ≡ 0 → ⊥ = λ none. c.if-key_len-eq0.false (c.requires ∙ none) in
-    let parses = argument-said text (drop (n + 1) text) some tail in
+    let parses = argument-value text (drop (n + 1) text) some tail in
     let found = c.in_ok-values_len-in-Some-eq61.ensures in
     let len = found.0 ∙ ap (token_len false) rest in
     let values = sym (ap (λ t. is_some (values_of (first_token t))) rest) ∙ found.1 in (omega (arith, parses.0, len, c.requires), parses.1 ∙ values)

@@ -10,7 +10,7 @@ use Rattle.dd_file.proofs.command.parse_arguments.Goals as goal
 pub split_at-requires : goal.split_at-requires
 split_at-requires c = omega (arith, c.in-Some-argument_len.ensures.argument.0, token_len-bound false c.in-Some.begun.now)
 
--- what one more argument is behind the others
+-- what one more argument is after the others
 one-more : (before : List ArgumentText) (argument : Option ArgumentText) (others : Option (List ArgumentText)) → is_some argument ≡ true →
     option_map (λ rest. (before ++ unwrap_or argument (with_key [] []) ∷ []) ++ rest) others ≡ option_map (λ rest. before ++ rest) (before_others argument others)
 one-more before None others parses = cc

@@ -8,7 +8,7 @@ use Rattle.dd_file.specs.Script.{joined}
 use Rattle.dd_file.proofs.joined_lines.joined.Goals as goal
 use Rattle.dd_file.proofs.joined_lines.joined.Goals.{then-i-count+in_ok-extend_from_slice+in_ok-push, else-i-count+in_ok-extend_from_slice-2}
 
--- the lines from a place on
+-- the lines from a position on
 at-line : (lines : List (List ℕ)) (i : ℕ) (line : List ℕ) → slice_get lines i ≡ Some line → drop i lines ≡ line ∷ drop (i + 1) lines
 at-line lines i line is = drop_more lines i [] (slice_get_within lines i line is) ∙ ap (λ l. l ∷ drop (i + 1) lines) (get_or_from_slice_get lines i line [] is)
 

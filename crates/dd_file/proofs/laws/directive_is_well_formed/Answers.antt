@@ -11,7 +11,7 @@ use Rattle.dd_file.proofs.laws.directive_is_well_formed.Goals as goal
 directive_lines-line : (line : List ℕ) (input : List (List ℕ)) → is_continued line ≡ false → directive_lines_of (line ∷ input) ≡ line ∷ []
 directive_lines-line line input ends = rw ends refl
 
--- a head of one line, and no separator behind it
+-- a head of one line, and no separator after it
 one-line : (n : ℕ) (line : List ℕ) (input : List (List ℕ)) (command : CommandText) → is_continued line ≡ false → is_blank line ≡ false → command_of (trimmed line) ≡ Some command → list_any is_separator input ≡ false →
     at_directive n (line ∷ []) input ≡ first_item (Ok (directive n command (line ∷ []) input [])) (1 + length input) false
 one-line n line input command ends some parses none =

@@ -3,7 +3,7 @@ use Rattle.std.specs.Prelude.{◌==◌}
 use Rattle.ascii_text.specs.Lines.{without_last}
 use Rattle.dd_file.proofs.lines.drop_end.Goals as goal
 
--- what is left without the last byte is a front part
+-- what is left without the last byte is a prefix
 take-without_last : (b : ℕ) (xs : List ℕ) → take (length (without_last b xs)) xs ≡ without_last b xs
 take-without_last b [] = refl
 take-without_last b (x ∷ []) = at (x == b) where

@@ -3,7 +3,7 @@ use Rattle.std.specs.Prelude.{Option}
 use Rattle.std.specs.Io.KnownBytes.{Appends}
 use Rattle.dd_file.proofs.writing.write_rest.Given as goal
 
--- the front that is written, where the last writes did not fail
+-- the prefix that is written, where the last writes did not fail
 abbrev pub invariant-loop-written : goal.invariant-loop-written
 invariant-loop-written g l = let contents = g.W.Sink.contents in
     record {

@@ -13,13 +13,13 @@ returns c =
     let step = c.args.step.now in
     let named = c.in_ok-append_number.ensures.ok ∙ ap (λ text. text ++ decimal number) c.new-name.ensures.items in
     let spaced = c.in_ok-append.ensures.ok ∙ ap (λ text. text ++ codes " ") named in
-    let front = c.in_ok-append-2.ensures.ok ∙ (λ k. spaced k ++ c.command_text.ensures k) in
+    let prefix = c.in_ok-append-2.ensures.ok ∙ (λ k. spaced k ++ c.command_text.ensures k) in
     let empty = c.is_empty.ensures ∙ ap (λ (changes : List Change). length changes == 0) c.changes-changes.ensures in
     elim c.if-not-is_empty.branch [
       | then-not-is_empty+in_ok-append-3+in_ok-changes_text+in_ok-append-4 w ↦
           let listed = w.as_slice.ensures.value ∙ w.in_ok-changes_text.ensures ∙ ap (λ (changes : List Change). join_with_byte 32 (map change_text changes)) c.changes-changes.ensures in
           ap (λ v. v.items) w.name-is ∙ w.in_ok-append-4.ensures.ok
-          ∙ (λ k. (w.in_ok-append-3.ensures.ok ∙ ap (λ text. text ++ codes " ") front) k ++ listed k)
+          ∙ (λ k. (w.in_ok-append-3.ensures.ok ∙ ap (λ text. text ++ codes " ") prefix) k ++ listed k)
           ∙ step_name-changes number step (sym empty ∙ w.if-not-is_empty.true)
-      | else-not-is_empty w ↦ ap (λ v. v.items) w.name-is ∙ front ∙ step_name-alone number step (sym empty ∙ w.if-not-is_empty.false)
+      | else-not-is_empty w ↦ ap (λ v. v.items) w.name-is ∙ prefix ∙ step_name-alone number step (sym empty ∙ w.if-not-is_empty.false)
     ]

@@ -19,12 +19,12 @@ loop-position-preserved g c =
           let yes = sym (w.unwrap_or.ensures ∙ ap (λ vote. unwrap_or vote false) w.voted-vote.ensures) in
           let may = sym (w.unwrap_or-in-Some.ensures ∙ ap (λ vote. unwrap_or vote true) w.voted-vote.ensures) in
           let vote = w.yes_votes-is ∙ ap (λ one. c.loop-position.yes_votes + one) w.from-yes_votes.ensures ∙ count_by-answer (is_yes votes) ids k id _ _ here yes c.loop-position.invariant.vote in
-          let may_say = w.possible_yes_votes-is ∙ ap (λ one. c.loop-position.possible_yes_votes + one) w.from-possible_yes_votes.ensures ∙ count_by-answer (may_be_yes votes) ids k id _ _ here may c.loop-position.invariant.may_say in
+          let may_vote = w.possible_yes_votes-is ∙ ap (λ one. c.loop-position.possible_yes_votes + one) w.from-possible_yes_votes.ensures ∙ count_by-answer (may_be_yes votes) ids k id _ _ here may c.loop-position.invariant.may_vote in
           record {
             vote = vote;
-            may_say = may_say;
+            may_vote = may_vote;
             vote_small = count_by-within (is_yes votes) ids (k + 1) _ vote;
-            may_say_small = count_by-within (may_be_yes votes) ids (k + 1) _ may_say;
+            may_vote_small = count_by-within (may_be_yes votes) ids (k + 1) _ may_vote;
           })
       | in_default w ↦ slice_get-not_past _ _ _ (sym w.in_default.is ∙ c.at.ensures) c.len-position-end.ensures c.loop-position-test.true
     ]

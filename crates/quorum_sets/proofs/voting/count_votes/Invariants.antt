@@ -7,7 +7,7 @@ use Rattle.quorum_sets.proofs.voting.count_votes.Given as goal
 abbrev pub invariant-loop-position : goal.invariant-loop-position
 invariant-loop-position g l = record {
   vote : l.yes_votes ≡ count_by (is_yes (g.V.VoteSource.votes l.votes)) (take l.position (ascending (g.S.MemberSet.ids l.set)));
-  may_say : l.possible_yes_votes ≡ count_by (may_be_yes (g.V.VoteSource.votes l.votes)) (take l.position (ascending (g.S.MemberSet.ids l.set)));
+  may_vote : l.possible_yes_votes ≡ count_by (may_be_yes (g.V.VoteSource.votes l.votes)) (take l.position (ascending (g.S.MemberSet.ids l.set)));
   vote_small : l.yes_votes ≤ l.position;
-  may_say_small : l.possible_yes_votes ≤ l.position;
+  may_vote_small : l.possible_yes_votes ≤ l.position;
 }

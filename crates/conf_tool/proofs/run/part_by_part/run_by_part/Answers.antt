@@ -7,7 +7,7 @@ use Rattle.dd_file.specs.Grammar.{script_from}
 use Rattle.dd_file.specs.ReaderState.{ReaderState}
 use Rattle.conf_tool.specs.Answered.{script}
 use Rattle.conf_tool.specs.Run.{Means}
-use Rattle.conf_tool.proofs.ModeInput.PlaceReached.{Reached, loses-nothing, loses-more, reached-begin, reached-end, reached-fault, reached-part, reached-next, reached-prefix}
+use Rattle.conf_tool.proofs.ModeInput.PositionReached.{Reached, loses-nothing, loses-more, reached-begin, reached-end, reached-fault, reached-part, reached-next, reached-prefix}
 use Rattle.conf_tool.proofs.ModeInput.Faults.{input-fault, input-uncut, reader-fault, reader-means, reader-read, reader-unwritten, stop-means, or-false, or-fault}
 use Rattle.conf_tool.proofs.run.part_by_part.run_by_part.Goals as goal
 

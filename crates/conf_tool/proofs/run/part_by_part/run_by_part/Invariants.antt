@@ -3,7 +3,7 @@ use Rattle.std.specs.Prelude.{Option}
 use Rattle.dd_file.specs.Position.{longest_input}
 use Rattle.dd_file.specs.Grammar.{Script}
 use Rattle.conf_tool.specs.Outputs.{Output}
-use Rattle.conf_tool.proofs.ModeInput.PlaceReached.{Reached}
+use Rattle.conf_tool.proofs.ModeInput.PositionReached.{Reached}
 use Rattle.conf_tool.proofs.run.part_by_part.run_by_part.Given as goal
 
 -- the parts so far were read and answered, and no device failed
@@ -22,6 +22,6 @@ invariant-each g l =
       unwritten : g.W.Sink.has_failed l.writer ≡ g.W.Sink.has_failed l.fn.writer;
     }
 
--- an input has only so many lines, and each part has one
+-- an input has only this many lines, and each part has one
 abbrev pub decreases-each : goal.decreases-each
 decreases-each g l = longest_input - (g.S.Parts.reader_state l.parts).position.lines

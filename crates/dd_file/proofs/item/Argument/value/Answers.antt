@@ -4,7 +4,7 @@ use Rattle.std.proofs.lemmas.List.{length-drop, get_or-drop, drop-drop}
 use Rattle.std.proofs.lemmas.Option.{slice_get-get_or, slice_get_past}
 use Rattle.dd_file.proofs.item.Argument.value.Goals as goal
 
--- none is left behind the last one
+-- none is left after the last one
 past : (values left : List (List ℕ)) (k i : ℕ) → left ≡ drop k values → left ≡ [] → k ≤ i → slice_get values i ≡ None
 past values left k i is none within = slice_get_past values i (omega (arith, within, length-drop k values, ap length (sym is ∙ none)))
 

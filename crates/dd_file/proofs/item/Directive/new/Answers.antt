@@ -7,7 +7,7 @@ use Rattle.dd_file.proofs.TextLines.EndPositions.{text-parts}
 use Rattle.dd_file.proofs.DirectiveTokens.TrimmedEnd.{TrimmedIn, trimmed-in}
 use Rattle.dd_file.proofs.item.Directive.new.Goals as goal
 
--- the trimmed text of the lines behind a head lies in the text of all lines
+-- the trimmed text of the lines after a head lies in the text of all lines
 input-in : (lines : List (List ℕ)) (directive_line_count : ℕ) (text suffix ended begun : List ℕ) → text ≡ text_of lines → suffix ≡ text_of (drop directive_line_count lines) → ended ≡ without_trailing_space suffix → begun ≡ without_leading_space ended →
     TrimmedIn text suffix ended begun (length text - (length suffix - length ended))
 input-in lines directive_line_count text suffix ended begun whole rest =

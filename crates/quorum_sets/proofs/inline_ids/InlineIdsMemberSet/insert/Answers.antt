@@ -1,14 +1,14 @@
 use Rattle.std.proofs.Common.{◌≡◌, ap, sym, subst, ◌∙◌, true, false, not, arith, length}
 use Rattle.quorum_sets.specs.Ids.{has, with_id, ids_of, size}
 use Rattle.quorum_sets.specs.AscendingLists.{IsAscending, IsInsertionPoint}
-use Rattle.quorum_sets.proofs.KeptSets.AscendingList.{has-stands, has-goes, ids_of-insert, ascends-insert, with_id-there, ascending-ascends}
+use Rattle.quorum_sets.proofs.KeptSets.AscendingList.{has-holds, has-goes, ids_of-insert, ascends-insert, with_id-there, ascending-ascends}
 use Rattle.quorum_sets.proofs.inline_ids.InlineIdsMemberSet.insert.Goals as goal
 
 -- the set has it already
 there : (c : goal.In_default) → has c.args.self.now c.args.id ≡ true
 there c =
     sym (ap (λ list. has (ids_of list) c.args.id) c.as_slice.ensures ∙ ap (λ s. has s c.args.id) c.self.view_is)
-    ∙ has-stands c.as_slice.result.now c.args.id c.in_default.field-0 c.in_default.ensures
+    ∙ has-holds c.as_slice.result.now c.args.id c.in_default.field-0 c.in_default.ensures
 
 pub returns-in_default-clause-changed : goal.returns-in_default-clause-changed
 returns-in_default-clause-changed c = ap not (sym (there c))

@@ -1,4 +1,4 @@
--- Where a mode stands in its input between two parts.
+-- Where a mode is in its input between two parts.
 use Rattle.std.proofs.Common.{◌≡◌, ◌≤◌, ℕ, Bool, true, false, List, [], ◌∷◌, ◌++◌, length, refl, sym, ◌∙◌, ap, subst, inl, inr, arith, length-append}
 use Rattle.std.specs.Prelude.{◌⊎◌, Option, Some, None, Result, Ok, Err}
 use Rattle.std.specs.Io.KnownBytes.{IsAtEnd}
@@ -12,7 +12,7 @@ use Rattle.dd_file.specs.declared.fault.FileFault.{FileFault}
 use Rattle.dd_file.proofs.Offered.{consumes-append, agrees-in_turn}
 use Rattle.conf_tool.specs.Answered.{script, prepended}
 
--- known bytes that lose a part at their front
+-- known bytes that lose a part at the beginning
 pub loses-nothing : (now : Option (List ℕ)) → LosesPrefix now now
 loses-nothing None = ([], tt)
 loses-nothing (Some bytes) = ([], refl)
@@ -27,9 +27,9 @@ begin-input (Some bytes) input more agrees = agrees.whole ∙ ap (λ t. ([] ++ t
 
 -- what is read is what comes next, and then the rest
 abbrev pub InTurn : {A : Type 0} → (Position → List ℕ → Next A) → Type 0
-InTurn next = (place : Position) (bytes : List ℕ) → script_from next place bytes ≡ followed (script_from next) (next place bytes)
+InTurn next = (index : Position) (bytes : List ℕ) → script_from next index bytes ≡ followed (script_from next) (next index bytes)
 
--- Each input that agrees with what was read has these parts in front of what is read from there on.
+-- Each input that agrees with what was read begins with these parts, before what is read from there on.
 pub record Reached {A : Type 0} (next : Position → List ℕ → Next A) (begin now : Option (List ℕ)) (state : ReaderState) (parts : List A) : Type 0 where
   pub consumed : LosesPrefix begin now
   pub ended : state.is_ended ≡ true → IsAtEnd now
@@ -86,7 +86,7 @@ reached-fault next remaining has_failed view IsFault begin state after now later
     reached-answer next remaining has_failed view IsFault begin state after now later parts (Err fault) in_turn reached reads uncut input more agrees
     ∙ ap (λ items. script items (Some fault)) (append-nil parts)
 
--- some script that has these parts in front, and then this one
+-- some script that begins with these parts, and then this one
 pub record HasPart {A : Type 0} (parts : List A) (part : A) (read : Script A) : Type 0 where
   pub rest : Script A
   pub is : read ≡ script (parts ++ part ∷ rest.items) rest.fault
@@ -122,7 +122,7 @@ reached-next next remaining has_failed view IsFault begin state after now later 
   few = omega (arith, length-append parts (view part ∷ []), reached.few, reads.forward);
 }
 
--- some script that has these parts in front, which is what an input is that agrees with what was read
+-- some script that begins with these parts, which is what an input is that agrees with what was read
 pub record HasPrefix {A : Type 0} (parts : List A) (read : Script A) : Type 0 where
   pub rest : Script A
   pub is : read ≡ prepended parts rest
