@@ -1,7 +1,8 @@
 //! What is wrong with a ConfState that describes no valid configuration, or with a configuration that is not valid. A
 //! user who wrote it by hand is shown the id to look at.
-ghost use Rattle.std.specs.Prelude.{◌≡◌, ◌↔◌, ◌||◌, None, true, not, find, IsTrue};
-ghost use Rattle.quorum_sets.specs.Ids.{has, ascending};
+ghost use Rattle.std.specs.Prelude.{◌≡◌, ◌↔◌, ℕ, Bool, None, true, find, IsTrue};
+ghost use Rattle.quorum_sets.specs.Counting.{Decides};
+ghost use Rattle.quorum_sets.specs.Ids.{ascending};
 ghost use Rattle.conf_change.specs.Configuration.{is_valid};
 ghost use Rattle.conf_change.specs.Violation.{violation_by, violation_of};
 
@@ -51,62 +52,43 @@ pub fn first_violation<S: MemberSet>(config: &Config<S>) -> Option<Violation>
 fn violation_by<S: MemberSet>(config: &Config<S>, invariant: Invariant) -> Option<Violation>
     ensures { result ≡ violation_by config.now invariant }
 {
-    let next = &config.learners_next;
+    let Config {
+        incoming,
+        outgoing,
+        learners,
+        learners_next: next,
+        auto_leave: _,
+    } = config;
     match invariant {
         Invariant::ZeroId => Some(Violation::ZeroId),
-        Invariant::NextNotOutgoing => Some(Violation::NextNotOutgoing(first_outside(
-            next,
-            &config.outgoing,
-        )?)),
-        Invariant::NextAndIncoming => Some(Violation::NextAndIncoming(first_inside(
-            next,
-            &config.incoming,
-        )?)),
-        Invariant::LearnerAndVoter => Some(Violation::LearnerAndVoter(first_in_either(
-            &config.learners,
-            &config.incoming,
-            &config.outgoing,
-        )?)),
+        Invariant::NextNotOutgoing => {
+            let id = first_that(next, |id| !outgoing.contains(id))?;
+            Some(Violation::NextNotOutgoing(id))
+        }
+        Invariant::NextAndIncoming => {
+            let id = first_that(next, |id| incoming.contains(id))?;
+            Some(Violation::NextAndIncoming(id))
+        }
+        Invariant::LearnerAndVoter => {
+            let id = first_that(
+                learners,
+                |id| incoming.contains(id) || outgoing.contains(id),
+            )?;
+            Some(Violation::LearnerAndVoter(id))
+        }
         Invariant::NotJointButNext => Some(Violation::NotJointButNext(next.at(0)?)),
         Invariant::NotJointButAutoLeave => Some(Violation::NotJointButAutoLeave),
     }
 }
 
-// The least id of a set that is not in another one.
-fn first_outside<S: MemberSet>(ids: &S, other: &S) -> Option<u64>
-    ensures { result ≡ find (λ id. not (has (S.ids other.now) id)) (ascending (S.ids ids.now)) }
+// The least id of a set that passes the test.
+fn first_that<S: MemberSet, F: Fn(u64) -> bool>(ids: &S, test: F) -> Option<u64>
+    requires { F.IsAlwaysCallable test }
+    ensures { (passes : ℕ → Bool) → Decides (F.post test) passes → result ≡ find passes (ascending (S.ids ids.now)) }
 {
     for position in 0..ids.len() {
         if let Some(id) = ids.at(position) {
-            if !other.contains(id) {
-                return Some(id);
-            }
-        }
-    }
-    None
-}
-
-// The least id that is in both sets.
-fn first_inside<S: MemberSet>(ids: &S, other: &S) -> Option<u64>
-    ensures { result ≡ find (λ id. has (S.ids other.now) id) (ascending (S.ids ids.now)) }
-{
-    for position in 0..ids.len() {
-        if let Some(id) = ids.at(position) {
-            if other.contains(id) {
-                return Some(id);
-            }
-        }
-    }
-    None
-}
-
-// The least id of a set that is in one of two others.
-fn first_in_either<S: MemberSet>(ids: &S, first: &S, second: &S) -> Option<u64>
-    ensures { result ≡ find (λ id. has (S.ids first.now) id || has (S.ids second.now) id) (ascending (S.ids ids.now)) }
-{
-    for position in 0..ids.len() {
-        if let Some(id) = ids.at(position) {
-            if first.contains(id) || second.contains(id) {
+            if test(id) {
                 return Some(id);
             }
         }
