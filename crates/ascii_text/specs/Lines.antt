@@ -5,7 +5,7 @@ use Rattle.std.specs.Prelude.{ℕ, suc, Bool, false, List, [], ◌∷◌, ◌++�
 abbrev pub newline : List ℕ
 newline = 10 ∷ []
 
--- full lines with one more byte at the start of the first one
+-- the full lines with one more byte at the start of the first one, or this byte alone if there are no full lines
 abbrev pub before_first_line : ℕ → List (List ℕ) → List (List ℕ)
 before_first_line b [] = (b ∷ []) ∷ []
 before_first_line b (full_line ∷ full_lines) = (b ∷ full_line) ∷ full_lines
@@ -20,7 +20,7 @@ abbrev pub first_len : List ℕ → ℕ
 first_len [] = 0
 first_len (b ∷ bytes) = if b == 10 then 1 else suc (first_len bytes)
 
--- bytes without a last byte that is the first argument; only one is dropped
+-- the bytes without their last byte, if this is the given byte; only one is dropped
 abbrev pub without_last : ℕ → List ℕ → List ℕ
 without_last b [] = []
 without_last b (x ∷ []) = if x == b then [] else x ∷ []
@@ -34,7 +34,7 @@ line_of full_line = without_last 13 (without_last 10 full_line)
 abbrev pub lines_of : List ℕ → List (List ℕ)
 lines_of text = map line_of (full_lines text)
 
--- lines, each with a newline
+-- the text of the lines, each followed by a newline
 abbrev pub text_of : List (List ℕ) → List ℕ
 text_of lines = flat_map (λ line. line ++ newline) lines
 

@@ -10,7 +10,7 @@ pub record ParsesToNumber (digits : List ℕ) (number : ℕ) : Type 0 where
   pub value : digits_value 10 digits ≡ number
   pub in_range : number < 2 ^ 64
 
--- the number that the bytes parse to, if they are one
+-- the number that the bytes parse to, if any
 abbrev pub number_in : List ℕ → Option ℕ
 number_in digits =
     if has_bytes digits && all_ascii_digits digits && nat_lt (digits_value 10 digits) (2 ^ 64)

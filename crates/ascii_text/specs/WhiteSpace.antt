@@ -6,7 +6,7 @@ use Rattle.std.specs.List.{list_all}
 abbrev pub is_space : ℕ → Bool
 is_space b = (nat_le 9 b && nat_le b 13) || b == 32
 
--- white space alone, or nothing
+-- the bytes are white space alone, or there are none
 abbrev pub is_blank : List ℕ → Bool
 is_blank bytes = list_all is_space bytes
 

@@ -43,8 +43,8 @@ pub fn append_number(text: &mut Vec<u8>, number: u64) -> Result<(), AllocError>
     Ok(())
 }
 
-// Appends a number that is not 0. Its digits overwrite 20 zeros, one for each digit of the greatest `u64`; the rest is
-// dropped.
+// Appends a number that is not 0. It first appends 20 zeros, as many as the greatest `u64` has digits. The digits
+// overwrite the first of these zeros, and the other zeros are dropped.
 #[inline(never)]
 fn append_digits(text: &mut Vec<u8>, number: u64) -> Result<(), AllocError>
     requires { 0 < number }

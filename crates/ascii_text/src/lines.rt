@@ -39,14 +39,14 @@ pub fn without_end(bytes: &[u8], end: u8) -> &[u8]
 }
 
 /// The line of a full line: without its newline, and then without one carriage return, so that a file with Windows line
-/// ends reads like any other (own).
+/// endings reads like any other (Go's `bufio.ScanLines`).
 pub fn line_of(full_line: &[u8]) -> &[u8]
     ensures { result.now ≡ line_of full_line.now }
 {
     without_end(without_end(full_line, b'\n'), b'\r')
 }
 
-/// Whether the bytes end in a newline. A line that is read in parts ends with the first that does.
+/// Whether the bytes end in a newline. A line that is read in parts is complete after the first part that does.
 pub fn is_whole(bytes: &[u8]) -> bool
     ensures { result ≡ is_whole bytes.now }
 {

@@ -2,9 +2,9 @@
 ghost use Rattle.std.specs.Prelude.{◌≡◌, ◌<◌, ◌≤◌, length};
 ghost use Rattle.ascii_text.specs.Number.{number_in};
 
-/// Parses a number as Go's `strconv.ParseUint` does in base 10: one or more decimal digits, leading zeros allowed, of a
-/// value below 2^64. Anything else is `None`. So `7` and `007` are 7, and `+7`, `7 ` and `18446744073709551616` are not
-/// numbers.
+/// Parses a number as Go's `strconv.ParseUint` does in base 10: one or more decimal digits, leading zeros allowed, with
+/// a value below 2^64. Anything else is `None`. So `7` and `007` are 7, and `+7`, `7 ` and `18446744073709551616` are
+/// not numbers.
 pub fn read_number(digits: &[u8]) -> Option<u64>
     ensures { result ≡ number_in digits.now }
 {
@@ -15,7 +15,7 @@ pub fn read_number(digits: &[u8]) -> Option<u64>
     }
 }
 
-// Parses fewer than 20 bytes. So few digits have a value below 2^64, so no step overflows.
+// Parses fewer than 20 bytes. The value of at most 19 digits is below 2^64, so no step overflows.
 fn read_short(digits: &[u8]) -> Option<u64>
     requires { length digits.now < 20 }
     ensures { result ≡ number_in digits.now }

@@ -4,8 +4,8 @@ ghost use Rattle.std.specs.List.{position_or_len};
 
 use memchr::memchr;
 
-/// The position of the first such byte, counted from 0, or the length of the text. In `a,b` it is 1 for `,` and 3 for
-/// `;`.
+/// The position of the first `byte` in the text, counted from 0, or the length of the text if there is none. In `a,b`
+/// it is 1 for `,` and 3 for `;`.
 pub fn position_of(text: &[u8], byte: u8) -> usize
     ensures position { result ≡ position_or_len (λ b. b == byte) text.now }
     ensures within { result ≤ length text.now }
@@ -18,7 +18,7 @@ pub fn position_of(text: &[u8], byte: u8) -> usize
     text.len()
 }
 
-/// As [`position_of`], for a byte that is usually far away, such as the end of a line.
+/// Like [`position_of`], for a byte that is usually far away, such as the newline at the end of a line.
 pub fn far_position_of(text: &[u8], byte: u8) -> usize
     ensures position { result ≡ position_or_len (λ b. b == byte) text.now }
     ensures within { result ≤ length text.now }

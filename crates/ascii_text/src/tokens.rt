@@ -14,7 +14,7 @@ fn token_len(text: &[u8]) -> usize
     text.iter().take_while(|byte| !is_space(**byte)).count()
 }
 
-/// The first token of a text, and the text after it. A blank text has none. Of ` v1 l2` they are `v1` and ` l2`.
+/// The first token of a text, and the text after it. A blank text has none. For ` v1 l2` they are `v1` and ` l2`.
 pub fn next_token(text: &[u8]) -> Option<(&[u8], &[u8])>
     ensures none { IsNone result ↔ (tokens_in text.now ≡ []) }
     ensures token { IfSome result (λ parts. tokens_in text.now ≡ parts.0.now ∷ tokens_in parts.1.now) }

@@ -16,7 +16,7 @@ pub record IsAtPosition (list : List ℕ) (id position : ℕ) : Type 0 where
   pub within : position < length list
   pub there : slice_index list position ≡ id
 
--- the position at which the id is inserted: ids before it are smaller, and ids from it on are greater
+-- the position at which the id is inserted: the ids before it are smaller, and the ids from there on are greater
 pub record IsInsertionPoint (list : List ℕ) (id position : ℕ) : Type 0 where
   pub within : position ≤ length list
   pub below : (k : ℕ) → k < position → slice_index list k < id

@@ -24,7 +24,7 @@ bar_text n (Some index) width = replicate width 120 ++ codes ">" ++ replicate (n
 abbrev pub in_five_columns : ℕ → List ℕ
 in_five_columns k = replicate (5 - length (decimal k)) 32 ++ decimal k
 
--- the line of one of n ids, by the index that it acknowledged and the width of its bar, as `xx>      7    (id=1)`
+-- the line of one of n ids with the index that it acknowledged and a bar of this width, as `xx>      7    (id=1)`
 abbrev pub row_text : ℕ → ℕ → Option ℕ → ℕ → List ℕ
 row_text n id acked width =
     bar_text n acked width ++ codes " " ++ in_five_columns (unwrap_or acked 0) ++ codes "    (id=" ++ decimal id ++ codes ")\n"

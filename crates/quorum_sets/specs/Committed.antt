@@ -35,7 +35,7 @@ pub record IsCommitted (ids : Ids) (acks : Acks) (k : ℕ) : Type 0 where
   pub reached : is_empty ids ≡ false → IsTrue (is_reached ids acks k)
   pub not_passed : is_empty ids ≡ false → is_passed ids acks k ≡ false
 
--- the committed index: the greatest acknowledged index that is reached
+-- the committed index: the greatest acknowledged index that more than half have reached
 abbrev pub committed_index : Ids → Acks → ℕ
 committed_index ids acks =
     if is_empty ids then greatest_index else fold max 0 (filter (is_reached ids acks) (acked_indexes ids acks))

@@ -1,6 +1,6 @@
 -- Tests of ids, as a closure computes them.
 use Rattle.std.specs.Prelude.{◌≡◌, ℕ, Bool}
 
--- the closure computes this function of ids: its result on each id is that of the function
+-- the closure computes this function of ids: on each id it returns what the function gives
 abbrev pub Decides : (ℕ → Bool → Type 0) → (ℕ → Bool) → Type 0
 Decides gives passes = (id : ℕ) (answer : Bool) → gives id answer → answer ≡ passes id

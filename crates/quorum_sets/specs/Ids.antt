@@ -1,5 +1,5 @@
--- A finite set of ids, as a value: `FinSet nat_cmp`, which is `FinMap` with nothing at each key. `FinSet` defines
--- nothing on the order of its items, so these definitions use `FinMap`.
+-- A finite set of ids, as a value: `FinSet nat_cmp`, which is a `FinMap` with nothing at each key. `FinSet` has no
+-- facts about the order of its items, so these definitions use `FinMap`.
 use Rattle.std.specs.Prelude.{ℕ, ◌+◌, ◌*◌, Bool, not, List, ◌++◌, map, length, is_some, nat_eq, nat_lt, count_by, filter}
 use Rattle.std.specs.Ordering.{nat_cmp}
 use Rattle.std.specs.FinSet.{FinSet}
@@ -37,7 +37,7 @@ size ids = length (ascending ids)
 abbrev pub ids_of : List ℕ → Ids
 ids_of list = finite.from_entries (map (λ id. (id, tt)) list)
 
--- the union of two sets: of (1 2 3) and (2 3 4) it is (1 2 3 4)
+-- the union of two sets: for (1 2 3) and (2 3 4) it is (1 2 3 4)
 abbrev pub union : Ids → Ids → Ids
 union a b = ids_of (ascending a ++ ascending b)
 
@@ -49,7 +49,7 @@ ids_where test list = ids_of (filter test list)
 abbrev pub count_of : (ℕ → Bool) → Ids → ℕ
 count_of test ids = count_by test (ascending ids)
 
--- the test passes on more than half of the ids; on the empty set it does not
+-- whether more than half of the ids pass the test, which is false for the empty set
 abbrev pub on_most : (ℕ → Bool) → Ids → Bool
 on_most test ids = nat_lt (size ids) (2 * count_of test ids)
 
@@ -57,6 +57,6 @@ on_most test ids = nat_lt (size ids) (2 * count_of test ids)
 abbrev pub is_empty : Ids → Bool
 is_empty ids = nat_eq (size ids) 0
 
--- how many ids are in exactly one of the sets: for (1 2 3) and (2 3 4) these are 1 and 4
+-- how many ids are in exactly one of the sets: for (1 2 3) and (2 3 4) there are two, 1 and 4
 abbrev pub difference_count : Ids → Ids → ℕ
 difference_count a b = count_of (λ id. not (has b id)) a + count_of (λ id. not (has a id)) b

@@ -38,7 +38,7 @@ pub record IsSharedMember (before after : Voters) (first second : Ids) (answer :
   pub none : IfNone answer (AreQuorums before after first second → (id : ℕ) → ¬ IsCommon first second id)
   pub neighbours : AreNeighbours before after → AreQuorums before after first second → IsSome answer
 
--- there are voters in both pairs; the first has committed the index, and the vote of the second is won
+-- both pairs have incoming voters; the first has committed the index, and the vote of the second is won
 pub record CommitsAndWins (one other : Voters) (acks : Acks) (votes : Votes) (index : ℕ) : Type 0 where
   pub one_has_voters : is_empty one.incoming ≡ false
   pub other_has_voters : is_empty other.incoming ≡ false
@@ -50,7 +50,8 @@ pub record CommitsAndWins (one other : Voters) (acks : Acks) (votes : Votes) (in
 abbrev pub CommittedMeetsWon : Voters → Voters → Type 0
 CommittedMeetsWon one other = (acks : Acks) (votes : Votes) (index : ℕ) → CommitsAndWins one other acks votes index → (id : ℕ) × HasAcknowledgedAndVoted acks votes index id
 
--- the quorums before and after meet, and what is committed on one side meets every vote that is won on the other
+-- the quorums before and after share ids, and in each vote won on one side some id that voted yes has acknowledged what
+-- is committed on the other
 pub record Overlap (before after : Voters) : Type 0 where
   pub quorums : QuorumsMeet before after
   pub quorums_back : QuorumsMeet after before

@@ -12,12 +12,12 @@ voters_without voters away = ids_where (λ id. not (has away id)) (ascending vot
 abbrev pub commits_without : Voters → Ids → Bool
 commits_without voters away = is_quorum voters (voters_without voters away)
 
--- whenever at most k ids are down beside the uncounted ones, the other voters are still a quorum
+-- whenever at most k ids are down besides the uncounted ones, the other voters are still a quorum
 abbrev pub Endures : Voters → Ids → ℕ → Type 0
 Endures voters uncounted k = (down : Ids) → size down ≤ k → IsTrue (commits_without voters (union down uncounted))
 
--- the result is the greatest number of ids that may be down, or none if the other voters are not a quorum even with
--- none down
+-- the result is the greatest number of ids that may be down, or none if the counted voters are not a quorum even when
+-- all are up
 pub record IsMostDown (voters : Voters) (uncounted : Ids) (answer : Option ℕ) : Type 0 where
   pub endured : IfSome answer (Endures voters uncounted)
   pub greatest : IfSome answer (λ k. (other : ℕ) → Endures voters uncounted other → other ≤ k)
@@ -30,13 +30,14 @@ surplus ids uncounted =
     let counted = count_of (λ id. not (has uncounted id)) ids in
     if nat_le (majority (size ids)) counted then Some (counted - majority (size ids)) else None
 
--- the smaller of two numbers, or the only one
+-- the smaller of two numbers, or none if one of them is none
 abbrev pub least : Option ℕ → Option ℕ → Option ℕ
 least (Some a) (Some b) = Some (min a b)
 least (Some a) None = None
 least None other = None
 
--- the smallest surplus of the voter sets, none if one has none; an empty set of outgoing voters does not count
+-- the smallest surplus of the voter sets, or none if one of them has none; an empty set of outgoing voters does not
+-- count
 abbrev pub may_be_down : Voters → Ids → Option ℕ
 may_be_down voters uncounted =
     if is_empty voters.outgoing then surplus voters.incoming uncounted

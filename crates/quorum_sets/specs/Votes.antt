@@ -8,7 +8,7 @@ use Rattle.quorum_sets.specs.Voters.{Voters}
 use Rattle.quorum_sets.specs.declared.voting.VoteResult.{VoteResult}
 use Rattle.quorum_sets.specs.declared.voting.VoteResult.TheVariants.{VotePending, VoteLost, VoteWon}
 
--- the votes, by id: yes or no, and nothing of an id that has not voted
+-- the votes, by id: yes or no; an id that has not voted is not in the map
 abbrev pub Votes : Type 0
 Votes = finite.FinMap nat_cmp Bool
 
@@ -28,7 +28,7 @@ may_be_yes votes id = unwrap_or (finite.get votes id) true
 abbrev pub is_won : Ids → Votes → Bool
 is_won ids votes = is_empty ids || on_most (is_yes votes) ids
 
--- the set is not empty, and not more than half can still vote yes
+-- the set is not empty, and at most half voted yes or have not voted
 abbrev pub is_lost : Ids → Votes → Bool
 is_lost ids votes = not (is_empty ids || on_most (may_be_yes votes) ids)
 
@@ -37,7 +37,7 @@ abbrev pub vote_result : Ids → Votes → VoteResult
 vote_result ids votes =
     if is_won ids votes then VoteWon else (if is_lost ids votes then VoteLost else VotePending)
 
--- won if both sets are won, lost if one is lost, else pending
+-- the result of a joint vote: won if both sets win it, lost if one loses it, else pending
 abbrev pub joint_vote_result : Voters → Votes → VoteResult
 joint_vote_result voters votes =
     if is_won voters.incoming votes && is_won voters.outgoing votes then VoteWon

@@ -70,8 +70,8 @@ fn append_chart<A: AckSource>(text: &mut Vec<u8>, ids: &[u64], acks: &A) -> Resu
     append_rows(text, ids, acks, ranking.as_slice())
 }
 
-// The ids sorted by the index that they acknowledged, and then by id. The position of an id in this order is the width
-// of its bar, unless the id before it has the same index.
+// The ids with the indexes that they acknowledged, sorted by index and then by id. The position of an id in this order
+// is the width of its bar, unless the id before it has the same index.
 fn ranked<A: AckSource>(alloc: Global, ids: &[u64], acks: &A) -> Result<Vec<(u64, u64)>, NoMemory>
     ensures { IfOk result (λ rows. IsRanking ids.now (A.acks acks.now) rows.items) }
 {
@@ -102,7 +102,7 @@ fn append_rows<A: AckSource>(
     Ok(())
 }
 
-// The number of ids with a smaller index than this one, or 0 if a smaller id has the same index.
+// The number of ids with an index below `index`, or 0 if an id smaller than `id` has the same index.
 fn width_of_bar(ranking: &[(u64, u64)], index: u64, id: u64) -> usize
     ensures width { (ids : List ℕ) (acks : Acks) → IsRanking ids acks ranking.now → Contains ids id
         → index ≡ acked_index acks id → result ≡ bar_width ids acks id }

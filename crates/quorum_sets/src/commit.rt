@@ -1,7 +1,7 @@
 //! The committed index: how far a majority has acknowledged the log.
 //!
-//! A server that has acknowledged an index has every entry up to it. So sort the acknowledged indexes: the committed
-//! one is as far from the top as a majority reaches.
+//! A server that has acknowledged an index has every entry up to it. So sort the n acknowledged indexes: the committed
+//! one is the (n/2 + 1)-th from the top, since a majority has acknowledged it or a greater one.
 //!
 //! ```text
 //! id       1 2 3 4 5
@@ -37,8 +37,8 @@ pub fn committed<S: MemberSet, A: AckSource>(
     Ok(majority_index(indexes.as_mut_slice()))
 }
 
-/// The committed index of a joint configuration: the smaller one of its two sets, since a majority of each has to
-/// acknowledge an index (`JointConfig.CommittedIndex` of etcd's package `quorum`).
+/// The committed index of a joint configuration: the smaller of the indexes that its two sets have committed, since a
+/// majority of each has to acknowledge an index (`JointConfig.CommittedIndex` of etcd's package `quorum`).
 pub fn joint_committed<S: MemberSet, A: AckSource>(
     alloc: Global,
     incoming: &S,
@@ -75,8 +75,8 @@ fn gather<S: MemberSet, A: AckSource>(
     Ok(())
 }
 
-// The index that a majority has reached: the one at position n - (n/2 + 1) of the n sorted indexes, so that n/2 + 1 of
-// them are at least as great. It leaves the indexes sorted.
+// Sorts the n indexes and returns the one that a majority has reached, which is at position n - (n/2 + 1): n/2 + 1 of
+// them are at least as great.
 fn majority_index(indexes: &mut [u64]) -> u64
     ensures of_none { length indexes.old ≡ 0 → result ≡ greatest_index }
     ensures reached { 0 < length indexes.old → length indexes.old < 2 * count_by (nat_le result) indexes.old }

@@ -1,5 +1,5 @@
-//! How far two sets differ. A simple change may alter one voter, so the voters before and after it differ in one id at
-//! most.
+//! How far two sets differ. A simple change adds or removes at most one voter, so the voters before and after it differ
+//! in at most one id.
 ghost use Rattle.std.specs.Prelude.{◌≡◌, ◌-◌, ◌^◌, ◌≤◌, min};
 ghost use Rattle.quorum_sets.specs.Ids.{has, size, count_of, difference_count};
 

@@ -10,8 +10,8 @@ use smallvec::SmallVec;
 use std::alloc::Global;
 use std::marker::Model;
 
-/// A set of ids as a sorted list. A cluster has few members, so the list keeps up to 8 ids in the value itself and
-/// needs no heap memory for them.
+/// A set of ids as a sorted list. A cluster has few members, so the list keeps up to 8 ids in the value itself; only a
+/// longer list can run out of memory.
 #[derive(Drop)]
 pub struct InlineIds {
     list: SmallVec<u64, 8>,
@@ -133,8 +133,8 @@ fn make_ascending(list: &mut SmallVec<u64, 8>)
     list.dedup();
 }
 
-// The position of the id in an ascending list, or the one at which it is to be inserted. In (1 3 5) they are `Ok(1)`
-// for 3 and `Err(2)` for 4.
+// The position of the id in an ascending list, or as an error the position at which it is to be inserted. In (1 3 5) it
+// is `Ok(1)` for 3 and `Err(2)` for 4.
 fn position_of(list: &[u64], id: u64) -> Result<usize, usize>
     requires { IsAscending list.now }
     ensures { MatchResult result (λ position. IsAtPosition list.now id position) (λ position. IsInsertionPoint list.now id position) }

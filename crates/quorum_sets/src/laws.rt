@@ -10,8 +10,8 @@ ghost use Rattle.quorum_sets.specs.Committed.{Acks, IsCommitted, committed_index
 ghost use Rattle.quorum_sets.specs.Overlap.{QuorumsMeet, CommittedMeetsWon};
 ghost use Rattle.quorum_sets.specs.Tolerance.{IsMostDown, commits_without, may_be_down, least_minority};
 
-/// The operations on a set of ids, member by member: which ids a set has after a change, which two sets have together,
-/// that a set's list has exactly its ids and is strictly ascending, and that two sets with the same ids are equal.
+/// The operations on a set of ids, member by member: which ids a set has after a change, which ids a union has, that a
+/// set's list has exactly its ids and is strictly ascending, and that two sets with the same ids are equal.
 pub fn sets_by_member()
     ensures empty { (id : ℕ) → has no_ids id ≡ false }
     ensures with_one { (ids : Ids) (new id : ℕ) → has (with_id ids new) id ≡ ((id == new) || has ids id) }
@@ -29,24 +29,24 @@ pub fn committed_by_counting()
 {}
 
 /// If two pairs of voter sets are neighbours, each quorum of one shares an id with each quorum of the other (Ongaro's
-/// dissertation, 4.1 and 4.3). So a term has one leader at most, also while the voters change: the shared id votes once
-/// a term.
+/// dissertation, 4.1 and 4.3). So a term has at most one leader, even while the voters change: the shared id votes only
+/// once in a term.
 pub fn neighbours_overlap()
     ensures before { (before after : Voters) → AreNeighbours before after → QuorumsMeet before after }
     ensures after { (before after : Voters) → AreNeighbours before after → QuorumsMeet after before }
 {}
 
-/// If two pairs of voter sets are neighbours and one of them has committed an index, then some id that voted yes in a
-/// vote won on the other has acknowledged that index. So a leader that is elected after a change has what was committed
-/// before it, since a server votes for no candidate whose log is older than its own.
+/// If two pairs of voter sets are neighbours and one of them has committed an index, then in each vote that is won in
+/// the other, some id that voted yes has acknowledged that index. So a leader that is elected after a change has what
+/// was committed before it, since a server votes for no candidate whose log is less up to date than its own.
 pub fn committed_meets_won()
     ensures before { (before after : Voters) → AreNeighbours before after → CommittedMeetsWon before after }
     ensures after { (before after : Voters) → AreNeighbours before after → CommittedMeetsWon after before }
 {}
 
-/// The number of ids that may be down, defined over every set of ids, is the smallest surplus over a majority. If every
-/// id counts, it is the smallest n - (n/2 + 1) over the voter sets that have ids: 1 of 3, 1 of 4, 2 of 5. Without
-/// incoming voters nothing commits.
+/// The number of ids that may be down, which is defined over every set of ids, is the smallest surplus over a majority.
+/// If every id counts, it is the smallest n - (n/2 + 1) over the voter sets that are not empty: 1 of 3, 1 of 4, 2 of 5.
+/// Without incoming voters nothing commits.
 pub fn most_down_by_counting()
     ensures fits { (voters : Voters) (uncounted : Ids) → IsMostDown voters uncounted (may_be_down voters uncounted) }
     ensures alone { (voters : Voters) (uncounted : Ids) (answer : Option ℕ) → IsMostDown voters uncounted answer → answer ≡ may_be_down voters uncounted }

@@ -9,10 +9,10 @@
 //! (2 3 4)&&(1 2 3)   2 3 is a quorum, and so is 1 2 4; 1 4 is not, since it is a majority of neither set
 //! ```
 //!
-//! Both decisions of Raft need a quorum. The committed index is the greatest one that a quorum has acknowledged, and a
-//! vote is won once a quorum has granted it. Any two quorums of one configuration share an id, and so do quorums of
-//! neighbouring configurations ([`common_member`] returns it), so what one quorum has committed is known to a member of
-//! the other.
+//! Raft decides by quorums. The committed index is the greatest index that a quorum has acknowledged, and a vote is won
+//! once a quorum has granted it. Any two quorums of one configuration share an id, and so do quorums of neighbouring
+//! configurations, which are one safe change apart ([`common_member`] returns a shared id). So what one quorum has
+//! committed is known to a member of the other.
 //!
 //! ```text
 //! let voters = TreeIds::of_list(alloc, &[1, 2, 3])?;
@@ -20,7 +20,8 @@
 //! ```
 //!
 //! The rules are those of etcd's package `quorum` and of sections 4.1 and 4.3 of Ongaro's dissertation. How many voters
-//! may be down is own. Every call works over any [`MemberSet`].
+//! may be down is in neither: it is confscript's own, as is whatever is marked (own). Every call works on any
+//! [`MemberSet`].
 #![tactic(auto)]
 
 mod acknowledgement;

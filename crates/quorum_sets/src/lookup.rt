@@ -1,12 +1,12 @@
-//! Lookup of ids one after another, in ascending order. Two sets are compared in this way: each id of the one is looked
-//! up in the other, from where the last search ended.
+//! Lookup of ids one after another, in ascending order. Two sets are compared in this way: each id of one set is looked
+//! up in the other, starting where the last search ended.
 ghost use Rattle.std.specs.Prelude.{◌≡◌, ℕ, ◌<◌, ◌≤◌, true, false, get_or};
 ghost use Rattle.quorum_sets.specs.Ids.{has, ascending, size};
 
 use crate::member_set::MemberSet;
 
-/// Whether the set has the id. The search begins at `position` and leaves it where it ended, so ascending ids are
-/// looked up in one pass over the set. The position is only a hint: the result is right for an id below it too.
+/// Whether the set has the id. The search begins at `position` and sets it to where the search ended, so ascending ids
+/// are looked up in one pass over the set. The position is only a hint: the result is right for an id below it too.
 #[inline(always)]
 pub fn has_next<S: MemberSet>(set: &S, position: &mut usize, id: u64) -> bool
     ensures { result ≡ has (S.ids set.now) id }
@@ -20,7 +20,7 @@ pub fn has_next<S: MemberSet>(set: &S, position: &mut usize, id: u64) -> bool
     set.contains(id)
 }
 
-// Advances the position to the first id from there on that is not below this one. Returns whether it is this one.
+// Advances the position to the next id that is not below `id`, and returns whether it is `id`.
 #[inline(always)]
 fn seek<S: MemberSet>(set: &S, position: &mut usize, id: u64) -> bool
     ensures member { result ≡ true → has (S.ids set.now) id ≡ true }

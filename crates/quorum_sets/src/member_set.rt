@@ -14,7 +14,7 @@ pub trait MemberSet: Drop {
     fn empty(alloc: Global) -> Self
         ensures { ids result ≡ no_ids };
 
-    /// The set of the ids of a list, in any order and with repeats: of `[3, 1, 3]` it is (1 3).
+    /// The set of the ids in a list, which may be in any order and have repeats: `[3, 1, 3]` gives (1 3).
     fn of_list(alloc: Global, list: &[u64]) -> Result<Self, NoMemory>
         ensures { IfOk result (λ set. ids set ≡ ids_of list.now) };
 
@@ -25,7 +25,7 @@ pub trait MemberSet: Drop {
     fn try_clone(&self) -> Result<Self, NoMemory>
         ensures { IfOk result (λ copy. ids copy ≡ ids self.now) };
 
-    /// Overwrites `self` with the ids of another set.
+    /// Overwrites `self` with the ids of another set. On `NoMemory`, `self` is left empty.
     fn try_clone_from(&mut self, other: &Self) -> Result<(), NoMemory>
         ensures ok { OnOk result (ids self.new ≡ ids other.now) }
         ensures err { OnErr result (ids self.new ≡ no_ids) };

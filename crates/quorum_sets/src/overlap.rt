@@ -7,9 +7,9 @@ ghost use Rattle.quorum_sets.specs.Overlap.{IsCommon, IsLeastCommon, IsSharedMem
 use crate::majority::is_quorum;
 use crate::member_set::MemberSet;
 
-/// The smallest id that a quorum of the pair `before` and a quorum of the pair `after` share; `None` if one of the sets
-/// is not a quorum or they share none. Quorums of neighbouring pairs always share one (own; that quorums overlap is
-/// from Ongaro's dissertation, 4.1 and 4.3). A pair is the incoming and the outgoing voters.
+/// The smallest id that `first`, a quorum of the pair `before`, shares with `second`, a quorum of the pair `after`;
+/// `None` if one of them is not a quorum or they share no id. A pair is the incoming and the outgoing voters. Quorums
+/// of neighbouring pairs always share an id (own; that quorums overlap is from Ongaro's dissertation, 4.1 and 4.3).
 pub fn common_member<S: MemberSet>(
     before: (&S, &S),
     after: (&S, &S),
@@ -27,7 +27,7 @@ pub fn common_member<S: MemberSet>(
     }
 }
 
-// The smallest id in both sets: of (1 2 3) and (2 3 4) it is 2.
+// The smallest id in both sets: for (1 2 3) and (2 3 4) it is 2.
 fn least_common<S: MemberSet>(a: &S, b: &S) -> Option<u64>
     ensures least { IfSome result (IsLeastCommon (S.ids a.now) (S.ids b.now)) }
     ensures none { IfNone result ((id : ℕ) → ¬ IsCommon (S.ids a.now) (S.ids b.now) id) }

@@ -1,5 +1,5 @@
 //! How many voters may be down. A cluster keeps serving as long as a majority is up, so of n voters n - (n/2 + 1) may be
-//! down: 1 of 3, 1 of 4, 2 of 5. In a joint configuration this is true of both sets.
+//! down: 1 of 3, 1 of 4, 2 of 5. A joint configuration needs a majority of each set, so the smaller number counts.
 ghost use Rattle.std.specs.Prelude.{◌≡◌};
 ghost use Rattle.quorum_sets.specs.Voters.{pair};
 ghost use Rattle.quorum_sets.specs.Tolerance.{IsMostDown, commits_without, may_be_down, surplus};
@@ -10,8 +10,8 @@ use crate::member_set::MemberSet;
 
 /// The greatest number of ids that may be down, whichever they are, while the other voters are still a quorum of the
 /// pair of incoming and outgoing voters. Uncounted ids, such as members whose logs are still empty, never count towards
-/// a quorum. `None` if the other voters are not a quorum even with none down: the cluster stalls (own; quorums are
-/// those of Ongaro's dissertation, 4.3).
+/// a quorum. `None` if the counted voters are not a quorum even when all are up: the cluster stalls (own; quorums
+/// are those of Ongaro's dissertation, 4.3).
 ///
 /// ```text
 /// (1 2 3 4)                    1: three of four are a quorum
@@ -30,8 +30,8 @@ pub fn may_be_down<S: MemberSet>(voters: (&S, &S), uncounted: &S) -> Option<usiz
     Some(of_incoming.min(surplus(outgoing, uncounted)?))
 }
 
-/// Whether the voters other than these ids are a quorum of the pair of incoming and outgoing voters, so that they
-/// commit while these ids are away: down, or with an empty log (own).
+/// Whether the voters that are not in `away` are a quorum of the pair of incoming and outgoing voters, so that they
+/// commit while those in `away` are down or have empty logs (own).
 pub fn commits_without<S: MemberSet>(voters: (&S, &S), away: &S) -> bool
     ensures { result ≡ commits_without (pair (S.ids voters.entry.0.now) (S.ids voters.entry.1.now)) (S.ids away.now) }
 {

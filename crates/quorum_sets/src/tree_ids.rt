@@ -1,4 +1,4 @@
-//! A set of ids over a tree of the standard library.
+//! A set of ids in a tree of the standard library.
 ghost use Rattle.std.specs.Prelude.{◌≡◌, slice_get};
 ghost use Rattle.std.specs.Ordering.{nat_cmp};
 ghost use Rattle.std.specs.BTreeSet.{IsOrdered};
@@ -9,8 +9,7 @@ use std::alloc::Global;
 use std::collections::BTreeSet;
 use std::marker::Model;
 
-/// A set of ids over a `BTreeSet`, for sets that get their ids one at a time and in no order. Its `at` walks from the
-/// first id.
+/// A set of ids in a `BTreeSet`, for sets that get their ids one at a time and in any order.
 #[derive(Drop)]
 pub struct TreeIds {
     tree: BTreeSet<u64>,

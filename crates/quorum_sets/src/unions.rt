@@ -7,7 +7,7 @@ use crate::member_set::MemberSet;
 use ascii_text::NoMemory;
 use smallvec::SmallVec;
 
-/// The union of two sets: of (1 2 3) and (2 3 4) it is (1 2 3 4).
+/// The union of two sets: (1 2 3) and (2 3 4) give (1 2 3 4).
 pub fn union<S: MemberSet>(a: &S, b: &S) -> Result<S, NoMemory>
     ensures { IfOk result (λ both. S.ids both ≡ spec.union (S.ids a.now) (S.ids b.now)) }
 {

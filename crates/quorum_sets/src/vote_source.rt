@@ -5,8 +5,8 @@ ghost use Rattle.quorum_sets.specs.Votes.{Votes, votes_in};
 
 use std::collections::BTreeMap;
 
-/// The votes: a finite map from ids to yes or no. An id that is not in the map has not voted yet (the map that etcd's
-/// `VoteResult` takes).
+/// The votes: a finite map from ids to yes or no (the map that etcd's `VoteResult` takes). An id that is not in the map
+/// has not voted yet.
 pub trait VoteSource {
     /// The votes, by id.
     ghost votes: { Self → Votes };

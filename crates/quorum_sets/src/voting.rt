@@ -1,7 +1,7 @@
 //! The result of a vote, as etcd's package `quorum` counts it.
 //!
-//! A candidate wins once a majority has voted yes, and loses once those that have not voted no are less
-//! than a majority:
+//! A candidate wins once a majority has voted yes, and loses once the voters that have not voted no are no longer a
+//! majority:
 //!
 //! ```text
 //! (1 2 3 4)   1 yes, 2 yes           pending
@@ -22,7 +22,7 @@ use crate::vote_source::VoteSource;
 pub enum VoteResult {
     /// Neither won nor lost: it depends on ids that have not voted.
     VotePending,
-    /// Not more than half can still vote yes.
+    /// At most half voted yes or have not voted, so it can no longer be won.
     VoteLost,
     /// More than half voted yes, or the set is empty.
     VoteWon,

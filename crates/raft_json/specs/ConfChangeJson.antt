@@ -1,4 +1,4 @@
--- The JSON of a change of the configuration: an object as raftpb.ConfChangeV2.
+-- The JSON of a change of the configuration, in the form of raftpb.ConfChangeV2.
 use Rattle.std.specs.Prelude.{List, codes, map}
 use Rattle.conf_change.specs.declared.change.Change.{Change}
 use Rattle.conf_change.specs.declared.change.Kind.{Kind}

@@ -25,7 +25,7 @@ boolean_in (Some null) = Some false
 boolean_in (Some (boolean b)) = Some b
 boolean_in (Some _) = None
 
--- the four lists and the boolean, each at its key, if each is one
+-- the four lists and the boolean, each read at its key, if all of them are valid
 abbrev pub lists_in : Data → Option ConfStateLists
 lists_in d =
     option_and_then (λ voters.
@@ -44,7 +44,7 @@ lists_in d =
     (ids_in (get (codes "voters_outgoing") d)))
     (ids_in (get (codes "voters") d))
 
--- the saved configuration that a value denotes, if it is one
+-- the saved configuration that a value denotes, if any
 abbrev pub conf_state_of_json : Data → Option ConfStateLists
 conf_state_of_json d = option_and_then (λ ms. if has_only_keys ms then lists_in d else None) (as_object d)
 

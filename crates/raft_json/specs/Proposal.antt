@@ -16,8 +16,8 @@ abbrev pub update_of : Option ℕ → List Change
 update_of None = []
 update_of (Some id) = record { kind = Update; id = id } ∷ []
 
--- the changes, or if there are none, an update of the least incoming voter: on an empty list etcd leaves the joint
--- configuration
+-- the changes, or if there are none, an update of the least incoming voter, since etcd's leader takes an empty list for
+-- leaving
 abbrev pub or_update : Configuration → List Change → List Change
 or_update c [] = update_of (slice_get (ascending c.incoming) 0)
 or_update c (change ∷ changes) = change ∷ changes
@@ -44,6 +44,6 @@ abbrev pub after_auto_leave : Outcome → Outcome
 after_auto_leave (Ok c) = if c.auto_leave then leave_outcome c else Ok c
 after_auto_leave (Err why) = Err why
 
--- where a step leads etcd in the end, auto-leave included
+-- the outcome of a step that etcd takes, after any auto-leave
 abbrev pub final_outcome : Configuration → Step → Outcome
 final_outcome c step = after_auto_leave (outcome c step)

@@ -17,10 +17,10 @@ use serde_json::{Map, Value, put};
 use std::alloc::Global;
 
 /// The `raftpb.ConfChangeV2` to propose for a step from a configuration, so that etcd's raft ends in the same
-/// configuration as the step (for which steps, the module `laws` states). The transition of a simple step is Auto;
-/// entering a joint configuration is JointImplicit with auto-leave, and JointExplicit without it. If either has no
-/// change, an update of the least incoming voter is proposed, since on an empty list etcd leaves the joint
-/// configuration.
+/// configuration as the step (the module `laws` states for which steps). The transition is Auto for a simple step and
+/// for leaving a joint configuration; for entering one it is JointImplicit with auto-leave, and JointExplicit without.
+/// If a simple or an entering step has no change, an update of the least incoming voter is proposed, since etcd's
+/// leader takes an empty list for leaving.
 pub fn conf_change_value<S: MemberSet>(
     alloc: Global,
     before: &Config<S>,

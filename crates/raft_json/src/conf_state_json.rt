@@ -1,4 +1,4 @@
-//! The JSON of a saved configuration, with the keys that Go's encoding/json has for a `raftpb.ConfState`.
+//! The JSON of a saved configuration, with the keys that Go's encoding/json uses for a `raftpb.ConfState`.
 ghost use Rattle.std.specs.Prelude.{◌≡◌, Some, None, Err, IfOk, IsUtf8, option_map, option_and_then};
 ghost use Rattle.conf_change.specs.ConfState.{ConfStateLists};
 ghost use Rattle.serde_json.specs.Read.{read};
@@ -13,10 +13,10 @@ use serde_json::{Map, Value, put};
 use std::alloc::{AllocError, AllocFailed, Global};
 use thiserror::Error;
 
-/// Why a text is not the JSON of a saved configuration.
+/// Why the JSON of a saved configuration was not read.
 #[derive(Clone, Copy, Debug, PartialEq, Eq, Error)]
 pub enum JsonFault {
-    /// It is not JSON, or not an object of the form that is read.
+    /// The text is not JSON, or not an object of the form that [`read_conf_state_json`] reads.
     #[error("bad JSON of a conf state")]
     BadJson,
     /// An allocation failed.
@@ -44,11 +44,10 @@ impl From<AllocFailed<u64>> for JsonFault {
     }
 }
 
-/// Reads the JSON of a `raftpb.ConfState` as Go's encoding/json does, but accepts only this form: an object whose keys
-/// are `voters`, `voters_outgoing`, `learners`, `learners_next` (lists of ids) and `auto_leave` (a boolean), in any
-/// order. A missing or null key is an empty list or false; if a key repeats, the last one counts. An id is a number up
-/// to 2^64-1 without a sign, a fraction or an exponent; ids may repeat, as in a ConfState line. Anything else is
-/// refused with BadJson.
+/// Reads the JSON that Go's encoding/json writes for a `raftpb.ConfState`: an object whose keys are `voters`,
+/// `voters_outgoing`, `learners`, `learners_next` (lists of ids) and `auto_leave` (a boolean), in any order. A missing
+/// or null key is an empty list or false; if a key repeats, the last one counts. An id is a number up to 2^64-1 without
+/// a sign, a fraction or an exponent; ids may repeat, as in a ConfState line. Anything else is refused with BadJson.
 pub fn read_conf_state_json(alloc: Global, text: &[u8]) -> Result<ConfState, JsonFault>
     ensures ok { IfOk result (λ state. IsConfStateJson text.now state) }
     ensures bad { result ≡ Err JsonFault.BadJson → (state : ConfStateLists) → ¬ (IsConfStateJson text.now state) }
@@ -85,7 +84,7 @@ fn conf_state_of(alloc: Global, value: &Value) -> Result<ConfState, JsonFault>
     })
 }
 
-// Whether there is no other key. A misspelt key would otherwise count as a missing one, and its list as empty.
+// Whether the object has no unknown key. A misspelt key would otherwise count as missing, and its list as empty.
 fn has_only_keys(members: &Map<String, Value>) -> bool
     ensures { result ≡ spec.has_only_keys (members_view members.now.entries) }
 {
@@ -114,7 +113,7 @@ fn flag_in(value: Option<&Value>) -> Option<bool>
     }
 }
 
-/// The JSON of a saved configuration: every key, and the lists in their order. It is read back as the same one.
+/// The JSON of a saved configuration: every key, and the lists in their order. It reads back as the same configuration.
 pub fn conf_state_value(alloc: Global, state: &ConfState) -> Result<Value, NoMemory>
     ensures { IfOk result (λ v. view v ≡ conf_state_json state.now) }
 {

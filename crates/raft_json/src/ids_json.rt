@@ -1,4 +1,4 @@
-//! Lists of ids in JSON, as `[1,2,3]`.
+//! Lists of ids in JSON, such as `[1,2,3]`.
 ghost use Rattle.std.specs.Prelude.{◌≡◌, Some, None, Err, IfOk, option_map};
 ghost use Rattle.serde_json.specs.View.{view, items_view};
 ghost use Rattle.raft_json.specs.IdsJson as spec;
@@ -8,7 +8,7 @@ use quorum_sets::NoMemory;
 use serde_json::Value;
 use std::alloc::Global;
 
-/// Reads the ids at a key; none if it is missing or null.
+/// Reads the ids at a key; the list is empty if the key is missing or null.
 pub(crate) fn ids_in(alloc: Global, value: Option<&Value>) -> Result<Vec<u64>, JsonFault>
     ensures ok { IfOk result (λ ids. spec.ids_in (option_map (λ v. view v.now) value.entry) ≡ Some ids.items) }
     ensures bad { result ≡ Err JsonFault.BadJson → spec.ids_in (option_map (λ v. view v.now) value.entry) ≡ None }

@@ -10,16 +10,16 @@ ghost use Rattle.conf_change.specs.declared.step.Step.TheVariants.{Simple, Enter
 ghost use Rattle.raft_json.specs.ConfStateJson.{conf_state_of_json, conf_state_json};
 ghost use Rattle.raft_json.specs.Proposal.{proposed_changes, proposed_step, final_outcome};
 
-/// The JSON of a saved configuration denotes it, so it is read back as the one from before.
+/// The JSON of a saved configuration is read back as the same configuration.
 pub fn conf_state_json_reads_back()
     ensures { (saved : ConfStateLists) → conf_state_of_json (conf_state_json saved) ≡ Some saved }
 {}
 
-/// The proposal for an accepted step leads etcd to the configuration after the step. For leaving, entering, and a
-/// simple step of one change, etcd takes the same step. For a simple step of more changes, etcd enters a joint
-/// configuration with auto-leave and leaves it automatically; this needs a valid configuration with a voter before it,
-/// as does every joint configuration that is entered. The proposal of each step except leaving has a change, so etcd
-/// takes none of these for leaving.
+/// The proposal for an accepted step leads etcd to the configuration after the step. For leaving and for a simple step
+/// of one change, etcd takes the same step; for entering, one with the same outcome. For a simple step of more changes,
+/// etcd enters a joint configuration with auto-leave and leaves it automatically; for this, the configuration before
+/// the step must be valid and have a voter. The proposal for an accepted step other than leaving has a change, so etcd
+/// does not take it for leaving.
 pub fn etcd_ends_where_the_step_does()
     ensures simple { (before after : Configuration) (changes : List Change) → is_valid before ≡ true → has_voter before ≡ true
         → outcome before (Simple changes) ≡ Ok after → final_outcome before (proposed_step before (Simple changes)) ≡ Ok after }

@@ -1,8 +1,8 @@
 //! The JSON of raftpb messages: saved configurations, and changes to propose to a cluster of etcd's raft.
 //!
-//! A program that embeds go.etcd.io/raft keeps a `raftpb.ConfState` and proposes `raftpb.ConfChangeV2`. Go's
-//! encoding/json reads and writes both as objects. [`read_conf_state_json`] reads a saved configuration, whose keys
-//! come in any order and may be missing, and [`conf_state_value`] makes one, with every key in ascending order:
+//! A program that embeds etcd's raft keeps a `raftpb.ConfState` and proposes `raftpb.ConfChangeV2`. Go's encoding/json
+//! reads and writes both as objects. [`read_conf_state_json`] reads a saved configuration, whose keys may be in any
+//! order or missing, and [`conf_state_value`] makes its JSON, with all keys in alphabetical order:
 //!
 //! ```text
 //! {"voters":[1,2,3],"learners":[4]}
@@ -23,7 +23,7 @@
 //! (1 2 3)  --l4 l5-->  (1 2 3)&&(1 2 3) learners=(4 5) autoleave  --auto-leave-->  (1 2 3) learners=(4 5)
 //! ```
 //!
-//! Both are JSON values; print one to get its line:
+//! [`conf_state_value`] and [`conf_change_value`] return a JSON value; print it to get its line:
 //!
 //! ```text
 //! let state = read_conf_state_json(alloc, b"{\"voters\":[1,2,3]}")?;
