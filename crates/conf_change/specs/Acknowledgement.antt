@@ -8,13 +8,14 @@ use Rattle.conf_change.specs.declared.acknowledgement.AckFault.TheVariants.{NotM
 use Rattle.conf_change.specs.declared.progress.Progress.{Progress}
 
 -- the progress after an acknowledgement: an index above match becomes match, and next is then at least one more; any
--- other index changes nothing (etcd's `MaybeUpdate` of `tracker.Progress`)
+-- other index changes nothing (etcd's `MaybeUpdate` of `tracker.Progress`, which also raises next from 0 to 1 if a
+-- member acknowledges 0)
 abbrev pub acknowledged : ℕ → Progress → Progress
 acknowledged index p =
     if nat_lt p.matched index then record { matched = index; next = max p.next (index + 1); learner = p.learner } else p
 
--- the progress of a member after an acknowledgement, or why it is refused: not a member, or the greatest index, after
--- which there is none
+-- the progress of a member after an acknowledgement, or why it is refused: the id is not a member, or the index is the
+-- greatest one, so no index follows it
 abbrev pub acknowledged_progress : Option Progress → ℕ → Result Progress AckFault
 acknowledged_progress None index = Err NotMember
 acknowledged_progress (Some was) index = if index == greatest_index then Err IndexTooLarge else Ok (acknowledged index was)
@@ -31,6 +32,6 @@ with_progress tracker id p = tracker_of tracker.floor tracker.config (finite.ins
 abbrev pub changer_with_progress : ChangerState → ℕ → Progress → ChangerState
 changer_with_progress changer id p = changer_of (with_progress changer.tracker id p) changer.last_index
 
--- the match index of each member, as the indexes that it has acknowledged
+-- the index that each member has acknowledged, which is its match
 abbrev pub matches : TrackerState → Acks
 matches tracker = finite.from_entries (map (λ entry. (entry.0, entry.1.matched)) (finite.entries tracker.progress))

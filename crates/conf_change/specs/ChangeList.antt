@@ -69,12 +69,12 @@ kind_in byte =
     if byte == 118 then Some Voter else (if byte == 108 then Some Learner
     else (if byte == 114 then Some Remove else (if byte == 117 then Some Update else None)))
 
--- the change of a kind and a number, or that the number of the token is bad
+-- the change of a kind and a number, or a bad token if there is no number
 abbrev pub with_number : List ℕ → Kind → Option ℕ → Result Change BadToken
 with_number token kind None = Err (bad_number token)
 with_number token kind (Some id) = Ok (record { kind = kind; id = id })
 
--- the change of a kind and the digits after its letter, or that the letter of the token is unknown
+-- the change of a kind and the digits after its letter, or a bad token if there is no kind or no number
 abbrev pub with_kind : List ℕ → Option Kind → List ℕ → Result Change BadToken
 with_kind token None rest = Err (unknown_input token)
 with_kind token (Some kind) rest = with_number token kind (number_in rest)

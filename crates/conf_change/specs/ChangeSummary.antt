@@ -8,7 +8,7 @@ use Rattle.conf_change.specs.declared.change.Change.{Change}
 use Rattle.conf_change.specs.declared.change.Kind.{Kind}
 use Rattle.conf_change.specs.declared.change_summary.ChangeSummary.{ChangeSummary}
 
--- the summary of no change of the id
+-- the summary of an id that no change names
 abbrev pub empty_summary : ℕ → ChangeSummary
 empty_summary id = record { id = id; last = None; removes = false }
 
@@ -48,7 +48,7 @@ pub record IsEntryAdded (before : List ChangeSummary) (summary : ChangeSummary) 
       ⊎ (((prefix : List ChangeSummary) × (last : ChangeSummary) × (before ≡ prefix ++ last ∷ []) × (last.id ≢ summary.id) × (after ≡ before ++ summary ∷ []))
       ⊎ ((before ≡ []) × (after ≡ summary ∷ [])))
 
--- one summary per id, in ascending order, that agrees with the summaries in order on each id
+-- the summaries, one per id in ascending order, agree on every id with those of `each`, where an id may have several
 pub record Joins (each summaries : List ChangeSummary) : Type 0 where
   pub ascends : IsAscending (map (λ w. w.id) summaries)
   pub last : (q : ℕ) → last_in summaries q ≡ last_in each q

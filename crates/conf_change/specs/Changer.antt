@@ -15,19 +15,19 @@ use Rattle.conf_change.specs.declared.refused.Refused.{Refused}
 use Rattle.conf_change.specs.declared.refused.Refused.TheVariants.{NoMemory}
 use Rattle.conf_change.specs.declared.step.Step.{Step}
 
--- a tracker with an empty configuration
+-- a tracker with an empty configuration and this floor
 abbrev pub empty_tracker : Floor → TrackerState
 empty_tracker floor = record { config = empty_configuration; progress = finite.empty; floor = floor }
 
--- the tracker of a configuration and of progress, with this floor
+-- the tracker with this floor, this configuration and this progress
 abbrev pub tracker_of : Floor → Configuration → ProgressMap → TrackerState
 tracker_of floor c progress = record { config = c; progress = progress; floor = floor }
 
--- the changer of a tracker
+-- the changer with this tracker and this last index
 abbrev pub changer_of : TrackerState → ℕ → ChangerState
 changer_of tracker last_index = record { tracker = tracker; last_index = last_index }
 
--- a changer with an empty configuration and this floor
+-- a changer with an empty configuration, this floor and this last index
 abbrev pub new_changer : Floor → ℕ → ChangerState
 new_changer floor last_index = record { tracker = empty_tracker floor; last_index = last_index }
 
@@ -46,7 +46,7 @@ moved_to changer step after = record {
   last_index = changer.last_index;
 }
 
--- the changer after the outcome of a step
+-- the changer after a step with this outcome, or why the step is refused
 abbrev pub moved_by : ChangerState → Step → Outcome → Result ChangerState Refused
 moved_by changer step (Ok after) = Ok (moved_to changer step after)
 moved_by changer step (Err why) = Err why
@@ -56,7 +56,7 @@ abbrev pub changer_after : ChangerState → Step → Result ChangerState Refused
 changer_after changer step = moved_by changer step (outcome changer.tracker.config step)
 
 -- what is true of every tracker: its configuration is valid, and has an incoming voter or is empty; exactly its members
--- have progress; the learners are marked; and next is ahead of match
+-- have progress; exactly the learners are marked; and next is ahead of match
 pub record IsSound (tracker : TrackerState) : Type 0 where
   pub restorable : is_restorable tracker.config ≡ true
   pub of_members : (id : ℕ) → is_some (finite.get tracker.progress id) ≡ is_member tracker.config id
@@ -81,8 +81,8 @@ abbrev pub OverlapAcross : ChangerState → ChangerState → Type 0
 OverlapAcross before after = Overlap (voters_of before.tracker.config) (voters_of after.tracker.config)
 
 -- The result of a call that computes the changer after a step: the defined configuration and progress, or the defined
--- refusal (or NoMemory). The tracker is sound before and after, the voters before and after are neighbours and overlap,
--- and if there was a voter there still is one.
+-- refusal (or NoMemory). The tracker is sound before and after, the voters before and after are neighbours, their
+-- quorums overlap, and if there was a voter there still is one.
 pub record GivesNext (before : ChangerState) (step : Step) (result : Result ChangerState Refused) : Type 0 where
   pub accepted : IfOk result (Accepts before step)
   pub refused : IfErr result (Refuses before step)
@@ -92,12 +92,13 @@ pub record GivesNext (before : ChangerState) (step : Step) (result : Result Chan
   pub overlap : IfOk result (OverlapAcross before)
   pub voter : has_voter before.tracker.config ≡ true → IfOk result (λ after. has_voter after.tracker.config ≡ true)
 
--- the result of a call that leaves the changer after a step in its argument
+-- the result of a call that writes the changer after a step to its argument: that changer, or the refusal
 abbrev pub left_in : Result (Unit {0}) Refused → ChangerState → Result ChangerState Refused
 left_in (Ok _) after = Ok after
 left_in (Err why) after = Err why
 
--- The result of a call that takes a step and overwrites the changer: as GivesNext, and a refusal (or NoMemory) changes nothing.
+-- The result of a call that takes a step and overwrites the changer: as GivesNext, and a refusal (or NoMemory) changes
+-- nothing.
 pub record Makes (before : ChangerState) (step : Step) (result : Result (Unit {0}) Refused) (after : ChangerState) : Type 0 where
   pub accepted : OnOk result (Accepts before step after)
   pub refused : IfErr result (Refuses before step)

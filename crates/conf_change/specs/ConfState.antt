@@ -41,7 +41,7 @@ pub record Describes (saved : ConfStateLists) (c : Configuration) : Type 0 where
   pub learners_next : Lists saved.learners_next c.learners_next
   pub auto_leave : saved.auto_leave ≡ c.auto_leave
 
--- the ConfState of a configuration with ascending lists
+-- the ConfState of a configuration, with its lists in ascending order
 abbrev pub lists_of : Configuration → ConfStateLists
 lists_of c = record {
   voters = ascending c.incoming;
@@ -55,7 +55,7 @@ lists_of c = record {
 abbrev pub names_once : List ℕ → Bool
 names_once list = nat_eq (length list) (size (ids_of list))
 
--- the configuration whose sets the lists name, repeats or not
+-- the configuration whose sets have the ids of the lists, which may have repeats
 abbrev pub named_by : ConfStateLists → Configuration
 named_by saved = record {
   incoming = ids_of saved.voters;
@@ -65,7 +65,7 @@ named_by saved = record {
   auto_leave = saved.auto_leave;
 }
 
--- the configuration to which a ConfState is restored, if each list names each id once and the configuration can be
+-- the configuration to which a ConfState is restored, if no list names an id twice and the configuration can be
 -- restored
 abbrev pub restored : ConfStateLists → Option Configuration
 restored saved =

@@ -28,7 +28,8 @@ pub record ParsesToNumbers (text : List ℕ) (numbers : List ℕ) : Type 0 where
   pub spaced : text ≡ join_with_byte 32 tokens
   pub parsed : AllZip ParsesToNumber tokens numbers
 
--- the text denotes the ConfState: it is its line, with any white space around it and any leading zeros in its numbers
+-- the text denotes the ConfState: it is the line of the ConfState, with any white space around it and any leading zeros
+-- in its numbers
 pub record DenotesConfState (text : List ℕ) (saved : ConfStateLists) : Type 0 where
   pub voters : List ℕ
   pub voters_outgoing : List ℕ
@@ -79,7 +80,7 @@ auto_leave_in text =
     if bytes_eq text (codes "] AutoLeave:true") then Some true
     else (if bytes_eq text (codes "] AutoLeave:false") then Some false else None)
 
--- a function applied to a value, if there is one, as `do` does it
+-- the function applied to the value, if there is one; `do` below is built on it
 infixl 10 ◌>>=◌
 abbrev pub ◌>>=◌ : {A B : Type 0} → Option A → (A → Option B) → Option B
 first >>= more = option_and_then more first

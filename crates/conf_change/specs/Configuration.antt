@@ -24,15 +24,15 @@ empty_configuration = record { incoming = no_ids; outgoing = no_ids; learners = 
 abbrev pub voters_of : Configuration → Voters
 voters_of c = record { incoming = c.incoming; outgoing = c.outgoing }
 
--- it has outgoing voters, so that a decision needs a majority of both sets
+-- the configuration has outgoing voters, so that a decision needs a majority of both voter sets
 abbrev pub is_joint : Configuration → Bool
 is_joint c = not (is_empty c.outgoing)
 
--- it has an incoming voter
+-- the configuration has an incoming voter
 abbrev pub has_voter : Configuration → Bool
 has_voter c = not (is_empty c.incoming)
 
--- the members: voters of either kind, and learners; an id may come twice
+-- the members: voters of either kind, and learners; an id may occur twice
 abbrev pub members : Configuration → List ℕ
 members c = ascending c.incoming ++ ascending c.outgoing ++ ascending c.learners
 
@@ -81,11 +81,11 @@ pub record ValidByMember (c : Configuration) : Type 0 where
   pub learner_outgoing : (q : ℕ) → has c.learners q ≡ true → has c.outgoing q ≡ false
   pub auto_leave : is_joint c ≡ false → c.auto_leave ≡ false
 
--- it has an incoming voter, or is empty
+-- the configuration has an incoming voter, or is empty
 abbrev pub has_voter_or_is_empty : Configuration → Bool
 has_voter_or_is_empty c = has_voter c || (is_empty c.incoming && is_empty c.outgoing && is_empty c.learners && is_empty c.learners_next)
 
--- it can be restored: it is valid, and has an incoming voter or is empty
+-- the configuration can be restored: it is valid, and has an incoming voter or is empty
 abbrev pub is_restorable : Configuration → Bool
 is_restorable c = is_valid c && has_voter_or_is_empty c
 

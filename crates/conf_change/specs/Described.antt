@@ -3,10 +3,10 @@ use Rattle.std.specs.Prelude.{Bool, ◌&&◌, Option, Some, None, if◌then◌el
 use Rattle.conf_change.specs.Configuration.{Configuration}
 use Rattle.conf_change.specs.ConfState.{ConfStateLists, names_once, named_by}
 
--- each list names each id once
+-- no list names an id twice
 abbrev pub names_each_once : ConfStateLists → Bool
 names_each_once saved = names_once saved.voters && names_once saved.voters_outgoing && names_once saved.learners && names_once saved.learners_next
 
--- the configuration whose sets the lists name, if each names each id once
+-- the configuration whose sets have the ids of the lists, if no list names an id twice
 abbrev pub described : ConfStateLists → Option Configuration
 described saved = if names_each_once saved then Some (named_by saved) else None

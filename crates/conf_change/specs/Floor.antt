@@ -1,4 +1,4 @@
--- The floor: the smallest initial next index (own). etcd's raft has 1, and its test scripts have 0.
+-- The floor: the smallest initial next index (own). etcd 3.4 has none: its initial next index is the last index.
 use Rattle.std.specs.Prelude.{◌≡◌, ℕ, max, ◌<◌, ◌≤◌, Bool, true, false, refl}
 use Rattle.std.specs.Coded.{Coded, coded_bool, code_by}
 use Rattle.conf_change.specs.declared.floor.Floor.{Floor}
@@ -25,7 +25,7 @@ abbrev pub is_one : Floor → Bool
 is_one Zero = false
 is_one One = true
 
--- the floor by whether it is one
+-- the floor, given whether it is one
 abbrev pub floor_of : Bool → Floor
 floor_of false = Zero
 floor_of true = One

@@ -25,7 +25,7 @@ fresh_progress next_index learner = record { matched = 0; next = next_index; lea
 abbrev pub with_mark : Bool → Progress → Progress
 with_mark learner p = record { matched = p.matched; next = p.next; learner = learner }
 
--- the progress of the members of a configuration, by a function of the id
+-- the progress of the members of a configuration, given as a function of the id
 abbrev pub progress_by : Configuration → (ℕ → Progress) → ProgressMap
 progress_by c of = finite.from_entries (map (λ id. (id, of id)) (members c))
 
@@ -39,12 +39,12 @@ pub record IsFreshOf (next_index : ℕ) (incoming outgoing learners : Ids) (entr
   pub members : (q : ℕ) → list_any (λ x. q == x) (map (λ m. m.0) entries) ≡ (has incoming q || has outgoing q || has learners q)
   pub fresh : entries ≡ map (λ id. (id, fresh_progress next_index (has learners id))) (map (λ m. m.0) entries)
 
--- if the id is a member after the step, it is a new one: a change removes it, and it is not an outgoing voter; r1 v1 in
--- a simple step replaces 1
+-- the id loses its progress in the step: a change removes it, and it is not an outgoing voter afterwards; so r1 v1 in a
+-- simple step makes 1 a new member
 abbrev pub is_replaced : Step → Configuration → ℕ → Bool
 is_replaced step after id = removes (changes_of step) id && not (has after.outgoing id)
 
--- a member keeps its progress in the step: it is one before and after, and not a new one
+-- the id keeps its progress in the step: it is a member before and after, and does not lose it
 abbrev pub keeps_progress : Configuration → Step → Configuration → ℕ → Bool
 keeps_progress before step after id = is_member before id && is_member after id && not (is_replaced step after id)
 

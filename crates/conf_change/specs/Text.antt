@@ -40,7 +40,7 @@ progress_text id p =
     decimal id ++ codes ": StateProbe match=" ++ decimal p.matched ++ codes " next=" ++ decimal p.next
     ++ text_if p.learner (codes " learner")
 
--- why a change was refused (own for NoMemory)
+-- the message of a refusal (that of NoMemory is own)
 abbrev pub refused_text : Refused → List ℕ
 refused_text AlreadyJoint = codes "config is already joint"
 refused_text ZeroVoterJoint = codes "can't make a zero-voter config joint"
@@ -50,7 +50,7 @@ refused_text RemovedAllVoters = codes "removed all voters"
 refused_text MoreThanOneVoter = codes "more than one voter changed without entering joint config"
 refused_text NoMemory = codes "out of memory"
 
--- the message of a bad token (own for a bad number)
+-- the message of a bad token (that of a bad number is own)
 abbrev pub bad_token_text : BadToken → List ℕ
 bad_token_text (unknown_token token) = codes "unknown token " ++ token
 bad_token_text (unknown_input token) = codes "unknown input: " ++ token

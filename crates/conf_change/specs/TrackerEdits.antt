@@ -13,8 +13,8 @@ use Rattle.conf_change.specs.declared.progress.Progress.{Progress}
 abbrev pub beginning : TrackerState → Ids → Bool → TrackerState
 beginning t outgoing auto_leave = record { config = record t.config { outgoing = outgoing; auto_leave = auto_leave }; progress = t.progress; floor = t.floor }
 
--- the entry of an id after a step: a member keeps its progress or gets a fresh one, and is marked as a learner or not;
--- any other id has none
+-- the entry of an id after a step: a member keeps its progress or gets fresh progress, and is marked as a learner or
+-- not; any other id has none
 abbrev pub entry_of : ℕ → Bool → Bool → Option Progress → Option Progress
 entry_of next_index member learner had = if member then Some (with_mark learner (unwrap_or had (fresh_progress next_index learner))) else None
 

@@ -8,8 +8,8 @@ use Rattle.conf_change.specs.declared.step.StepKind.TheVariants as kind
 use Rattle.conf_change.specs.declared.transition.Transition.{Transition}
 use Rattle.conf_change.specs.declared.transition.Transition.TheVariants.{Auto, Implicit, Explicit}
 
--- Auto leaves without a change, is simple with one, and enters with more; Implicit and Explicit always enter. Each
--- change counts, effective or not.
+-- the kind of the step for a list of changes: with Auto, an empty list leaves, one change is simple, and more enter;
+-- Implicit and Explicit always enter. Each change counts, effective or not
 abbrev pub step_kind_of : Transition → List Change → StepKind
 step_kind_of Auto [] = kind.Leave
 step_kind_of Auto (_ ∷ []) = kind.Simple

@@ -25,7 +25,7 @@ violation_by c NotJointButAutoLeave = Some violated.NotJointButAutoLeave
 abbrev pub violation_of : Configuration → Option Violation
 violation_of c = option_and_then (violation_by c) (first_broken c)
 
--- the first id of a list that it names again: 1 of 1 2 3 2 1
+-- the first id in a list that occurs in it again: 1 of 1 2 3 2 1
 abbrev pub first_repeat : List ℕ → Option ℕ
 first_repeat [] = None
 first_repeat (id ∷ rest) = if has (ids_of rest) id then Some id else first_repeat rest
@@ -48,7 +48,7 @@ unless_violated c (Some violation) = Err (NotAConfiguration violation)
 abbrev pub valid_of : ConfStateLists → Result Configuration ConfigurationFault
 valid_of saved = unless_violated (named_by saved) (violation_in saved)
 
--- the valid configuration that the ConfState of a line describes, or that the line has none
+-- the valid configuration that the ConfState of a line describes, or what is wrong, such as that the line has none
 abbrev pub unless_bad : Option ConfStateLists → Result Configuration ConfigurationFault
 unless_bad None = Err BadConfState
 unless_bad (Some saved) = valid_of saved

@@ -15,7 +15,7 @@ pub enum AckFault {
 }
 
 /// Each member has acknowledged its match index; any other id has acknowledged nothing. So the committed index of a
-/// configuration is counted over its own members' progress, as etcd's `ProgressTracker.Committed` does.
+/// configuration follows from the progress of its members, as in etcd's `ProgressTracker.Committed`.
 impl<S: MemberSet> AckSource for Tracker<S> {
     ghost use Rattle.conf_change.specs.Acknowledgement.{matches};
 

@@ -7,7 +7,7 @@ ghost use Rattle.conf_change.specs.Text.{text_if, spaced_number, spaced_numbers}
 use ascii_text::NoMemory;
 use ascii_text::append::{append, append_number};
 
-// Appends a part if it is there, such as ` learner` after the progress of a learner.
+// Appends a part if `there` is true, such as ` learner` after the progress of a learner.
 pub(crate) fn append_if(text: &mut Vec<u8>, there: bool, part: &[u8]) -> Result<(), NoMemory>
     ensures ok { OnOk result (text.new.items ≡ text.old.items ++ text_if there part.now) }
     ensures extends { Extends text.old.items text.new.items }

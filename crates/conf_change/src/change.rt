@@ -17,12 +17,12 @@ pub enum Kind {
     Update,
 }
 
-/// One change of one id. A change of the id 0 has no effect.
+/// One change of one id (etcd's `raftpb.ConfChangeSingle`). A change of the id 0 has no effect.
 #[derive(Clone, Copy, Debug, PartialEq, Eq)]
 pub struct Change {
     /// What becomes of the id.
     pub kind: Kind,
-    /// The member that changes. etcd replaces an id by 0 when it decides not to make a change that was proposed.
+    /// The id that changes. etcd replaces it by 0 when it decides not to apply a change that was proposed.
     pub id: u64,
 }
 

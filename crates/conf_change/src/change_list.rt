@@ -13,10 +13,10 @@ use thiserror::Error;
 /// Why a text is not a list of changes, with the first bad token.
 #[derive(Clone, Copy, Debug, PartialEq, Eq, Error)]
 pub enum TokenFault<'a> {
-    /// It has fewer than two bytes, as `v`.
+    /// The token has fewer than two bytes, such as `v`.
     #[error("unknown token")]
     UnknownToken(&'a [u8]),
-    /// It does not begin with one of the letters `v`, `l`, `r` and `u`, as `x1`.
+    /// The token does not begin with one of the letters `v`, `l`, `r` and `u`, such as `x1`.
     #[error("unknown input")]
     UnknownInput(&'a [u8]),
     /// What follows the letter is not a number below 2^64, as in `v-1` (own; etcd's scripts have Go's text for it).
@@ -65,6 +65,7 @@ pub fn read_changes(alloc: Global, text: &[u8]) -> Result<Vec<Change>, TokenFaul
 }
 
 /// As [`read_changes`], into a list that is overwritten (own). A loop over many lines uses one list for all of them.
+/// After an error the list is empty.
 pub fn read_changes_into<'a>(
     changes: &mut Vec<Change>,
     text: &'a [u8],
@@ -116,7 +117,7 @@ pub fn read_change(token: &[u8]) -> Result<Change, TokenFault<'_>>
     Ok(Change { kind, id })
 }
 
-// The kind of change of a letter.
+// The kind of change that a letter denotes.
 fn kind_of(letter: u8) -> Option<Kind>
     ensures { result ≡ kind_in letter }
 {

@@ -1,6 +1,6 @@
 //! The changes of each id in a list, summarized in one entry per id. Of several changes of one id the last effective
-//! one decides its roles, and a removal anywhere among them ends its progress. `v4 r4 l4` has one entry: 4 becomes a
-//! learner, with fresh progress.
+//! one decides its roles, and a removal anywhere among them ends its progress, unless it is an outgoing voter.
+//! `v4 r4 l4` has one entry: 4 becomes a learner, with fresh progress.
 ghost use Rattle.std.specs.Prelude.{◌≡◌, [], ◌∷◌, ◌++◌, map, option_to_list, IfOk, OnOk, IsNone};
 ghost use Rattle.std.specs.List.Sorted.{IsNonDecreasingBy};
 ghost use Rattle.conf_change.specs.ChangeSummary.{empty_summary, summary_of, and_later, IsEntryAdded, Joins, ListsSummaries};
@@ -19,7 +19,7 @@ pub(crate) struct ChangeSummary {
 }
 
 impl ChangeSummary {
-    // The summary of no change of the id.
+    // The summary of an id that no change names.
     fn empty_summary(id: u64) -> ChangeSummary
         ensures { result ≡ empty_summary id }
     {
@@ -57,8 +57,8 @@ impl ChangeSummary {
     }
 }
 
-/// The summaries of each member and of each id that the changes name, in ascending order of the ids. The sets of a
-/// configuration are in that order too, so a long list is made in one walk over them.
+/// A summary for each member and for each id that the changes name, in ascending order of the ids. The sets of a
+/// configuration are in that order too, so a long list of changes is applied in one walk over them.
 pub(crate) fn summarize(
     alloc: Global,
     members: &[(u64, Progress)],

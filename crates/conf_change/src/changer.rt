@@ -36,7 +36,7 @@ use std::alloc::Global;
 use std::marker::Model;
 
 /// A configuration with the progress of its members, and the last index of the log, at which new members begin (etcd's
-/// `confchange.Changer`). A step that fails leaves it unchanged, also when memory runs out.
+/// `confchange.Changer`). A step that fails leaves it unchanged, even when memory runs out.
 #[derive(Drop)]
 pub struct Changer<S: MemberSet> {
     tracker: Tracker<S>,
@@ -65,7 +65,7 @@ impl<S: MemberSet> Changer<S> {
         Changer::new_with_floor(alloc, last_index, Floor::One)
     }
 
-    /// A changer with an empty configuration and this floor, which never changes.
+    /// A changer with an empty configuration and this floor, which no step changes.
     pub fn new_with_floor(alloc: Global, last_index: u64, floor: Floor) -> Changer<S>
         ensures new { result ≡ new_changer floor last_index }
         ensures sound { IsSound result.tracker }
@@ -115,8 +115,8 @@ impl<S: MemberSet> Changer<S> {
         self.floor().fresh_next(self.last_index)
     }
 
-    /// Sets the last index of the log, such as after entries were appended. Members that join from then on begin there;
-    /// the progress of the others does not change.
+    /// Sets the last index of the log, for example after entries are appended. Members that join later begin there; the
+    /// progress of the others does not change.
     pub fn set_last_index(&mut self, last_index: u64)
         ensures set { self.new ≡ with_last_index self.old last_index }
         ensures sound { IsSound self.new.tracker }
@@ -154,8 +154,10 @@ impl<S: MemberSet> Changer<S> {
         Changer::begin(self.tracker.emptied(), self.last_index)
     }
 
-    /// Overwrites `self` with what another changer is after a step. The other one does not change, so a caller can go
-    /// back to it (own). Leaving a joint configuration ignores `changes`.
+    /// Overwrites `self` with the changer that a step from `before` leads to. `before` does not change, so a caller can
+    /// go back to it (own). Leaving a joint configuration ignores `changes`.
+    ///
+    /// Refused as [`Changer::step`] is; the configuration of `self` is then empty.
     pub fn become_next(
         &mut self,
         before: &Changer<S>,
@@ -194,20 +196,21 @@ impl<S: MemberSet> Changer<S> {
     }
 
     /// Makes changes that alter at most one voter, and any number of learners (etcd's `Simple`; Ongaro's dissertation,
-    /// section 4.1). The voters that differ before and after are counted, not the changes: `v4 r4` alters none, and
-    /// `v4 r1` two.
+    /// section 4.1). The voters that differ before and after are counted, not the changes: from (1 2 3), `v4 r4` alters
+    /// none, and `v4 r1` two.
     ///
     /// Refused with SimpleInJoint in a joint configuration, else with RemovedAllVoters if no voter is left, else with
-    /// MoreThanOneVoter.
+    /// MoreThanOneVoter if more than one voter differs.
     pub fn simple(&mut self, changes: &[Change]) -> Result<(), Refused>
         ensures { Makes self.old (Simple changes.now) result self.new }
     {
         self.make(StepKind::Simple, changes)
     }
 
-    /// Enters a joint configuration: the voters so far become the outgoing ones, and the changes are made to the
-    /// incoming ones and to the learners (etcd's `EnterJoint`; Ongaro's dissertation, section 4.3). With auto-leave,
-    /// etcd's leader proposes to leave it once the change is applied; without it, the application has to.
+    /// Enters a joint configuration: the outgoing voters become a copy of the incoming ones, and the changes are made
+    /// to the incoming ones and to the learners (etcd's `EnterJoint`; Ongaro's dissertation, section 4.3). With
+    /// auto-leave, etcd's leader proposes to leave the joint configuration once the change is applied; otherwise the
+    /// application has to.
     ///
     /// Refused with AlreadyJoint in a joint configuration, else with ZeroVoterJoint if there is no voter, else with
     /// RemovedAllVoters if no incoming voter is left.
@@ -218,8 +221,8 @@ impl<S: MemberSet> Changer<S> {
     }
 
     /// Leaves a joint configuration: the outgoing voters are removed, the next learners become learners, and auto-leave
-    /// is off (etcd's `LeaveJoint`; Ongaro's dissertation, section 4.3). A member that is not an incoming voter and not
-    /// a learner is removed with its progress.
+    /// is off (etcd's `LeaveJoint`; Ongaro's dissertation, section 4.3). A member that is then neither an incoming
+    /// voter nor a learner is removed with its progress.
     ///
     /// Refused with NotJoint in a configuration that is not joint.
     pub fn leave_joint(&mut self) -> Result<(), Refused>
@@ -274,7 +277,7 @@ impl<S: MemberSet> Changer<S> {
         Ok(progress)
     }
 
-    /// The result of [`Changer::ack`], which is not recorded.
+    /// The result that [`Changer::ack`] would return, without recording it.
     pub fn ack_answer(&self, id: u64, index: u64) -> Result<Progress, AckFault>
         ensures answer { result ≡ ack_answer self.now.tracker id index }
         ensures acknowledged { IfOk result (λ p. (was : Progress) × (finite.get self.now.tracker.progress id ≡ Some was) × (p ≡ acknowledged index was)) }
@@ -368,8 +371,8 @@ fn make_left<S: MemberSet>(tracker: &mut Tracker<S>, before: &Changer<S>) -> Res
     Ok(())
 }
 
-// Why a simple change from one tracker, which is not joint, to the other is refused, if it is. The order of the two
-// tests is etcd's.
+// Why a simple change that leads from `before`, which is not joint, to `after` is refused, or `None`. The order of the
+// two tests is etcd's.
 fn simple_refusal<S: MemberSet>(before: &Tracker<S>, after: &Tracker<S>) -> Option<Refused>
     ensures { result ≡ (if not (has_voter after.now.config) then Some Refused.RemovedAllVoters
         else (if nat_lt 1 (difference_count before.now.config.incoming after.now.config.incoming) then Some Refused.MoreThanOneVoter else None)) }

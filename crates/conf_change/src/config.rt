@@ -20,12 +20,12 @@ use thiserror::Error;
 pub struct Config<S: MemberSet> {
     /// The voters, or in a joint configuration the incoming ones.
     pub incoming: S,
-    /// The outgoing voters: those from before a joint configuration was entered. A configuration is joint if it has
-    /// some.
+    /// The outgoing voters: the voters before the joint configuration was entered. A configuration is joint if it has
+    /// any.
     pub outgoing: S,
     /// The learners: members that get the log and do not vote.
     pub learners: S,
-    /// The outgoing voters that become learners when the joint configuration is left. Till then they are not learners,
+    /// The outgoing voters that become learners when the joint configuration is left. Until then they are not learners,
     /// since no member is a voter and a learner at once.
     pub learners_next: S,
     /// Whether the joint configuration is left automatically.
@@ -49,11 +49,11 @@ impl<S: MemberSet> Model for Config<S> {
     } };
 }
 
-/// An invariant of valid configurations, in the order in which they are checked (etcd's `confchange` package; `ZeroId`
-/// and `NextAndIncoming` are own). As an error it is the one that is broken.
+/// The invariants of a valid configuration, in the order in which they are checked (etcd's `checkInvariants`; `ZeroId`
+/// and `NextAndIncoming` are own). As an error, an invariant is the one that is broken.
 #[derive(Clone, Copy, Debug, PartialEq, Eq, Error)]
 pub enum Invariant {
-    /// No set has the id 0, which etcd uses for no id.
+    /// No set has the id 0, which is etcd's `raft.None`: the id of no member.
     #[error("a set holds the id 0")]
     ZeroId,
     /// A next learner is an outgoing voter. Broken by `(1)&&(1 2) learners_next=(3)`.
@@ -65,7 +65,8 @@ pub enum Invariant {
     /// A learner is not a voter. Broken by `(1 2) learners=(2)`.
     #[error("a learner is a voter")]
     LearnerAndVoter,
-    /// Only a joint configuration has next learners. `NextNotOutgoing` is then broken too, and is checked first.
+    /// Only a joint configuration has next learners. Where this is broken, so is `NextNotOutgoing`, and that is checked
+    /// first.
     #[error("next learners without outgoing voters")]
     NotJointButNext,
     /// Only a joint configuration has auto-leave.
@@ -116,7 +117,7 @@ impl<S: MemberSet> Config<S> {
         })
     }
 
-    /// Whether two configurations are the same one: their four sets and their flags agree.
+    /// Whether two configurations are the same: their four sets and their flags agree.
     pub fn same(&self, other: &Config<S>) -> bool
         ensures same { result ≡ is_same self.now other.now }
         ensures equal { (result ≡ true) ↔ (self.now ≡ other.now) }

@@ -38,8 +38,8 @@ impl From<NoMemory> for ConfigurationFault {
     }
 }
 
-/// Reads the valid configuration that a line describes, in the form that `write_conf_state` appends (own). Any other
-/// line is refused with the first reason, such as `3 is listed twice`.
+/// Reads a line in the form that `write_conf_state` appends, and returns the valid configuration that it describes
+/// (own). Any other line is refused with the first reason, such as `3 is listed twice`.
 pub fn read_configuration<S: MemberSet>(
     alloc: Global,
     line: &[u8],
@@ -56,7 +56,8 @@ pub fn read_configuration<S: MemberSet>(
     }
 }
 
-/// The valid configuration that a ConfState describes. It may have no voter, unlike one that is restored (own).
+/// The valid configuration that a ConfState describes. It may have members but no incoming voter, unlike one that is
+/// restored (own). Any other ConfState is refused with the first reason.
 pub fn valid_configuration<S: MemberSet>(
     alloc: Global,
     state: &ConfState,
@@ -77,7 +78,7 @@ pub fn valid_configuration<S: MemberSet>(
     }
 }
 
-// The error of a ConfState that names an id twice in a list.
+// The error for a ConfState with a list that names an id twice.
 fn listed_twice(alloc: Global, state: &ConfState) -> ConfigurationFault
     requires { described state.now ≡ None }
     ensures { (result ≡ ConfigurationFault.NoMemory) ⊎ (valid_of state.now ≡ Err result) }
@@ -100,7 +101,7 @@ fn repeat_in(alloc: Global, state: &ConfState) -> Result<Option<u64>, NoMemory>
     Ok(voters.or(voters_outgoing).or(learners).or(learners_next))
 }
 
-// The first id of a list that it names again: of `[1 2 3 2 1]` it is 1.
+// The first id in a list that occurs in it again: of `[1 2 3 2 1]` it is 1.
 fn first_repeat(alloc: Global, list: &[u64]) -> Result<Option<u64>, NoMemory>
     ensures { IfOk result (λ id. id ≡ first_repeat list.now) }
 {

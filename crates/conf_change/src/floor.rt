@@ -1,13 +1,13 @@
-//! The smallest initial next index. The leader begins to send a new member the log at the last index, or at the floor
-//! if the log is shorter.
+//! The floor: the smallest initial next index. The leader sends a new member the log from the last index on, or from
+//! the floor if the log is shorter.
 ghost use Rattle.std.specs.Prelude.{◌≡◌};
 ghost use Rattle.conf_change.specs.Floor.{number_of, fresh_next};
 
-/// The smallest initial next index: that of a new member while the log is empty (own). etcd's raft uses 1, its test
-/// scripts use 0.
+/// The smallest initial next index: that of a new member while the log is empty (own). etcd 3.4 has no floor: its
+/// initial next index is the last index, as with `Zero`.
 #[derive(Clone, Copy, Debug, PartialEq, Eq)]
 pub enum Floor {
-    /// The initial next index is the last index, also if that is 0.
+    /// The initial next index is the last index, even if that is 0.
     Zero,
     /// The initial next index is at least 1, the index of the first entry of a log.
     One,

@@ -19,7 +19,7 @@ ghost use Rattle.conf_change.specs.Configuration.{Configuration, has_voter, is_r
 ghost use Rattle.conf_change.specs.ConfState.{ConfStateLists, Describes, is_same_conf_state, lists_of, restored};
 ghost use Rattle.conf_change.specs.ConfStateLine.{DenotesConfState, conf_state_in};
 
-/// A text denotes at most one list of changes, which is the value of the function; if it denotes none, the function
+/// A text denotes at most one list of changes, which is the value of `changes_in`; if it denotes none, `changes_in`
 /// gives its first bad token.
 pub fn one_list_per_text()
     ensures ok { (text : List ℕ) (changes : List Change) → (Denotes text changes) ↔ (changes_in text ≡ Ok changes) }
@@ -27,7 +27,7 @@ pub fn one_list_per_text()
     ensures one { (text : List ℕ) (a b : List Change) → Denotes text a → Denotes text b → a ≡ b }
 {}
 
-/// A text denotes at most one ConfState, which is the value of the function.
+/// A text denotes at most one ConfState, which is the value of `conf_state_in`.
 pub fn one_conf_state_per_text()
     ensures some { (text : List ℕ) (saved : ConfStateLists) → (DenotesConfState text saved) ↔ (conf_state_in text ≡ Some saved) }
     ensures one { (text : List ℕ) (a b : ConfStateLists) → DenotesConfState text a → DenotesConfState text b → a ≡ b }
@@ -38,8 +38,8 @@ pub fn restored_is_described()
     ensures { (saved : ConfStateLists) (c : Configuration) → ((restored saved ≡ Some c) ↔ (Describes saved c × (is_restorable c ≡ true))) }
 {}
 
-/// The ConfState of a configuration, its lists in ascending order, describes it, and a ConfState describes at most one
-/// configuration. So a configuration that is saved and restored is the one from before.
+/// The ConfState of a configuration, with its lists in ascending order, describes that configuration, and a ConfState
+/// describes at most one. So saving and restoring a configuration does not change it.
 pub fn conf_state_describes()
     ensures own { (c : Configuration) → Describes (lists_of c) c }
     ensures one { (saved : ConfStateLists) (c d : Configuration) → Describes saved c → Describes saved d → c ≡ d }
@@ -50,17 +50,17 @@ pub fn equal_conf_states_are_the_same()
     ensures { (a b : ConfStateLists) → (is_same_conf_state a b ≡ true) ↔ (a ≡ b) }
 {}
 
-/// A step leads from a changer to at most one changer, which is the value of the function; if the step is refused, the
-/// function gives the refusal.
+/// A step leads from a changer to at most one changer, which is the value of `changer_after`; if the step is refused,
+/// `changer_after` gives the refusal.
 pub fn one_changer_after_a_step()
     ensures ok { (before after : ChangerState) (step : Step) → (Accepts before step after) ↔ (changer_after before step ≡ Ok after) }
     ensures err { (before : ChangerState) (step : Step) (why : Refused) → (outcome before.tracker.config step ≡ Err why) ↔ (changer_after before step ≡ Err why) }
 {}
 
 /// An accepted step leads from a sound tracker to a sound one, and from a configuration that can be restored to one
-/// with an incoming voter that can be restored. What begins with such a configuration is sound, and so is a new
-/// changer, whose configuration is empty. So is a sound tracker after an acknowledgement. So every tracker that is ever
-/// reached is sound.
+/// that can be restored too and has an incoming voter. A tracker that begins with a configuration that can be restored
+/// is sound, and so is a new one, whose configuration is empty. An acknowledgement keeps a tracker sound. So every
+/// tracker that is ever reached is sound.
 pub fn trackers_stay_sound()
     ensures step { (before : ChangerState) (step : Step) (after : Configuration) → IsSound before.tracker → outcome before.tracker.config step ≡ Ok after
         → IsSound (moved_to before step after).tracker }
@@ -72,18 +72,17 @@ pub fn trackers_stay_sound()
         → IsSound (changer_with_progress before id p).tracker }
 {}
 
-/// The test whether two configurations are the same is equality.
+/// Two configurations are the same, by `is_same`, exactly if they are equal.
 pub fn same_is_equality()
     ensures { (a b : Configuration) → (is_same a b ≡ true) ↔ (a ≡ b) }
 {}
 
-/// A configuration is valid exactly if all this is true of each id: the invariants, which are about sets, read id by
-/// id.
+/// A configuration is valid exactly if the invariants, which are stated for sets, are true id by id.
 pub fn valid_by_member()
     ensures { (c : Configuration) → (is_valid c ≡ true) ↔ ValidByMember c }
 {}
 
-/// In the result of a list of changes, the last effective change of an id decides its roles. After `v4 l4 v4 u4` it is
+/// In the result of a list of changes, the last effective change of an id decides its roles. After `v4 l4 v4 u4`, 4 is
 /// a voter, since an update has no effect.
 pub fn result_by_member()
     ensures incoming { (c : Configuration) (changes : List Change) (id : ℕ)

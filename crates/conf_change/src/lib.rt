@@ -1,16 +1,16 @@
 //! Configurations of a Raft cluster and how they change: etcd's package `confchange`, with the progress of each member.
 //!
-//! A configuration is who votes and who learns. Adding or removing one voter at a time is safe, since each majority
-//! before such a change shares a member with each majority after it: this is a simple change. Every other change of the
-//! voters goes through a joint configuration, in which the incoming and the outgoing voters both have to agree
-//! (sections 4.1 and 4.3 of Ongaro's dissertation):
+//! A configuration names the voters of a cluster and its learners, which get the log and do not vote. A simple change
+//! adds or removes at most one voter. It is safe, since each majority before it shares a member with each majority
+//! after it. Every other change of the voters goes through a joint configuration, in which the incoming and the
+//! outgoing voters both have to agree (sections 4.1 and 4.3 of Ongaro's dissertation):
 //!
 //! ```text
 //! (1 2 3)        --enter-joint v4 r1-->  (2 3 4)&&(1 2 3)  --leave-joint-->  (2 3 4)
 //! ```
 //!
-//! A voter that is to become a learner keeps voting among the outgoing voters until the joint configuration is left.
-//! Till then it is a next learner:
+//! An outgoing voter that is to become a learner keeps voting until the joint configuration is left. Until then it is a
+//! next learner:
 //!
 //! ```text
 //! (1 2 3)                                --enter-joint l3-->
@@ -18,9 +18,10 @@
 //! (1 2) learners=(3)
 //! ```
 //!
-//! A list of changes is read as etcd reads it: `v1` makes 1 a voter, `l1` a learner, `r1` removes it and `u1` changes
-//! nothing; of several changes of one id the last one decides. A [`Changer`] has a configuration with the progress of
-//! its members, and makes a list of changes or refuses it with a reason. A refused change alters nothing:
+//! A list of changes is written as in etcd's test scripts: `v1` makes 1 a voter, `l1` a learner, `r1` removes it and
+//! `u1` changes nothing. Of several changes of one id, the last one that is not an update decides its roles. A
+//! [`Changer`] has a configuration with the progress of its members. It applies a list of changes, or refuses it with a
+//! reason and alters nothing:
 //!
 //! ```text
 //! let mut changer: Changer<InlineIds> = Changer::new(alloc, 10);

@@ -23,7 +23,7 @@ pub(crate) fn progress_of(members: &[(u64, Progress)], id: u64) -> Option<Progre
     }
 }
 
-// Sets the progress of an id, if it is there.
+// Sets the progress of an id, if it is a member.
 pub(crate) fn set_progress_of(members: &mut [(u64, Progress)], id: u64, progress: Progress)
     requires { IsAscending (map (λ m. m.0) members.old) }
     ensures keys { map (λ m. m.0) members.new ≡ map (λ m. m.0) members.old }
@@ -34,8 +34,8 @@ pub(crate) fn set_progress_of(members: &mut [(u64, Progress)], id: u64, progress
     }
 }
 
-// Updates the entry of an id to its new membership: a member keeps its progress or gets a fresh one, and is marked as a
-// learner or not; any other id has no entry. So a voter that becomes a learner keeps its match and next.
+// Updates the entry of an id to its new membership: a member keeps its progress or gets fresh progress, and is marked
+// as a learner or not; any other id has no entry. So a voter that becomes a learner keeps its match and next.
 pub(crate) fn update_member(
     members: &mut SmallVec<(u64, Progress), 1>,
     id: u64,

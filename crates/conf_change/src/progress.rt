@@ -9,7 +9,7 @@ ghost use Rattle.conf_change.specs.Acknowledgement.{acknowledged};
 pub struct Progress {
     /// Match: the greatest index up to which the member is known to have the log, 0 if none is known.
     pub matched: u64,
-    /// The next index to send to the member, at least the floor.
+    /// The index of the next entry to send to the member, at least the floor.
     pub next: u64,
     /// Whether the member is a learner.
     pub learner: bool,

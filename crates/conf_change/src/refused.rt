@@ -10,13 +10,13 @@ use thiserror::Error;
 pub enum Refused {
     /// A joint configuration is entered from a joint one, which has to be left first.
     AlreadyJoint,
-    /// A joint configuration is entered from one without a voter, so its outgoing voters would be none.
+    /// A joint configuration is entered from one without a voter, so it would have no outgoing voters.
     ZeroVoterJoint,
-    /// A configuration is left that is not joint.
+    /// The configuration to be left is not joint.
     NotJoint,
     /// A simple change is made in a joint configuration, which has to be left first.
     SimpleInJoint,
-    /// No voter, or in a joint configuration no incoming one, would be left, so nothing could be committed any more.
+    /// No voter would be left, or no incoming one in a joint configuration, so nothing could be committed.
     RemovedAllVoters,
     /// A simple change would alter more than one voter. Voters that are added and voters that are removed count
     /// together: `r1 v5` alters two.

@@ -1,6 +1,6 @@
-//! Restoring a saved configuration, as a server does that starts again or receives a snapshot.
+//! Restoring a saved configuration, as a server does when it restarts or receives a snapshot.
 //!
-//! etcd's `confchange.Restore` makes changes that lead to the configuration. Here the lists are taken as its sets
+//! etcd's `confchange.Restore` makes changes that lead to the configuration. Here the lists become its sets directly
 //! (own):
 //!
 //! ```text
@@ -34,7 +34,7 @@ use thiserror::Error;
 /// Why a saved configuration is not restored.
 #[derive(Clone, Copy, Debug, PartialEq, Eq, Error)]
 pub enum RestoreFault {
-    /// A list names an id twice, the configuration is not valid, or it has members and no incoming voter.
+    /// A list names an id twice, the configuration is not valid, or it has members but no incoming voter.
     #[error("not a configuration")]
     NotAConfiguration,
     /// An allocation failed.
@@ -53,8 +53,9 @@ impl From<NoMemory> for RestoreFault {
 }
 
 impl<S: MemberSet> Changer<S> {
-    /// A changer with the saved configuration, fresh progress and floor one. A ConfState is refused unless each list
-    /// names each id once, the configuration is valid, and it has an incoming voter or is empty (own).
+    /// A changer with the saved configuration, fresh progress and floor one (etcd's `confchange.Restore`). Refused with
+    /// NotAConfiguration if a list names an id twice, if the configuration is not valid, or if it has members but no
+    /// incoming voter (own).
     pub fn restore(
         alloc: Global,
         state: &ConfState,
@@ -76,7 +77,7 @@ impl<S: MemberSet> Changer<S> {
         last_index: u64,
         floor: Floor,
     ) -> Result<Changer<S>, RestoreFault>
-        // A ConfState that describes a restorable configuration gives it, whatever the order of its lists.
+        // A ConfState that describes a restorable configuration is restored to it, whatever the order of its lists.
         ensures described { (c : Configuration) → Describes state.now c → is_restorable c ≡ true →
             MatchResult result (λ changer. changer ≡ begun_with floor last_index c) (λ fault. fault ≡ RestoreFault.NoMemory) }
         // Any other is refused, since all trackers are sound.
@@ -113,7 +114,7 @@ pub fn described<S: MemberSet>(alloc: Global, state: &ConfState) -> Result<Confi
     })
 }
 
-// The set of the ids of a list, if it names each once; otherwise the set is smaller than the list.
+// The set of the ids of a list. Refused if the list names an id twice, since the set is then smaller than the list.
 fn set_from<S: MemberSet>(alloc: Global, list: &[u64]) -> Result<S, RestoreFault>
     ensures once { IfOk result (λ set. Lists list.now (S.ids set)) }
     ensures twice { result ≡ Err RestoreFault.NotAConfiguration → names_once list.now ≡ false }
@@ -133,8 +134,8 @@ fn is_restorable<S: MemberSet>(config: &Config<S>) -> bool
     check(config).is_ok() && has_voter_or_is_empty(config)
 }
 
-// Whether the configuration has an incoming voter or is empty. Steps from an empty one never lead to one without a
-// voter.
+// Whether the configuration has an incoming voter or is empty. Steps from the empty one never lead to a configuration
+// without a voter.
 fn has_voter_or_is_empty<S: MemberSet>(config: &Config<S>) -> bool
     ensures { result ≡ has_voter_or_is_empty config.now }
 {

@@ -17,8 +17,8 @@ pub(crate) struct Roles {
 }
 
 impl Roles {
-    // The roles after the last effective change of the id. A new learner that is an outgoing voter becomes a next
-    // learner, and a removed one stays an outgoing voter: only leaving the joint configuration ends that role.
+    // The roles after the last effective change of the id. An outgoing voter that is made a learner becomes a next
+    // learner, and one that is removed stays an outgoing voter: only leaving the joint configuration ends that role.
     pub(crate) fn after(self, last: Option<Kind>) -> Roles
         ensures { result ≡ roles_after self last }
     {

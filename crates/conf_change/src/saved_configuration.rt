@@ -1,4 +1,4 @@
-//! Saved configurations. A snapshot of the log has with it the configuration at that index, which etcd calls ConfState.
+//! Saved configurations, which etcd calls ConfState. A snapshot carries the configuration as of its index.
 ghost use Rattle.std.specs.Prelude.{◌≡◌, IfOk};
 ghost use Rattle.quorum_sets.specs.Ids.{ascending};
 ghost use Rattle.conf_change.specs.ConfState.{Describes, lists_of};
@@ -65,7 +65,7 @@ pub enum ConfStateFault {
     NoMemory,
 }
 
-/// The ConfState of a configuration, its lists in ascending order (etcd's `ProgressTracker.ConfState`). It has no
+/// The ConfState of a configuration, with its lists in ascending order (etcd's `ProgressTracker.ConfState`). It has no
 /// progress.
 pub fn conf_state<S: MemberSet>(alloc: Global, config: &Config<S>) -> Result<ConfState, NoMemory>
     ensures ascending { IfOk result (λ state. state ≡ lists_of config.now) }

@@ -11,7 +11,7 @@ use crate::change::{Change, Changes};
 pub enum Step {
     /// At most one voter changes, and any number of learners, as in `v4 l5 l6`.
     Simple(Changes),
-    /// Enters a joint configuration, with auto-leave or not, by these changes, which may alter any voters.
+    /// Enters a joint configuration, with or without auto-leave, by these changes. They may alter any number of voters.
     EnterJoint(bool, Changes),
     /// Leaves a joint configuration: from then on the incoming voters decide alone.
     LeaveJoint,

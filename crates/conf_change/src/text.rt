@@ -22,7 +22,7 @@ use ascii_text::append::{append, append_number, keep_whole};
 use quorum_sets::{MemberSet, NoMemory};
 
 /// Appends a configuration, without a newline: `voters=(1 2)`, `&&(2 3)` if it is joint, its learners and next learners
-/// if it has any, and `autoleave` if that is set. Sets are in ascending order (`Config.String` of etcd's package
+/// if it has any, and `autoleave` if that is set. Ids are in ascending order (`Config.String` of etcd's package
 /// `tracker`).
 pub fn write_config<S: MemberSet>(text: &mut Vec<u8>, config: &Config<S>) -> Result<(), NoMemory>
     ensures ok { OnOk result (text.new.items ≡ text.old.items ++ config_text config.now) }
@@ -113,7 +113,7 @@ fn append_labelled(text: &mut Vec<u8>, label: &[u8], number: u64) -> Result<(), 
     Ok(())
 }
 
-/// Appends the message of a refusal, without a newline, as etcd's `confchange` package has it, as in
+/// Appends the message of a refusal, without a newline, as etcd's package `confchange` has it, such as
 /// `removed all voters`.
 pub fn write_refused(text: &mut Vec<u8>, refused: Refused) -> Result<(), NoMemory>
     requires { refused ≢ Refused.NoMemory }
@@ -124,8 +124,9 @@ pub fn write_refused(text: &mut Vec<u8>, refused: Refused) -> Result<(), NoMemor
     Ok(())
 }
 
-/// Appends the message of a bad token, without a newline: `unknown token ` or `unknown input: `, as etcd's test scripts
-/// have it, or `bad number: ` (own), and the token. `NoMemory` has no message; it is returned.
+/// Appends the message of a bad token, which ends with the token, without a newline: `unknown token v` or
+/// `unknown input: x1`, as etcd's test scripts have it, or `bad number: v-1` (own). `NoMemory` has no message; it is
+/// returned as the error.
 pub fn write_token_fault(text: &mut Vec<u8>, fault: TokenFault<'_>) -> Result<(), NoMemory>
     ensures ok { OnOk result (IsSomeAnd (bad_token fault.entry) (λ bad. text.new.items ≡ text.old.items ++ bad_token_text bad)) }
     ensures err { OnErr result (text.new.items ≡ text.old.items) }

@@ -1,5 +1,5 @@
-//! The tracker: a configuration, and the progress of its members. A step changes both. If the last index is 9, and 1 is
-//! removed and added again:
+//! The tracker: a configuration, and the progress of its members. A step changes both. Here the last index is 9, and 1
+//! is removed and added again, so it begins anew:
 //!
 //! ```text
 //!              (1 2)                1: match=5 next=6   2: match=4 next=6
@@ -163,22 +163,21 @@ impl<S: MemberSet> Tracker<S> {
         set_progress_of(self.members.as_mut_slice(), id, progress);
     }
 
-    // Whether it has outgoing voters.
+    // Whether the configuration has outgoing voters.
     pub(crate) fn is_joint(&self) -> bool
         ensures { result ≡ is_joint self.now.config }
     {
         self.config.outgoing.len() != 0
     }
 
-    // Whether it has an incoming voter.
+    // Whether the configuration has an incoming voter.
     pub(crate) fn has_voter(&self) -> bool
         ensures { result ≡ has_voter self.now.config }
     {
         self.config.incoming.len() != 0
     }
 
-    // Whether an incoming voter is left after one change. This is known before the change is made, so that it can be
-    // made in place.
+    // Whether one change would leave an incoming voter. Since this is known beforehand, the change is made in place.
     pub(crate) fn has_voter_after(&self, change: Change) -> bool
         ensures { result ≡ has_voter (result_of self.now.config (change ∷ [])) }
     {
@@ -219,9 +218,10 @@ impl<S: MemberSet> Tracker<S> {
         Tracker::new(self.alloc, self.floor)
     }
 
-    // Overwrites `self` with another tracker after a list of changes, with these outgoing voters and this flag, and
-    // this initial next index for new members. A simple change leaves both as they are; entering a joint configuration
-    // makes the incoming voters the outgoing ones. On `NoMemory` the contents are unspecified.
+    // Overwrites `self` with the result of a list of changes to `before`, whose outgoing voters and flag are first
+    // replaced by these. For a simple change they are those of `before`; to enter a joint configuration, the outgoing
+    // voters are its incoming ones. New members get this initial next index. On `NoMemory` the contents are
+    // unspecified.
     pub(crate) fn become_changed(
         &mut self,
         before: &Tracker<S>,
@@ -243,8 +243,8 @@ impl<S: MemberSet> Tracker<S> {
         Ok(())
     }
 
-    // Overwrites `self` with another tracker with these outgoing voters and this flag, and reserves capacity for `more`
-    // members. On `NoMemory` the contents are unspecified.
+    // Overwrites `self` with a copy of `before`, but with these outgoing voters and this flag, and reserves capacity
+    // for `more` members. On `NoMemory` the contents are unspecified.
     fn begin_as(
         &mut self,
         before: &Tracker<S>,
@@ -317,9 +317,9 @@ impl<S: MemberSet> Tracker<S> {
         }
     }
 
-    // The progress of an id after the changes that a summary has: a member keeps its progress unless it is removed and
-    // is not an outgoing voter; then, and if it is new, it gets fresh progress. Any other id has none. After `r1 v1`,
-    // for example, a voter 1 begins anew, unless it was an outgoing voter all along.
+    // The progress of an id after the changes of a summary. A member keeps its progress, unless a change removes it and
+    // it is not an outgoing voter; then, or if it is new, it gets fresh progress. Any other id has none. After `r1 v1`,
+    // for example, 1 begins anew unless it is an outgoing voter.
     fn entry_after(
         &self,
         summary: ChangeSummary,
@@ -342,8 +342,8 @@ impl<S: MemberSet> Tracker<S> {
         Some(Progress { learner, ..known })
     }
 
-    // The progress of the id, or `None` if it is not a member. It is looked up first at the position, where it is when
-    // the ids come in ascending order.
+    // The progress of the id, or `None` if it is not a member. It is looked up first at the position, which is right if
+    // each member before it was looked up in order.
     fn next_progress(&self, position: &mut usize, id: u64) -> Option<Progress>
         ensures { result ≡ finite.get self.now.progress id }
     {
@@ -356,7 +356,7 @@ impl<S: MemberSet> Tracker<S> {
         }
     }
 
-    // Overwrites `self` with another tracker after leaving the joint configuration. On `NoMemory` the contents are
+    // Overwrites `self` with the result of leaving the joint configuration of `before`. On `NoMemory` the contents are
     // unspecified.
     pub(crate) fn become_left(&mut self, before: &Tracker<S>) -> Result<(), NoMemory>
         ensures { OnOk result (Keeps (after_leave before.now.config) before.now self.new) }
@@ -367,7 +367,7 @@ impl<S: MemberSet> Tracker<S> {
     }
 }
 
-// Makes one change after another, of a configuration and its members. On `NoMemory` some of them are made.
+// Makes the changes one after another, in a configuration and its members. On `NoMemory` some of them are made.
 fn make_each<S: MemberSet>(
     config: &mut Config<S>,
     members: &mut SmallVec<(u64, Progress), 1>,
@@ -403,8 +403,8 @@ fn copy_members(
     Ok(())
 }
 
-// Overwrites the members with those of others that are members of a configuration. They keep their progress, and are
-// marked as learners or not: a next learner is marked when it becomes a learner.
+// Overwrites the members with those of `others` that the configuration has. They keep their progress, and are marked as
+// learners or not: a next learner is marked when it becomes a learner.
 fn keep_members<S: MemberSet>(
     members: &mut SmallVec<(u64, Progress), 1>,
     config: &Config<S>,
@@ -459,7 +459,7 @@ fn kept<S: MemberSet>(
     }
 }
 
-// Adds an id to a set if it is there.
+// Adds an id to a set if `there` is true.
 fn insert_if<S: MemberSet>(set: &mut S, id: u64, there: bool) -> Result<(), NoMemory>
     ensures { OnOk result (S.ids set.new ≡ (if there then with_id (S.ids set.old) id else S.ids set.old)) }
 {

@@ -1,4 +1,5 @@
-//! Which step etcd takes for a list of changes. A `raftpb.ConfChangeV2` has a transition and a list, and nothing else:
+//! Which step etcd takes for a list of changes. A `raftpb.ConfChangeV2` does not name its step: the transition and the
+//! length of the list decide:
 //!
 //! ```text
 //!            no change       one change      more changes
@@ -15,19 +16,19 @@ use crate::step::StepKind;
 /// How a list of changes is applied (etcd's `raftpb.ConfChangeTransition`).
 #[derive(Clone, Copy, Debug, PartialEq, Eq)]
 pub enum Transition {
-    /// No change leaves a joint configuration, one change is a simple step, and more enter a joint configuration that
-    /// is left automatically.
+    /// An empty list leaves a joint configuration, one change is a simple step, and more than one enter a joint
+    /// configuration that is left automatically.
     Auto,
-    /// Always by a joint configuration, which is left automatically.
+    /// Every list enters a joint configuration, which is left automatically.
     Implicit,
-    /// Always by a joint configuration, which stays until another step leaves it.
+    /// Every list enters a joint configuration, which stays until another step leaves it.
     Explicit,
 }
 
-/// The kind of step of a list of changes: Auto without a change leaves a joint configuration; more than one change, or
-/// a transition other than Auto, enters one, with auto-leave unless it is Explicit; else the step is simple
-/// (`EnterJoint` and `LeaveJoint` of etcd's `raftpb.ConfChangeV2`). Each change of the list counts, also one of the id
-/// 0, an update or a repeated one.
+/// The kind of the step that etcd takes for a list of changes (`EnterJoint` and `LeaveJoint` of its
+/// `raftpb.ConfChangeV2`). With Auto, an empty list leaves a joint configuration, and one change is a simple step. In
+/// all other cases the step enters a joint configuration, with auto-leave unless the transition is Explicit. Each
+/// change of the list counts, even an update, a repeated change, or a change of the id 0.
 pub fn taken(transition: Transition, changes: &[Change]) -> StepKind
     ensures { result ≡ step_kind_of transition changes.now }
 {
