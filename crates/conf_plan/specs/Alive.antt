@@ -12,7 +12,7 @@ use Rattle.conf_change.specs.declared.step.Step.TheVariants.{Simple, EnterJoint,
 use Rattle.conf_plan.specs.Best.{IsBest}
 use Rattle.conf_plan.specs.Run.{IsRun, IsRunWith}
 
--- the steps lead from one configuration to the other, and this holds of the configuration after each step
+-- the steps lead from one configuration to the other, and Holds is true of the configuration after each step
 abbrev pub EachOnTheWay : (Configuration → Type 0) → Configuration → List Step → Configuration → Type 0
 EachOnTheWay Holds = IsRunWith (λ before step after. Holds after)
 
@@ -36,7 +36,7 @@ IsAsTolerant now target c =
 abbrev pub KeepsTolerance : Configuration → List Step → Configuration → Type 0
 KeepsTolerance now steps target = EachOnTheWay (IsAsTolerant now target) now steps target
 
--- ---- empty members
+-- ---- members with an empty log
 -- the members after the step that do not keep their progress in it; they begin with an empty log
 abbrev pub catching_up : Configuration → Step → Configuration → Ids
 catching_up before step after = ids_where (λ id. not (keeps_progress before step after id)) (members after)
@@ -51,33 +51,33 @@ abbrev pub MakesVotersOfReady : Configuration → Step → Configuration → Typ
 MakesVotersOfReady before step after =
     (id : ℕ) → has after.incoming id ≡ true → (has before.incoming id || has before.outgoing id) ≡ false → IsReadyLearner before step after id
 
--- each new voter was a learner with progress before
+-- the steps lead from one configuration to the other, and each new voter was a learner with progress before
 abbrev pub VotersLearnFirst : Configuration → List Step → Configuration → Type 0
 VotersLearnFirst = IsRunWith MakesVotersOfReady
 
 -- ---- one member at a time
--- a step of one change, or the leaving of a joint configuration
+-- a simple step of one change, or leaving a joint configuration
 abbrev pub IsOneChange : Step → Type 0
 IsOneChange (Simple changes) = length changes ≡ 1
 IsOneChange (EnterJoint auto_leave changes) = ⊥
 IsOneChange LeaveJoint = ⊤
 
--- a step of one change that makes voters of learners only
+-- such a step, in which each new voter was a learner before
 pub record ChangesOneLearnerFirst (before : Configuration) (step : Step) (after : Configuration) : Type 0 where
   pub one : IsOneChange step
   pub learners : (id : ℕ) → has after.incoming id ≡ true → (has before.incoming id || has before.outgoing id) ≡ false → has before.learners id ≡ true
 
 -- ---- what each strategy promises
--- The steps are the best plan, at most four. A quorum of both ends is a quorum on the whole way, and no configuration
--- there tolerates fewer failures than the weaker end.
+-- The steps are the best plan, at most four. A quorum of both ends is a quorum of each configuration on the way, and
+-- none of these tolerates fewer failures than the weaker end.
 pub record ShortestServes (now : Configuration) (steps : List Step) (target : Configuration) : Type 0 where
   pub best : IsBest now steps target
   pub at_most_four : length steps ≤ 4
   pub quorums : KeepsQuorums now steps target
   pub tolerance : KeepsTolerance now steps target
 
--- At most one step more than any other run, and at most five. Quorums and tolerance are as for the plan, and each new
--- voter was a learner with progress before.
+-- The steps are at most one more than in any other run, and at most five. Quorums and tolerance are as for the shortest
+-- path, each new voter was a learner with progress before, and the quorums before and after each step overlap.
 pub record LearnersFirstServes (now : Configuration) (steps : List Step) (target : Configuration) : Type 0 where
   pub run : IsRun now steps target
   pub one_more : (other : List Step) → IsRun now other target → length steps ≤ length other + 1
@@ -87,8 +87,9 @@ pub record LearnersFirstServes (now : Configuration) (steps : List Step) (target
   pub voters : VotersLearnFirst now steps target
   pub overlap : IsRunWith (λ before step after. Overlap (voters_of before) (voters_of after)) now steps target
 
--- Each step changes one member, and each new voter was a learner with progress before. No other run of such steps,
--- which make voters of learners only, is shorter.
+-- Each step changes one member or leaves a joint configuration, and each new voter was a learner with progress before.
+-- No other run of steps as in ChangesOneLearnerFirst is shorter. Tolerance is as for the shortest path, and the quorums
+-- before and after each step overlap.
 pub record OneAtATimeServes (now : Configuration) (steps : List Step) (target : Configuration) : Type 0 where
   pub run : IsRunWith ChangesOneLearnerFirst now steps target
   pub least : (other : List Step) → IsRunWith ChangesOneLearnerFirst now other target → length steps ≤ length other

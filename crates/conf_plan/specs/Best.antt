@@ -1,5 +1,5 @@
 -- What makes a plan the best one (own): how many steps it has, whose progress it preserves, how often it names an id,
--- and that voters overlap. Logs are not considered.
+-- and that quorums overlap. Logs are not considered.
 use Rattle.std.specs.Prelude.{◌≡◌, ◌≢◌, ℕ, ◌≤◌, Bool, true, ◌&&◌, ◌||◌, ◌↔◌, List, [], ◌∷◌, length, sum_by, count_by}
 use Rattle.std.specs.List.{All}
 use Rattle.quorum_sets.specs.Ids.{has}
@@ -16,7 +16,7 @@ use Rattle.conf_change.specs.declared.step.Step.TheVariants.{Simple, EnterJoint,
 use Rattle.conf_plan.specs.Run.{IsRun, IsRunWith}
 
 -- ---- an id, along a run
--- the run preserves the id's progress: it is a member before, and keeps its progress at each step
+-- the run preserves the id's progress: the id is a member before, and keeps its progress at each step
 abbrev pub Preserves : Configuration → List Step → Configuration → ℕ → Type 0
 Preserves before steps after id =
     (is_member before id ≡ true) × IsRunWith (λ at step next. keeps_progress at step next id ≡ true) before steps after
@@ -48,8 +48,8 @@ pub record IsPlain (change : Change) : Type 0 where
   pub no_update : change.kind ≢ Update
 
 -- The steps lead to the target. No other run there is shorter, preserves the progress of a member that they reset, or
--- names an id in fewer changes. They preserve exactly the members of both configurations that leaving a joint one first
--- does not drop. The voters before and after each step overlap.
+-- names an id in fewer changes. They preserve the progress of exactly those members of both configurations that are not
+-- dropped when a joint one is left first. The quorums before and after each step overlap.
 pub record IsBest (now : Configuration) (steps : List Step) (target : Configuration) : Type 0 where
   pub run : IsRun now steps target
   pub shortest : (other : List Step) → IsRun now other target → length steps ≤ length other

@@ -9,7 +9,7 @@ use Rattle.conf_change.specs.declared.step.Step.{Step}
 use Rattle.conf_change.specs.declared.step.Step.TheVariants.{Simple}
 use Rattle.conf_plan.specs.Planned.{kind_by}
 
--- a simple step of one change, as simple v4
+-- a simple step of one change, such as simple v4
 abbrev pub one_change : Kind → ℕ → Step
 one_change kind id = Simple (record { kind = kind; id = id } ∷ [])
 
@@ -21,7 +21,7 @@ joining c target = filter (λ id. not (has c.incoming id)) (ascending target.inc
 abbrev pub retiring : Configuration → Configuration → List ℕ
 retiring c target = filter (λ id. not (has target.incoming id)) (ascending c.incoming)
 
--- the steps by which an id becomes a voter, and a learner before that if it is not one
+-- the steps by which an id becomes a voter; if it is not a learner yet, it becomes one first
 abbrev pub join_steps : Configuration → ℕ → List Step
 join_steps c id = if has c.learners id then one_change Voter id ∷ [] else one_change Learner id ∷ one_change Voter id ∷ []
 
@@ -29,14 +29,15 @@ join_steps c id = if has c.learners id then one_change Voter id ∷ [] else one_
 abbrev pub retire_step : Configuration → ℕ → Step
 retire_step target id = one_change (if has target.learners id then Learner else Remove) id
 
--- the steps by which, in turn, one id joins and one retires, until there are no more
+-- the steps by which ids join and retire in turn; when one list ends, the rest of the other follows
 abbrev pub in_turn : Configuration → Configuration → List ℕ → List ℕ → List Step
 in_turn c target [] [] = []
 in_turn c target (id ∷ joins) [] = join_steps c id ++ in_turn c target joins []
 in_turn c target [] (id ∷ retires) = retire_step target id ∷ in_turn c target [] retires
 in_turn c target (id ∷ joins) (other ∷ retires) = join_steps c id ++ retire_step target other ∷ in_turn c target joins retires
 
--- what an id has to become, if anything, that is a voter neither before nor after: a learner, or not a member
+-- the kind of change that an id needs, if any: to become a learner, or to be removed; none if it is a voter before or
+-- after
 abbrev pub learner_change : Configuration → Configuration → ℕ → Option Kind
 learner_change c target id =
     if has c.incoming id || has target.incoming id then None else kind_by false (has target.learners id) false (has c.learners id)
@@ -45,7 +46,7 @@ learner_change c target id =
 abbrev pub learner_steps : Configuration → Configuration → List Step
 learner_steps c target = filter_map (λ id. option_map (λ kind. one_change kind id) (learner_change c target id)) (ascending (union c.learners target.learners))
 
--- the path: the voters change first, and then the ids that are learners only; from (1 2 3) to (3 4 5), l4 v4 r1 l5 v5
--- r2
+-- the path: the voters change first, and then the learners that are voters neither before nor after; l4 v4 r1 l5 v5 r2
+-- leads from (1 2 3) to (3 4 5)
 abbrev pub one_at_a_time_from_single : Configuration → Configuration → List Step
 one_at_a_time_from_single c target = in_turn c target (joining c target) (retiring c target) ++ learner_steps c target

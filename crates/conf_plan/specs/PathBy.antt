@@ -23,8 +23,7 @@ path_by strategy now target =
     if is_same now target then []
     else (if is_joint now then LeaveJoint ∷ from_single_by strategy (after_leave now) target else from_single_by strategy now target)
 
--- whether the strategy has a path between configurations with voters: one member at a time does not lead into a joint
--- configuration
+-- whether the strategy has a path between configurations with voters: OneAtATime does not enter a joint configuration
 abbrev pub has_path : Strategy → Configuration → Configuration → Bool
 has_path Shortest now target = true
 has_path LearnersFirst now target = true

@@ -10,7 +10,7 @@ use Rattle.conf_plan.specs.PlanText.{flag_token, plan_lines}
 use Rattle.conf_plan.specs.declared.text.PlanTextFault.{PlanTextFault}
 use Rattle.conf_plan.specs.declared.text.PlanTextFault.TheVariants.{BadLine, TooManySteps}
 
--- the changes of tokens, if each is parsed as one
+-- the changes of tokens, if each token is parsed as a change
 abbrev pub list_in : List (List ℕ) → Option (List Change)
 list_in tokens = result_ok (changes_in_tokens tokens)
 
@@ -18,7 +18,7 @@ list_in tokens = result_ok (changes_in_tokens tokens)
 abbrev pub flag_of_token : List ℕ → Option Bool
 flag_of_token token = if bytes_eq token (flag_token true) then Some true else (if bytes_eq token (flag_token false) then Some false else None)
 
--- the step into a joint configuration with this flag, if there is one, by the changes of the tokens
+-- the step that enters a joint configuration with this flag, if there is a flag, and the changes of the tokens
 abbrev pub enter_with : Option Bool → List (List ℕ) → Option Step
 enter_with None tokens = None
 enter_with (Some auto_leave) tokens = option_map (EnterJoint auto_leave) (list_in tokens)
@@ -41,7 +41,7 @@ step_in (command ∷ tokens) =
     else (if bytes_eq command (codes "enter-joint") then enter_in tokens
     else (if bytes_eq command (codes "leave-joint") then leave_in tokens else None))
 
--- a step before others, or the first error: the line with this number is bad, or a later line is
+-- the step of the line with this number, before the others, or the first error: that of this line or of a later one
 abbrev pub and_steps : ℕ → Option Step → Result (List Step) PlanTextFault → Result (List Step) PlanTextFault
 and_steps number None others = Err (BadLine number)
 and_steps number (Some step) (Err fault) = Err fault

@@ -30,7 +30,7 @@ change_text change = letter_of change.kind ∷ decimal change.id
 abbrev pub spaced_change : Change → List ℕ
 spaced_change change = 32 ∷ change_text change
 
--- a step's line: its tokens with one space between, as simple l4 l5
+-- a step's line: its tokens with one space between them, as in simple l4 l5
 abbrev pub line_text : Step → List ℕ
 line_text step = join_with_byte 32 (command_tokens step ++ map change_text (changes_of step))
 
@@ -48,7 +48,7 @@ plan_text (step ∷ steps) = flat_map line_and_newline (step ∷ steps)
 abbrev pub is_newline : ℕ → Bool
 is_newline byte = byte == 10
 
--- texts without the last one, if that is empty
+-- the texts, without the last one if it is empty
 abbrev pub without_empty_end : List (List ℕ) → List (List ℕ)
 without_empty_end [] = []
 without_empty_end (part ∷ []) = filter has_bytes (part ∷ [])

@@ -10,14 +10,15 @@ use Rattle.conf_change.specs.declared.change.Kind.TheVariants.{Voter, Learner, R
 use Rattle.conf_change.specs.declared.step.Step.{Step}
 use Rattle.conf_change.specs.declared.step.Step.TheVariants.{Simple, EnterJoint, LeaveJoint}
 
--- what an id has to become, if anything, by its roles in the target (voter, learner) and now (incoming voter, learner)
+-- the kind of change that an id needs, if any, by its roles in the target (voter, learner) and now (incoming voter,
+-- learner)
 abbrev pub kind_by : Bool → Bool → Bool → Bool → Option Kind
 kind_by target_voter target_learner voter learner =
     if target_voter then (if voter then None else Some Voter)
     else (if target_learner then (if learner then None else Some Learner)
     else (if voter || learner then Some Remove else None))
 
--- what an id of a configuration has to become, if anything, on the way to these voters and learners
+-- the kind of change that an id of a configuration needs, if any, on the way to these voters and learners
 abbrev pub kind_of_move : Configuration → Ids → Ids → ℕ → Option Kind
 kind_of_move c voters learners id = kind_by (has voters id) (has learners id) (has c.incoming id) (has c.learners id)
 
@@ -25,7 +26,7 @@ kind_of_move c voters learners id = kind_by (has voters id) (has learners id) (h
 abbrev pub move_of : Configuration → Ids → Ids → ℕ → Option Change
 move_of c voters learners id = option_map (λ kind. record { kind = kind; id = id }) (kind_of_move c voters learners id)
 
--- the configuration with these voters and learners that is not joint
+-- the configuration that is not joint and has these voters and learners
 abbrev pub single_with : Ids → Ids → Configuration
 single_with voters learners = record { incoming = voters; outgoing = no_ids; learners = learners; learners_next = no_ids; auto_leave = false }
 
@@ -47,21 +48,21 @@ single_steps c voters learners =
 abbrev pub is_shared : Configuration → ℕ → Bool
 is_shared target id = is_member target id && not (has target.outgoing id)
 
--- the members of both that are not outgoing voters of the target; they are learners on the way, so that they keep their
--- progress
+-- the members of both configurations that are not outgoing voters of the target; they are learners on the way, so that
+-- they keep their progress
 abbrev pub shared_members : Configuration → Configuration → Ids
 shared_members c target = ids_where (is_shared target) (members c)
 
--- the steps that make the target's outgoing voters the incoming ones, if they are not
+-- the steps that make the target's outgoing voters the incoming ones, if they are not yet
 abbrev pub inserted_steps : Configuration → Configuration → List Step
 inserted_steps c target =
     if is_same_set c.incoming target.outgoing then [] else single_steps c target.outgoing (shared_members c target)
 
--- the configuration that steps lead to
+-- the configuration that steps lead to; a step that is refused changes nothing
 abbrev pub configuration_after : Configuration → List Step → Configuration
 configuration_after c steps = fold (λ at step. result_unwrap_or (outcome at step) at) c steps
 
--- the step into a joint configuration, from one that is not joint and whose incoming voters are its outgoing ones
+-- the step into a joint target, from a configuration whose incoming voters are the target's outgoing ones
 abbrev pub entering_step : Configuration → Configuration → Step
 entering_step c target = EnterJoint target.auto_leave (moves c target.incoming (union target.learners target.learners_next))
 

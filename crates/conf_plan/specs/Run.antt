@@ -14,7 +14,7 @@ pub record IsValidWithVoter (c : Configuration) : Type 0 where
   pub valid : is_valid c ≡ true
   pub voter : has_voter c ≡ true
 
--- the steps lead from one state to the other, each in this way
+-- the steps lead from one state to the other, and Leads is true of each step and the states before and after it
 abbrev pub IsChain : {S : Type 0} → (S → Step → S → Type 0) → S → List Step → S → Type 0
 IsChain Leads before [] after = before ≡ after
 IsChain {S} Leads before (step ∷ steps) after = (next : S) × Leads before step next × IsChain Leads next steps after
@@ -27,7 +27,7 @@ Gives before step after = outcome before step ≡ Ok after
 abbrev pub IsRun : Configuration → List Step → Configuration → Type 0
 IsRun = IsChain Gives
 
--- a run, at each step of which something holds of the step and of the configurations before and after it
+-- a run, where Holds is true of each step and the configurations before and after it
 abbrev pub IsRunWith : (Configuration → Step → Configuration → Type 0) → Configuration → List Step → Configuration → Type 0
 IsRunWith Holds = IsChain (λ before step after. Gives before step after × Holds before step after)
 
@@ -49,8 +49,8 @@ pub record HasKeptProgress (before after : ChangerState) (id : ℕ) : Type 0 whe
   pub same_match : kept.matched ≡ had.matched
   pub same_next : kept.next ≡ had.next
 
--- the changer takes the steps before this one, counted from 1, which is refused for this reason, running out of memory
--- aside
+-- the changer takes the steps before the one with this number, counted from 1, and refuses that one for this reason,
+-- unless the reason is NoMemory
 pub record StopsAt (before : ChangerState) (steps : List Step) (number : ℕ) (why : Refused) (after : ChangerState) : Type 0 where
   pub in_range : 0 < number
   pub taken : Takes before (take (number - 1) steps) after

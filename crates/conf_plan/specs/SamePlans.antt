@@ -7,7 +7,7 @@ use Rattle.conf_change.specs.declared.step.Step.{Step}
 use Rattle.conf_change.specs.declared.step.Step.TheVariants.{Simple, EnterJoint, LeaveJoint}
 use Rattle.conf_change.specs.Step.{changes_of}
 
--- a number for each kind of step
+-- a number for each kind of step, with its flag
 abbrev pub form_of : Step → ℕ
 form_of (Simple _) = 0
 form_of (EnterJoint auto_leave _) = if auto_leave then 1 else 2

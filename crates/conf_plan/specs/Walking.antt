@@ -5,7 +5,7 @@ use Rattle.quorum_sets.specs.Ids.{Ids, ascending, size}
 use Rattle.conf_change.specs.declared.step.Step.{Step}
 use Rattle.conf_plan.specs.PlanSteps.{HasTokenIds}
 
--- the first id is at most the second, and having no id left is later than each id
+-- the first id is at most the second; None, at the end of a walk, is later than any id
 abbrev pub IsNoLater : Option ℕ → Option ℕ → Type 0
 IsNoLater first None = Unit {0}
 IsNoLater None (Some id) = ⊥
@@ -17,7 +17,7 @@ pub record IsEarliest (a b first : Option ℕ) : Type 0 where
   pub no_later_than_b : IsNoLater first b
   pub either : (first ≡ a) ⊎ (first ≡ b)
 
--- the index after the id if the id is at the index, and the same index otherwise
+-- whether the id is at the index, and the next index: one more if it is, and the same otherwise
 pub record IsPassed (ids : Ids) (index id : ℕ) (is_here : Bool) (next : ℕ) : Type 0 where
   pub here : (is_here ≡ true) ↔ (slice_get (ascending ids) index ≡ Some id)
   pub after : next ≡ index + (if is_here then 1 else 0)

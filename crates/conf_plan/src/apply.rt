@@ -1,4 +1,4 @@
-//! Taking the steps of a plan.
+//! Applying a plan: a changer takes its steps in order.
 ghost use Rattle.std.specs.Prelude.{◌≡◌, ℕ, OnOk, IfErr, List};
 ghost use Rattle.conf_change.specs.Configuration.{Configuration};
 ghost use Rattle.conf_change.specs.Changer.{IsSound};
@@ -12,7 +12,7 @@ use conf_change::{Changer, Refused};
 use quorum_sets::MemberSet;
 use thiserror::Error;
 
-/// The step at which a plan stopped, and why. If the second of three steps is refused, the first one stays taken.
+/// The step at which a plan stopped, and why. If the second of three steps is refused, the first stays in effect.
 #[derive(Clone, Copy, Debug, PartialEq, Eq, Error)]
 #[error("step {step}: {refused}")]
 pub struct StepRefused {
@@ -22,11 +22,11 @@ pub struct StepRefused {
     pub refused: Refused,
 }
 
-/// Takes the steps of a plan in order, up to the first that is refused; the steps before that one stay taken. A plan
-/// from the changer's configuration is taken whole, unless memory runs out, and the members whose progress it preserves
-/// keep their match and next. A plan that [`plan`](crate::plan) made for this configuration is the best one to where it
-/// leads: no other steps there preserve the progress of a member that it resets, are fewer, or name an id in fewer
-/// changes (own).
+/// Takes the steps of a plan in order and stops at the first that is refused; the steps before it stay in effect. A
+/// plan that leads on from the changer's configuration stops only if memory runs out, and the members whose progress it
+/// preserves keep their match and next. A plan that [`plan`](crate::plan) made for this configuration is the best one:
+/// no other steps to the same target are fewer, preserve the progress of a member that it resets, or name an id in
+/// fewer changes (own).
 pub fn apply_plan<S: MemberSet>(changer: &mut Changer<S>, plan: &Plan) -> Result<(), StepRefused>
     ensures taken { OnOk result (Takes changer.old plan.now changer.new) }
     ensures stopped { IfErr result (λ stop. StopsAt changer.old plan.now stop.step stop.refused changer.new) }

@@ -12,8 +12,9 @@ use conf_change::{Change, Config, Kind, Step, union};
 use quorum_sets::{MemberSet, NoMemory};
 use std::alloc::Global;
 
-/// The members after a step that do not keep their progress in it: new ones, and those that are removed and added
-/// again. They begin with an empty log, so wait until they have caught up before the next step (own).
+/// The members after a step that do not keep their progress in it: new ones, and those that the step removes and adds
+/// again, unless they are outgoing voters. They begin with an empty log, so wait until they have caught up before the
+/// next step (own).
 pub fn catching_up<S: MemberSet>(
     alloc: Global,
     before: &Config<S>,
@@ -41,7 +42,7 @@ fn add_removed<S: MemberSet>(removed: &mut S, changes: &[Change]) -> Result<(), 
     Ok(())
 }
 
-// Whether the change removes its id.
+// Whether a change of this kind removes its id.
 fn is_removal(kind: Kind) -> bool
     ensures { result ≡ is_removal kind }
 {
@@ -51,8 +52,8 @@ fn is_removal(kind: Kind) -> bool
     }
 }
 
-// Whether a member after a step that removes these ids has lost its progress: it was not a member before, or a new
-// member replaces it.
+// Whether a member after a step that removes these ids has lost its progress: it was not a member before, or it was
+// removed and added again and is not an outgoing voter.
 fn has_lost<S: MemberSet>(before: &Config<S>, after: &Config<S>, removed: &S, id: u64) -> bool
     ensures { result ≡ (not (is_member before.now id) || (has (S.ids removed.now) id && not (has after.now.outgoing id))) }
 {

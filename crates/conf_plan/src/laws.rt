@@ -1,5 +1,5 @@
-//! Laws of this crate's definitions: what is true of all runs, plans and texts. Each is the contract of a function that
-//! does nothing.
+//! Laws of this crate's definitions: what is true of all runs, plans and texts. A run is a list of steps that are
+//! accepted one after another. Each law is the contract of a function that does nothing.
 ghost use Rattle.std.specs.Prelude.{◌≡◌, ◌≤◌, ◌↔◌, ◌⊎◌, ℕ, true, List, length, map, Ok, Err, Some};
 ghost use Rattle.std.specs.List.{join_with_byte};
 ghost use Rattle.conf_change.specs.Configuration.{Configuration};
@@ -28,7 +28,7 @@ pub fn run_stays_valid()
     ensures { (before after : Configuration) (steps : List Step) → IsValidWithVoter before → IsRun before steps after → IsValidWithVoter after }
 {}
 
-/// A run that does not name an id leaves its roles as they are: incoming voter, learner (now or next), or neither.
+/// A run that does not name an id leaves the id's roles as they are: incoming voter, learner (now or next), or neither.
 pub fn unnamed_stays()
     ensures { (before after : Configuration) (steps : List Step) (id : ℕ) → IsRun before steps after → times_named id steps ≡ 0 → HasSameRoles before after id }
 {}
@@ -45,11 +45,11 @@ pub fn planned_is_best()
     ensures { (now target : Configuration) → IsValidWithVoter now → IsValidWithVoter target → IsBest now (planned now target) target }
 {}
 
-/// Each strategy keeps its promises. No configuration on the way tolerates fewer failures than the weaker end. The
-/// shortest path is the plan. With learners first, the path is at most one step longer, and each new voter was a
-/// learner with progress. On both, a quorum of both ends is a quorum of each configuration on the way. One member at a
-/// time, the path has the fewest steps of its kind, its new voters were learners with progress too, and it does not
-/// lead into a joint configuration.
+/// Each strategy keeps its promises. On every path, no configuration tolerates fewer failures than the weaker end. The
+/// shortest path is the plan. The path with learners first is at most one step longer, and each new voter was a learner
+/// with progress. On these two, a quorum of both ends is a quorum of each configuration on the way. The path that
+/// changes one member at a time has the fewest steps of its kind, its new voters were learners with progress too, and
+/// it does not enter a joint configuration.
 pub fn paths_serve()
     ensures shortest { (now target : Configuration) → path_by Shortest now target ≡ planned now target }
     ensures serves { (strategy : Strategy) (now target : Configuration) → IsValidWithVoter now → IsValidWithVoter target → has_path strategy now target ≡ true → Serves strategy now (path_by strategy now target) target }
@@ -61,8 +61,8 @@ pub fn progress_is_kept()
         → keeps_progress before.tracker.config step after.tracker.config id ≡ true → HasKeptProgress before after id }
 {}
 
-/// After any run, the plan leads back in at most four steps, and in at most three if the run has one step. The step
-/// from (1 2 3) to (2 3 4)&&(1 2 3) is undone by leave-joint, enter-joint v1 r4 and leave-joint.
+/// The plan from the end of any run leads back in at most four steps, and in at most three if the run has one step. The
+/// step from (1 2 3) to (2 3 4)&&(1 2 3) is undone by leave-joint, enter-joint v1 r4 and leave-joint.
 pub fn undo_of_run()
     ensures back { (before after : Configuration) (steps : List Step) → IsValidWithVoter before → IsRun before steps after
         → IsRun after (planned after before) before }
@@ -90,8 +90,8 @@ pub fn one_changer_after_steps()
         → (after : ChangerState) × (after_steps before steps ≡ Some after) × (after.tracker.config ≡ target) }
 {}
 
-/// A text is parsed as at most one plan, or has exactly one error; the parser returns that plan or that error. The
-/// printed text of a plan is parsed as the plan, and the printed changes of a step as these changes.
+/// A text is either parsed as exactly one plan or has exactly one error, and the parser returns it. The printed text of
+/// a plan is parsed as the plan, and the printed changes of a step as these changes.
 pub fn one_plan_per_text()
     ensures ok { (text : List ℕ) (steps : List Step) → (ParsesToPlan text steps) ↔ (plan_in text ≡ Ok steps) }
     ensures err { (text : List ℕ) (fault : PlanTextFault) → (HasFault text fault) ↔ (plan_in text ≡ Err fault) }

@@ -1,5 +1,5 @@
 //! The path on which new voters are learners first (Ongaro's dissertation, section 4.2.1). A learner gets the log and
-//! does not vote, so the cluster keeps serving by its old voters while the learner catches up:
+//! does not vote, so the old voters keep the cluster serving while the learner catches up:
 //!
 //! ```text
 //! (1 2 3)                     --simple l4 l5-->
@@ -23,8 +23,8 @@ use conf_change::{Config, Step, union};
 use quorum_sets::{MemberSet, NoMemory};
 use std::alloc::Global;
 
-// Appends the steps from a configuration that is not joint to the target. Without newcomers they are the plan; with
-// them there is one more step before it.
+// Appends the steps from a configuration that is not joint to the target: a step that makes the newcomers learners, if
+// there are any, and the plan from there.
 pub(crate) fn add_learners_first<S: MemberSet>(
     alloc: Global,
     steps: &mut Vec<Step>,

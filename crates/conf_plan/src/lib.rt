@@ -1,8 +1,9 @@
 //! Plans: the membership changes that lead from one configuration to another.
 //!
-//! A plan is a list of steps that are accepted one after another: simple changes, entering a joint configuration,
-//! leaving it. [`plan`] gives the shortest one, which also preserves the progress of the most members and names each id
-//! in the fewest changes. It has at most four steps. One with four leads from a joint configuration to another:
+//! A plan is a list of steps that are accepted one after another. A step is a simple change, or it enters or leaves a
+//! joint configuration. [`plan`] returns the shortest plan, which also preserves the progress of the most members and
+//! names each id in the fewest changes. It has at most four steps. A plan of four leads from one joint configuration to
+//! another:
 //!
 //! ```text
 //! (1 2)&&(1 3)  leave-joint                  -->  (1 2)
@@ -12,8 +13,9 @@
 //! ```
 //!
 //! A cluster may accept a step and then stall: a new voter begins with an empty log, and counts as missing until it has
-//! caught up. So [`plan_by`] makes paths by a [`Strategy`] too: one on which new voters are learners first, and one
-//! that changes one member at a time. From (1 2 3) to (3 4 5) they are:
+//! caught up. So [`plan_by`] makes a path, a list of steps of any length, by a [`Strategy`]: the shortest path, one on
+//! which new voters are learners first, or one that changes one member at a time. The three paths from (1 2 3) to
+//! (3 4 5):
 //!
 //! ```text
 //! shortest         enter-joint r1 r2 v4 v5, leave-joint
@@ -21,8 +23,8 @@
 //! one at a time    simple l4, simple v4, simple r1, simple l5, simple v5, simple r2
 //! ```
 //!
-//! [`apply_plan`] takes the steps of a plan. [`print_plan`] and [`print_path`] write one step a line, and [`read_plan`]
-//! reads a plan back:
+//! [`apply_plan`] applies a plan to a changer. [`print_plan`] and [`print_path`] write one step per line, and
+//! [`read_plan`] reads a plan back:
 //!
 //! ```text
 //! let steps = plan(alloc, changer.tracker().config(), &target)?;

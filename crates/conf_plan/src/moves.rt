@@ -1,4 +1,5 @@
-//! The changes from one configuration that is not joint to another. An id that stays what it is has none:
+//! The changes from the voters and learners of a configuration to those of a target. An id that keeps its role has
+//! none:
 //!
 //! ```text
 //! (1 2 3) to (1 2 4) learners=(3)   l3 v4
@@ -12,7 +13,7 @@ use conf_change::{Change, Kind};
 use quorum_sets::{MemberSet, NoMemory};
 use std::alloc::Global;
 
-// How many changes there is room for at first; there are seldom more.
+// The initial capacity of a list of changes.
 const USUAL_CHANGES: usize = 16;
 
 // The changes from the current voters and learners to those of the target, by ascending id. The four sets are walked
@@ -47,7 +48,7 @@ pub(crate) fn moves_to<S: MemberSet>(
     Ok(changes)
 }
 
-// A position in a walk over the ids of a set: the index, and the id there, which is read once.
+// A position in a walk over the ids of a set: an index, and the id there, `None` at the end.
 #[derive(Drop)]
 struct Walk {
     index: usize,
@@ -83,7 +84,7 @@ impl Walk {
     }
 }
 
-// The smaller of two ids, or the only one: a walk that is at its end has none.
+// The smaller of two ids, or the only one; a walk at its end has none.
 fn earlier(a: Option<u64>, b: Option<u64>) -> Option<u64>
     ensures { IsEarliest a b result }
 {
@@ -94,8 +95,8 @@ fn earlier(a: Option<u64>, b: Option<u64>) -> Option<u64>
     }
 }
 
-// What an id has to become, if anything, by what it is to be in the target and what it is now. A voter that is to be a
-// learner becomes one; a learner that is to be neither is removed.
+// The kind of change that an id needs, if any, by its roles in the target and now. A voter that is a learner in the
+// target becomes a learner; a member that is neither there is removed.
 pub(crate) fn kind_of_move(
     target_voter: bool,
     target_learner: bool,

@@ -21,8 +21,8 @@ use conf_change::{Change, Changes, Config, Kind, Step, union};
 use quorum_sets::{MemberSet, NoMemory};
 use std::alloc::Global;
 
-// Appends the steps from a configuration that is not joint to the target. The voters change first, and then the ids
-// that are learners only.
+// Appends the steps from a configuration that is not joint to the target. The voters change first, and then the
+// learners that are voters neither before nor after.
 pub(crate) fn add_one_at_a_time<S: MemberSet>(
     alloc: Global,
     steps: &mut Vec<Step>,
@@ -37,7 +37,7 @@ pub(crate) fn add_one_at_a_time<S: MemberSet>(
     add_learner_steps(alloc, steps, start, target)
 }
 
-// Appends the steps by which, in turn, one id joins and one retires, until there are no more.
+// Appends the steps by which ids join and retire in turn; when one list ends, the rest of the other follows.
 fn add_turns<S: MemberSet>(
     alloc: Global,
     steps: &mut Vec<Step>,
@@ -61,7 +61,7 @@ fn add_turns<S: MemberSet>(
     Ok(())
 }
 
-// Appends the steps by which one id joins and one retires, if there are such.
+// Appends the steps of one turn: the next id joins, if there is one, and the next one retires, if there is one.
 fn add_turn<S: MemberSet>(
     alloc: Global,
     steps: &mut Vec<Step>,
@@ -81,8 +81,8 @@ fn add_turn<S: MemberSet>(
     Ok(())
 }
 
-// Appends the steps by which an id becomes a voter, and a learner before that if it is not one, so that it can catch
-// up.
+// Appends the steps by which an id becomes a voter. If it is not a learner yet, it becomes one first, so that it can
+// catch up.
 fn add_join_steps<S: MemberSet>(
     alloc: Global,
     steps: &mut Vec<Step>,
@@ -134,7 +134,7 @@ fn add_learner_steps<S: MemberSet>(
     Ok(())
 }
 
-// What an id has to become, if anything, that is a voter neither before nor after.
+// The kind of change that an id needs, if any; none if it is a voter before or after.
 fn learner_change<S: MemberSet>(start: &Single<S>, target: &Config<S>, id: u64) -> Option<Kind>
     ensures { result ≡ spec.learner_change (single_with (S.ids start.now.incoming.now) (S.ids start.now.learners.now)) target.now id }
 {

@@ -7,7 +7,7 @@ use conf_change::Step;
 use std::marker::Model;
 
 /// Steps that follow one another, as [`plan_by`](crate::plan_by) makes them. Unlike a [`Plan`](crate::Plan), a path may
-/// have more than four: if one member changes at a time, each new voter takes two.
+/// have more than four: if one member changes at a time, each new voter takes up to two.
 #[derive(Debug, Drop)]
 pub struct Path {
     steps: Vec<Step>,
@@ -38,7 +38,7 @@ impl Path {
     /// The steps in the order in which they are taken.
     pub fn as_slice(&self) -> &[Step]
         ensures steps { result.now ≡ self.now }
-        // The ids have 64 bits, so printed steps are read back.
+        // The ids have 64 bits, so printed steps can be read back.
         ensures token_ids { All HasTokenIds self.now }
     {
         self.steps.as_slice()

@@ -1,12 +1,12 @@
-//! Making a plan. Which steps it has depends on what is joint and on how many voters differ:
+//! Making a plan. Its steps depend on which of the two configurations is joint and on how many voters differ:
 //!
 //! ```text
-//! the two are equal                                 nothing to do
-//! the current one is joint                          leave-joint, then as below
-//! the target is not joint, one voter differs        simple
-//! the target is not joint, more voters differ       enter-joint, leave-joint
-//! the target is joint, the current voters outgoing  enter-joint
-//! the target is joint, other voters outgoing        the steps that make those the voters, then enter-joint
+//! the two are equal                                      nothing to do
+//! the current one is joint                               leave-joint, then by this table from there
+//! the target is not joint, at most one voter differs     simple
+//! the target is not joint, more voters differ            enter-joint, leave-joint
+//! the target is joint, with the current voters outgoing  enter-joint
+//! the target is joint, with other voters outgoing        the steps that make these the voters, then enter-joint
 //! ```
 //!
 //! So the longest plan has four steps: leave-joint, enter-joint, leave-joint, enter-joint.
@@ -55,10 +55,10 @@ impl From<NoMemory> for PlanFault {
 }
 
 /// The plan from one configuration to another: the best steps that lead there. No other steps are fewer, preserve the
-/// progress of a member that the plan resets, or name an id in fewer changes, and the voters before and after each step
-/// overlap (own). Logs are not considered: a new voter begins with an empty one, so a cluster that has to go on serving
-/// takes another [`Strategy`]. There is a plan between any two configurations with voters, and none otherwise, which is
-/// checked before anything is allocated.
+/// progress of a member that the plan resets, or name an id in fewer changes, and the quorums before and after each
+/// step overlap (own). Logs are not considered: a new voter begins with an empty one, so for a cluster that has to keep
+/// serving, choose another [`Strategy`]. There is a plan between any two configurations with voters; a configuration
+/// without voters is refused before anything is allocated.
 pub fn plan<S: MemberSet>(
     alloc: Global,
     now: &Config<S>,
@@ -155,8 +155,8 @@ pub(crate) fn add_from_single<S: MemberSet>(
     }
 }
 
-// Appends the plan from a configuration that is not joint into a joint one. The target's outgoing voters are those from
-// before it is entered, so they have to be the incoming voters first.
+// Appends the plan from a configuration that is not joint to a joint one. Entering a joint configuration makes the
+// incoming voters the outgoing ones, so the target's outgoing voters have to become the incoming voters first.
 fn add_joint_steps<S: MemberSet>(
     alloc: Global,
     steps: &mut Vec<Step>,

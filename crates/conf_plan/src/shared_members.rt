@@ -1,5 +1,5 @@
-//! The members that two configurations share. Where a plan goes to a joint target by way of other voters, they stay
-//! members on the way, as learners, so that they keep their progress:
+//! The members that two configurations share. If a plan has to pass through a third configuration to reach a joint
+//! target, they stay members there, as learners, so that they keep their progress:
 //!
 //! ```text
 //! (1 2 3)  --enter-joint r1 r2 l3 v4 v5-->  (4 5)&&(1 2 3) learners_next=(3)
@@ -16,7 +16,7 @@ use conf_change::{Config, union};
 use quorum_sets::{MemberSet, NoMemory};
 use std::alloc::Global;
 
-// The members of both that are not outgoing voters of the target; the outgoing voters vote on the way anyway.
+// The members of both configurations that are not outgoing voters of the target; those are voters on the way anyway.
 pub(crate) fn shared_members<S: MemberSet>(
     alloc: Global,
     start: &Single<S>,

@@ -1,4 +1,5 @@
-//! Configurations that are not joint, where a path begins once a joint one is left.
+//! Configurations that are not joint. A path leaves a joint configuration first, so the rest of it starts from such a
+//! one.
 use quorum_sets::MemberSet;
 
 // The voters and the learners of a configuration that is not joint.

@@ -1,4 +1,4 @@
-//! Plans: lists of steps.
+//! Plans: lists of at most four steps.
 ghost use Rattle.std.specs.Prelude.{◌≡◌, ◌≤◌, length, option_copied, slice_get};
 ghost use Rattle.conf_plan.specs.PlanSteps.{IsPlan};
 

@@ -1,4 +1,4 @@
-//! Paths from one configuration to another, by a strategy for clusters that have to go on serving.
+//! The strategies by which a path is chosen: for few steps, or so that new voters can catch up before they vote.
 ghost use Rattle.std.specs.Prelude.{◌≡◌, ◌↔◌, true, false, Err, IfOk, OnOk};
 ghost use Rattle.conf_change.specs.Configuration.{is_valid, has_voter};
 ghost use Rattle.conf_plan.specs.PathBy.{has_path, path_by, Serves};
@@ -10,14 +10,14 @@ use quorum_sets::{MemberSet, NoMemory};
 use std::alloc::Global;
 use thiserror::Error;
 
-/// How a path is chosen: what matters more, few steps or that the cluster keeps serving on the way.
+/// How a path is chosen: for as few steps as possible, or so that the cluster can keep serving on the way.
 #[derive(Clone, Copy, Debug, PartialEq, Eq)]
 pub enum Strategy {
-    /// As few steps as possible: the path is the plan.
+    /// As few steps as possible: the path is that of [`plan`](crate::plan).
     Shortest,
     /// New voters are learners first, so that they can catch up before they vote (Ongaro's dissertation, 4.2.1).
     LearnersFirst,
-    /// One member changes at a time, as etcd's server does it; no path leads into a joint configuration.
+    /// One member changes at a time, as in etcd's server; no path enters a joint configuration.
     OneAtATime,
 }
 
@@ -30,7 +30,7 @@ pub enum NoPath {
     /// The target has no voter; no step leads to such a configuration.
     #[error("no plan: the target has no voter")]
     NoVoterTarget,
-    /// One member at a time, no step enters a joint configuration.
+    /// The target is joint, and [`Strategy::OneAtATime`] does not enter joint configurations.
     #[error("no plan: the target is joint")]
     JointTarget,
     /// An allocation failed.
@@ -48,9 +48,9 @@ impl From<NoMemory> for NoPath {
     }
 }
 
-/// The path from one configuration to another by a strategy, which keeps the strategy's promises (`Serves`). Refused if
-/// a configuration has no voter and, one member at a time, if the target is joint and not the current configuration
-/// itself. That is checked before anything is allocated (own).
+/// The path from one configuration to another by a strategy, which keeps the strategy's promises (`Serves`). Refused,
+/// before anything is allocated, if a configuration has no voter, and by [`Strategy::OneAtATime`] also if the target is
+/// joint and is not the current configuration (own).
 pub fn plan_by<S: MemberSet>(
     alloc: Global,
     strategy: Strategy,

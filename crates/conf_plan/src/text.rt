@@ -1,5 +1,5 @@
-//! The text of a plan: a line for each step, or `nothing to do`. The form is own: a line has the command of a step in a
-//! script, and then the changes.
+//! The text of a plan: a line for each step, or `nothing to do`. A line is the command of the step, as in a script, and
+//! then its changes. The form is own:
 //!
 //! ```text
 //! simple l4 l5
@@ -73,8 +73,8 @@ pub fn print_plan(text: &mut Vec<u8>, plan: &Plan) -> Result<(), NoMemory>
     print_steps(text, plan.as_slice())
 }
 
-/// Appends the lines of a path, in the form of [`print_plan`] (own). If they are at most four, they are read as a plan
-/// of the same steps.
+/// Appends the lines of a path, in the form of [`print_plan`] (own). If there are at most four, [`read_plan`] reads
+/// them as a plan of the same steps.
 pub fn print_path(text: &mut Vec<u8>, path: &Path) -> Result<(), NoMemory>
     ensures ok { OnOk result (text.new.items ≡ text.old.items ++ plan_text path.now) }
     ensures reads_back { length path.now ≤ 4 → plan_in (plan_text path.now) ≡ Ok path.now }
@@ -154,7 +154,7 @@ fn append_changes(text: &mut Vec<u8>, changes: &[Change]) -> Result<(), NoMemory
     Ok(())
 }
 
-/// The text of changes, with one space between: `v1 r2`, the form in which they are read as a list.
+/// The text of changes, with one space between them: `v1 r2`, as in a list of changes.
 pub fn changes_text(alloc: Global, changes: &[Change]) -> Result<Vec<u8>, NoMemory>
     ensures { IfOk result (λ text. text.items ≡ join_with_byte 32 (map change_text changes.now)) }
 {
@@ -175,7 +175,7 @@ fn append_change(text: &mut Vec<u8>, change: Change) -> Result<(), NoMemory>
     append_token(text, change)
 }
 
-// Appends a change: its letter and its id, as `v4`.
+// Appends a change: its letter and its id, as in `v4`.
 fn append_token(text: &mut Vec<u8>, change: Change) -> Result<(), NoMemory>
     ensures ok { OnOk result (text.new.items ≡ text.old.items ++ change_text change) }
     ensures extends { Extends text.old.items text.new.items }
@@ -198,7 +198,7 @@ fn letter(kind: Kind) -> u8
 }
 
 /// Reads the lines of a plan, in the form of [`print_plan`]; tokens may have any white space around them, and ids
-/// leading zeros. The first line that is not parsed as a step is reported, or the fifth line. A blank line is not a
+/// leading zeros. Refused at the first line that is not parsed as a step, or at a fifth line. A blank line is not a
 /// step, and the empty text is one blank line (own).
 #[tactic(auto, using(crate::proofs::PlanText::PlanFromLines::answer_laws))]
 pub fn read_plan(alloc: Global, text: &[u8]) -> Result<Plan, PlanTextFault>
@@ -213,7 +213,7 @@ pub fn read_plan(alloc: Global, text: &[u8]) -> Result<Plan, PlanTextFault>
     read_lines(alloc, text)
 }
 
-// Reads one step a line, up to the last line or the first error.
+// Reads one step per line, up to the last line or the first error.
 fn read_lines(alloc: Global, text: &[u8]) -> Result<Plan, PlanTextFault>
     ensures { (result ≡ plan_in text.now) ⊎ (result ≡ Err PlanTextFault.NoMemory) }
 {
@@ -288,7 +288,7 @@ fn read_step(alloc: Global, line: &[u8]) -> Result<Option<Step>, NoMemory>
     }
 }
 
-// Reads the rest of the line that enters a joint configuration: a flag, then changes.
+// Reads the rest of an `enter-joint` line: a flag, then changes.
 fn read_enter(alloc: Global, text: &[u8]) -> Result<Option<Step>, NoMemory>
     ensures { IfOk result (λ read. read ≡ enter_in (tokens_in text.now)) }
 {

@@ -16,11 +16,11 @@ cell column row = slice_index_or row column []
 abbrev pub width : List (List (List ℕ)) → ℕ → ℕ
 width rows column = longest (map (cell column) rows)
 
--- a cell, filled up with spaces to this width
+-- a cell, padded with spaces to this width
 abbrev pub flush_left : ℕ → List ℕ → List ℕ
 flush_left width cell = cell ++ replicate (width - length cell) 32
 
--- the cells of a row from this column on, each filled up to its width, and two spaces after it
+-- the cells of a row from this column on, each padded to the width of its column and followed by two spaces
 abbrev pub cells_text : (ℕ → ℕ) → ℕ → List (List ℕ) → List ℕ
 cells_text width column [] = []
 cells_text width column (first ∷ cells) = flush_left (width column) first ++ codes "  " ++ cells_text width (column + 1) cells

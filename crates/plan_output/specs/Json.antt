@@ -17,7 +17,7 @@ abbrev pub count_json : Option ℕ → Data
 count_json None = null
 count_json (Some count) = number (unsigned count)
 
--- the key for whether the stage commits, before the other keys; only if ids are named that are down
+-- the other keys, and before them whether the stage commits, if ids are given that are down
 abbrev pub with_commits : Option Ids → StageState → Members → Members
 with_commits None stage others = others
 with_commits (Some down) stage others = member (codes "commits") (boolean (commits stage down)) others
@@ -40,7 +40,7 @@ step_json down plan count number_of before step after =
     object (member (codes "catch_up") (ids_json (ascending after.catching_up))
     (with_commits down after (step_keys plan count number_of before step after)))
 
--- the objects of steps, the first of which has this number, each between its two stages
+-- the objects of steps, the first of which has this number, each with the stages before and after it
 abbrev pub steps_json : Option Ids → ℕ → ℕ → ℕ → List StageState → List Step → List Data
 steps_json down plan count number_of (before ∷ after ∷ all) (step ∷ steps) =
     step_json down plan count number_of before step after ∷ steps_json down plan count (number_of + 1) (after ∷ all) steps
@@ -57,7 +57,7 @@ abbrev pub path_json : ℕ → Configuration → List Step → Option Ids → Li
 path_json plan now [] down = no_steps_json plan ∷ []
 path_json plan now (step ∷ steps) down = steps_json down plan (length (step ∷ steps)) 1 (stages now (step ∷ steps)) (step ∷ steps)
 
--- the object of a pair without a plan, with the reason
+-- the object of two configurations without a plan, with the reason
 abbrev pub no_plan_json : ℕ → List ℕ → Data
 no_plan_json plan why = object (member (codes "no_plan") (string why) (member (codes "plan") (number (unsigned plan)) no_members))
 

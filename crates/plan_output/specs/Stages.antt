@@ -1,5 +1,4 @@
--- The configurations on the way of a path, and what the cluster endures at each of them: own, over the quorums of the
--- crate below.
+-- The configurations along a path, and what the cluster endures at each of them (own).
 use Rattle.std.specs.Prelude.{ℕ, Bool, not, List, [], ◌∷◌, Option, refl}
 use Rattle.std.specs.Coded.{Coded, coded×, code_by}
 use Rattle.std.specs.List.{list_any}
@@ -19,7 +18,7 @@ pub record StageState : Type 0 where
   pub config : Configuration
   pub catching_up : Ids
 
--- a stage is stored as its two parts
+-- a stage is encoded as its two parts
 abbrev pub stage_code : Coded StageState
 stage_code =
     code_by (Configuration × Ids) (coded× configuration_code ids_code)
@@ -52,7 +51,8 @@ stages now steps = first_stage now ∷ stages_after now steps
 abbrev pub stage_may_be_down : StageState → Option ℕ
 stage_may_be_down stage = tolerance.may_be_down (voters_of stage.config) no_ids
 
--- how many ids may be down until the members have caught up, which do not count, be they down or not
+-- how many ids may be down until the members that have to catch up have done so; these do not count, be they down or
+-- not
 abbrev pub until_then : StageState → Option ℕ
 until_then stage = tolerance.may_be_down (voters_of stage.config) stage.catching_up
 
@@ -64,7 +64,7 @@ commits stage down = commits_without (voters_of stage.config) (union down stage.
 abbrev pub some_stalls : List StageState → Ids → Bool
 some_stalls all down = list_any (λ stage. not (commits stage down)) all
 
--- Whether a path stalls with these ids down: some configuration on the way does, the first one among them. A step is
--- committed by the configuration before it, so a path is taken to its end only if none stalls.
+-- Whether a path stalls with these ids down: the configuration with which it begins does, or one after a step. A step
+-- is committed by the configuration before it, so the cluster gets to the end, and serves there, only if none stalls.
 abbrev pub stalls : Configuration → List Step → Ids → Bool
 stalls now steps down = some_stalls (stages now steps) down

@@ -19,7 +19,7 @@ mark c id =
     else (if has c.outgoing id then (if has c.learners_next id then codes "~" else codes "-")
     else (if has c.learners id then codes "L" else codes "."))
 
--- a cell with spaces before it, up to this width
+-- a cell, padded on the left with spaces to this width
 abbrev pub flush_right : ℕ → List ℕ → List ℕ
 flush_right width cell = replicate (width - length cell) 32 ++ cell
 
@@ -39,7 +39,7 @@ majority_of ids = decimal (majority (size ids)) ++ codes " of " ++ decimal (size
 abbrev pub majority_text : Configuration → List ℕ
 majority_text c = majority_of c.incoming ++ text_if (is_joint c) (codes " and " ++ majority_of c.outgoing)
 
--- how many ids may be down, or that the voters are no quorum even with none down
+-- how many ids may be down, or stalls if the voters that count are not a quorum even with none down
 abbrev pub down_text : Option ℕ → List ℕ
 down_text (Some most) = decimal most
 down_text None = codes "stalls"
@@ -53,7 +53,7 @@ abbrev pub commits_text : Bool → List ℕ
 commits_text true = codes "commits"
 commits_text false = codes "stalls"
 
--- the last cell, if ids are named that are down
+-- the last cell, if ids are given that are down
 abbrev pub commits_cells : Option Ids → StageState → List (List ℕ)
 commits_cells None stage = []
 commits_cells (Some down) stage = commits_text (commits stage down) ∷ []
@@ -69,7 +69,7 @@ row ids down name stage =
 abbrev pub down_heading : Ids → List ℕ
 down_heading down = codes "with " ++ spaced_numbers (ascending down) ++ codes " down"
 
--- the last heading, if ids are named that are down
+-- the last heading, if ids are given that are down
 abbrev pub down_headings : Option Ids → List (List ℕ)
 down_headings None = []
 down_headings (Some down) = down_heading down ∷ []
@@ -108,6 +108,6 @@ stage_rows all steps down =
     let ids = ascending (ids_on_the_way all) in
     headings ids down ∷ rows_of ids down (stage_names steps) all
 
--- the table of a path; with ids that are down, its last column is whether a stage commits then
+-- the table of a path; if ids are given that are down, its last column shows whether each stage commits
 abbrev pub table_text : Configuration → List Step → Option Ids → List ℕ
 table_text now steps down = grid_text (stage_rows (stages now steps) steps down)

@@ -2,8 +2,8 @@
 //!
 //! ```text
 //! 1 2 3 10 11
-//! - V ~  +  .     1 votes among the outgoing voters alone, 2 among both, 3 among the outgoing ones until it is a
-//!                 learner, 10 among the incoming ones alone, and 11 is not a member
+//! - V ~  +  .     1 is only an outgoing voter, 2 a voter of both sets, 3 an outgoing voter and a next learner, 10 only
+//!                 an incoming voter, and 11 not a member
 //! ```
 //!
 //! `L` marks a learner. All cells are own.
@@ -78,7 +78,7 @@ pub(crate) fn marks_text<S: MemberSet>(
     Ok(text)
 }
 
-// Appends the mark of an id, with spaces before it up to the length of the id.
+// Appends the mark of an id, padded on the left to the length of the id.
 fn append_mark<S: MemberSet>(
     text: &mut Vec<u8>,
     config: &Config<S>,
@@ -143,7 +143,7 @@ fn append_majority<S: MemberSet>(text: &mut Vec<u8>, ids: &S) -> Result<(), NoMe
     Ok(())
 }
 
-// How many ids may be down, or `stalls` if the voters are no quorum even with none down.
+// How many ids may be down, or `stalls` if the voters that count are not a quorum even with none down.
 pub(crate) fn down_text(alloc: Global, most: Option<usize>) -> Result<Vec<u8>, NoMemory>
     ensures { IfOk result (λ text. text.items ≡ spec.down_text most) }
 {
@@ -155,8 +155,8 @@ pub(crate) fn down_text(alloc: Global, most: Option<usize>) -> Result<Vec<u8>, N
     Ok(text)
 }
 
-// How many ids may be down until the new members have caught up. The cell is empty if there are none, since the number
-// is then that of the column before.
+// How many ids may be down until the members that have to catch up have done so. The cell is empty if none has to,
+// since the number is then that of the column `may be down`.
 pub(crate) fn until_text<S: MemberSet>(alloc: Global, stage: &Stage<S>) -> Result<Vec<u8>, NoMemory>
     ensures { IfOk result (λ text. text.items ≡ spec.until_text stage.now) }
 {

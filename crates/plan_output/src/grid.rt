@@ -66,7 +66,7 @@ impl Row {
     }
 }
 
-/// Appends rows as lines. Each column is as wide as its widest cell, two spaces are between columns, and no line has
+/// Appends rows as lines. Each column is as wide as its widest cell, columns are two spaces apart, and no line has
 /// white space at its end. On `NoMemory` the text is unchanged (own).
 pub(crate) fn add_grid(alloc: Global, text: &mut Vec<u8>, rows: &[Row]) -> Result<(), NoMemory>
     ensures ok { OnOk result (text.new.items ≡ text.old.items ++ grid_text rows.now) }
@@ -90,7 +90,7 @@ fn widths(alloc: Global, rows: &[Row]) -> Result<Vec<usize>, NoMemory>
     Ok(widths)
 }
 
-// Widens each column to the cell of one more row, where that is wider.
+// Widens the columns that are narrower than the row's cells.
 fn widen(widths: &mut Vec<usize>, row: &Row) -> Result<(), NoMemory>
     requires { (column : ℕ) → slice_index widths.old.items column < 2 ^ 63 }
     ensures wider { OnOk result ((column : ℕ) → slice_index widths.new.items column ≡ max (slice_index widths.old.items column) (length (cell column row.now))) }
@@ -126,8 +126,8 @@ fn append_lines(
     Ok(())
 }
 
-// The cells of a row, each filled up with spaces to the width of its column, and two spaces after it. The spaces at the
-// end are cut off later.
+// The cells of a row, each padded with spaces to the width of its column and followed by two spaces. The caller cuts
+// off the spaces at the end.
 fn cells_text(alloc: Global, row: &Row, widths: &[usize]) -> Result<Vec<u8>, NoMemory>
     requires { (column : ℕ) → slice_index widths.now column < 2 ^ 63 }
     ensures { IfOk result (λ text. text.items ≡ grid.cells_text (slice_index widths.now) 0 row.now) }

@@ -1,8 +1,8 @@
 //! The JSON lines of a path, for programs that embed etcd's raft.
 //!
-//! Each step is one object on one line, with its keys in ascending order. `conf_change` is what to propose to etcd, and
-//! the other keys are what the cluster endures after it. The step `simple v4` from `(1 2 3)` is this, here with line
-//! breaks:
+//! Each step is one object on one line, with its keys in ascending order. `conf_change` is what to propose to etcd. The
+//! other keys are the configuration after the step, what the cluster endures there, and which step of which path it is.
+//! The step `simple v4` from `(1 2 3)` is this object, here with line breaks:
 //!
 //! ```text
 //! {"catch_up":[4],
@@ -29,7 +29,7 @@ use raft_json::{conf_change_value, conf_state_value};
 use serde_json::{Map, Value, put};
 use std::alloc::Global;
 
-/// Which step of which path an object is of.
+/// The step, and the path, that an object describes.
 #[derive(Clone, Copy)]
 struct Number {
     // The number of the path, as the caller counts.
@@ -40,10 +40,10 @@ struct Number {
     step: usize,
 }
 
-/// Appends an object for each step of a path, on a line each: what is proposed to etcd for it, the configuration after
-/// it, and what the cluster endures there; with `down` also whether it commits while these ids are down. A path without
-/// a step is the one line `{"plan":1,"steps":0}`. `plan` is the number of the path, as the caller counts. On `NoMemory`
-/// the text is unchanged (own).
+/// Appends an object for each step of a path, each on its own line: what is proposed to etcd for it, the configuration
+/// after it, and what the cluster endures there; with `down` also whether it commits while these ids are down. A path
+/// without a step is the one line `{"plan":1,"steps":0}`. `plan` is the number of the path, as the caller counts. On
+/// `NoMemory` the text is unchanged (own).
 pub fn add_json_lines<S: MemberSet>(
     alloc: Global,
     text: &mut Vec<u8>,
@@ -60,8 +60,8 @@ pub fn add_json_lines<S: MemberSet>(
     append(text, lines.as_slice())
 }
 
-/// Appends the object of a pair that has no plan, as `{"no_plan":"the target is joint","plan":1}`. On `NoMemory` the
-/// text is unchanged (own).
+/// Appends the object of two configurations without a plan, such as `{"no_plan":"the target is joint","plan":1}`, on
+/// its own line. `plan` is their number, as the caller counts. On `NoMemory` the text is unchanged (own).
 pub fn add_no_plan_line(
     alloc: Global,
     text: &mut Vec<u8>,
@@ -89,7 +89,7 @@ fn add_line(alloc: Global, text: &mut Vec<u8>, value: &Value) -> Result<(), NoMe
     append(text, line.as_slice())
 }
 
-// The lines of a path. They are built on their own, so that a text to which they are appended gets all or none.
+// The lines of a path. They are built apart from the text, so that all of them are appended or none.
 fn lines_of<S: MemberSet>(
     alloc: Global,
     plan: u64,
@@ -208,7 +208,7 @@ fn step_keys<S: MemberSet>(
     Ok(members)
 }
 
-// A number, or `null` if the voters are no quorum even with none down.
+// A number, or `null` if the voters that count are not a quorum even with none down.
 fn count_value(count: Option<usize>) -> Value
     ensures { view result ≡ spec.count_json count }
 {

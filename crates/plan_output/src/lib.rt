@@ -1,10 +1,10 @@
-//! What is printed of a path: the table that an operator reads, and the JSON lines that a program reads.
+//! How a path is printed: as a table, which an operator reads, and as JSON lines, which a program reads.
 //!
 //! A path from one configuration to another is safe if each of its steps is accepted, but the cluster that takes it has
 //! to go on serving. A new member begins with an empty log and has to catch up. Until then it is no help to a quorum,
-//! as if it were down. So of each configuration on the way, a [`Stage`], an operator asks three things: how many
-//! members may be down there, how many until the new ones have caught up, and whether it commits while certain members
-//! are down.
+//! as if it were down. So an operator asks three things of each configuration on the way, a [`Stage`]: how many members
+//! may be down there, how many until the new ones have caught up, and whether it commits while certain members are
+//! down.
 //!
 //! Here 1 and 2 are replaced by 4 and 5 in one change:
 //!
@@ -16,10 +16,10 @@
 //! ```
 //!
 //! In the joint configuration nothing commits until 4 or 5 has caught up, not even the step that leaves it, since 3
-//! alone is no majority of 3, 4 and 5. The remedy is a path on which 4 and 5 are learners first (section 4.2.1 of
+//! alone is not a majority of 3, 4 and 5. The remedy is a path on which 4 and 5 are learners first (section 4.2.1 of
 //! Ongaro's dissertation).
 //!
-//! [`stages`] gives the configurations on the way, and [`stalls`] returns whether one of them does not commit.
+//! [`stages`] returns the configurations on the way, and [`stalls`] whether one of them does not commit.
 //! [`add_table`] appends the table. [`add_json_lines`] appends an object for each step, with the change to propose to
 //! etcd's raft for it. The table, the marks and the keys of the objects are own.
 #![tactic(auto)]

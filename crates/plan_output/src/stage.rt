@@ -1,12 +1,12 @@
-//! The configurations on the way of a path, and what the cluster endures at each of them.
+//! The configurations along a path, and what the cluster endures at each of them.
 //!
-//! A path of n steps has n + 1 stages. A step is committed by the configuration before it, so the cluster comes to the
-//! end of the path only if each stage commits:
+//! A path of n steps has n + 1 stages. A step is committed by the configuration before it, so the cluster gets to the
+//! end of the path, and serves there, only if each stage commits:
 //!
 //! ```text
 //! (1 2 3)  --enter-joint r1 r2 v4 v5-->  (3 4 5)&&(1 2 3)  --leave-joint-->  (3 4 5)
 //! may be down 1                          may be down 1                       may be down 1
-//!                                        4 and 5 catch up: stalls till then
+//!                                        4 and 5 catch up: stalls until then
 //! ```
 ghost use Rattle.std.specs.Prelude.{◌≡◌, true, IfOk, OnOk};
 ghost use Rattle.quorum_sets.specs.Ids.{no_ids};
@@ -64,8 +64,8 @@ impl<S: MemberSet> Stage<S> {
         &self.catching_up
     }
 
-    /// How many ids may be down, whichever they are, if every member counts: 1 of `(1 2 3)`, 2 of `(1 2 3 4 5)`. `None`
-    /// if the configuration has no incoming voter (own).
+    /// How many ids may be down, whichever they are, once all members have caught up: 1 of `(1 2 3)`, 2 of
+    /// `(1 2 3 4 5)`. `None` if the configuration has no incoming voter (own).
     pub fn may_be_down(&self) -> Option<usize>
         ensures most { IsMostDown (voters_of self.now.config) no_ids result }
         ensures counted { result ≡ spec.stage_may_be_down self.now }
@@ -75,8 +75,8 @@ impl<S: MemberSet> Stage<S> {
         quorum_sets::may_be_down((&config.incoming, &config.outgoing), &no_ids)
     }
 
-    /// How many ids may be down while the members that have to catch up do not count, be they down or not. `None` if
-    /// the others are no quorum even with none down: the stage stalls until then (own).
+    /// How many ids may be down until the members that have to catch up have done so; these do not count, be they down
+    /// or not. `None` if the others are not a quorum even with none down: the stage stalls until then (own).
     pub fn until_then(&self) -> Option<usize>
         ensures most { IsMostDown (voters_of self.now.config) self.now.catching_up result }
         ensures counted { result ≡ spec.until_then self.now }
@@ -96,8 +96,7 @@ impl<S: MemberSet> Stage<S> {
     }
 }
 
-/// The stages of a path: the configuration with which it begins, and the one after each step. It fails only with
-/// `NoMemory` (own).
+/// The stages of a path: the configuration with which it begins, and the one after each step (own).
 pub fn stages<S: MemberSet>(
     alloc: Global,
     now: &Config<S>,
@@ -117,7 +116,7 @@ pub fn stages<S: MemberSet>(
     Ok(stages)
 }
 
-// A changer with this configuration and fresh progress. Its steps are those that a live cluster takes: which members
+// A changer with this configuration and fresh progress. The progress in a live cluster does not matter: which members
 // have to catch up depends on the configurations and the step alone.
 fn changer_of<S: MemberSet>(alloc: Global, now: &Config<S>) -> Result<Changer<S>, NoMemory>
     requires { is_restorable now.now ≡ true }
@@ -130,8 +129,7 @@ fn changer_of<S: MemberSet>(alloc: Global, now: &Config<S>) -> Result<Changer<S>
     }
 }
 
-// Takes a step, and returns the stage that it leads to. A step that is refused leads nowhere, so the configuration
-// stays.
+// Takes a step, and returns the stage that it leads to. A step that is refused changes nothing.
 fn next_stage<S: MemberSet>(
     alloc: Global,
     changer: &mut Changer<S>,
@@ -152,8 +150,8 @@ fn next_stage<S: MemberSet>(
     })
 }
 
-/// Whether a path stalls with these ids down: some configuration on the way, the first one among them, does not commit.
-/// With 2 down, `(1 2 3)` commits and `(1 2)` stalls (own).
+/// Whether a path stalls with these ids down: the configuration with which it begins, or one after a step, does not
+/// commit. With 2 down, `(1 2 3)` commits and `(1 2)` stalls (own).
 pub fn stalls<S: MemberSet>(
     alloc: Global,
     now: &Config<S>,

@@ -1,6 +1,6 @@
 //! The table of a path: a line of headings, a row `now`, and a row for each step with the configuration after it.
 //!
-//! All columns but the last are always there. The last one is there if ids are named that are down:
+//! The last column is there only if ids are given that are down, here 2:
 //!
 //! ```text
 //! step         1 2 3 4  majority  may be down  catch up  until then  with 2 down
@@ -25,8 +25,8 @@ use quorum_sets::{MemberSet, NoMemory, union};
 use std::alloc::Global;
 
 /// Appends the table of a path: a row for the configuration with which it begins, and one for each step with the
-/// configuration after it. It shows who votes and learns there, the majority, how many may be down, who has to catch
-/// up, and how many may be down until then. With `down`, the last column is whether the configuration commits while
+/// configuration after it. A row shows who votes and learns there, the majority, how many may be down, who has to catch
+/// up, and how many may be down until then. With `down`, the last column shows whether the configuration commits while
 /// these ids are down. Each line ends with a newline. On `NoMemory` the text is unchanged (own).
 pub fn add_table<S: MemberSet>(
     alloc: Global,
@@ -84,7 +84,7 @@ fn members<S: MemberSet>(config: &Config<S>) -> Result<S, NoMemory>
     union(&voters, &config.learners)
 }
 
-// The headings of the columns, by the ids on the way.
+// The headings of the columns; the second one is the ids on the way.
 fn headings<S: MemberSet>(alloc: Global, ids: &S, down: Option<&S>) -> Result<Row, NoMemory>
     ensures { IfOk result (λ row. row ≡ spec.headings (ascending (S.ids ids.now)) (option_map S.ids (option_copied down.entry))) }
 {
