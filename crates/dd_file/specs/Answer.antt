@@ -1,5 +1,5 @@
--- The result of reading the next item or line, against the input. A contract cannot know what is still to come, so it
--- speaks of every input that agrees with what was read.
+-- The result of reading the next item or line, in terms of the input. A contract cannot know what is still to come, so
+-- it speaks of every input that agrees with what was read.
 use Rattle.std.specs.Prelude.{◌≡◌, ◌≤◌, ◌<◌, ◌+◌, ℕ, Bool, true, false, ◌||◌, ◌⊎◌, List, [], ◌++◌, length, Option, Some, None, Result, Ok, Err, ⊤, IfOk, IfSome, IfErr, OnOk}
 use Rattle.std.specs.Io.KnownBytes.{IsAtEnd}
 use Rattle.dd_file.specs.Position.{Position, longest_input, longest_lookahead}
@@ -10,7 +10,8 @@ use Rattle.dd_file.specs.declared.fault.FileFault.{FileFault}
 use Rattle.dd_file.specs.declared.fault.FileFault.TheVariants.{Read, NoMemory, BadDirective, AfterDouble, UnclosedDouble, InputTooLong}
 
 -- The input, from the position of a state on, agrees with the bytes that a call read: it is the buffered bytes, then
--- the bytes that the call read, and then more; that is empty if the end was reached or the reader has no bytes left.
+-- the bytes that the call read, and then more. There is no more if the reader has no bytes left. If the end was reached
+-- before the call, the call read nothing, and there is no more.
 pub record AgreesWith (state : ReaderState) (before after input more : List ℕ) : Type 0 where
   pub bytes_read : List ℕ
   pub consumed : before ≡ bytes_read ++ after
@@ -34,8 +35,8 @@ next_in_answer view new more (Err fault) = Faulty fault
 abbrev pub IsInterrupted : {X : Type 0} → Result X FileFault → Type 0
 IsInterrupted result = (result ≡ Err Read) ⊎ (result ≡ Err NoMemory)
 
--- The result is the next item or line of each input that agrees with what was read, or reading was cut short.
--- It is not specified for a reader whose bytes are unknown.
+-- The result is the next item or line of each input that agrees with what was read, or reading was interrupted. It is
+-- not specified for a reader whose bytes are unknown.
 abbrev pub IsNextOfInput : {X A : Type 0} → (X → A) → (Position → List ℕ → Next A) → ReaderState → ReaderState → Option (List ℕ) → Option (List ℕ) → Result (Option X) FileFault → Type 0
 IsNextOfInput view next old new before after result =
     (input more : List ℕ) → Agrees old before after input more → IsInterrupted result ⊎ (next old.position input ≡ next_in_answer view new more result)
@@ -55,7 +56,7 @@ abbrev pub fault_of : {X : Type 0} → Result X FileFault → Option FileFault
 fault_of (Ok value) = None
 fault_of (Err fault) = Some fault
 
--- the errors that reading lines from this position on may have, with their lines
+-- the errors that reading a line at this position may return, with the line that each names
 abbrev pub IsLineFault : Position → FileFault → Type 0
 IsLineFault position Read = ⊤
 IsLineFault position NoMemory = ⊤
@@ -64,7 +65,7 @@ IsLineFault position (BadDirective line) = ⊥
 IsLineFault position (AfterDouble line) = ⊥
 IsLineFault position (UnclosedDouble line) = ⊥
 
--- the errors that reading an item from this position on may have, with their lines
+-- the errors that reading an item at this position may return, with the line that each names
 abbrev pub IsItemFault : Position → FileFault → Type 0
 IsItemFault position Read = ⊤
 IsItemFault position NoMemory = ⊤
@@ -87,12 +88,12 @@ pub record ReadsOn {R X A : Type 0} (remaining : R → Option (List ℕ)) (has_f
   -- the result is the next item or line of each input that agrees with what was read
   pub answers : old.fault ≡ None → IsNextOfInput view next old new (remaining before) (remaining after) result
   pub moves : MovesOn remaining old new before after
-  -- each item has a line, and the lines are fewer than the bytes that an input may have
+  -- each item has at least one line, and there are no more lines than bytes in the longest input
   pub forward : IfOk result (λ value. IfSome value (λ _. old.position.lines < new.position.lines))
   pub counted : OnOk result (new.position.lines ≤ longest_input)
   -- the look-ahead is bounded
   pub lookahead : OnOk result (length new.buffered ≤ longest_lookahead)
-  -- the end stays the end
+  -- the end is permanent
   pub finished : result ≡ Ok None → IsOver new × (new.position ≡ old.position)
   pub over : IsOver old → (result ≡ Ok None) × (new ≡ old) × (after ≡ before)
   -- an error is permanent, and the reader is not called again
@@ -100,5 +101,5 @@ pub record ReadsOn {R X A : Type 0} (remaining : R → Option (List ℕ)) (has_f
   pub fault : IfErr result (λ fault. new.fault ≡ Some fault)
   pub again : IfSome old.fault (λ fault. (result ≡ Err fault) × (new ≡ old) × (after ≡ before))
   pub kind : old.fault ≡ None → IfErr result (IsFault old.position)
-  -- the reader has failed exactly if it had failed before, or `Read` is returned
+  -- the reader has failed exactly when it had failed before, or `Read` is returned
   pub read : old.fault ≡ None → has_failed after ≡ (has_failed before || is_read_fault result)

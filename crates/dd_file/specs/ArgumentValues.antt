@@ -11,16 +11,16 @@ use Rattle.dd_file.specs.declared.values.RestKind.TheVariants.{Nothing, Plain, L
 abbrev pub is_argument : List ℕ → Bool
 is_argument token = is_some (parsed_argument token)
 
--- the argument of such a token
+-- the argument that a token denotes, or an empty one if the token is not valid
 abbrev pub argument_in : List ℕ → ArgumentText
 argument_in token = unwrap_or (parsed_argument token) (with_key [] [])
 
--- whether the text after a key is empty, or a byte and then values
+-- whether the text after a key is empty, or one byte, the =, and then values
 abbrev pub has_values : List ℕ → Bool
 has_values [] = true
 has_values (b ∷ text) = is_some (values_of text)
 
--- the values of the text after a key
+-- the values in the text after a key; its first byte, the =, is skipped
 abbrev pub values_after : List ℕ → List (List ℕ)
 values_after [] = []
 values_after (b ∷ text) = unwrap_or (values_of text) []
@@ -29,7 +29,7 @@ values_after (b ∷ text) = unwrap_or (values_of text) []
 abbrev pub ends_at_closing : List ℕ → Bool
 ends_at_closing inside = list_any is_closing inside && (length (suffix is_closing inside) == 0)
 
--- the values that are left, by what the rest of the argument is
+-- the values that are left, by the kind of the rest of the argument
 abbrev pub values_left : RestKind → List ℕ → List (List ℕ)
 values_left Nothing rest = []
 values_left Plain rest = rest ∷ []

@@ -22,7 +22,7 @@ passed state lines bytes = record state {
   position = record { lines = state.position.lines + lines; bytes = state.position.bytes + bytes };
 }
 
--- the lines of the bytes that end in a newline
+-- those lines of the bytes that end in a newline, without it
 abbrev pub whole_lines : List ℕ → List (List ℕ)
 whole_lines bytes = map line_of (filter is_whole (full_lines bytes))
 
@@ -30,7 +30,7 @@ whole_lines bytes = map line_of (filter is_whole (full_lines bytes))
 abbrev pub is_line_buffered : Position → List ℕ → Bool
 is_line_buffered position buffered = list_any is_whole (full_lines buffered)
 
--- whether there is an item that no line that follows could change
+-- whether there is an item, and no further line could change it
 abbrev pub is_ended_item : Option FirstItem → Bool
 is_ended_item None = false
 is_ended_item (Some item) = item.is_ended
@@ -39,8 +39,8 @@ is_ended_item (Some item) = item.is_ended
 abbrev pub is_item_buffered : Position → List ℕ → Bool
 is_item_buffered position buffered = is_ended_item (first_of (position.lines + 1) (whole_lines buffered))
 
--- A call that reads nothing: it returns the next item or line if that is buffered, and otherwise nothing, and nothing
--- changes.
+-- A call that reads nothing: if the next item or line is buffered, it returns that; otherwise it returns `None`, and
+-- nothing changes.
 abbrev pub BufferedReadsOn : {R X A : Type 0} → (R → Option (List ℕ)) → (R → Bool) → (X → A) → (Position → List ℕ → Next A) → (Position → FileFault → Type 0) → (Position → List ℕ → Bool) →
     ReaderState → ReaderState → R → Option (Result (Option X) FileFault) → Type 0
 BufferedReadsOn remaining has_failed view next IsFault is_buffered old new reader None = (new ≡ old) × (CanReadBuffered old → is_buffered old.position old.buffered ≡ false)

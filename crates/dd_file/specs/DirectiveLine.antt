@@ -31,7 +31,7 @@ is_equals b = b == 61
 abbrev pub is_comma : ℕ → Bool
 is_comma b = b == 44
 
--- a byte separates a new, empty part from the parts after it, or is the first byte of the first of them
+-- one byte before the parts: a separator begins a new, empty part, and any other byte is added to the first part
 abbrev pub split_or_prepend : Bool → ℕ → List (List ℕ) → List (List ℕ)
 split_or_prepend true b tokens = [] ∷ tokens
 split_or_prepend false b [] = (b ∷ []) ∷ []
@@ -41,7 +41,7 @@ split_or_prepend false b (token ∷ tokens) = (b ∷ token) ∷ tokens
 abbrev pub inside_after : Bool → ℕ → Bool
 inside_after inside b = is_opening b || (inside && not (is_closing b))
 
--- the text split at each white space that is not between parentheses
+-- the text split at each byte of white space that is not between parentheses
 abbrev pub split_at_spaces : Bool → List ℕ → List (List ℕ)
 split_at_spaces inside [] = [] ∷ []
 split_at_spaces inside (b ∷ bs) = split_or_prepend (is_space b && not inside) b (split_at_spaces (inside_after inside b) bs)
@@ -55,7 +55,7 @@ token_len inside (b ∷ bs) = if is_space b && not inside then 0 else suc (token
 abbrev pub tokens_of : List ℕ → List (List ℕ)
 tokens_of text = filter (λ token. not (length token == 0)) (split_at_spaces false text)
 
--- ASCII letters, digits and - _ / , .
+-- whether a key may contain the byte: an ASCII letter, a digit, or one of - _ / , .
 abbrev pub is_key_byte : ℕ → Bool
 is_key_byte b = is_ascii_alphanumeric b || list_any (λ c. b == c) (codes "-_/,.")
 
@@ -72,11 +72,11 @@ abbrev pub split_at_commas : List ℕ → List (List ℕ)
 split_at_commas [] = [] ∷ []
 split_at_commas (b ∷ bs) = split_or_prepend (is_comma b) b (split_at_commas bs)
 
--- the values between parentheses, split at commas and trimmed; white space alone has none
+-- the values between parentheses, split at commas and trimmed; there are none if the text is blank
 abbrev pub list_values : List ℕ → List (List ℕ)
 list_values text = if is_blank text then [] else map trimmed (split_at_commas text)
 
--- The values that a text after = denotes: a list up to the first closing parenthesis, which is its last byte, or one
+-- The values that a text after = denotes: a list whose first closing parenthesis is the last byte of the text, or one
 -- plain value.
 abbrev pub values_of : List ℕ → Option (List (List ℕ))
 values_of [] = Some ([] ∷ [])

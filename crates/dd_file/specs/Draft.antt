@@ -1,5 +1,5 @@
--- An item of a script while its lines are read. The meaning of a state is the item that the lines so far are the
--- beginning of, whatever lines follow (first_item_in).
+-- An item of a script while its lines are read. A state means the item that the lines so far begin, given any lines
+-- that follow (first_item_in).
 use Rattle.std.specs.Prelude.{◌≡◌, ◌<◌, ◌+◌, ◌-◌, ℕ, Bool, true, false, not, ◌&&◌, List, [], ◌∷◌, ◌++◌, length, drop, Option, Some, None, Result, Ok, Err, ⊤, if◌then◌else◌}
 use Rattle.std.specs.List.{list_all, list_any}
 use Rattle.ascii_text.specs.WhiteSpace.{is_blank}
@@ -12,8 +12,8 @@ use Rattle.dd_file.specs.declared.item.Item.TheVariants.{Comment, Blank}
 use Rattle.dd_file.specs.declared.fault.FileFault.{FileFault}
 use Rattle.dd_file.specs.declared.fault.FileFault.TheVariants.{Read, NoMemory, BadDirective, AfterDouble, UnclosedDouble, InputTooLong}
 
--- An item so far: the number of its first line, its parts, how many lines it has with its separators, and its state,
--- which has the command of a directive.
+-- An item so far: the number of its first line, its parts, how many lines it has, separators included, and its state,
+-- which carries the command of a directive.
 pub record DraftText : Type 0 where
   pub line : ℕ
   pub directive_lines : List (List ℕ)
@@ -22,7 +22,7 @@ pub record DraftText : Type 0 where
   pub count : ℕ
   pub state : DraftState
 
--- an item without lines yet
+-- an item that has no lines yet
 abbrev pub blank_draft : ℕ → DraftText
 blank_draft line = record { line = line; directive_lines = []; input = []; expected = []; count = 0; state = Begin }
 
@@ -31,7 +31,7 @@ abbrev pub state_of_command : Option CommandText → DraftState
 state_of_command None = NoCommand
 state_of_command (Some command) = Input command
 
--- the state after directive lines, by their text; white space alone is a blank
+-- the state after directive lines, by their text; if that is white space only, the item is a blank
 abbrev pub state_after_directive_line : List ℕ → DraftState
 state_after_directive_line text = if is_blank text then BlankLines else state_of_command (command_of text)
 
@@ -54,7 +54,7 @@ is_done (Pair command) = false
 is_done (Complete command) = true
 is_done AfterPair = true
 
--- the item after its separator: another line of dashes makes that a double one
+-- the item after its separator, which is double if another line of dashes follows
 abbrev pub after_separator : DraftText → List (List ℕ) → CommandText → FirstItem
 after_separator draft more command =
     if begins_with_dashes more then in_double draft.line command draft.directive_lines draft.input (drop 1 more) else in_single draft.line command draft.directive_lines draft.input more
@@ -112,25 +112,25 @@ FitsIn AfterPair draft = 1 < draft.count
 abbrev pub Fits : DraftText → Type 0
 Fits draft = FitsIn draft.state draft
 
--- One more line was added: whatever lines follow, the item is that of the draft before it, if this line and then those
--- follow.
+-- One more line was added: with any lines that follow, the new draft gives the item that the old one gives with this
+-- line and then those.
 pub record AddsIn (state : DraftState) (old new : DraftText) (line : List ℕ) : Type 0 where
   pub fits : Fits new
   pub first_item : (more : List (List ℕ)) → first_item_of new more ≡ first_item_in state old (line ∷ more)
   pub count : new.count ≡ old.count + 1
   pub first : new.line ≡ old.line
 
--- a read that gives an item, or its error
+-- the result of a read: an item, or its error
 abbrev pub item_result : Result Item FileFault → Result (Option Item) FileFault
 item_result (Ok item) = Ok (Some item)
 item_result (Err fault) = Err fault
 
--- a read that gives the first item of some lines, if there is one
+-- the result of a read: the first item of some lines or its error, if there is a line
 abbrev pub result_of_first : Option FirstItem → Result (Option Item) FileFault
 result_of_first None = Ok None
 result_of_first (Some item) = item_result item.result
 
--- the errors of an item that begins at line n, with their lines
+-- the errors of an item that begins at line n, with the line that each names
 abbrev pub IsDraftFault : ℕ → FileFault → Type 0
 IsDraftFault n Read = ⊥
 IsDraftFault n NoMemory = ⊤

@@ -7,8 +7,8 @@ use Rattle.dd_file.specs.ReaderState.{ReaderState}
 use Rattle.dd_file.specs.declared.fault.FileFault.{FileFault}
 use Rattle.dd_file.specs.declared.fault.FileFault.TheVariants.{Read, NoMemory, BadDirective, AfterDouble, UnclosedDouble, InputTooLong}
 
--- A part of a line, or all of it, was read: it is the beginning of the buffered bytes and of those that the reader
--- gave, and has no newline before its end. The rest is buffered.
+-- A part of a line, or all of it, was read: it is a prefix of the buffered bytes and those that the reader then
+-- returned, and has no newline before its last byte. The rest is buffered.
 pub record PartRead (buffered rest : List ℕ) (before after : Option (List ℕ)) (part : List ℕ) : Type 0 where
   pub bytes_read : List ℕ
   pub consumed : Consumes before after bytes_read
@@ -23,14 +23,14 @@ pub record FullLineRead (old new : ReaderState) (before after : Option (List ℕ
   pub fits : old.position.bytes + length full_line ≤ longest_input
   pub done : (is_whole full_line ≡ true) ⊎ ((new.is_ended ≡ true) × (new.buffered ≡ []))
 
--- A part of a line was read that goes beyond the limit; the error names the line.
+-- A part of a line was read that exceeds the limit; the error names the line.
 pub record LongRead (old new : ReaderState) (before after : Option (List ℕ)) (line : ℕ) : Type 0 where
   pub full_line : List ℕ
   pub part : PartRead old.buffered new.buffered before after full_line
   pub passes : longest_input < old.position.bytes + length full_line
   pub number : line ≡ old.position.lines + 1
 
--- why a line was not read: a failed read, no memory, or a line beyond the limit
+-- why a line was not read: a failed read, memory ran out, or a line beyond the limit
 abbrev pub FullLineFault : ReaderState → ReaderState → Option (List ℕ) → Option (List ℕ) → FileFault → Type 0
 FullLineFault old new before after Read = ⊤
 FullLineFault old new before after NoMemory = ⊤

@@ -20,7 +20,7 @@ pub data Next (A : Type 0) : Type 0 where
 abbrev pub is_too_long : ℕ → Position → List ℕ → Bool
 is_too_long limit position bytes = nat_lt limit (position.bytes + length bytes)
 
--- the full lines that are looked at: all of them, or those that end within the limit
+-- the full lines that are read: all of them, or, if the input is too long, those that end within the limit
 abbrev pub full_lines_within : ℕ → Position → List ℕ → List (List ℕ)
 full_lines_within limit position bytes =
     if is_too_long limit position bytes then filter is_whole (full_lines (take (limit - position.bytes) bytes)) else full_lines bytes
@@ -36,12 +36,12 @@ abbrev pub at_end : {A : Type 0} → Bool → Position → Next A
 at_end true position = Faulty (InputTooLong (position.lines + 1))
 at_end false position = Over
 
--- what comes next by a first item of count lines, or its error
+-- what comes next, given a first item of count lines, or its error
 abbrev pub with_count : ℕ → Result Item FileFault → Position → List ℕ → Next Item
 with_count count (Ok item) position bytes = next_of_lines count item position bytes
 with_count count (Err fault) position bytes = Faulty fault
 
--- what comes next by the first item of the lines; beyond the limit only an item that ends within it
+-- what comes next, given the first item of the lines; if the input is too long, an item that is not ended is an error
 abbrev pub from_first_item : Bool → Option FirstItem → Position → List ℕ → Next Item
 from_first_item too_long None position bytes = at_end too_long position
 from_first_item too_long (Some item) position bytes =
@@ -52,7 +52,7 @@ abbrev pub next_item : ℕ → Position → List ℕ → Next Item
 next_item limit position bytes =
     from_first_item (is_too_long limit position bytes) (first_of (position.lines + 1) (map line_of (full_lines_within limit position bytes))) position bytes
 
--- what line comes next by the full lines that are left
+-- what line comes next, given the full lines that are left
 abbrev pub from_full_lines : Bool → List (List ℕ) → Position → List ℕ → Next (List ℕ)
 from_full_lines too_long [] position bytes = at_end too_long position
 from_full_lines too_long (full_line ∷ more) position bytes = next_of_lines 1 (line_of full_line) position bytes
@@ -81,7 +81,7 @@ abbrev pub first_items : {A : Type 0} → (Position → List ℕ → Next A) →
 first_items next zero position bytes = record { items = []; fault = None }
 first_items next (suc count) position bytes = followed (first_items next count) (next position bytes)
 
--- all items from a position on; there are no more of them than bytes, since each has at least one
+-- all items from a position on; there are no more of them than bytes, since each has at least one byte
 abbrev pub script_from : {A : Type 0} → (Position → List ℕ → Next A) → Position → List ℕ → Script A
 script_from next position bytes = first_items next (length bytes + 1) position bytes
 

@@ -5,7 +5,7 @@ use Rattle.dd_file.specs.Grammar.{Next, Parsed}
 use Rattle.dd_file.specs.ReaderState.{ReaderState}
 use Rattle.dd_file.specs.Answer.{Agrees, MovesOn}
 
--- these items are the next ones, in order: they lead from one position and its bytes to a later one and its bytes
+-- reading these items, in order, leads from one position, and the bytes from there on, to the other
 abbrev pub ReadsTo : {A : Type 0} → (Position → List ℕ → Next A) → Position → List ℕ → List A → Position → List ℕ → Type 0
 ReadsTo next position bytes [] now rest = (now ≡ position) × (rest ≡ bytes)
 ReadsTo next position bytes (item ∷ items) now rest = (suffix : Position) × (left : List ℕ) × (next position bytes ≡ Parsed item suffix left) × ReadsTo next suffix left items now rest
@@ -14,8 +14,8 @@ ReadsTo next position bytes (item ∷ items) now rest = (suffix : Position) × (
 abbrev pub TakesBytes : {A : Type 0} → (Position → List ℕ → Next A) → Type 0
 TakesBytes {A} next = (position suffix : Position) (bytes left : List ℕ) (item : A) → next position bytes ≡ Parsed item suffix left → length left < length bytes
 
--- What calls have returned so far, from one state and reader to those after the calls: for each input that agrees with
--- what was read, its next items in order.
+-- The items that calls have returned, from the state and reader before them to those after them: for each input that
+-- agrees with what was read, these are its next items, in order.
 pub record ReadSoFar {R A : Type 0} (remaining : R → Option (List ℕ)) (next : Position → List ℕ → Next A) (old now : ReaderState) (before after : R) (items : List A) : Type 0 where
   pub moves : MovesOn remaining old now before after
   pub read : (input more : List ℕ) → Agrees old (remaining before) (remaining after) input more → ReadsTo next old.position input items now.position (now.buffered ++ more)

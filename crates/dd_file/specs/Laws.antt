@@ -129,7 +129,8 @@ pub data IsComplete : ℕ → List (List ℕ) → Type 0 where
   More : (n : ℕ) (lines : List (List ℕ)) (item : FirstItem) → first_of n lines ≡ Some item → has_separator item.count item.result ≡ true →
       IsComplete (n + item.count) (drop item.count lines) → IsComplete n lines
 
--- complete by a first item of count lines: it has its separator, and the lines after it are complete; an error never is
+-- Complete by a first item of count lines: there is no error, a directive has its separator, and the lines after the
+-- item are complete.
 abbrev pub IsCompleteWith : ℕ → List (List ℕ) → ℕ → Result Item FileFault → Type 0
 IsCompleteWith n lines count (Ok item) = (has_separator count (Ok item) ≡ true) × IsComplete (n + count) (drop count lines)
 IsCompleteWith n lines count (Err fault) = ⊥
@@ -139,7 +140,7 @@ abbrev pub IsCompleteBy : ℕ → List (List ℕ) → Option FirstItem → Type 
 IsCompleteBy n lines None = ⊤
 IsCompleteBy n lines (Some item) = IsCompleteWith n lines item.count item.result
 
--- lines are complete exactly if they are complete by their first item
+-- lines are complete exactly when they are complete by their first item
 abbrev pub CompleteByFirst : Type 0
 CompleteByFirst = (n : ℕ) (lines : List (List ℕ)) →
     (IsComplete n lines → IsCompleteBy n lines (first_of n lines)) × (IsCompleteBy n lines (first_of n lines) → IsComplete n lines)

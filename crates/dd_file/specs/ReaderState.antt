@@ -4,7 +4,7 @@ use Rattle.dd_file.specs.Position.{Position, start, longest_input, longest_looka
 use Rattle.dd_file.specs.declared.fault.FileFault.{FileFault}
 
 -- The state of a reader: the bytes that were read and not returned, whether the end of the input was reached, the
--- position after what was returned, and the error that was returned.
+-- position after what was returned, and the error that was returned, if any.
 pub record ReaderState : Type 0 where
   pub buffered : List ℕ
   pub is_ended : Bool
@@ -15,7 +15,7 @@ pub record ReaderState : Type 0 where
 abbrev pub fresh : ReaderState
 fresh = record { buffered = []; is_ended = false; position = start; fault = None }
 
--- the end was reached, and all before it was returned
+-- the end was reached, and all before it was returned without an error
 pub record IsOver (state : ReaderState) : Type 0 where
   pub fault : state.fault ≡ None
   pub buffered : state.buffered ≡ []

@@ -1,5 +1,5 @@
--- The state of a rewriter, and the text that its writer got. A newline at the end of the text is kept back, since the
--- script may end there; so the writer has a prefix of the script at any time.
+-- The state of a rewriter, and the text that its writer got. A newline at the end of the text so far is pending, since
+-- it is dropped if the script ends in two newlines there. So the writer has a prefix of the script at any time.
 use Rattle.std.specs.Prelude.{◌≡◌, ◌⊎◌, ℕ, Bool, true, List, ◌++◌, Option, Result, IsErr, OnOk, OnErr}
 use Rattle.std.specs.Io.KnownBytes.{Appends}
 use Rattle.ascii_text.specs.Lines.{without_last}
@@ -9,7 +9,7 @@ use Rattle.dd_file.specs.declared.fault.WriteFault.{WriteFault}
 use Rattle.dd_file.specs.declared.stage.Stage.{Stage}
 use Rattle.dd_file.specs.declared.stage.Stage.TheVariants.{Ready, NeedsOutput, Over, Failed}
 
--- the stage of a rewriter, and how many newlines end the text so far: 0, 1, or 2 for two and more
+-- the stage of a rewriter, and how many newlines the text so far ends in: 0, 1, or 2 for two or more
 pub record RewriterState : Type 0 where
   pub stage : Stage
   pub newlines : ℕ
@@ -48,7 +48,7 @@ Finishes newlines old new = (start : Option (List ℕ)) (text : List ℕ) → Ha
 abbrev pub FinishesPart : ℕ → Option (List ℕ) → Option (List ℕ) → Type 0
 FinishesPart newlines old new = (start : Option (List ℕ)) (text : List ℕ) → HasWritten newlines start old text → AppendsPart start new (without_double_end text)
 
--- A call of a rewriter, from one state and writer to the next. If it succeeds the rewriter is at this stage, and an
+-- A call of a rewriter, from one state and writer to the next. If it succeeds, the rewriter is then at stage `next`. An
 -- error is permanent.
 pub record Writes {W X : Type 0} (has_failed : W → Bool) (old new : RewriterState) (before after : W) (next : Stage) (Written WrittenPart : Type 0) (result : Result X WriteFault) : Type 0 where
   pub written : OnOk result Written
@@ -61,12 +61,12 @@ pub record Writes {W X : Type 0} (has_failed : W → Bool) (old new : RewriterSt
   pub failed : OnErr result ((old.stage ≡ Failed) ⊎ (has_failed after ≡ true))
   pub sound : OnOk result (has_failed after ≡ has_failed before)
 
--- a call that writes more text, whole or cut short by an error
+-- a call that writes more text, all of it or up to an error
 abbrev pub WritesMore : {W X : Type 0} → (W → Option (List ℕ)) → (W → Bool) → RewriterState → RewriterState → W → W → Stage → List ℕ → Result X WriteFault → Type 0
 WritesMore contents has_failed old new before after next text result =
     Writes has_failed old new before after next (Continues old.newlines new.newlines (contents before) (contents after) text) (BreaksOff old.newlines (contents before) (contents after) text) result
 
--- a call that writes the end of the script, whole or cut short by an error
+-- a call that writes the end of the script, all of it or up to an error
 abbrev pub WritesEnd : {W X : Type 0} → (W → Option (List ℕ)) → (W → Bool) → RewriterState → RewriterState → W → W → Result X WriteFault → Type 0
 WritesEnd contents has_failed old new before after result =
     Writes has_failed old new before after Over (Finishes old.newlines (contents before) (contents after)) (FinishesPart old.newlines (contents before) (contents after)) result

@@ -27,7 +27,7 @@ kept_text item = text_of (raw_lines_of item)
 abbrev pub dashes : List ℕ
 dashes = codes "----" ++ newline
 
--- whether a line of the text is blank, so that it needs double separators
+-- whether a line of the text is blank, so that the text needs double separators
 abbrev pub has_blank_line : List ℕ → Bool
 has_blank_line text = list_any is_blank (lines_of text)
 
@@ -58,7 +58,7 @@ is_output text = (length text == 0 || ends_with nat_eq text newline) && list_all
 abbrev pub entry_text : Item → List ℕ → List ℕ
 entry_text item output = kept_text item ++ (if is_directive item then output_text output else [])
 
--- a text without its last newline if it ends in two; this is own
+-- a text without its last newline if it ends in two (datadriven, which however keeps a text of just two newlines)
 abbrev pub without_double_end : List ℕ → List ℕ
 without_double_end text = if ends_with nat_eq text (newline ++ newline) then without_last 10 text else text
 
@@ -75,6 +75,6 @@ entry item output = record { item = item; output = output }
 abbrev pub rewritten_text : List Entry → List ℕ
 rewritten_text entries = without_double_end (flat_map (λ entry. entry_text entry.item entry.output) entries)
 
--- how many newlines end a text: 0, 1, or 2 for two and more
+-- how many newlines a text ends in: 0, 1, or 2 for two or more
 abbrev pub newlines_at_end : List ℕ → ℕ
 newlines_at_end text = if ends_with nat_eq text (newline ++ newline) then 2 else (if ends_with nat_eq text newline then 1 else 0)

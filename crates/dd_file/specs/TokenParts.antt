@@ -3,11 +3,11 @@ use Rattle.std.specs.Prelude.{ℕ, Bool, true, false, not, ◌||◌, List, [], �
 use Rattle.ascii_text.specs.WhiteSpace.{is_space}
 use Rattle.dd_file.specs.DirectiveLine.{is_opening, is_closing, token_len}
 
--- whether a plain value, one without parentheses around it, may have the byte
+-- whether a plain value, one that is not a list, may contain the byte: any but white space and parentheses
 abbrev pub is_plain_byte : ℕ → Bool
 is_plain_byte b = not (is_space b || (is_opening b || is_closing b))
 
--- whether a token before this text ends there: the text is empty or begins with white space
+-- whether a token ends where this text begins: the text is empty or begins with white space
 abbrev pub ends_token : List ℕ → Bool
 ends_token [] = true
 ends_token (b ∷ bs) = is_space b

@@ -20,14 +20,14 @@ ghost use Rattle.dd_file.specs.DirectiveLine.{is_key_byte, token_len, values_of,
 use ascii_text::position::far_position_of;
 use ascii_text::white_space::is_space;
 
-/// Whether a key may have the byte: ASCII letters, digits and `-_/,.`.
+/// Whether a key may contain the byte: an ASCII letter, a digit, or one of `-_/,.`.
 fn is_key_byte(b: u8) -> bool
     ensures { result ≡ is_key_byte b }
 {
     b.is_ascii_alphanumeric() || matches!(b, b'-' | b'_' | b'/' | b',' | b'.')
 }
 
-/// The length of the longest prefix of key bytes: of the key, if a token begins with one.
+/// The length of the longest prefix of key bytes, which is the key if the token begins with one.
 pub(crate) fn key_len(token: &[u8]) -> usize
     ensures len { result ≡ prefix_len is_key_byte token.now }
     ensures within { result ≤ length token.now }
@@ -35,7 +35,7 @@ pub(crate) fn key_len(token: &[u8]) -> usize
     token.iter().take_while(|b| is_key_byte(**b)).count()
 }
 
-/// The length of the longest prefix of bytes that a plain value may have.
+/// The length of the longest prefix of bytes that a plain value may contain.
 fn plain_len(text: &[u8]) -> usize
     ensures len { result ≡ prefix_len is_plain_byte text.now }
     ensures within { result ≤ length text.now }
@@ -43,7 +43,7 @@ fn plain_len(text: &[u8]) -> usize
     text.iter().take_while(|b| is_plain_byte(**b)).count()
 }
 
-/// Whether a plain value, one without parentheses around it, may have the byte: no white space, no parenthesis.
+/// Whether a plain value, one that is not a list, may contain the byte: any but white space and parentheses.
 fn is_plain_byte(b: u8) -> bool
     ensures { result ≡ is_plain_byte b }
 {
@@ -61,8 +61,8 @@ pub(crate) fn ends_token(text: &[u8], position: usize) -> bool
     }
 }
 
-/// The length of a list in parentheses without its opening one. `None` if it is not closed, or its token does not end
-/// after it. White space between the parentheses does not end the token.
+/// The length of a list in parentheses, counted after the opening one. `None` if the list is not closed, or its token
+/// does not end after it. White space between the parentheses does not end the token.
 fn listed_len(inside: &[u8]) -> Option<usize>
     ensures { MatchOption result (is_some (values_of (first_token (40 ∷ inside.now))) ≡ false)
         (λ len. (len + 1 ≡ token_len false (40 ∷ inside.now)) × (is_some (values_of (first_token (40 ∷ inside.now))) ≡ true)) }
@@ -77,8 +77,8 @@ fn listed_len(inside: &[u8]) -> Option<usize>
     Some(position + 1)
 }
 
-/// The length of the values that a text begins with, as they follow `=`: a list in parentheses, or one plain value.
-/// `None` if the first token is neither.
+/// The length of the values at the start of a text after `=`: a list in parentheses, or one plain value. `None` if the
+/// first token is neither.
 fn values_len(text: &[u8]) -> Option<usize>
     ensures { MatchOption result (is_some (values_of (first_token text.now)) ≡ false)
         (λ len. (len ≡ token_len false text.now) × (is_some (values_of (first_token text.now)) ≡ true)) }

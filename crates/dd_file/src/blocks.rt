@@ -1,8 +1,7 @@
-//! A buffered writer: small writes are gathered into a block, so that a program makes one system call for a block, not
-//! for each line.
+//! A buffered writer: small writes are gathered into a block, which is then written as a whole.
 //!
-//! No contract of std's `BufWriter` states what was written when a write fails. Here a failed write is the last one, and
-//! what the writer got is a prefix of what was written to the blocks.
+//! No contract of std's `BufWriter` states what was written when a write fails. Here a failed write is the last one,
+//! and what the writer got is a prefix of what was written to the blocks.
 ghost use Rattle.std.specs.Prelude.{◌≡◌, ◌≤◌, ◌<◌, ◌+◌, ◌++◌, ◌||◌, IsErr, is_err, OnOk, IfOk, true, [], length, vec_len, vec_capacity};
 ghost use Rattle.std.specs.Io.{WritesAtMost};
 ghost use Rattle.std.specs.Io.KnownBytes.{Appends, Keeps, WriteAppends};
@@ -23,7 +22,7 @@ const BLOCK_BYTES: usize = 16_384;
 pub struct Blocks<W> {
     writer: W,
     block: Vec<u8>,
-    /// How many bytes of the block the writer has, if a write failed after a part of the block.
+    /// How many bytes of the block were written, if a write failed in the middle of it.
     written: usize,
     ghost written_within: { written ≤ vec_len block },
     ghost block_within: { vec_len block ≤ 16384 },
@@ -100,7 +99,7 @@ impl<W: Sink> Blocks<W> {
         ensures part { AppendsPart (W.contents (buffered_writer self.old)) (W.contents (buffered_writer self.new)) (buffered_output self.old) }
         // An error is permanent, and the writer is not called again.
         ensures again { W.has_failed (buffered_writer self.old) ≡ true → IsErr result × (self.new ≡ self.old) }
-        // The writer has failed exactly if it had failed before, or an error is returned.
+        // The writer has failed exactly when it had failed before, or an error is returned.
         ensures failed { W.has_failed (buffered_writer self.new) ≡ (W.has_failed (buffered_writer self.old) || is_err result) }
     {
         match self.flush_block() {
@@ -109,7 +108,7 @@ impl<W: Sink> Blocks<W> {
         }
     }
 
-    /// The writer. Bytes that are still buffered are lost: call `flush` before (own).
+    /// The writer. Bytes that are still buffered are lost: call `flush` first (own).
     pub fn into_inner(self) -> W
         ensures writer { result ≡ buffered_writer self }
         ensures part { Appends (W.contents result) (⟦<Blocks<W> as Sink>⟧.contents self) (buffered_output self) }

@@ -67,7 +67,7 @@ impl Buffer {
         self.start += count;
     }
 
-    /// Replaces the buffered bytes by those of one read; none means the end of the input.
+    /// Replaces the buffered bytes by those of one read. If there are none, the input has ended.
     pub(crate) fn fill<R: Source>(&mut self, reader: &mut R) -> Result<(), DeviceFault>
         ensures bound { length self.new ≤ longest_lookahead }
         ensures bytes { MatchResult result
@@ -81,8 +81,8 @@ impl Buffer {
         Ok(())
     }
 
-    /// Moves the bytes up to the first newline, inclusive, or all if there is none, to the end of a line. If memory
-    /// runs out, nothing is moved.
+    /// Moves the buffered bytes up to the first newline, inclusive, or all if there is none, to the end of `line`. If
+    /// memory runs out, nothing is moved.
     pub(crate) fn move_line(&mut self, line: &mut Vec<u8>) -> Result<(), AllocError>
         ensures line { OnOk result (line.new.items ≡ line.old.items ++ take (first_len self.old) self.old) }
         ensures rest { self.new ≡ (if is_ok result then drop (first_len self.old) self.old else self.old) }

@@ -2,7 +2,7 @@
 //!
 //! ```text
 //! enter-joint autoleave=true      the command enter-joint, and the argument autoleave with one value
-//! subtest one                     no command: datadriven groups tests by it, and it is not supported here
+//! subtest one                     not a command: datadriven groups tests with it, which is not supported here
 //! ```
 ghost use Rattle.std.specs.Prelude.{◌≡◌, true, false, IfOk, MatchOption, option_map};
 ghost use Rattle.dd_file.specs.TokenParts.{first_token};
@@ -36,7 +36,7 @@ impl Model for Command {
     ghost invariant = { λ a. has_keys a.arguments.items ≡ true };
 }
 
-/// The length of the leading command name, if it is valid: a key other than `subtest`, and a whole token (own).
+/// The length of the leading command name, if it is valid: a key other than `subtest` that is a whole token (own).
 fn name_len(text: &[u8]) -> Option<usize>
     ensures { MatchOption result (is_command_name (first_token text.now) ≡ false)
         (λ len. (len ≡ token_len false text.now) × (is_command_name (first_token text.now) ≡ true)) }
@@ -73,7 +73,7 @@ fn parse_arguments(alloc: Global, text: &[u8]) -> Result<Option<Vec<Argument>>, 
     Ok(Some(arguments))
 }
 
-/// Parses a directive line. `None` if it has no command, or one of its tokens is not an argument.
+/// Parses a directive line. `None` if it has no command, or one of the tokens after it is not an argument.
 pub(crate) fn parse_command(alloc: Global, text: &[u8]) -> Result<Option<Command>, AllocError>
     ensures { IfOk result (λ read. read ≡ command_of text.now) }
 {

@@ -1,8 +1,9 @@
 //! An item of a script while its lines are read.
 //!
-//! A reader gets one line at a time, and cannot look ahead. So a draft files each line by the state that the lines
-//! before it have led to ([`DraftState`]): as a directive line, as input, as expected output, or as a separator, which
-//! is not stored. It reports when the item is complete. Lines that come after that belong to the next item.
+//! A reader gets one line at a time, and cannot look ahead. So a draft decides what each line is by the state that the
+//! lines before it have led to ([`DraftState`]): a directive line, input, expected output, or a line that is not
+//! stored, such as a separator. It reports when the item is complete. Lines that come after that belong to the next
+//! item.
 ghost use Rattle.std.specs.Prelude.{◌≡◌, ◌<◌, ◌+◌, ◌^◌, [], ◌∷◌, ◌++◌, true, false, length, IfOk, IfErr, OnOk};
 ghost use Rattle.std.specs.List.{list_all};
 ghost use Rattle.dd_file.specs.Script.{is_continued};
@@ -84,7 +85,7 @@ impl Draft {
         Ok(self.state.is_done())
     }
 
-    /// Files a line, and returns the state after it.
+    /// Adds a line in this state, and returns the state after it.
     fn next_state(&mut self, state: DraftState, line: &[u8]) -> Result<DraftState, AllocError>
         requires fits { FitsIn state self.old }
         requires open_end { is_done state ≡ false }
@@ -102,7 +103,7 @@ impl Draft {
         }
     }
 
-    /// Files a line as one of the directive lines; also that of a comment or a blank.
+    /// Stores a line as a directive line. The line of a comment or a blank is stored as one too.
     fn keep_directive_line(&mut self, line: &[u8]) -> Result<(), AllocError>
         requires { self.old.input ≡ [] }
         ensures { OnOk result (self.new ≡ record self.old { directive_lines = self.old.directive_lines ++ line.now ∷ [] }) }
@@ -112,7 +113,7 @@ impl Draft {
         Ok(())
     }
 
-    /// Files a line as input.
+    /// Stores a line as input.
     fn keep_input(&mut self, line: &[u8]) -> Result<(), AllocError>
         ensures { OnOk result (self.new ≡ record self.old { input = self.old.input ++ line.now ∷ [] }) }
     {
@@ -155,7 +156,7 @@ impl Draft {
         state_after_directive_line(self.alloc, text.as_slice())
     }
 
-    /// Input continues up to the separator, whatever it contains, blank lines and comments too.
+    /// Input continues up to the separator, and may contain blank lines and lines that look like comments.
     fn add_input(&mut self, command: Command, line: &[u8]) -> Result<DraftState, AllocError>
         requires fits { FitsIn (DraftState.Input command) self.old }
         ensures { IfOk result (λ next. AddsIn (DraftState.Input command) self.old (counted self.new next) line.now) }
@@ -167,7 +168,7 @@ impl Draft {
         Ok(DraftState::Input(command))
     }
 
-    /// The first line after the separator: dashes make it a double one, and any other line is expected output.
+    /// The first line after the separator: dashes make it a double separator, and any other line a single one.
     fn add_output(&mut self, command: Command, line: &[u8]) -> Result<DraftState, AllocError>
         requires fits { FitsIn (DraftState.Separator command) self.old }
         ensures { IfOk result (λ next. AddsIn (DraftState.Separator command) self.old (counted self.new next) line.now) }
@@ -191,7 +192,7 @@ impl Draft {
     }
 
     /// Expected output after a double separator continues up to two lines of dashes in a row. One line of dashes alone
-    /// is output, so it is filed as output first, and taken out again if a second one follows.
+    /// is output, so it is stored as output at first, and removed if a second one follows.
     fn add_double(&mut self, command: Command, line: &[u8]) -> Result<DraftState, AllocError>
         requires fits { FitsIn (DraftState.Double command) self.old }
         ensures { IfOk result (λ next. AddsIn (DraftState.Double command) self.old (counted self.new next) line.now) }
@@ -205,7 +206,8 @@ impl Draft {
         }
     }
 
-    /// The line after the closing pair of dashes has to be blank, and belongs to the item (datadriven requires it to be empty).
+    /// The line after the closing pair of dashes has to be blank, and belongs to the item (datadriven requires it to be
+    /// empty).
     fn after_pair(&self, command: Command, line: &[u8]) -> DraftState
         requires fits { FitsIn (DraftState.Pair command) self.now }
         ensures { AddsIn (DraftState.Pair command) self.now (counted self.now result) line.now }
@@ -218,8 +220,7 @@ impl Draft {
         }
     }
 
-    /// An error in reading a line, reported for the item: an input that is too long is reported at the first line of
-    /// the item that does not end in time.
+    /// An error in reading a line, as the error of the item: `InputTooLong` names the first line of the item.
     pub(crate) fn fault_at(&self, fault: FileFault) -> FileFault
         ensures { result ≡ fault_at_line self.now.line fault }
     {
@@ -229,8 +230,8 @@ impl Draft {
         }
     }
 
-    /// The item of the lines so far, if no further line comes. The end of the input ends a directive after its input,
-    /// its separator or its output, but not within continued lines or between double separators.
+    /// The item of the lines so far, if no further line comes; `None` if there are no lines. A script may end after the
+    /// input, the separator or the output of a directive, but not within continued lines or between double separators.
     #[inline(always)]
     pub(crate) fn finish(self) -> Result<Option<Item>, FileFault>
         requires fits { Fits self }

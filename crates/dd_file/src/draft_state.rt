@@ -16,31 +16,31 @@ ghost use Rattle.dd_file.specs.Draft.{is_done};
 
 use crate::command::Command;
 
-/// What an item is so far, which decides what its next line may be. From its last directive line on, a directive has
-/// its command.
+/// The state of an item after the lines so far, which decides what its next line is. Once the directive lines are
+/// complete, the state carries their command.
 #[derive(Drop)]
 pub(crate) enum DraftState {
     /// It has no line yet.
     Begin,
     /// It is a comment.
     CommentLine,
-    /// It is blank lines.
+    /// It is a blank.
     BlankLines,
     /// It has directive lines so far, all of them continued.
     DirectiveLines,
     /// Its directive lines are not valid.
     NoCommand,
-    /// Its directive lines are complete, and lines of its input come.
+    /// Its directive lines are complete. Lines of input follow, up to the separator.
     Input(Command),
     /// The last line was the separator.
     Separator(Command),
-    /// Lines of its expected output come, up to a blank one.
+    /// Lines of expected output follow, up to a blank line.
     Single(Command),
-    /// Lines of its expected output come, up to a pair of dashes.
+    /// Lines of expected output follow, up to a pair of dashes.
     Double(Command),
     /// The last two lines were the closing pair of dashes.
     Pair(Command),
-    /// It is a directive with its expected output.
+    /// It is a complete directive.
     Complete(Command),
     /// The line after the closing pair was not blank.
     AfterPair,

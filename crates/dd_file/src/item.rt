@@ -1,6 +1,6 @@
-//! The items of a script, with their text as it was written and, of a directive, what it parses to.
+//! The items of a script. Each keeps its lines as they were written, and a directive also what they parse to.
 //!
-//! Both are needed: a program runs a directive by its command, arguments and input, and writes it again by its raw
+//! A program needs both: it runs a directive by its command, arguments and input, and writes it again from its raw
 //! lines, so that spaces, continued lines and the order of arguments stay as they were.
 ghost use Rattle.std.specs.Prelude.{◌≡◌, ◌≤◌, [], ◌∷◌, true, length, drop, map, IfOk, option_map, slice_get};
 ghost use Rattle.ascii_text.specs.WhiteSpace.{trimmed};
@@ -16,12 +16,13 @@ use smallvec::SmallVec;
 use std::alloc::{AllocError, Global};
 use std::marker::Model;
 
-/// An argument of a directive: a key and its values. `cfg=(1, 2)` has the key `cfg` and the values `1` and `2`.
+/// An argument of a directive: a key and its values. `cfg=(1, 2)` has the key `cfg` and the values `1` and `2`
+/// (datadriven's `CmdArg`).
 #[derive(Drop)]
 pub struct Argument {
-    /// Its token.
+    /// The token that it was parsed from.
     token: SmallVec<u8, 32>,
-    /// The length of its key.
+    /// The length of the key, at the start of the token.
     key_len: usize,
 }
 
@@ -44,7 +45,7 @@ impl Argument {
     ghost use Rattle.dd_file.specs.ArgumentValues.{is_argument, argument_in};
     ghost use Rattle.dd_file.specs.DirectiveLine.{is_key_byte};
 
-    /// The argument that a token is. `key_len` is the length of the key at its start.
+    /// The argument that a token denotes. `key_len` is the length of the key at its start.
     pub(crate) fn new(alloc: Global, token: &[u8], key_len: usize) -> Result<Argument, AllocError>
         requires parses { is_argument token.now ≡ true }
         requires key { key_len ≡ prefix_len is_key_byte token.now }
@@ -56,7 +57,7 @@ impl Argument {
         })
     }
 
-    /// The key: what is before the `=`, or all of an argument without values. It is never empty (datadriven's
+    /// The key: what is before the `=`, or the whole argument if it has no `=`. It is never empty (datadriven's
     /// `CmdArg.Key`).
     pub fn key(&self) -> &[u8]
         ensures { result.now ≡ self.now.key }
@@ -71,7 +72,7 @@ impl Argument {
         Values::after_key(self.token.as_slice().split_at(self.key_len).1)
     }
 
-    /// The value at an index, counted from 0 (datadriven's `CmdArg.Vals`).
+    /// The value at an index, counted from 0; `None` after the last (datadriven's `CmdArg.Vals`).
     pub fn value(&self, i: usize) -> Option<&[u8]>
         ensures { option_map (λ value. value.now) result ≡ slice_get self.now.values i }
     {
@@ -83,8 +84,7 @@ impl Argument {
     }
 }
 
-/// A directive of a script: a command with arguments, its input, and the output that is expected (datadriven's
-/// `TestData`).
+/// A directive of a script: a command with arguments, its input, and its expected output (datadriven's `TestData`).
 #[derive(Drop)]
 pub struct Directive {
     line: usize,
@@ -170,7 +170,7 @@ impl Directive {
         self.command.as_slice()
     }
 
-    /// The argument at an index, counted from 0.
+    /// The argument at an index, counted from 0; `None` after the last (own).
     pub fn arg(&self, i: usize) -> Option<&Argument>
         ensures { option_map (λ argument. argument.now) result ≡ slice_get self.now.arguments i }
     {
@@ -200,12 +200,12 @@ impl Directive {
     }
 }
 
-/// An item of a script. The items of a script, in order, are all of its text.
+/// An item of a script. Every line of a script belongs to one of its items (own; datadriven returns directives alone).
 #[derive(Drop)]
 pub enum Item {
     /// One line, whose first byte that is not white space is `#`.
     Comment(RawLines),
-    /// A line of white space alone; or continued lines with nothing else but their backslashes.
+    /// A line of white space only, or continued lines that hold nothing but their backslashes.
     Blank(RawLines),
     /// A command with its input and its expected output.
     Directive(Directive),
@@ -214,15 +214,15 @@ pub enum Item {
 impl Item {
     ghost use Rattle.dd_file.specs.Rewritten.{raw_lines_of, kept_text, is_directive};
 
-    /// A comment of one line, which is to begin with `#`. It fails only if memory runs out (own).
+    /// A comment of one line, which should begin with `#`: this is not checked. It fails only if memory runs out (own).
     pub fn comment(alloc: Global, line: Vec<u8>) -> Result<Item, AllocError>
         ensures { IfOk result (λ item. item ≡ Item.Comment (line.items ∷ [])) }
     {
         Ok(Item::Comment(RawLines::of_line(alloc, line)?))
     }
 
-    /// A directive that a program writes itself, as the first item of a script: its line, lines of input, and no
-    /// expected output. `None` if the line is not valid (own).
+    /// A directive that a program makes itself, at line 1: a directive line, lines of input, and no expected output.
+    /// `None` if the directive line is not valid. It fails only if memory runs out (own).
     pub fn directive(
         alloc: Global,
         line: Vec<u8>,
@@ -240,7 +240,8 @@ impl Item {
         Ok(Some(Item::Directive(Directive::new(1, command, lines, 1, expected))))
     }
 
-    /// The raw line at an index, counted from 0. The raw lines of a directive end before its separator (own).
+    /// The raw line at an index, counted from 0; `None` after the last. The raw lines of a directive end before its
+    /// separator (own).
     pub fn raw_line(&self, i: usize) -> Option<&[u8]>
         ensures { option_map (λ line. line.now) result ≡ slice_get (raw_lines_of self.now) i }
     {
@@ -251,7 +252,7 @@ impl Item {
         }
     }
 
-    /// The raw lines as they are written: each with a newline.
+    /// The raw lines as one text, each with a newline.
     pub(crate) fn raw_text(&self) -> &[u8]
         ensures { result.now ≡ kept_text self.now }
     {

@@ -1,8 +1,8 @@
 //! Laws of scripts that are rewritten or joined, and of what is read and written part by part.
 //!
-//! A law is a function whose contract is a theorem; it does nothing. The first ones are what a user relies on: a script
-//! that was rewritten reads as the script that it was, with its actual outputs as the expected ones. The last ones put
-//! the contracts of two calls together, for crates that read and write in loops.
+//! A law is a function that does nothing, and whose contract is a theorem. The first ones are what a user relies on: a
+//! rewritten script is read back as the script that it was, with its actual outputs as the expected ones. The last ones
+//! combine the contracts of two calls, for crates that read and write in loops.
 ghost use Rattle.std.specs.Prelude.{◌≡◌};
 ghost use Rattle.dd_file.specs.Gathered.{buffered_writer, NothingBuffered};
 ghost use Rattle.dd_file.specs.InTurn.{ConsumedInTurn, ReadInTurn, AppendedInTurn, PartInFirst, PartInSecond, ContinuesInTurn, BreaksInFirst, BreaksInSecond};
@@ -11,18 +11,18 @@ ghost use Rattle.dd_file.specs.Laws.{ItemsByNext, LinesByNext, WrittenItem, Item
 use crate::blocks::Blocks;
 use crate::device::Sink;
 
-/// The items of a script from a position on are the next item, and then those from its end on (own).
+/// The items of a script from a position on are the next item, and then those after it (own).
 pub fn items_by_next()
     ensures { ItemsByNext }
 {}
 
-/// The lines of an input from a position on are the next line, and then those from its end on (own).
+/// The lines of an input from a position on are the next line, and then those after it (own).
 pub fn lines_by_next()
     ensures { LinesByNext }
 {}
 
-/// An item that is written with its actual output is read back as that item with that output, whatever lines follow it
-/// (own).
+/// An item that is written with its actual output is read back as that item, with this output as the expected one,
+/// whatever lines follow it. White space at the ends of its lines may differ (own).
 pub fn written_item()
     ensures { WrittenItem }
 {}
@@ -32,51 +32,52 @@ pub fn items_are_well_formed()
     ensures { ItemsAreWellFormed }
 {}
 
-/// A directive of one line, with lines of input and no expected output, is an item of the grammar. So directives that a
-/// program writes itself are read back too (own).
+/// A directive with one directive line, lines of input and no expected output is an item of the grammar. So directives
+/// that a program makes itself are read back too (own).
 pub fn directive_is_well_formed()
     ensures { DirectiveIsWellFormed }
 {}
 
 /// Items of the grammar that are written with actual outputs are read back in order. An empty line at the end may be
-/// missing, since the newline of it is dropped (own).
+/// missing, since its newline is dropped (own).
 pub fn written_script()
     ensures { WrittenScript }
 {}
 
-/// The keys of all arguments in a script are keys of the grammar: one or more letters, digits or bytes of `-_/,.`
+/// The keys of all arguments in a script are keys of the grammar: one or more ASCII letters, digits or bytes of `-_/,.`
 /// (own).
 pub fn items_have_keys()
     ensures { ItemsHaveKeys }
 {}
 
-/// Lines are complete exactly if their first item is and the lines after it are. A complete script can be extended:
-/// each of its directives has its separator (own).
+/// Lines are complete exactly when their first item is and the lines after it are. A complete script can be extended,
+/// since each of its directives has its separator (own).
 pub fn complete_by_first()
     ensures { CompleteByFirst }
 {}
 
-/// A complete script, two newlines and a text have the directives of the script and then those of the text. So two
-/// scripts can be joined as files are (own).
+/// A complete script followed by two newlines and any text has the directives of the script, and then those of the
+/// text. So two scripts can be concatenated (own).
 pub fn joined_items()
     ensures { JoinedItems }
 {}
 
-/// Two calls of a reader, one after the other, consume one prefix of the input. An input that agrees with both agrees
-/// with each in turn (own).
+/// Two calls of a reader, one after the other, together consume a prefix of its bytes. An input that agrees with both
+/// calls together agrees with each in turn (own).
 pub fn read_in_turn()
     ensures consumed { ConsumedInTurn }
     ensures agrees { ReadInTurn }
 {}
 
-/// Two writes, one after the other, append both texts; if one of them is cut short, a prefix of both (own).
+/// Two writes, one after the other, append both texts as one; if a write is interrupted, a prefix of that (own).
 pub fn appended_in_turn()
     ensures whole { AppendedInTurn }
     ensures first { PartInFirst }
     ensures second { PartInSecond }
 {}
 
-/// Two texts that a rewriter writes, one after the other, are written as both; if one is cut short, as a prefix (own).
+/// Two texts that a rewriter writes, one after the other, are written as one text; if a write is interrupted, a prefix
+/// of that text is written (own).
 pub fn rewritten_in_turn()
     ensures whole { ContinuesInTurn }
     ensures first { BreaksInFirst }

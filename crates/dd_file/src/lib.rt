@@ -1,7 +1,6 @@
-//! Script files in the form of cockroachdb's `datadriven` package, in which etcd's raft packages keep their tests.
+//! Script files in the format of cockroachdb's `datadriven` package, which etcd's raft packages use for their tests.
 //!
-//! A script is a list of items. An item is a comment, a blank, or a directive with its input and the output that is
-//! expected of it:
+//! A script is a list of items. An item is a comment, a blank, or a directive with its input and its expected output:
 //!
 //! ```text
 //! # make 1 a voter                    a comment
@@ -14,10 +13,10 @@
 //!                                     the blank line that ends the item
 //! ```
 //!
-//! A program runs each directive and compares what it prints, the actual output, with the expected one. Or it writes
-//! the script again with the actual outputs in place of the expected ones, which is how such tests are kept up to date.
+//! A program runs each directive and compares its actual output with the expected one. Or it rewrites the script with
+//! the actual outputs instead of the expected ones, which is how such tests are kept up to date.
 //!
-//! Two rules complete the form. A directive line that ends in a backslash is continued in the next line. Output with
+//! Two rules complete the format. A directive line that ends in a backslash is continued on the next line. Output with
 //! blank lines is written between double separators:
 //!
 //! ```text
@@ -32,12 +31,12 @@
 //! ----
 //! ```
 //!
-//! [`reader`](crate::reader) reads the items of a source, and takes at most 4,096 bytes beyond the item that it
-//! returns. [`rewriter`](crate::rewriter) writes them to a sink. Once one of them has failed, it returns its error from
-//! then on.
+//! [`reader`](crate::reader) reads the items from a source, and reads at most 4,096 bytes beyond the item that it
+//! returns. [`rewriter`](crate::rewriter) writes them to a sink. An error of either is permanent: nothing more is read
+//! or written.
 //!
-//! The form is datadriven's. Own are the grammar of a directive line, the limit of an input, and the error of a double
-//! separator that is not closed.
+//! The format is datadriven's. What is not is marked "own" in the comments: above all the grammar of a directive line,
+//! the limit on the length of an input, and the error for a double separator that is not closed.
 #![tactic(auto)]
 
 mod arguments;

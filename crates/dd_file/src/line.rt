@@ -3,7 +3,7 @@ ghost use Rattle.std.specs.Prelude.{◌≡◌};
 
 use std::marker::Model;
 
-/// A line without its newline. Its value is the list of its bytes, which may be any.
+/// A line without its newline. It need not be UTF-8 (own).
 #[derive(Drop)]
 pub struct Line {
     bytes: Vec<u8>,
@@ -25,7 +25,7 @@ impl Line {
         Line { bytes }
     }
 
-    /// The bytes of the line.
+    /// The bytes of the line (own).
     pub fn as_slice(&self) -> &[u8]
         ensures { result.now ≡ self.now }
     {

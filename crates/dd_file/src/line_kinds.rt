@@ -1,7 +1,7 @@
 //! The kinds of lines of a script: comments, continued lines and separators.
 //!
-//! White space around a line does not change its kind, but for a double separator: its lines are four dashes and
-//! nothing else, so that an indented `----` can be part of an output.
+//! White space around a line does not change its kind, with one exception: the lines of a double separator after the
+//! first are four dashes and nothing else, so that an indented `----` can be part of an output.
 ghost use Rattle.std.specs.Prelude.{◌≡◌};
 ghost use Rattle.dd_file.specs.Script.{is_comment, is_continued, is_separator, is_dashes};
 
@@ -29,7 +29,7 @@ pub(crate) fn is_separator(line: &[u8]) -> bool
     is_dashes(trimmed(line))
 }
 
-/// Whether the line is four dashes and nothing else, as the lines of a double separator are.
+/// Whether the line is four dashes and nothing else, as the lines of a double separator after the first have to be.
 pub(crate) fn is_dashes(line: &[u8]) -> bool
     ensures { result ≡ is_dashes line.now }
 {

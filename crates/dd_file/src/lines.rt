@@ -4,8 +4,8 @@
 //! "v1\r\nv2\n\nl3"    has the lines    "v1", "v2", "" and "l3"
 //! ```
 //!
-//! A newline ends a line, and one carriage return before it is dropped. What follows the last newline is a line too,
-//! unless it is empty.
+//! A newline ends a line, and one carriage return at the end of a line is dropped. What follows the last newline is a
+//! line too, unless it is empty.
 ghost use Rattle.std.specs.Prelude.{◌≡◌, ◌≤◌, ◌<◌, ◌+◌, ◌||◌, None, [], true, false, IfOk, IfErr, IsOkUnless, MatchOption, length, vec_len};
 ghost use Rattle.dd_file.specs.Position.{longest_input};
 ghost use Rattle.dd_file.specs.Buffered.{BufferedReadsOn, is_line_buffered, CanReadBuffered, passed};
@@ -26,7 +26,7 @@ use std::marker::Model;
 /// The greatest length of an input in bytes: 2^30 - 1 (own).
 const LONGEST_INPUT: usize = 0x3fff_ffff;
 
-/// Reads the lines of an input from a [`Source`], with at most 4,096 bytes read ahead.
+/// Reads the lines of an input from a [`Source`], with at most 4,096 bytes read ahead (own).
 #[derive(Drop)]
 pub struct Lines {
     alloc: Global,
@@ -69,7 +69,7 @@ impl Lines {
         })
     }
 
-    /// The next line, without its newline and one carriage return before it; `None` at the end and from then on. The
+    /// The next line, without its newline and one carriage return at its end; `None` at the end and from then on. The
     /// errors are `InputTooLong` for an input of 2^30 bytes or more, `Read` if a read failed, and `NoMemory`. An error
     /// is permanent: later calls return it again, and read nothing (own).
     pub fn next<R: Source>(&mut self, reader: &mut R) -> Result<Option<Line>, FileFault>
@@ -91,10 +91,10 @@ impl Lines {
         }
     }
 
-    /// The next line if it is buffered, so that nothing is read. `None`, and nothing changes, if no newline is
-    /// buffered, the end was reached, an error was returned, or the buffered bytes may exceed the limit. A program that
-    /// replies to each line flushes its replies when this returns `None`, and then calls `next`, which may wait for
-    /// input (own).
+    /// The next line if it is buffered, without a read. `None`, and nothing changes, if no newline is buffered, the end
+    /// was reached, an error was returned, or the buffered bytes exceed the limit. The only error is `NoMemory`. A
+    /// program that replies to each line flushes its replies when this returns `None`, and then calls `next`, which may
+    /// wait for input (own).
     pub fn next_buffered<R: Source>(
         &mut self,
         reader: &R,
@@ -165,7 +165,7 @@ impl Lines {
         self.is_ended
     }
 
-    /// How many lines were returned; the next one has the number after that.
+    /// How many lines were returned, which is also the number of the last one.
     pub(crate) fn count(&self) -> usize
         ensures count { result ≡ self.now.position.lines }
         ensures limit { self.now.position.lines ≤ longest_input }
@@ -201,7 +201,7 @@ impl Lines {
         }
     }
 
-    /// The line of a full line, which is counted as returned. An empty one is the end of the input.
+    /// The line of a full line, which is counted as returned. `None` if the full line is empty: the input has ended.
     fn take_line(&mut self, mut full_line: Vec<u8>) -> Option<Line>
         requires { self.old.position.bytes + vec_len full_line ≤ longest_input }
         ensures { MatchOption result
@@ -220,7 +220,7 @@ impl Lines {
     }
 }
 
-/// Drops this byte at the end, once, if it is there.
+/// Drops the last byte if it is `end`.
 fn drop_end(bytes: &mut Vec<u8>, end: u8)
     ensures { bytes.new.items ≡ without_last end bytes.old.items }
 {

@@ -1,5 +1,5 @@
-//! Lines that are stored in one text, with the positions of their newlines beside it, so that the lines of an item are
-//! written as one text.
+//! Lines that are stored as one text, together with the positions of their newlines. The lines of an item are written
+//! as this text.
 //!
 //! ```text
 //! lines    "v1"  ""  "----"
@@ -15,7 +15,7 @@ use std::alloc::{AllocError, Global};
 use std::marker::Model;
 use std::mem::replace;
 
-/// Lines without their newlines, in the order in which they were added.
+/// Lines without their newlines, in the order in which they were added (own).
 #[derive(Drop)]
 pub struct RawLines {
     /// The lines, each with a newline.
@@ -145,7 +145,7 @@ impl RawLines {
         text
     }
 
-    /// Where the line at an index begins in the text, or where one after the last would begin.
+    /// The position at which the line at an index begins, or the end of the text for the index after the last.
     fn start(&self, i: usize) -> usize
         requires { i ≤ length self.now }
         ensures position { result ≡ length (text_of (take i self.now)) }

@@ -1,7 +1,7 @@
 //! Reading a script item by item.
 //!
-//! An item is returned as soon as its last line is read, so that a script which another program writes can be run while
-//! it comes. A program that replies to each item at once goes through this loop:
+//! An item is returned as soon as its last line is read, so that a program can run a script while another program still
+//! writes it. A program that replies to each item at once uses this loop:
 //!
 //! ```text
 //! next_buffered    while it returns an item: run it, and print the reply
@@ -79,9 +79,9 @@ impl Reader {
         answer
     }
 
-    /// The next item if all its lines are buffered, so that nothing is read. `None`, and nothing changes, if no item
-    /// ends in the buffered bytes, the end was reached, an error was returned, or the buffered bytes may exceed the
-    /// limit (own).
+    /// The next item if all its lines are buffered, without a read. `None`, and nothing changes, if no item ends in the
+    /// buffered bytes, the end was reached, an error was returned, or the buffered bytes exceed the limit. The errors
+    /// are those of the script's syntax, and `NoMemory` (own).
     #[inline(always)]
     pub fn next_buffered<R: Source>(
         &mut self,
@@ -98,7 +98,7 @@ impl Reader {
         Some(answer)
     }
 
-    /// Gives back an item that is no longer used, so that a later one reuses its buffer (own).
+    /// Takes back an item that is no longer used, so that a later one can reuse its buffer (own).
     #[inline(always)]
     pub fn reuse(&mut self, item: Item)
         ensures { self.new ≡ self.old }
@@ -128,7 +128,7 @@ fn fault_in(answer: &Result<Option<Item>, FileFault>) -> Option<FileFault>
     }
 }
 
-/// Reads the lines of one item, and none after them. A line that cannot be read becomes the error of the item.
+/// Reads the lines of one item, and none after them. An error in reading a line becomes the error of the item.
 fn read_item<R: Source>(
     alloc: Global,
     raw_lines: RawLines,

@@ -1,5 +1,5 @@
 //! Rewriting a script with its actual outputs: the items stay as they were, and the output below each separator is
-//! replaced.
+//! replaced. Here `/` separates lines:
 //!
 //! ```text
 //! keep              found                 what is written
@@ -8,8 +8,9 @@
 //! show              a / (blank) / b       show / ---- / ---- / a / (blank) / b / ---- / ---- / (empty line)
 //! ```
 //!
-//! A script that ends in two newlines is written with one (own), so the last newline so far is kept back until more
-//! text comes. A rewriter holds no text: it remembers how many newlines end what it wrote.
+//! If the rewritten script ends in two newlines, the last one is dropped. So a newline at the end of the text so far is
+//! pending: it is written only when more text follows, or at the end. A rewriter stores no text, only how many newlines
+//! the text so far ends in.
 ghost use Rattle.std.specs.Prelude.{◌≡◌, ℕ, List, [], ◌∷◌, ◌++◌, ◌==◌, Option, IsOk, IsErr, OnOk, OnErr, IfOk, true, false, map, if◌then◌else◌};
 ghost use Rattle.std.specs.Io.KnownBytes.{Appends};
 ghost use Rattle.ascii_text.specs.Lines.{newline, text_of, without_last};
@@ -26,7 +27,7 @@ use ascii_text::lines::{next_full_line, without_end};
 use ascii_text::white_space::is_blank;
 use std::marker::Model;
 
-/// How many newlines end a text after one more byte: 0, 1, or 2 for two and more.
+/// How many newlines a text ends in once a byte is added: 0, 1, or 2 for two or more.
 fn count_newline(newlines: u8, byte: u8) -> u8
     ensures { (text : List ℕ) → newlines ≡ newlines_at_end text → result ≡ newlines_at_end (text ++ byte ∷ []) }
 {
@@ -36,7 +37,7 @@ fn count_newline(newlines: u8, byte: u8) -> u8
     if newlines == 0 { 1 } else { 2 }
 }
 
-/// How many newlines end a text after more bytes. If there are two bytes or more, the last two decide.
+/// How many newlines a text ends in once bytes are added. If these are two or more, the last two decide.
 fn count_newlines(newlines: u8, bytes: &[u8]) -> u8
     ensures { (text : List ℕ) → newlines ≡ newlines_at_end text → result ≡ newlines_at_end (text ++ bytes.now) }
 {
@@ -49,14 +50,14 @@ fn count_newlines(newlines: u8, bytes: &[u8]) -> u8
     }
 }
 
-/// The newline at the end of the script: the one that was kept back, unless the text ends in two.
+/// What is left to write at the end of the script: the pending newline, unless the text ends in two.
 fn last_newline(newlines: u8) -> &'static [u8]
     ensures { result.now ≡ (if newlines == 1 then newline else []) }
 {
     if newlines == 1 { b"\n" } else { b"" }
 }
 
-/// Writes the newline that was kept back. There is one if the text so far ends in a newline.
+/// Writes the pending newline. There is one if the text so far ends in a newline.
 fn write_pending_newline<W: Sink>(writer: &mut W, newlines: u8) -> Result<(), WriteFault>
     ensures ok { OnOk result (Appends (W.contents writer.old) (W.contents writer.new) (if newlines == 0 then [] else newline)) }
     ensures err { OnErr result (AppendsPart (W.contents writer.old) (W.contents writer.new) (if newlines == 0 then [] else newline)) }
@@ -69,8 +70,8 @@ fn write_pending_newline<W: Sink>(writer: &mut W, newlines: u8) -> Result<(), Wr
     write_all(writer, b"\n")
 }
 
-/// Writes more text after a text that ends in this many newlines, and keeps a newline at its end back. Returns how many
-/// newlines end the text then.
+/// Writes more text after a text that ends in this many newlines; a newline at its end stays pending. Returns how many
+/// newlines the whole text ends in.
 fn write_text<W: Sink>(writer: &mut W, newlines: u8, text: &[u8]) -> Result<u8, WriteFault>
     ensures ok { IfOk result (λ count. Continues newlines count (W.contents writer.old) (W.contents writer.new) text.now) }
     ensures err { OnErr result (BreaksOff newlines (W.contents writer.old) (W.contents writer.new) text.now) }
@@ -99,7 +100,7 @@ fn needs_double(text: &[u8]) -> bool
     false
 }
 
-/// The text before an output: the newline that was kept back, and a single or a double separator.
+/// The text before an output: the pending newline, and a single or a double separator.
 fn before_output(newlines: u8, double: bool) -> &'static [u8]
     ensures { result.now ≡ (if newlines == 0 then [] else newline) ++ opening double }
 {
@@ -120,7 +121,8 @@ fn after_output(double: bool) -> &'static [u8]
     if double { b"----\n----\n\n" } else { b"\n" }
 }
 
-/// Writes an output with its separators, and keeps the newline at its end back. Returns as `write_text` does.
+/// Writes an output with its separators; the newline at its end stays pending. Returns how many newlines the whole text
+/// ends in.
 fn write_output<W: Sink>(
     writer: &mut W,
     newlines: u8,
@@ -142,7 +144,7 @@ fn write_output<W: Sink>(
 }
 
 /// Writes the items of a script with their actual outputs to a [`Sink`]. After an error nothing more is written, and
-/// each call fails (datadriven's `-rewrite`; the newline at the end is own).
+/// each call fails (datadriven's `-rewrite`).
 #[derive(Drop)]
 pub struct Rewriter {
     stage: Stage,
@@ -158,7 +160,7 @@ impl Model for Rewriter {
 }
 
 impl Rewriter {
-    /// A rewriter at the beginning of its script, with nothing written.
+    /// A rewriter at the beginning of its script, with nothing written (own).
     pub fn new() -> Rewriter
         ensures stage { result.stage ≡ Stage.Ready }
         ensures nothing { (start : Option (List ℕ)) → HasWritten result.newlines start start [] }
@@ -169,8 +171,8 @@ impl Rewriter {
         }
     }
 
-    /// Ends a call that wrote. If the write succeeded, the number of newlines and the stage are recorded; if not, the
-    /// rewriter fails permanently.
+    /// Records the result of a write: the number of newlines and the stage if it succeeded; if not, the rewriter fails
+    /// permanently.
     fn finish_call(
         &mut self,
         written: Result<u8, WriteFault>,
@@ -192,8 +194,8 @@ impl Rewriter {
         }
     }
 
-    /// Writes the raw lines of an item, as they are. After a directive, its actual output is to be written by `found`.
-    /// It fails if a write fails, or has failed before (datadriven).
+    /// Writes the raw lines of an item, as they are. After a directive, the next call has to write its actual output,
+    /// by `found` or `found_without_blanks`. It fails if a write fails, or has failed before (datadriven).
     pub fn keep<W: Sink>(&mut self, writer: &mut W, item: &Item) -> Result<(), WriteFault>
         requires { CanKeep self.old }
         ensures { WritesMore W.contents W.has_failed self.old self.new writer.old writer.new (if is_directive item.now then Stage.NeedsOutput else Stage.Ready) (kept_text item.now) result }
@@ -225,8 +227,8 @@ impl Rewriter {
         self.finish_call(written, Stage::Ready)
     }
 
-    /// Writes the actual output of the directive that was kept last, which has no blank line; it is not searched for
-    /// one. It fails if a write fails, or has failed before (own).
+    /// Does what `found` does for an output that has no blank line, without searching it for one. It fails if a write
+    /// fails, or has failed before (own).
     pub fn found_without_blanks<W: Sink>(
         &mut self,
         writer: &mut W,
@@ -244,8 +246,8 @@ impl Rewriter {
         self.finish_call(written, Stage::Ready)
     }
 
-    /// Ends the script: writes the newline that was kept back, unless the text ends in two. It fails if a write fails,
-    /// or has failed before (own).
+    /// Ends the script: writes the pending newline, unless the text ends in two. It fails if a write fails, or has
+    /// failed before (datadriven, which however keeps a text of just two newlines).
     pub fn end<W: Sink>(&mut self, writer: &mut W) -> Result<(), WriteFault>
         requires { CanKeep self.old }
         ensures { WritesEnd W.contents W.has_failed self.old self.new writer.old writer.new result }

@@ -1,13 +1,13 @@
-//! Room in vectors of bytes: memory is reserved first, and then bytes are appended without a chance to fail. So a step
-//! that runs out of memory leaves things as they were.
+//! Appending to a vector of bytes in two steps: capacity is reserved first, which may fail, and then bytes are
+//! appended, which cannot fail. So a caller that runs out of memory has changed nothing.
 ghost use Rattle.std.specs.Prelude.{◌≡◌, ◌≤◌, ◌+◌, ◌++◌, length, OnOk, vec_len, vec_capacity};
 
 use std::alloc::AllocError;
 
-/// The smallest capacity that is reserved, in bytes: enough for most items.
+/// The smallest capacity that is reserved for a vector that has none, in bytes: enough for most items.
 const LEAST_ROOM: usize = 128;
 
-/// Reserves capacity for `more` bytes beyond those that are there.
+/// Reserves capacity for `more` bytes after those that are there.
 pub(crate) fn make_room(bytes: &mut Vec<u8>, more: usize) -> Result<(), AllocError>
     ensures items { bytes.new.items ≡ bytes.old.items }
     ensures room { OnOk result (vec_len bytes.old + more ≤ vec_capacity bytes.new) }

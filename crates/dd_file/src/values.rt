@@ -1,4 +1,4 @@
-//! An iterator over the values of an argument. The values are cut from the text when they are asked for, not stored:
+//! An iterator over the values of an argument, which splits them off its text one at a time:
 //!
 //! ```text
 //! =(1, 2,3)    gives 1, then 2, then 3
@@ -43,7 +43,7 @@ impl<'a> Values<'a> {
     ghost use Rattle.std.specs.Prelude.{◌≡◌, true, [], ◌∷◌, length, MatchOption};
     ghost use Rattle.dd_file.specs.ArgumentValues.{has_values, values_after};
 
-    /// The values after a key: none, or after `=` one plain value or a list in parentheses.
+    /// The values in the text after a key, which is empty, or `=` and then one plain value or a list in parentheses.
     pub(crate) fn after_key(text: &'a [u8]) -> Values<'a>
         requires { has_values text.now ≡ true }
         ensures { result ≡ values_after text.now }
@@ -69,7 +69,7 @@ impl<'a> Values<'a> {
         Values { rest, kind }
     }
 
-    /// The next value, without the white space around it; `None` at the end and from then on.
+    /// The next value, without the white space around it; `None` at the end and from then on (own).
     pub fn next(&mut self) -> Option<&'a [u8]>
         ensures { MatchOption result ((self.old ≡ []) × (self.new ≡ [])) (λ value. self.old ≡ value.now ∷ self.new) }
     {

@@ -1,7 +1,7 @@
 //! Writing all of some bytes to a sink.
 //!
-//! One call of a sink may write only a prefix, so the rest is written by further calls. After a call that fails, or
-//! that takes no byte, nothing is tried again: no byte is written twice.
+//! One call of a sink may write only a prefix, so the rest is written by further calls. After a call that fails or
+//! takes no byte there are no further calls, so no byte is written twice.
 ghost use Rattle.std.specs.Prelude.{◌≡◌, ◌≤◌, ◌<◌, ◌||◌, ◌==◌, nat_lt, ℕ, List, [], Option, IsOk, OnOk, OnErr, true, length, take};
 ghost use Rattle.std.specs.Io.KnownBytes.{Appends};
 ghost use Rattle.dd_file.specs.Device.{AppendsPart};
@@ -61,7 +61,7 @@ pub(crate) fn write_prefix<W: Sink>(writer: &mut W, bytes: &[u8]) -> usize
 }
 
 /// Writes all of the bytes. It fails if a call of the writer fails or takes no byte; then a prefix of the bytes is
-/// written. For no bytes the writer is not called (own).
+/// written. If there are no bytes, the writer is not called (own).
 #[inline(always)]
 pub fn write_all<W: Sink>(writer: &mut W, bytes: &[u8]) -> Result<(), WriteFault>
     ensures ok { OnOk result (Appends (W.contents writer.old) (W.contents writer.new) bytes.now) }
