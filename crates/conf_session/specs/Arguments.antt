@@ -1,4 +1,4 @@
--- The arguments of a directive, compared with the parameters of its command.
+-- The arguments of a directive, matched with the parameters of its command.
 use Rattle.std.specs.Prelude.{ℕ, Bool, false, not, ◌&&◌, List, [], ◌∷◌, ◌++◌, Option, Some, None, option_map, unwrap_or, if◌then◌else◌, bytes_eq}
 use Rattle.std.specs.List.{list_any, find}
 use Rattle.dd_file.specs.DirectiveLine.{ArgumentText}
@@ -21,7 +21,7 @@ has_key arguments key = list_any (λ argument. bytes_eq argument.key key) argume
 abbrev pub is_good : List Parameter → List ArgumentText → ArgumentText → Bool
 is_good parameters before argument = is_allowed parameters argument && not (has_key before argument.key)
 
--- the key of the first argument that is not good, if those of `before` come before them
+-- the key of the first of these arguments that is not good, where those of `before` precede them
 abbrev pub first_bad : List Parameter → List ArgumentText → List ArgumentText → Option (List ℕ)
 first_bad parameters before [] = None
 first_bad parameters before (argument ∷ arguments) =

@@ -32,13 +32,14 @@ use Rattle.conf_session.specs.declared.undo_fault.UndoFault.{UndoFault}
 use Rattle.conf_session.specs.declared.commands.Command.{Command}
 use Rattle.conf_session.specs.declared.commands.Command.TheVariants.{Simple, EnterJoint, LeaveJoint, ConfChange, ConfState, Restore, Undo, Ack, CommitIndex, Committed, Vote, Unknown}
 
--- a command, the kind of its input, and its parameters, in the order in which missing arguments are reported; None if its
--- arguments are ignored
+-- A command, the kind of its input, and its parameters, in the order in which missing arguments are reported. They are
+-- None if the arguments are ignored.
 pub record Row : Type 0 where
   pub command : Command
   pub input : InputKind
   pub parameters : Option (List Parameter)
 
+-- a row with these parts
 abbrev pub row_with : Command → InputKind → Option (List Parameter) → Row
 row_with command input parameters = record { command = command; input = input; parameters = parameters }
 
@@ -63,6 +64,7 @@ abbrev pub after_step : Result ChangerState Refused → Reply
 after_step (Ok after) = stepped after
 after_step (Err refused) = replied_line (refused_text refused)
 
+-- the reply to a step
 abbrev pub on_step : ChangerState → Step → Reply
 on_step changer step = after_step (changer_after changer step)
 
@@ -76,6 +78,7 @@ abbrev pub after_planned : SessionState → ℕ → Result (List Step) UndoFault
 after_planned session count (Ok steps) = undone session count steps
 after_planned session count (Err fault) = replied_line (undo_fault_text fault)
 
+-- the reply to `undo` of the last `count` changes
 abbrev pub undo_last : SessionState → ℕ → Reply
 undo_last session count = after_planned session count (undo_plan_of session count)
 
@@ -85,6 +88,7 @@ after_ack changer id (Ok p) = acknowledged_by (changer_with_progress changer id 
 after_ack changer id (Err NotMember) = replied_line (codes "not a member")
 after_ack changer id (Err IndexTooLarge) = replied_line (codes "index too large")
 
+-- the reply to `ack` of this index by the member with this id
 abbrev pub on_ack : ChangerState → ℕ → ℕ → Reply
 on_ack changer id index = after_ack changer id (ack_answer changer.tracker id index)
 
@@ -107,7 +111,7 @@ reply_of Committed session input values = replied_line (committed_reply values)
 reply_of Vote session input values = replied_line (vote_reply values)
 reply_of Unknown session input values = replied_line (codes "unknown command")
 
--- the reply to what was read, or the line that reports why it could not be
+-- the reply to what was read, or the line that reports why it could not be read
 abbrev pub if_read : {V : Type 0} → (V → Reply) → Result V (List ℕ) → Reply
 if_read reply (Ok read) = reply read
 if_read reply (Err actual) = replied actual
@@ -126,7 +130,7 @@ pub record Answer : Type 0 where
   pub actual : List ℕ
   pub session : SessionState
 
--- the answer with a reply: the session after its update
+-- the answer that a reply gives: its output, and the session after its update
 abbrev pub answered : SessionState → Reply → Answer
 answered session reply = record { actual = reply.actual; session = after_directive session reply.update }
 

@@ -1,4 +1,4 @@
--- At which index a list of ids has an id.
+-- The index at which a list of ids has an id.
 use Rattle.std.specs.Prelude.{◌≡◌, ◌≢◌, ℕ, ◌<◌, List, Some, slice_get}
 use Rattle.std.specs.List.{All, Contains}
 use Rattle.std.specs.List.Sorted.{IsSorted}
@@ -18,7 +18,7 @@ pub record HasRows (ids : List ℕ) (rows : List (ℕ × ℕ)) : Type 0 where
   pub true_rows : All (λ row. slice_get ids row.1 ≡ Some row.0) rows
   pub all_rows : (index id : ℕ) → slice_get ids index ≡ Some id → Contains rows (id, index)
 
--- such rows in ascending order by id, then by index
+-- the rows of the list, in ascending order by id, then by index
 pub record IsIndex (ids : List ℕ) (rows : List (ℕ × ℕ)) : Type 0 where
   pub rows_are : HasRows ids rows
   pub ascends : IsSorted (λ x y. ordering_then (nat_cmp x.0 y.0) (nat_cmp x.1 y.1)) rows

@@ -26,7 +26,7 @@ is_required Index = true
 is_required parameter = false
 
 -- ---- an argument of one value
--- the values are this one alone
+-- the only value is this one
 abbrev pub has_only : List ℕ → List (List ℕ) → Bool
 has_only value [] = false
 has_only value (first ∷ []) = bytes_eq first value

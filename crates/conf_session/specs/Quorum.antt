@@ -12,16 +12,16 @@ use Rattle.quorum_sets.specs.declared.voting.VoteResult.TheVariants.{VotePending
 use Rattle.conf_session.specs.Values.{Values}
 use Rattle.conf_session.specs.declared.values_by_id.ValuesById.{ValuesById}
 
--- the incoming and the outgoing set
+-- the incoming and the outgoing voters that the arguments name
 abbrev pub voters_named : Values → Voters
 voters_named values = record { incoming = ids_of values.incoming; outgoing = ids_of values.outgoing }
 
--- the ids, each once, in the order in which they come first
+-- each id once, in the order of first occurrence
 abbrev pub each_once : List ℕ → List ℕ
 each_once [] = []
 each_once (id ∷ ids) = id ∷ filter (λ other. not (other == id)) (each_once ids)
 
--- the ids that have values: those of the first set, then the further ones of the second
+-- the ids to which the values belong: those of the first set, then the further ones of the second
 abbrev pub ids_named : Values → List ℕ
 ids_named values = each_once (values.incoming ++ values.outgoing)
 

@@ -15,7 +15,7 @@ pub record Reply : Type 0 where
   pub actual : List ℕ
   pub update : SessionChange
 
--- what the code returns for a reply: its update names the changer that the session has afterwards, current or next
+-- a reply as the code returns it: its update does not hold the changer that the session has afterwards
 pub record ReplyParts : Type 0 where
   pub actual : List ℕ
   pub update : SessionUpdate

@@ -10,7 +10,7 @@ use Rattle.dd_file.specs.Rewritten.{is_output, has_blank_line}
 abbrev pub is_line_byte : ℕ → Bool
 is_line_byte b = not (b == 10) && not (b == 13)
 
--- a line that is neither blank nor four dashes
+-- a line of such bytes that is neither blank nor four dashes
 abbrev pub is_reply_line : List ℕ → Bool
 is_reply_line bytes = not (is_blank bytes || is_dashes bytes) && list_all is_line_byte bytes
 

@@ -14,10 +14,10 @@ line text = text ++ newline
 abbrev pub member_line : ℕ × Progress → List ℕ
 member_line member = line (progress_text member.0 member.1)
 
--- the members in ascending order
+-- a line for each member, in ascending order of the ids
 abbrev pub member_lines : TrackerState → List ℕ
 member_lines tracker = flat_map member_line (finite.entries tracker.progress)
 
--- a configuration and its members
+-- the line of a configuration, and then those of its members
 abbrev pub tracker_text : TrackerState → List ℕ
 tracker_text tracker = line (config_text tracker.config) ++ member_lines tracker

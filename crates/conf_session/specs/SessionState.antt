@@ -15,12 +15,13 @@ pub record SessionState : Type 0 where
   pub history : ℕ
   pub kept : List Configuration
 
+-- a session as its three parts, the form in which the model of a type is stored
 abbrev pub session_code : Coded SessionState
 session_code =
     code_by (ChangerState × (ℕ × List Configuration)) (coded× changer_code (coded× coded_ℕ (coded_list configuration_code)))
     (λ s. (s.changer, (s.history, s.kept))) (λ p. record { changer = p.0; history = p.1.0; kept = p.1.1 }) (λ _. refl)
 
--- an empty configuration, before the first directive
+-- the session before its first directive: an empty configuration, last index 0, and nothing kept
 abbrev pub new_session : ℕ → Floor → SessionState
 new_session history floor = record { changer = new_changer floor 0; history = history; kept = [] }
 
@@ -29,8 +30,8 @@ abbrev pub current : SessionState → Configuration
 current session = session.changer.tracker.config
 
 -- ---- how it changes
--- not at all; or this changer replaces its own: after an acknowledgement, after an accepted change, restored, or
--- with the last changes undone, as many as the number
+-- How a session changes: not at all, or this changer replaces its own, after an acknowledgement, an accepted change, a
+-- restore, or the undoing of this many changes.
 pub data SessionChange : Type 0 where
   Nothing : SessionChange
   Acknowledged : ChangerState → SessionChange
@@ -46,8 +47,8 @@ changer_afterwards session (Stepped after) = after
 changer_afterwards session (Restored after) = after
 changer_afterwards session (Undone after count) = after
 
--- The configurations that are kept afterwards: the one before an accepted change is the newest, and the oldest is dropped
--- if there would be too many.
+-- The configurations that are kept afterwards: the one before an accepted change is the newest, and the oldest is
+-- dropped if there would be too many.
 abbrev pub kept_afterwards : SessionState → SessionChange → List Configuration
 kept_afterwards session Nothing = session.kept
 kept_afterwards session (Acknowledged after) = session.kept
@@ -59,7 +60,7 @@ kept_afterwards session (Undone after count) = drop count session.kept
 abbrev pub index_after : ℕ → ℕ
 index_after index = min (index + 1) (2 ^ 64 - 1)
 
--- the session after a directive that changes it so; the last index also rises
+-- the session after a directive that changes it in this way; the last index rises too
 abbrev pub after_directive : SessionState → SessionChange → SessionState
 after_directive session update =
     let left = changer_afterwards session update in
@@ -71,12 +72,13 @@ pub record Leads (before after : Configuration) : Type 0 where
   pub step : Step
   pub gives : outcome before step ≡ Ok after
 
--- each of the kept configurations can be restored, and one accepted step leads from it to the next newer one, and from the newest to `now`
+-- each of the kept configurations can be restored, and one accepted step leads from it to the next newer one, and from
+-- the newest to `now`
 abbrev pub LedTo : Configuration → List Configuration → Type 0
 LedTo now [] = ⊤
 LedTo now (older ∷ kept) = (is_restorable older ≡ true) × Leads older now × LedTo older kept
 
--- its tracker is sound, no more configurations are kept than may be, and they lead to the current one
+-- the session's tracker is sound, no more configurations are kept than may be, and they lead to the current one
 pub record IsSession (session : SessionState) : Type 0 where
   pub sound : IsSound session.changer.tracker
   pub few : length session.kept ≤ session.history

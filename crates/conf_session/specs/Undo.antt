@@ -31,7 +31,8 @@ undo_fault_text NoMemory = codes "out of memory"
 abbrev pub undone_changer : SessionState → List Step → ChangerState
 undone_changer session steps = unwrap_or (after_steps session.changer steps) session.changer
 
--- the reply: the text of the plan and of the changer after it; the configurations before the undone changes are no longer kept
+-- the reply to `undo` with the changer after it: the text of the plan and of that changer; the configurations before
+-- the undone changes are no longer kept
 abbrev pub undone_by : ChangerState → ℕ → List Step → Reply
 undone_by after count steps = record { actual = plan_text steps ++ tracker_text after.tracker; update = Undone after count }
 

@@ -55,7 +55,7 @@ with_more so_far Outgoing values = record so_far { outgoing = so_far.outgoing ++
 with_more so_far Indexes values = record so_far { indexes = so_far.indexes ++ filter_map index_in values }
 with_more so_far Votes values = record so_far { votes = so_far.votes ++ filter_map vote_in values }
 
--- the values after an argument that has a parameter among these
+-- the argument has one of these parameters, and `after` is `before` with its values
 abbrev pub HasMore : Values → List Parameter → ArgumentText → Values → Type 0
 HasMore before parameters argument after = IsSomeAnd (parameter_of parameters argument) (λ parameter. after ≡ with_more before parameter argument.values)
 

@@ -1,5 +1,5 @@
-//! The arguments of a directive, compared with the parameters of its command: an argument belongs to the parameter with
-//! its key, as `autoleave=true` to `autoleave`.
+//! The arguments of a directive, matched with the parameters of its command: an argument belongs to the parameter with
+//! its key, as `autoleave=true` does to `autoleave`.
 ghost use Rattle.std.specs.Prelude.{◌≡◌, option_copied};
 ghost use Rattle.conf_session.specs.Arguments as spec;
 

@@ -1,11 +1,11 @@
-//! Buffers that are reused between directives: they grow with the longest directive, and are then not allocated again.
+//! Buffers that are reused between directives.
 use crate::input::Input;
 use crate::session_ids::SessionIds;
 use crate::values::Values;
 use conf_change::Changer;
 use std::alloc::Global;
 
-/// What a directive writes before the session changes. Each directive overwrites it before it reads it.
+/// What a directive writes before the session changes. A directive reads nothing in it that an earlier one wrote.
 #[derive(Drop)]
 pub(crate) struct Buffers {
     /// The changer that an accepted command leads to. `State::apply` swaps it with the current one.

@@ -1,6 +1,7 @@
-//! The commands of a script. Each is a row of a table: its name, the kind of its input, and its parameters. A directive's
-//! input is read first, then its arguments, and then the command is run. So errors of input and arguments are reported
-//! here, in one place, and a command gets values. It does not change the session: the update is part of its reply.
+//! The commands of a script. Each is a row of a table: its name, the kind of its input, and its parameters. A
+//! directive's input is read first, then its arguments, and then the command is run. So errors of input and arguments
+//! are reported in one place, and a command gets valid values. A command does not change the session: the update is
+//! part of its reply.
 ghost use Rattle.std.specs.Prelude.{◌≡◌, ◌≤◌, option_map, IfOk};
 ghost use Rattle.conf_session.specs.Reply.{reply_in};
 ghost use Rattle.conf_session.specs.ReplyLines.{IsValidOutput};
@@ -26,15 +27,15 @@ use dd_file::item::{Argument, Directive};
 use quorum_sets::NoMemory;
 use std::alloc::Global;
 
-/// The command of a directive. The changes are those of etcd's package `confchange`; `ConfChange` makes the one of them that
-/// etcd's `ConfChangeV2` denotes.
+/// The command of a directive. `Simple`, `EnterJoint` and `LeaveJoint` are the changes of etcd's package `confchange`.
+/// `ConfChange` makes the one of them that etcd's raft makes for a `ConfChangeV2` with the same changes and transition.
 #[derive(Clone, Copy)]
 pub(crate) enum Command {
     Simple,
     EnterJoint,
     LeaveJoint,
     ConfChange,
-    /// Prints the current configuration as it is saved.
+    /// Prints the current configuration as a ConfState line.
     ConfState,
     /// Begins again from a saved configuration.
     Restore,
@@ -42,18 +43,18 @@ pub(crate) enum Command {
     Undo,
     /// Lets a member acknowledge an index.
     Ack,
-    /// Prints what the current configuration commits.
+    /// Prints the index that the current configuration commits.
     CommitIndex,
-    /// Prints what a quorum in the arguments commits.
+    /// Prints the chart of the quorum that the arguments name, and the index that it commits.
     Committed,
-    /// Prints what a quorum in the arguments votes.
+    /// Prints the result of a vote in the quorum that the arguments name.
     Vote,
     /// Any other name. Its input is still read as changes, as in etcd's tests.
     Unknown,
 }
 
-// A command, the kind of its input, and its parameters, in the order in which missing arguments are reported. The arguments
-// of a command without parameters are ignored.
+// A command, the kind of its input, and its parameters, in the order in which missing arguments are reported. They are
+// `None` if the arguments are ignored.
 #[derive(Drop)]
 struct Row {
     command: Command,
@@ -130,7 +131,7 @@ fn row_of(name: &[u8]) -> Row
     }
 }
 
-/// Runs a directive. If it leads to another changer, that one is `next` in the buffers afterwards.
+/// Runs a directive. If its update replaces the changer, the new one is `next` in the buffers afterwards.
 pub(crate) fn run_directive(
     alloc: Global,
     session: &State,
@@ -152,7 +153,7 @@ pub(crate) fn run_directive(
     )
 }
 
-// Reads the input and the arguments by their row, and runs its command, or reports the first error.
+// Reads the input and the arguments as the row says, and runs its command, or reports the first error.
 fn run_row(
     alloc: Global,
     session: &State,

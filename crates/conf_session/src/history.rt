@@ -9,8 +9,8 @@ use std::alloc::Global;
 use std::collections::VecDeque;
 use std::marker::Model;
 
-/// Configurations, the newest first, and how many are kept at most. Memory for that many is reserved, so that keeping one
-/// cannot fail after a change was accepted.
+/// Configurations, the newest first, and how many are kept at most. Memory for that many is reserved, so that keeping
+/// one cannot fail after a change was accepted.
 #[derive(Drop)]
 pub(crate) struct History {
     most: usize,
@@ -49,7 +49,7 @@ impl History {
         self.kept.len()
     }
 
-    /// The configuration at an index. The newest, before the last change, is at 0.
+    /// The configuration at an index. The newest, from before the last change, is at 0.
     pub(crate) fn get(&self, index: usize) -> Option<&Config<SessionIds>>
         ensures { option_copied result ≡ slice_get self.now.kept index }
     {

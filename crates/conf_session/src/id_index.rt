@@ -1,4 +1,5 @@
-//! At which index a list of ids has an id. The ids of a quorum are asked for one by one, and may be many.
+//! Finds the first index of an id in a list of ids: to drop repeated ids, and to look up the value of an id, which is
+//! at the same index of another list.
 ghost use Rattle.std.specs.Prelude.{◌≡◌, [], OnOk};
 ghost use Rattle.conf_session.specs.IdIndex.{HasRows};
 
@@ -6,7 +7,7 @@ use quorum_sets::NoMemory;
 use std::alloc::Global;
 use std::marker::Model;
 
-/// A list of ids, and a binary search in it.
+/// A list of ids with sorted rows, in which an id is found by binary search.
 #[derive(Drop)]
 pub(crate) struct IdIndex {
     ids: Vec<u64>,
@@ -47,7 +48,8 @@ impl IdIndex {
         self.ids.as_slice()
     }
 
-    /// The index at which the id comes first. The rows of an id are side by side, the one with the least index in front.
+    /// The least index at which the list has the id. The rows of an id are adjacent, the one with the least index
+    /// first.
     pub(crate) fn first(&self, id: u64) -> Option<usize>
         ensures { MatchOption result (IsAbsent self.now id) (IsFirstIndex self.now id) }
     {
@@ -59,7 +61,7 @@ impl IdIndex {
         }
     }
 
-    /// Whether the id at an index comes first there, and is not repeated from before.
+    /// Whether the id at this index occurs there for the first time.
     pub(crate) fn is_first(&self, index: usize, id: u64) -> bool
         requires { slice_get self.now index ≡ Some id }
         ensures { result ≡ not (list_any (λ other. id == other) (take index self.now)) }
@@ -71,7 +73,7 @@ impl IdIndex {
     }
 }
 
-// Adds a row for each id. They are sorted afterwards, at once.
+// Adds a row for each id. The caller sorts them.
 fn push_rows(rows: &mut Vec<(u64, usize)>, ids: &[u64]) -> Result<(), NoMemory>
     requires { rows.old.items ≡ [] }
     ensures { OnOk result (HasRows ids.now rows.new.items) }

@@ -1,5 +1,5 @@
-//! The input of a directive: the lines between it and the separator. It is looked at before the arguments, so a command that
-//! takes no input reports one first.
+//! The input of a directive: the lines between the directive line and the separator. It is read before the arguments,
+//! so a command that takes no input reports an input before a bad argument.
 ghost use Rattle.std.specs.Prelude.{◌≡◌, [], Ok, Err, IfOk, MatchResult};
 ghost use Rattle.conf_session.specs.Input as spec;
 
@@ -16,7 +16,8 @@ use std::marker::Model;
 pub(crate) enum InputKind {
     /// A list of changes, as `v1 l2 r3`.
     Changes,
-    /// A list of changes that must be empty, for `leave-joint`: a bad token is reported as such, and white space is allowed.
+    /// A list of changes that must be empty, for `leave-joint`. White space is allowed, and a bad token is reported as
+    /// such.
     NoChange,
     /// The ConfState line of a saved configuration, as `conf-state` prints it.
     ConfStateLine,
@@ -51,7 +52,7 @@ impl Input {
         }
     }
 
-    /// Reads an input over the previous one, or returns the line that reports its error.
+    /// Reads an input in place of the previous one, or returns the line that reports its error.
     pub(crate) fn read(
         &mut self,
         kind: InputKind,
@@ -132,7 +133,7 @@ fn read_saved(
     }
 }
 
-// Accepts an empty input alone.
+// Accepts only an empty input.
 fn read_nothing(alloc: Global, text: &[u8]) -> Result<Result<(), Vec<u8>>, NoMemory>
     ensures { IfOk result (λ read. MatchResult read (λ _. spec.read_input InputKind.Nothing text.now ≡ Ok (spec.of_changes [])) (λ actual. spec.read_input InputKind.Nothing text.now ≡ Err actual.items)) }
 {

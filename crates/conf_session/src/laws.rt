@@ -1,5 +1,5 @@
-//! Laws of this crate's definitions, each the contract of a function that does nothing. A caller calls such a function to
-//! use its law in a proof.
+//! Laws of this crate's definitions, each the contract of a function that does nothing. A caller calls such a function
+//! to use its law in a proof.
 ghost use Rattle.std.specs.Prelude.{◌≡◌, ◌-◌, ◌≤◌, ℕ, List, Some, Ok, true, length, slice_get};
 ghost use Rattle.dd_file.specs.DirectiveText.{DirectiveText};
 ghost use Rattle.dd_file.specs.DirectiveLine.{has_keys};
@@ -17,24 +17,24 @@ use conf_change::laws::{
 };
 use conf_plan::laws::{one_changer_after_steps, undo_of_run};
 
-/// The reply to a directive is a valid output: whole lines, one at least, none of which is blank, is four dashes or ends
-/// in a carriage return.
+/// The reply to a directive is a valid output: whole lines, one at least, none of which is blank, is four dashes or
+/// ends in a carriage return.
 pub fn actual_output_is_valid()
     ensures { (session : SessionState) (directive : DirectiveText) → has_keys directive.arguments ≡ true → IsValidOutput (answer session directive).actual }
 {
     one_list_per_text();
 }
 
-/// The kept configurations of a session are those before its last accepted changes: `count` accepted steps lead from the
-/// one at index `count - 1` to the current one, which has a voter.
+/// The kept configurations of a session are those before its last accepted changes: `count` accepted steps lead from
+/// the one at index `count - 1` to the current one, which has a voter.
 pub fn kept_lead_to_now()
     ensures { (session : SessionState) (count : ℕ) (older : Configuration) → IsSession session → 1 ≤ count → slice_get session.kept (count - 1) ≡ Some older → IsEarlier session count older }
 {
     trackers_stay_sound();
 }
 
-/// What holds of every session (`IsSession`) still holds after each answer, whatever the directive is: the members fit the
-/// configuration, and accepted steps lead from each kept configuration to the next newer one.
+/// What holds of every session (`IsSession`) still holds after each answer, whatever the directive is: the members fit
+/// the configuration, and accepted steps lead from each kept configuration to the next newer one.
 pub fn answer_keeps_session()
     ensures { (session : SessionState) (directive : DirectiveText) → IsSession session → IsSession (answer session directive).session }
 {
@@ -46,7 +46,7 @@ pub fn answer_keeps_session()
     one_changer_after_steps();
 }
 
-/// It holds after any directives in turn, so of every session that began as a new one.
+/// `IsSession` holds after any directives in turn, so it holds of every session that began as a new one.
 pub fn answers_keep_session()
     ensures kept { (session : SessionState) (directives : List DirectiveText) → IsSession session → IsSession (after_answers session directives) }
     ensures from_new { (history : ℕ) (floor : Floor) (directives : List DirectiveText) → IsSession (after_answers (new_session history floor) directives) }
@@ -63,8 +63,8 @@ pub fn undo_plan_leads_back()
     undo_of_run();
 }
 
-/// Whatever changes were accepted, the plan that undoes the last ones restores the voters, learners, next learners and the
-/// flag as they were before them.
+/// Whatever changes were accepted, the plan that undoes the last ones restores the voters, learners, next learners and
+/// the flag as they were before them, if there was a voter then.
 pub fn undo_brings_back()
     ensures { (session : SessionState) (count : ℕ) (older : Configuration) → IsSession session → 1 ≤ count → slice_get session.kept (count - 1) ≡ Some older → has_voter older ≡ true
         → (undone_changer session (planned (current session) older)).tracker.config ≡ older }

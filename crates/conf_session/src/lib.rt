@@ -1,9 +1,9 @@
-//! Sessions: a configuration on which the directives of a script act, one after another.
+//! A session holds a configuration and runs the directives of a script on it, one after another.
 //!
-//! A directive's command is a change (`simple`, `enter-joint`, `leave-joint`, `conf-change`, `restore`, `ack`, `undo`) or a
-//! question (`conf-state`, `commit-index`, `committed`, `vote`). Most are those of the tests of etcd's packages `confchange`
-//! and `quorum`, or call what etcd's raft does elsewhere; `undo` is own. The reply is what the script file expects below
-//! `----`:
+//! A directive's command changes the session (`simple`, `enter-joint`, `leave-joint`, `conf-change`, `restore`, `ack`,
+//! `undo`) or asks a question (`conf-state`, `commit-index`, `committed`, `vote`). `simple`, `enter-joint` and
+//! `leave-joint` are commands of the tests of etcd's package `confchange`, `committed` and `vote` of those of `quorum`.
+//! `undo` is own, and the others do what etcd's raft does elsewhere. A script expects the reply below `----`:
 //!
 //! ```text
 //! simple
@@ -13,11 +13,11 @@
 //! 1: StateProbe match=0 next=1
 //! ```
 //!
-//! A command reads its input first and then its arguments, and the first error is the reply. A refused change replies with
-//! the refusal and alters nothing but the last index, which rises by one after every directive.
+//! A command reads its input first and then its arguments, and the first error is the reply. The reply to a refused
+//! change is the refusal, and nothing is altered but the last index, which rises by one after every directive.
 //!
-//! A session keeps the configurations before its last accepted changes. `undo` plans the way back to one of them and takes
-//! it. That configuration and the newer ones are then no longer kept:
+//! A session keeps the configurations from before its last accepted changes. `undo` plans the way back to one of them
+//! and takes it. That configuration and the newer ones are then no longer kept:
 //!
 //! ```text
 //! current (1 2 3)   kept, the newest first: (1 2), (1)

@@ -1,5 +1,5 @@
-//! The parameters of commands: their keys, and what values their arguments may have. `cfg`, `cfgj`, `idx` and `votes` are
-//! those of etcd's tests of `quorum`, `autoleave` is of those of `confchange`, and the others are own.
+//! The parameters of commands: their keys, and what values their arguments may have. `cfg`, `cfgj`, `idx` and `votes`
+//! come from the tests of etcd's package `quorum`, `autoleave` from those of `confchange`; the others are own.
 ghost use Rattle.std.specs.Prelude.{◌≡◌};
 ghost use Rattle.conf_session.specs.Parameter as spec;
 
@@ -10,7 +10,7 @@ use dd_file::item::Argument;
 /// A parameter of a command.
 #[derive(Clone, Copy)]
 pub(crate) enum Parameter {
-    /// `autoleave`: `true` or `false`, whether the joint configuration is to be left without a further command.
+    /// `autoleave`: `true` or `false`, the auto-leave flag of the joint configuration.
     AutoLeave,
     /// `transition`: `auto`, `implicit` or `explicit`, as in etcd's `ConfChangeTransition`.
     Transition,
@@ -18,7 +18,7 @@ pub(crate) enum Parameter {
     Steps,
     /// `id`: the member that acknowledges, a number from 1.
     Id,
-    /// `index`: the index of the log that it acknowledges, a number.
+    /// `index`: the log index that the member acknowledges, a number.
     Index,
     /// `cfg`: the ids of the incoming voters.
     Incoming,
@@ -51,7 +51,7 @@ impl Parameter {
         }
     }
 
-    /// Whether a command needs its argument. Each other one has a default.
+    /// Whether its argument is required. Every other argument has a default.
     pub(crate) fn is_required(self) -> bool
         ensures { result ≡ spec.is_required self }
     {
@@ -70,7 +70,7 @@ pub(crate) fn has_only(argument: &Argument, value: &[u8]) -> bool
     }
 }
 
-/// The flag that is its only value.
+/// The flag that the argument's only value denotes.
 pub(crate) fn flag_in(argument: &Argument) -> Option<bool>
     ensures { result ≡ spec.flag_in argument.now.values }
 {
@@ -83,7 +83,7 @@ pub(crate) fn flag_in(argument: &Argument) -> Option<bool>
     }
 }
 
-/// The transition that is its only value.
+/// The transition that the argument's only value denotes.
 pub(crate) fn transition_in(argument: &Argument) -> Option<HowApplied>
     ensures { result ≡ spec.transition_in argument.now.values }
 {
@@ -98,7 +98,7 @@ pub(crate) fn transition_in(argument: &Argument) -> Option<HowApplied>
     }
 }
 
-/// The number that is its only value, if it is at least `least`.
+/// The number that the argument's only value denotes, if it is at least `least`.
 pub(crate) fn number_from(least: u64, argument: &Argument) -> Option<u64>
     ensures { result ≡ spec.number_from least argument.now.values }
 {
@@ -114,7 +114,7 @@ pub(crate) fn number_from(least: u64, argument: &Argument) -> Option<u64>
     Some(number)
 }
 
-/// The type of the values in a list, as those of `cfg=(1,2,3)`.
+/// The type of the values in a list such as `cfg=(1,2,3)`.
 pub(crate) trait Listed: Copy + Drop {
     ghost use Rattle.std.specs.Prelude.{◌≡◌, ℕ, List, Option};
 

@@ -9,8 +9,8 @@ use crate::values_by_id::ValuesById;
 use quorum_sets::{MemberSet, NoMemory};
 use std::alloc::Global;
 
-/// Two sets of ids, of which each decides by its majority, and what each id has voted or acknowledged. The second set is
-/// empty unless the quorum is joint.
+/// Two sets of voters, each of which decides by majority, and what each id has voted or acknowledged. The outgoing set
+/// is empty unless the quorum is joint.
 #[derive(Drop)]
 pub(crate) struct Quorum<'a, V: Drop> {
     pub(crate) incoming: SessionIds,
@@ -23,8 +23,9 @@ impl<'a, V: Copy + Drop> Quorum<'a, V> {
     ghost use Rattle.quorum_sets.specs.Voters.{pair};
     ghost use Rattle.conf_session.specs.Quorum.{ids_named, is_one_each, map_of, values_by_id, voters_named};
 
-    /// The quorum of the ids of `cfg` and `cfgj`. The first values are those of the ids of `cfg`, then come those of the
-    /// further ids of `cfgj`: an id in both has one value, as in etcd's tests. `None` if there are more or fewer values.
+    /// The quorum that `cfg` and `cfgj` name. The values belong to the ids of `cfg` in their order, and then to those
+    /// of `cfgj`. An id that is repeated or in both lists has one value, as in etcd's tests. `None` if there are more
+    /// or fewer values than ids.
     pub(crate) fn of(
         alloc: Global,
         arguments: &Values,
@@ -52,7 +53,7 @@ impl<'a, V: Copy + Drop> Quorum<'a, V> {
     }
 }
 
-// Pushes the ids, each once, in the order in which they come first. That is the order in which ids are given values.
+// Pushes each id once, in the order of first occurrence. The values come in this order.
 fn push_each_once(each: &mut Vec<u64>, index: &IdIndex) -> Result<(), NoMemory>
     requires { each.old.items ≡ [] }
     ensures { OnOk result (each.new.items ≡ each_once index.now) }

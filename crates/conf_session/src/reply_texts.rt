@@ -1,5 +1,6 @@
 //! The outputs of a session, each in whole lines. The texts of configurations, members, refusals, charts and votes are
-//! those that etcd prints; the errors of input and arguments are own.
+//! those that etcd prints. `unknown command`, `this command takes no input` and the errors of tokens (but for
+//! `bad number`) come from etcd's tests; the other errors are own.
 ghost use Rattle.std.specs.Prelude.{◌≡◌, ◌≢◌, ◌++◌, IfOk, OnOk, IsSomeAnd};
 ghost use Rattle.quorum_sets.specs.Voters.{pair};
 ghost use Rattle.conf_change.specs.ChangeList.{bad_token};
@@ -22,7 +23,7 @@ use conf_change::{
 use quorum_sets::{MemberSet, NoMemory, VoteResult, joint_chart, joint_committed, joint_vote};
 use std::alloc::Global;
 
-// Ends a text that has no newline yet.
+// Ends a text with a newline.
 fn end_line(text: Vec<u8>) -> Result<Vec<u8>, NoMemory>
     ensures { IfOk result (λ whole. whole.items ≡ line text.items) }
 {
@@ -31,7 +32,7 @@ fn end_line(text: Vec<u8>) -> Result<Vec<u8>, NoMemory>
     Ok(ended)
 }
 
-/// A line of a fixed text and what follows it, as `bad argument: ` and a key.
+/// The line of `front` and then `back`, such as `bad argument: ` and a key.
 pub(crate) fn line_of(alloc: Global, front: &[u8], back: &[u8]) -> Result<Vec<u8>, NoMemory>
     ensures { IfOk result (λ text. text.items ≡ line (front.now ++ back.now)) }
 {
@@ -135,7 +136,7 @@ fn vote_name(vote: VoteResult) -> &'static [u8]
     }
 }
 
-// How many bytes the chart of few ids has, so that the text rarely has to grow.
+// How many bytes the chart of a few ids usually has.
 fn usual_chart_room(incoming: &SessionIds, outgoing: &SessionIds) -> usize {
     let ids = incoming.len().saturating_add(outgoing.len());
     ids.min(16).saturating_mul(48).saturating_add(64)
@@ -165,7 +166,7 @@ pub(crate) fn tracker_lines(
     Ok(text)
 }
 
-/// Appends these lines, or on `NoMemory` a part of them.
+/// Appends the lines of `tracker_lines`, or on `NoMemory` a part of them.
 pub(crate) fn append_tracker(
     text: &mut Vec<u8>,
     tracker: &Tracker<SessionIds>,
@@ -178,7 +179,7 @@ pub(crate) fn append_tracker(
     append_members(tracker, text)
 }
 
-/// How many bytes these lines usually have, so that a text rarely has to grow.
+/// How many bytes the lines of `tracker_lines` usually have.
 pub(crate) fn usual_room(tracker: &Tracker<SessionIds>) -> usize {
     tracker.member_count().saturating_mul(64).saturating_add(64)
 }

@@ -23,8 +23,8 @@ use quorum_sets::NoMemory;
 use std::alloc::Global;
 use std::marker::Model;
 
-/// A configuration with the progress of its members, on which directives act, and the configurations before its last accepted
-/// changes. It answers the directives of one script, as etcd's test runners hold one `Changer` for each script file.
+/// A configuration with the progress of its members, on which directives act, and the configurations from before its
+/// last accepted changes (own). A session runs one script, as etcd's tests make one `Changer` for each script file.
 #[derive(Drop)]
 pub struct Session {
     state: State,
@@ -43,16 +43,16 @@ impl Model for Session {
 }
 
 impl Session {
-    /// A session with an empty configuration, last index 0 and floor one. `history` is how many earlier configurations it
-    /// keeps at most. Their memory is allocated here.
+    /// A session with an empty configuration, last index 0 and floor one. It keeps at most `history` earlier
+    /// configurations, for which memory is allocated here.
     pub fn new(alloc: Global, history: usize) -> Result<Session, NoMemory>
         ensures { IfOk result (λ session. session ≡ new_session history One) }
     {
         Session::with_floor(alloc, history, Floor::One)
     }
 
-    /// A session that gives fresh members a next index from this floor on. With floor zero it answers as etcd's tests, whose
-    /// first member has next 0.
+    /// A session in which the next index of a new member is at least `floor`. With floor zero it answers as etcd's
+    /// tests do, in which the first member has next 0.
     pub fn with_floor(alloc: Global, history: usize, floor: Floor) -> Result<Session, NoMemory>
         ensures { IfOk result (λ session. session ≡ new_session history floor) }
     {
@@ -72,7 +72,7 @@ impl Session {
         self.state.changer()
     }
 
-    /// How many earlier configurations are kept, and so how many changes can be undone at once.
+    /// How many earlier configurations are kept (own). At most this many changes can be undone at once.
     pub fn kept(&self) -> usize
         ensures kept { result ≡ length self.now.kept }
         ensures few { result ≤ self.now.history }
@@ -80,7 +80,7 @@ impl Session {
         self.state.kept()
     }
 
-    /// The configuration before an accepted change. The one before the last change is at index 0.
+    /// The configuration before an accepted change (own). The one before the last change is at index 0.
     pub fn kept_at(&self, index: usize) -> Option<&Config<SessionIds>>
         ensures { option_copied result ≡ slice_get self.now.kept index }
     {
@@ -88,10 +88,11 @@ impl Session {
     }
 
     /// The plan that undoes the last `count` accepted changes (own). It is the best plan to the configuration before
-    /// them: the fewest steps, then the most progress preserved, then the fewest changes.
+    /// them: the shortest, which also preserves the progress of the most members and names each id in the fewest
+    /// changes.
     ///
-    /// It is refused with `NotKept` if fewer configurations are kept, else with `NoVoterTarget` if that configuration has no
-    /// voter.
+    /// It is refused with `NotKept` if fewer than `count` configurations are kept, else with `NoVoterTarget` if the
+    /// configuration before the changes has no voter.
     pub fn undo_plan(&self, count: usize) -> Result<Plan, UndoFault>
         requires { 1 ≤ count }
         ensures planned { IfOk result (λ plan. undo_plan_of self.now count ≡ Ok plan) }
@@ -104,8 +105,8 @@ impl Session {
         self.state.undo_plan(self.alloc, count)
     }
 
-    /// Runs a directive and returns its output, which a script expects below the separator. The last index rises by one after
-    /// each directive, refused ones too. etcd's tests do so after a change; that a question counts is own.
+    /// Runs a directive and returns its output, which a script expects below the separator. The last index rises by one
+    /// after each directive, refused ones too, as in etcd's tests; that it rises after a question too is own.
     pub fn step(&mut self, directive: &Directive) -> Result<Vec<u8>, NoMemory>
         ensures actual { IfOk result (λ actual. actual.items ≡ (answer self.old directive.now).actual) }
         ensures valid_output { IfOk result (λ actual. IsValidOutput actual.items) }

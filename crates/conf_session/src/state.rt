@@ -1,4 +1,4 @@
-//! What a session holds from one directive to the next. The buffers, which hold nothing from one to the next, are beside it.
+//! What a session keeps from one directive to the next: all but its buffers.
 ghost use Rattle.std.specs.Prelude.{◌≡◌, ◌≢◌, ◌↔◌, ◌≤◌, ◌-◌, Some, Ok, Err, IfOk, length, option_copied, slice_get};
 ghost use Rattle.conf_change.specs.Changer.{IsSound};
 ghost use Rattle.conf_change.specs.Configuration.{Configuration};
@@ -20,8 +20,8 @@ use std::alloc::Global;
 use std::marker::Model;
 use std::mem::swap;
 
-/// The changer, and the configurations before its last accepted changes. Accepted steps lead from each of these to the next
-/// newer one and from the newest to the current one, so a plan leads back (`kept_lead_to_now`).
+/// The changer, and the configurations from before its last accepted changes. One accepted step leads from each of
+/// these to the next newer one, and from the newest to the current one, so a plan can lead back (`kept_lead_to_now`).
 #[derive(Drop)]
 pub(crate) struct State {
     changer: Changer<SessionIds>,
@@ -51,7 +51,7 @@ impl State {
         })
     }
 
-    /// Does nothing. Its contract is what holds of every state, for the proof of a caller.
+    /// Does nothing. Its contract states what holds of every state, for use in a caller's proof.
     pub(crate) fn is_session(&self)
         ensures { IsSession self.now }
     {
@@ -74,8 +74,8 @@ impl State {
         self.changer.tracker().config()
     }
 
-    /// How many earlier configurations are kept: one for each change that was accepted since the session was new or restored,
-    /// without those that were dropped as the oldest or undone.
+    /// How many earlier configurations are kept: one for each change that was accepted since the session began or was
+    /// last restored, except those that were undone or dropped as the oldest.
     pub(crate) fn kept(&self) -> usize
         ensures kept { result ≡ length self.now.kept }
         ensures few { result ≤ self.now.history }
@@ -83,15 +83,15 @@ impl State {
         self.history.len()
     }
 
-    /// An earlier configuration. The newest, before the last change, is at index 0.
+    /// An earlier configuration. The newest, from before the last change, is at index 0.
     pub(crate) fn kept_at(&self, index: usize) -> Option<&Config<SessionIds>>
         ensures { option_copied result ≡ slice_get self.now.kept index }
     {
         self.history.get(index)
     }
 
-    /// The plan that undoes the last `count` accepted changes. The current configuration has a voter, since a change led to
-    /// it; the earlier one may be empty.
+    /// The plan that undoes the last `count` accepted changes. The current configuration has a voter, since a change
+    /// led to it; the earlier one may be empty.
     pub(crate) fn undo_plan(&self, alloc: Global, count: usize) -> Result<Plan, UndoFault>
         requires { 1 ≤ count }
         ensures planned { IfOk result (λ plan. undo_plan_of self.now count ≡ Ok plan) }
@@ -112,8 +112,8 @@ impl State {
         }
     }
 
-    /// Applies the update of a directive, then counts the directive in the last index. A replaced changer is left in `next`, to
-    /// be overwritten; only its configuration is taken out of it, if it is kept.
+    /// Applies the update of a directive, then counts the directive in the last index. A replaced changer is left in
+    /// `next`, to be overwritten; if its configuration is kept, it is moved out first.
     pub(crate) fn apply(&mut self, update: SessionUpdate, next: &mut Changer<SessionIds>)
         requires { IsSession (after_directive self.old (session_change self.old.changer next.old update)) }
         ensures { self.new ≡ after_directive self.old (session_change self.old.changer next.old update) }

@@ -1,4 +1,4 @@
-//! Why the changes of a session cannot be undone. `undo` and the mode `undo` of the program report the same texts.
+//! Why the changes of a session cannot be undone. The command `undo` and the mode `undo` report the same texts.
 ghost use Rattle.std.specs.Prelude.{◌≡◌, IfOk};
 ghost use Rattle.conf_session.specs.Undo as spec;
 
@@ -21,18 +21,19 @@ pub enum UndoFault {
     /// The configuration before those changes is not kept; this many are.
     #[error("{front}{0}{back}", front = NO_PLAN, back = ARE_KEPT)]
     NotKept(usize),
-    /// The earlier configuration is the empty one of a new session. No change leads there, since a change never removes the
-    /// last voter.
+    /// The earlier configuration is empty, as that of a new session. No change leads back to it, since a change never
+    /// removes the last voter.
     #[error("{front}{why}", front = NO_PLAN, why = NO_VOTER)]
     NoVoterTarget,
+    /// Memory ran out.
     #[error("{}", OUT_OF_MEMORY)]
     NoMemory,
 }
 
-// Bytes that each of the texts fits into.
+// Room in bytes for the longest text.
 const FAULT_ROOM: usize = 64;
 
-/// The message of an error. It is not written by `Display`, of whose text no contract speaks.
+/// The message of an error. It is not written by `Display`, whose text no contract states.
 pub fn undo_fault_text(alloc: Global, fault: UndoFault) -> Result<Vec<u8>, NoMemory>
     ensures { IfOk result (λ text. text.items ≡ spec.undo_fault_text fault) }
 {

@@ -1,5 +1,5 @@
-//! The values of a directive's arguments. They are read before the command runs, which then gets numbers and lists, never
-//! text, and does not ask whether an argument was there.
+//! The values of a directive's arguments. They are read before the command runs, so the command gets numbers and lists,
+//! never text, and a default in place of a missing argument.
 ghost use Rattle.std.specs.Prelude.{◌≡◌, true, ◌++◌, filter_map, is_some, unwrap_or, IfOk};
 ghost use Rattle.conf_session.specs.Parameter.{allows, all_read, id_in};
 ghost use Rattle.conf_session.specs.Values as spec;
@@ -13,8 +13,8 @@ use quorum_sets::NoMemory;
 use std::alloc::Global;
 use std::marker::Model;
 
-/// The value of each argument, or its default if the argument is missing. One type serves all commands: each looks at the
-/// values of its own parameters.
+/// The value of each argument, or its default if the argument is missing. One type serves all commands: each looks at
+/// the values of its own parameters.
 #[derive(Drop)]
 pub(crate) struct Values {
     /// Of `autoleave`; false by default.
@@ -61,7 +61,7 @@ impl Values {
     ghost use Rattle.conf_session.specs.Parameter.{allows};
     ghost use Rattle.conf_session.specs.Values as spec;
 
-    /// The values if no argument is there.
+    /// The values if there are no arguments: the defaults.
     pub(crate) fn new(alloc: Global) -> Values
         ensures { result ≡ spec.values_in [] }
     {
@@ -78,9 +78,9 @@ impl Values {
         }
     }
 
-    /// Reads the arguments of a command that has these parameters, over the previous values, or returns the line that reports
-    /// an error: the first bad argument, or else the first that is missing. Commands without parameters (`simple`,
-    /// `leave-joint`, unknown ones) ignore their arguments, as etcd's tests do.
+    /// Reads the arguments of a command that has these parameters, in place of the previous values, or returns the line
+    /// that reports an error: the first bad argument, or else the first that is missing. If the parameters are `None`
+    /// (`simple`, `leave-joint`, unknown commands), the arguments are ignored, as in etcd's tests.
     pub(crate) fn read_arguments(
         &mut self,
         parameters: Option<&[Parameter]>,
@@ -103,7 +103,7 @@ impl Values {
         Ok(Ok(()))
     }
 
-    // Becomes the values if no argument is there. The lists keep their memory.
+    // Resets each value to its default.
     fn clear(&mut self)
         ensures { self.new ≡ spec.values_in [] }
     {
@@ -118,8 +118,8 @@ impl Values {
         self.votes.clear();
     }
 
-    // Reads the arguments, and returns the key of the first bad one: it has no parameter, its values are not valid, or its
-    // key came before. The values of the others are then of no use.
+    // Reads the arguments, and returns the key of the first bad one: one that has no parameter, has values that are not
+    // valid, or repeats a key. The values are then unspecified.
     fn read<'a>(
         &mut self,
         parameters: &[Parameter],
@@ -193,7 +193,8 @@ fn read_list_or_zero(list: &mut Vec<u64>, argument: &Argument) -> Result<bool, N
     }
 }
 
-// Appends the values of an argument to a list, and returns whether each of them is valid. It stops at one that is not.
+// Appends the values of an argument to a list, and returns whether each of them is valid. It stops at the first that is
+// not.
 fn read_list<T: Listed>(list: &mut Vec<T>, argument: &Argument) -> Result<bool, NoMemory>
     ensures all { IfOk result (λ all. all ≡ all_read T.reads argument.now.values) }
     ensures list { IfOk result (λ all. all ≡ true → list.new.items ≡ list.old.items ++ filter_map T.reads argument.now.values) }

@@ -1,9 +1,10 @@
-//! The values that a command names for the ids of a quorum: votes, or acknowledged indexes. The calls of `quorum_sets` ask
-//! for them id by id.
+//! The values that a command names for the ids of a quorum: votes, or acknowledged indexes. The calls of `quorum_sets`
+//! ask for them id by id.
 use crate::id_index::IdIndex;
 use quorum_sets::{AckSource, VoteSource};
 
-/// A map from ids to values: a value belongs to the id at the same index of the list. It is `None` for `_`, an unknown one.
+/// A map from ids to values: each value belongs to the id at the same index of the list. A value is `None` if it is
+/// unknown, written `_`.
 #[derive(Drop)]
 pub(crate) struct ValuesById<'a, V: Drop> {
     ids: IdIndex,
@@ -15,7 +16,7 @@ impl<'a, V: Copy + Drop> ValuesById<'a, V> {
     ghost use Rattle.std.specs.FinMap as finite;
     ghost use Rattle.conf_session.specs.Quorum.{map_of, values_by_id};
 
-    /// The map of two lists.
+    /// The map from each id to the value at its index.
     pub(crate) fn new(ids: IdIndex, values: &'a [Option<V>]) -> ValuesById<'a, V>
         ensures { map_of result ≡ values_by_id ids values.now }
     {

@@ -1,5 +1,5 @@
 -- What has been written of the output after some parts of the input, and what is left of it. Each mode has a function
--- for what is left, by its state; the proof of a run is by it, part after part.
+-- that gives what is left, from the mode's state; a run is proved with it, part by part.
 use Rattle.std.specs.Prelude.{◌≡◌, ◌≤◌, ℕ, ◌+◌, ◌||◌, true, List, [], ◌∷◌, ◌++◌, flat_map, count_by, nat_lt, length, Option, Some, None, Result, Ok, Err, IfSome}
 use Rattle.std.specs.List.{list_any}
 use Rattle.std.specs.Io.KnownBytes.{Appends, Keeps}
@@ -90,7 +90,7 @@ abbrev pub pairs_left : PlanOptions → ℕ → Option Configuration → List Nu
 pairs_left options number None lines fault = planned_pairs options number lines fault
 pairs_left options number (Some now) lines fault = pairs_within options number (Ok now) lines fault
 
--- an output, where the pairs before it had this status
+-- an output, if the worst status of the pairs before it is this one
 abbrev pub with_status : Status → Output → Output
 with_status status output = record { text = output.text; outcome = worse_of status output.outcome }
 

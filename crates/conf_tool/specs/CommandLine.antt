@@ -18,7 +18,7 @@ use Rattle.conf_tool.specs.declared.mode.Mode.TheVariants.{Lines, Check, Rewrite
 use Rattle.conf_tool.specs.declared.plan_options.PlanOutput.{PlanOutput}
 use Rattle.conf_tool.specs.declared.plan_options.PlanOutput.TheVariants.{Steps, Script, Table, Json}
 
--- the mode of a name; `lines` unless it is another's
+-- the mode of a name; `lines` unless another mode has the name
 abbrev pub mode_named : Text → Mode
 mode_named name =
     if bytes_eq name (codes "check") then Check
@@ -27,17 +27,17 @@ mode_named name =
     else (if bytes_eq name (codes "plan") then Plan
     else Lines)))
 
--- the mode and the options of a parsed subcommand
+-- the mode that a parsed subcommand names; `lines` if there is none
 abbrev pub asked_mode : Option (Text × List Row) → Mode
 asked_mode None = Lines
 asked_mode (Some matches) = mode_named matches.0
 
--- the value that it gives an argument
+-- the value that a parsed subcommand gives an argument, if it does
 abbrev pub asked_text : Text → Option (Text × List Row) → Option Text
 asked_text id None = None
 asked_text id (Some matches) = first_of id matches.1
 
--- the initial next index of a name: 1 if none is given
+-- the initial next index that a name denotes: 1 if none is given
 abbrev pub asked_floor : Option Text → Floor
 asked_floor None = One
 asked_floor (Some name) = if bytes_eq name (codes "0") then Zero else One
@@ -47,31 +47,32 @@ abbrev pub asked_strategy : Option Text → Strategy
 asked_strategy None = Shortest
 asked_strategy (Some name) = if bytes_eq name (codes "learners-first") then LearnersFirst else (if bytes_eq name (codes "one-at-a-time") then OneAtATime else Shortest)
 
--- the output of a name: steps if none is given
+-- the form of output that a name denotes: steps if none is given
 abbrev pub asked_output : Option Text → PlanOutput
 asked_output None = Steps
 asked_output (Some name) =
     if bytes_eq name (codes "script") then Script else (if bytes_eq name (codes "table") then Table else (if bytes_eq name (codes "json") then Json else Steps))
 
--- the ids that are down, if the option is given; none if its text is not a list of ids
+-- the ids that are down: Some None if the option is left out, None if its text is not a list of ids
 abbrev pub asked_down : Option Text → Option (Option Ids)
 asked_down None = Some None
 asked_down (Some text) = option_map (λ ids. Some (ids_of ids)) (ids_listed text)
 
--- the ids that are down are not a list of ids, or memory ran out
+-- the error of reading the option `--down`: its text is not a list of ids, or memory ran out
 abbrev pub IsIdsFault : Option Text → ArgumentFault → Type 0
 IsIdsFault text (Clap error) = ⊥
 IsIdsFault text BadIds = asked_down text ≡ None
 IsIdsFault text NoMemory = ⊤
 
--- The arguments are refused for this reason: that of `clap`, or that the ids that are down are not a list of ids.
+-- The arguments are refused for this reason: that of `clap`, that the text of `--down` is not a list of ids, or that
+-- memory ran out.
 abbrev pub IsRefusal : App → List Text → ArgumentFault → Type 0
 IsRefusal app arguments (Clap error) = HasKind (fault_of app arguments) error × (takes app arguments ≡ true → kind_of error ≡ OutOfMemory)
 IsRefusal app arguments BadIds = (fault_of app arguments ≡ []) × (asked_down (asked_text (codes "down") (subcommand_of app arguments)) ≡ None)
 IsRefusal app arguments NoMemory = ⊤
 
--- The number of an option: the default if it is left out, otherwise the one that its text denotes. If that is not from the
--- least to the most, the arguments are refused.
+-- The number of an option: the default if it is left out, otherwise the one that its text denotes. If that is not from
+-- the least to the most, the arguments are refused.
 abbrev pub IsAsked : ℕ → ℕ → ℕ → Option Text → ℕ → Type 0
 IsAsked least most default None number = number ≡ default
 IsAsked least most default (Some text) number =

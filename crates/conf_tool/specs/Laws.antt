@@ -51,7 +51,8 @@ pub record LeadsBackBy (session : SessionState) (count : ℕ) (steps : List Step
   pub back : slice_get session.kept (count - 1) ≡ Some (current (session_after_all session script.items))
 
 -- A session that ran a script without an error, and then runs what `undo` prints for it, takes the steps of the plan
--- and comes back. (The ids of a plan that is made are numbers of 64 bits, and it has at most four steps.)
+-- and comes back. (`IsPlan` holds of each plan that is made: its ids are numbers of 64 bits, and it has at most four
+-- steps.)
 abbrev pub UndoScriptLeadsBack : Type 0
 UndoScriptLeadsBack = (script : List ℕ) (history : ℕ) (floor : Floor) (count : ℕ) (steps : List Step) →
     let session = session_after_all (new_session history floor) (script_of script).items in
@@ -59,7 +60,7 @@ UndoScriptLeadsBack = (script : List ℕ) (history : ℕ) (floor : Floor) (count
     (script_of script).fault ≡ None → 1 ≤ count → undo_plan_of session count ≡ Ok steps → IsPlan steps → length printed ≤ longest_input →
     LeadsBackBy session count steps (script_of printed)
 
--- pairs with one more before them, if both of its lines are configurations
+-- pairs with one more before them, if both of its lines are configurations; else no pairs
 abbrev pub pair_before : Result (Configuration × Configuration) ConfigurationsFault → List (Configuration × Configuration) → List (Configuration × Configuration)
 pair_before (Err bad) pairs = []
 pair_before (Ok pair) pairs = pair ∷ pairs

@@ -1,4 +1,4 @@
--- The reply of the mode `lines` to each line of its input, which is to be one change.
+-- The reply of the mode `lines` to each line of its input, which should be one change.
 use Rattle.std.specs.Prelude.{ℕ, Bool, ◌==◌, List, [], ◌∷◌, ◌++◌, length, Result, Ok, Err, codes, if◌then◌else◌}
 use Rattle.ascii_text.specs.Lines.{newline}
 use Rattle.conf_change.specs.Configuration.{Configuration}

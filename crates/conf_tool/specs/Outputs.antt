@@ -100,11 +100,11 @@ undone_unless session count (Some fault) = record { text = []; outcome = Err (Sc
 abbrev pub undone_script : ℕ → Floor → ℕ → Script Item → Output
 undone_script history floor count script = undone_unless (session_after_all (new_session history floor) script.items) count script.fault
 
--- the output of `undo`: a script that undoes the last count changes of a script, at least one
+-- the output of `undo`: a script that undoes the last `count` changes of a script, at least one
 abbrev pub undone_output : List ℕ → ℕ → Floor → ℕ → Output
 undone_output input history floor count = undone_script history floor count (script_of input)
 
--- a run that ends so, with nothing more written
+-- the output of a run that ends with this outcome and writes nothing more
 abbrev pub ends : Result Status ToolFault → Output
 ends outcome = record { text = []; outcome = outcome }
 
@@ -119,7 +119,7 @@ separator Json = []
 abbrev pub pair_text : PlanOptions → ℕ → Configuration → Configuration → List ℕ
 pair_text options number now target = (if nat_lt 1 number then separator options.output else []) ++ plan_text_between options number now target
 
--- how a run ends that has this status so far: an error decides, and then the worse status
+-- the outcome of a run that has this status so far: an error decides, otherwise the worse status
 abbrev pub worse_of : Status → Result Status ToolFault → Result Status ToolFault
 worse_of status (Err fault) = Err fault
 worse_of Clean (Ok later) = Ok later

@@ -34,7 +34,7 @@ is_skipped line = is_blank line || is_comment line
 abbrev pub configuration_lines : List NumberedLine → List NumberedLine
 configuration_lines lines = filter (λ line. not (is_skipped line.text)) lines
 
--- a configuration, or what is wrong with it as the error of the line of this number
+-- a configuration, or what is wrong with it, as the error of the line with this number
 abbrev pub at_line : ℕ → Result Configuration ConfigurationFault → Result Configuration ConfigurationsFault
 at_line number (Ok c) = Ok c
 at_line number (Err fault) = Err (BadLine number fault)
@@ -43,11 +43,11 @@ at_line number (Err fault) = Err (BadLine number fault)
 abbrev pub is_json : List ℕ → Bool
 is_json line = starts_with nat_eq (trimmed line) (codes "{")
 
--- the saved configuration that a line of JSON denotes, if it does
+-- the saved configuration that a line of JSON denotes, if it denotes one
 abbrev pub saved_in_json : List ℕ → Option ConfStateLists
 saved_in_json line = if is_utf8 line then option_and_then conf_state_of_json (read line) else None
 
--- the valid configuration that a saved one describes, or the error of the line of this number
+-- the valid configuration that a saved one describes, or the error of the line with this number
 abbrev pub at_json : ℕ → Option ConfStateLists → Result Configuration ConfigurationsFault
 at_json number None = Err (BadJson number)
 at_json number (Some saved) = at_line number (valid_of saved)
@@ -62,6 +62,6 @@ both_of (Err fault) target = Err fault
 both_of (Ok now) (Err fault) = Err fault
 both_of (Ok now) (Ok target) = Ok (now, target)
 
--- the error of a run at a line that is not a configuration: what is wrong with it, or that memory ran out
+-- the error of reading a line that is not a configuration: what is wrong with it, or that memory ran out
 abbrev pub IsFaultOf : {A : Type 0} → Result A ConfigurationsFault → ToolFault → Type 0
 IsFaultOf read fault = (fault ≡ NoMemory) ⊎ ((bad : ConfigurationsFault) × (fault ≡ Configurations bad) × (read ≡ Err bad))

@@ -16,7 +16,7 @@ use Rattle.conf_tool.specs.declared.plan_options.PlanOutput.TheVariants.{Steps, 
 use Rattle.conf_tool.specs.declared.status.Status.{Status}
 use Rattle.conf_tool.specs.declared.status.Status.TheVariants.{Clean, Different}
 
--- the text of a path in one of three forms, for the pair with this number and with these ids down
+-- the text of a path in this form, for the pair with this number and with these ids down
 abbrev pub text_as : PlanOutput → ℕ → Option Ids → Configuration → List Step → List ℕ
 text_as Steps number down now steps = plan_text steps
 text_as Script number down now steps = script_text now steps
@@ -38,7 +38,7 @@ no_plan_text Script number why = no_plan_comment why
 no_plan_text Table number why = no_plan_comment why
 no_plan_text Json number why = value_line (no_plan_json number why)
 
--- the status of a path: different if ids are named that are down and the path stalls then
+-- the status of a path: different if ids are down and the path stalls then
 abbrev pub path_status : Option Ids → Configuration → List Step → Status
 path_status None now steps = Clean
 path_status (Some down) now steps = if stalls now steps down then Different else Clean

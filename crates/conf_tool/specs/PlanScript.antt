@@ -13,6 +13,7 @@ use Rattle.conf_session.specs.SessionState.{SessionState, new_session}
 use Rattle.conf_tool.specs.Reports.{answered_entries}
 use Rattle.conf_tool.specs.UndoScript.{step_items}
 
+-- the command `restore`, which has no arguments
 abbrev pub restore_command : CommandText
 restore_command = record { name = codes "restore"; arguments = [] }
 
@@ -20,7 +21,7 @@ restore_command = record { name = codes "restore"; arguments = [] }
 unfoldable pub restore_directive : Configuration → Item
 restore_directive c = directive 1 restore_command (codes "restore" ∷ []) (conf_state_text (lists_of c) ∷ []) []
 
--- it restores the configuration that the steps begin with, and then takes them
+-- the items of the script: it restores the configuration with which the steps begin, and then takes them
 abbrev pub script_items : Configuration → List Step → List Item
 script_items now steps = restore_directive now ∷ step_items steps
 

@@ -25,7 +25,7 @@ text_rule id = record (new_rule id) { long = Some id; value_names = 1 }
 abbrev pub script_command : Text → Bor (List (Bor Text)) → App
 script_command name floors = with_rule (with_rule (mode_command name) (number_rule (codes "history") 0 1000)) (names_rule (codes "next-floor") floors)
 
--- the mode undo: that of a script with the option --steps too
+-- the mode undo: a mode that runs a script, with the option --steps too
 abbrev pub undo_command : Text → Bor (List (Bor Text)) → App
 undo_command name floors = with_rule (script_command name floors) (number_rule (codes "steps") 1 1000)
 
@@ -46,6 +46,7 @@ with_version app = record { top = record app.top { has_version = true }; subs = 
 abbrev pub with_mode : App → App → App
 with_mode mode app = with_subcommand app mode.top
 
+-- the program with all its modes, whose options have these names as values
 abbrev pub program : OptionNames → App
 program names =
     with_mode (plan_command (codes "plan") names) (with_mode (undo_command (codes "undo") names.floors) (with_mode (script_command (codes "rewrite") names.floors)
@@ -61,6 +62,6 @@ pub record AreOptionNames (names : OptionNames) : Type 0 where
   pub strategies : AreNames names.strategies (codes "shortest" ∷ codes "learners-first" ∷ codes "one-at-a-time" ∷ [])
   pub outputs : AreNames names.outputs (codes "steps" ∷ codes "script" ∷ codes "table" ∷ codes "json" ∷ [])
 
--- a statement about the program holds, whose options have their names
+-- the statement holds of the program whose options have these names
 abbrev pub OfProgram : (App → Type 0) → Type 0
 OfProgram P = (names : OptionNames) × AreOptionNames names × P (program names)

@@ -34,7 +34,7 @@ abbrev pub Answers : (List ℕ → Output) → Option (List ℕ) → Option (Lis
 Answers output left_before left_after before after result =
     (input more : List ℕ) → Agrees fresh left_before left_after input more → Means (output input) result before after
 
--- an error of the reader as that of the run: a failed read and `NoMemory` are not errors in the input
+-- an error of the reader as an error of the run: a failed read and `NoMemory` are not errors in the input
 abbrev pub as_tool_fault : FileFault → ToolFault
 as_tool_fault (BadDirective line) = Script (BadDirective line)
 as_tool_fault (AfterDouble line) = Script (AfterDouble line)
@@ -51,7 +51,7 @@ IsAnswerFault Read = ⊥
 IsAnswerFault Write = ⊤
 IsAnswerFault NoMemory = ⊤
 
--- an error in the input, as a script has it
+-- an error in the input of a mode that reads a script
 abbrev pub IsScriptFault : FileFault → Type 0
 IsScriptFault (BadDirective line) = ⊤
 IsScriptFault (AfterDouble line) = ⊤
@@ -103,8 +103,8 @@ CanAnswer mode (Err Read) = ⊤
 CanAnswer mode (Err Write) = ⊤
 CanAnswer mode (Err NoMemory) = ⊤
 
--- What stops a run at a part of its input: a failed write or no memory, or an error in the input, where the whole
--- output was written, whatever input follows.
+-- What stops a run at a part of its input: a failed write or no memory, or an error in the input. After the latter the
+-- whole output was written, whatever input follows.
 abbrev pub IsStop : Mode → ToolFault → Type 0 → Type 0
 IsStop mode (Script fault) IsWhole = ⊥
 IsStop mode (Configurations fault) IsWhole = ReadsConfigurations mode × IsWhole
@@ -139,8 +139,8 @@ is_whole_output (Err Read) = false
 is_whole_output (Err Write) = false
 is_whole_output (Err NoMemory) = false
 
--- What a result means for whether the writer has failed, before and after. After a failed read or `NoMemory`, the flush
--- at the end may have failed too.
+-- What a result means for whether the writer had failed before the run and has failed after it. After a failed read or
+-- `NoMemory`, the flush at the end may have failed too.
 abbrev pub ReportsWrite : Bool → Bool → Result Status ToolFault → Type 0
 ReportsWrite before after (Ok status) = after ≡ before
 ReportsWrite before after (Err (Script fault)) = after ≡ before

@@ -12,6 +12,7 @@ pub enum ArgumentFault {
     Clap(Error),
     /// The value of `--down` is not a list of ids.
     BadIds,
+    /// Memory ran out.
     NoMemory,
 }
 

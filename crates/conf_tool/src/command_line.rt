@@ -20,7 +20,7 @@ use quorum_sets::MemberSet;
 use std::alloc::Global;
 use std::convert::AsStr;
 
-/// What the arguments ask for, of which the first is the program's name.
+/// What the arguments ask for. The first argument is the program's name.
 pub fn command_line<'a, S: AsStr>(
     alloc: Global,
     arguments: &'a [S],
@@ -28,7 +28,7 @@ pub fn command_line<'a, S: AsStr>(
     // The arguments are refused exactly if `clap` refuses them, or if `--down` is not a list of ids.
     ensures refused { OfProgram (λ the_program. MatchResult result (λ _. fault_of the_program (map S.text arguments.entry.now) ≡ []) (IsRefusal the_program (map S.text arguments.entry.now))) }
 
-    // What is asked for is what `clap` reads in them.
+    // The invocation has what `clap` reads in the arguments.
     ensures asked { OfProgram (λ the_program. IfOk result (IsInvocation (subcommand_of the_program (map S.text arguments.entry.now)))) }
 {
     let names = OptionNames {
@@ -39,7 +39,7 @@ pub fn command_line<'a, S: AsStr>(
     read_arguments(alloc, arguments, names)
 }
 
-// What the arguments ask for, where the options have these names.
+// What the arguments ask for, where the options have these names as values.
 fn read_arguments<'a, S: AsStr>(
     alloc: Global,
     arguments: &'a [S],
@@ -117,8 +117,8 @@ fn text_of<'a>(matches: &ArgMatches<'a>, id: &str) -> Option<&'a str>
     matches.get_str(id)
 }
 
-// The number that a value denotes, or the default if there is none. `clap` accepts no number below the least or above the
-// most.
+// The number that a value denotes, or the default if there is no value. `clap` accepts only numbers from `least` to
+// `most`.
 fn asked_number(value: Option<&str>, least: usize, most: usize, default: usize) -> usize
     requires least { least ≤ default }
     requires most { default ≤ most }
@@ -135,7 +135,7 @@ fn asked_number(value: Option<&str>, least: usize, most: usize, default: usize) 
     }
 }
 
-// The initial next index of a name: 1 if none is given.
+// The initial next index that a name denotes: 1 if none is given.
 fn asked_floor(name: Option<&str>) -> Floor
     ensures { result ≡ asked_floor (option_map (λ text. text.now) name.entry) }
 {
@@ -156,7 +156,7 @@ fn asked_strategy(name: Option<&str>) -> Strategy
     }
 }
 
-// The form of a name: steps if none is given.
+// The form of output that a name denotes: steps if none is given.
 fn asked_output(name: Option<&str>) -> PlanOutput
     ensures { result ≡ asked_output (option_map (λ text. text.now) name.entry) }
 {

@@ -1,4 +1,4 @@
-//! What `--help` prints of the program and of each mode, after its usage.
+//! What `--help` prints about the program and about each mode, after its usage.
 
 /// The help of the program.
 pub(crate) const PROGRAM: &str = "Examples:

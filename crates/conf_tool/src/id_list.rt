@@ -10,8 +10,8 @@ use ascii_text::position::position_of;
 use quorum_sets::NoMemory;
 use std::alloc::Global;
 
-/// The ids of a list: one or more numbers from 1 to 2^64-1, with one comma between two. They may repeat. Any other text is
-/// not a list.
+/// The ids of a list: one or more numbers from 1 to 2^64-1, with one comma between each two. They may repeat. `None`
+/// for any other text.
 pub(crate) fn ids_listed(alloc: Global, text: &[u8]) -> Result<Option<Vec<u64>>, NoMemory>
     ensures { IfOk result (λ read. option_map (λ ids. ids.items) read ≡ ids_listed text.now) }
 {

@@ -8,8 +8,8 @@ use dd_file::laws::{
     directive_is_well_formed, items_are_well_formed, items_have_keys, joined_items, written_script,
 };
 
-/// A rewritten script checks clean, if its last item is not a blank of several lines and the rewritten text is within the
-/// input limit (own). If the script has an error, what is written up to it checks clean.
+/// A rewritten script checks clean, if its last item is not a blank of several lines and the rewritten text is within
+/// the input limit (own). If the script has an error, what is written up to it checks clean.
 pub fn rewritten_clean()
     ensures { RewrittenClean }
 {
@@ -20,8 +20,8 @@ pub fn rewritten_clean()
 }
 
 /// A complete script that checks clean, two newlines, and the script that undoes its last changes, together check clean
-/// with the same number of earlier configurations kept, if the joined text is within the input limit (own). That holds too
-/// if there is nothing to undo, or no plan.
+/// with the same options, if the joined text is within the input limit (own). That holds too if there is nothing to
+/// undo, or no plan.
 pub fn joined_clean()
     ensures { JoinedClean }
 {
@@ -31,8 +31,8 @@ pub fn joined_clean()
     joined_items();
 }
 
-/// A session that ran a script without an error, and then runs the directives that the mode `undo` prints for it, takes the
-/// steps of the plan, one for each directive, and returns to the configuration before the last changes (own).
+/// A session that ran a script without an error, and then runs the directives that the mode `undo` prints for it, takes
+/// the steps of the plan, one for each directive, and returns to the configuration before the last changes (own).
 pub fn undo_script_leads_back()
     ensures { UndoScriptLeadsBack }
 {
@@ -45,15 +45,15 @@ pub fn undo_script_leads_back()
     one_list_per_text();
 }
 
-/// Between two configurations with voters, the mode `plan` prints the steps of the best plan from one to the other.
+/// By default the mode `plan` prints the steps of the best plan between two configurations with voters (own).
 pub fn printed_plan_is_best()
     ensures { PrintedPlanIsBest }
 {
     planned_is_best();
 }
 
-/// By each strategy, the steps that the mode `plan` prints are a path that keeps what the strategy promises, such as that no
-/// configuration on the way tolerates fewer failures than the weaker end (own).
+/// By each strategy, the steps that the mode `plan` prints are a path that keeps what the strategy promises, such as
+/// that no configuration on the way tolerates fewer failures than the weaker end (own).
 pub fn printed_path_serves()
     ensures { PrintedPathServes }
 {

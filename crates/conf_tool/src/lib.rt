@@ -1,4 +1,4 @@
-//! The program without its files: its command line, and its modes over any reader and writer.
+//! What the program does, apart from opening files: its command line, and its modes over any reader and writer.
 //!
 //! ```text
 //! lines     one change a line           -> the configuration after each
@@ -8,8 +8,9 @@
 //! plan      pairs of ConfState lines    -> the steps from the first to the second of each
 //! ```
 //!
-//! The output of a mode is a function of its input. Each mode is proved to print exactly that, or a prefix of it if a
-//! read, a write or an allocation fails. A reply is flushed before the mode waits for more input.
+//! The output of a mode is a function of its input and its options. Each mode is proved to print exactly this output,
+//! or a prefix of it if a read, a write or an allocation fails. A reply is flushed before the mode waits for more
+//! input.
 #![tactic(auto)]
 
 pub mod argument_fault;

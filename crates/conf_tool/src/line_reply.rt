@@ -12,7 +12,8 @@ use conf_change::{
 use conf_session::SessionIds;
 use quorum_sets::NoMemory;
 
-/// Makes the change on a line, and appends the reply with a newline. On `NoMemory` the text may have a part of the reply.
+/// Makes the change on a line, and appends the reply with a newline. On `NoMemory` the text may have a part of the
+/// reply.
 pub(crate) fn answer_line(
     changer: &mut Changer<SessionIds>,
     line: &[u8],
@@ -26,7 +27,7 @@ pub(crate) fn answer_line(
     Ok(())
 }
 
-// The reply without the newline.
+// Makes the change on a line, and appends the reply without its newline.
 fn reply(changer: &mut Changer<SessionIds>, line: &[u8], text: &mut Vec<u8>) -> Result<(), NoMemory>
     ensures text { OnOk result (text.new.items ≡ text.old.items ++ (line_reply changer.old.tracker.config line.now).text) }
     ensures after { OnOk result (changer.new.tracker.config ≡ (line_reply changer.old.tracker.config line.now).after) }

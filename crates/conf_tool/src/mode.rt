@@ -1,6 +1,7 @@
 //! The modes of the program.
 
-/// What the program does.
+/// What the program does. `Check` and `Rewrite` do what datadriven does in a test, without and with `-rewrite`; the
+/// other modes are own.
 #[derive(Clone, Copy, Debug, PartialEq, Eq)]
 pub enum Mode {
     /// Makes the changes of the input, one a line.
@@ -11,6 +12,6 @@ pub enum Mode {
     Rewrite,
     /// Runs a script, and prints a second script that undoes its last changes.
     Undo,
-    /// Prints the plan from the configuration of one line to that of the next.
+    /// Prints, for each pair of lines, the plan from the configuration of the first to that of the second.
     Plan,
 }

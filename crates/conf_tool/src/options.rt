@@ -14,7 +14,7 @@ pub struct Options {
     pub history: usize,
     /// How many changes `undo` undoes, from 1 to 1000.
     pub steps: usize,
-    /// The initial next index of a script's members.
+    /// The smallest initial next index of a script's new members.
     pub floor: Floor,
     /// What only `plan` reads.
     pub plan: PlanOptions,
@@ -24,8 +24,8 @@ impl Default for Options {
     ghost is_default = { λ options. (options.history ≡ 100) × (options.steps ≡ 1) × (options.floor ≡ One)
         × (options.plan.strategy ≡ Shortest) × (options.plan.output ≡ Steps) × (options.plan.down ≡ None) };
 
-    /// The defaults: 100 configurations are kept, one change is undone, the initial next index is 1, and the shortest plan
-    /// is printed as steps.
+    /// The defaults: 100 configurations are kept, one change is undone, the smallest initial next index is 1, and the
+    /// shortest plan is printed as steps.
     fn default() -> Options {
         Options {
             history: 100,

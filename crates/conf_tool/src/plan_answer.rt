@@ -86,7 +86,7 @@ fn path_text(
     Ok(text)
 }
 
-// The status with a path: whether it stalls, if ids are down.
+// The status of a path: `Different` if ids are down and the path stalls then.
 fn path_status(
     alloc: Global,
     options: &PlanOptions,
@@ -102,7 +102,7 @@ fn path_status(
     }
 }
 
-// Why the pair with this number has no plan.
+// The answer to the pair with this number if it has no plan.
 fn no_plan(
     alloc: Global,
     output: PlanOutput,
@@ -117,7 +117,7 @@ fn no_plan(
     Ok((text, Status::Different))
 }
 
-// Its text.
+// The text of that answer.
 fn no_plan_text(
     alloc: Global,
     output: PlanOutput,

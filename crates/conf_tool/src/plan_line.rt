@@ -58,7 +58,7 @@ fn json_at(alloc: Global, number: usize, line: &[u8]) -> Result<Config<SessionId
     }
 }
 
-// The valid configuration that a saved one describes, which was read from the line with this number.
+// The valid configuration that a saved one from the line with this number describes.
 fn valid_at(
     alloc: Global,
     number: usize,

@@ -12,7 +12,7 @@ use std::alloc::Global;
 /// The version that `--version` prints after the program's name.
 const VERSION: &str = "0.1.0";
 
-/// The names that options have as values.
+/// The names that options accept as values.
 #[derive(Clone, Copy)]
 pub(crate) struct OptionNames<'a> {
     pub(crate) floors: &'a [&'a str],
@@ -159,7 +159,7 @@ fn plan_command<'a>(alloc: Global, names: OptionNames<'a>) -> Result<Command<'a>
     Ok(mode)
 }
 
-// An option with a number from the least to the most.
+// An option whose value is a number from `least` to `most`.
 fn number_option<'a>(alloc: Global, id: &'a str, least: u64, most: u64, help: &'a str) -> Arg<'a>
     ensures rule { rule_of result ≡ number_rule id.now least most }
     ensures local { result.global ≡ false }
@@ -171,7 +171,7 @@ fn number_option<'a>(alloc: Global, id: &'a str, least: u64, most: u64, help: &'
         .help(help)
 }
 
-// An option with one of these names. The help calls it by the name of the value.
+// An option whose value is one of these names. The help shows the value as `value_name`.
 fn names_option<'a>(
     alloc: Global,
     id: &'a str,

@@ -64,8 +64,8 @@ impl Counts {
     }
 }
 
-/// Appends a directive's line number and command, its expected and its actual output. On `NoMemory` a part of that may be
-/// appended.
+/// Appends a directive's line number and command, its expected and its actual output. On `NoMemory` a part of that may
+/// be appended.
 pub(crate) fn append_difference(
     text: &mut Vec<u8>,
     directive: &Directive,
@@ -89,7 +89,7 @@ fn append_count(text: &mut Vec<u8>, count: usize) -> Result<(), NoMemory>
     Ok(())
 }
 
-// Appends each line of some bytes after a sign and a space.
+// Appends each line of a text after a sign and a space.
 fn append_marked(text: &mut Vec<u8>, sign: u8, bytes: &[u8]) -> Result<(), NoMemory>
     ensures { OnOk result (text.new.items ≡ text.old.items ++ marked (sign ∷ 32 ∷ []) bytes.now) }
 {

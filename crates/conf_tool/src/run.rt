@@ -34,8 +34,8 @@ use dd_file::lines::Lines;
 use dd_file::reader::Reader;
 use std::alloc::Global;
 
-/// Reads the input to its end, and writes the mode's output. Nothing is tried again: if a read, a write or an allocation
-/// fails, the writer has a prefix of the output, and after an error in the input all of it.
+/// Reads the input to its end, and writes the mode's output. Nothing is tried again. If a read, a write or an
+/// allocation fails, the writer has a prefix of the output; after an error in the input it has all of it.
 pub fn run<R: Source, W: Sink>(
     alloc: Global,
     mode: Mode,
@@ -84,8 +84,8 @@ pub fn run<R: Source, W: Sink>(
     }
 }
 
-/// Runs over empty blocks, and flushes them at the end, also after an error. If the flush fails, success or an error in the
-/// input becomes `Write`.
+/// Runs a mode over a buffered writer whose buffer is empty, and flushes it at the end, also after an error. If the
+/// flush fails, success or an error in the input becomes `Write`.
 pub fn run_and_flush<R: Source, W: Sink>(
     alloc: Global,
     mode: Mode,
@@ -96,7 +96,7 @@ pub fn run_and_flush<R: Source, W: Sink>(
     requires range { IsInRange options }
     requires empty { NothingBuffered writer.old }
 
-    // The blocks (what their writer has, and what is buffered) have the output, or a prefix of it, for each input that
+    // What the blocks have, in their writer and in the buffer, is the output, or a prefix of it, for each input that
     // agrees with what was read, ..
     ensures output { Answers (output_of mode options) (R.remaining reader.old) (R.remaining reader.new)
         (⟦<Blocks<W> as Sink>⟧.contents writer.old) (⟦<Blocks<W> as Sink>⟧.contents writer.new) result }

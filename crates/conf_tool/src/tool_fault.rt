@@ -12,14 +12,19 @@ use thiserror::Error;
 /// Why a run stopped before its end.
 #[derive(Clone, Copy, Debug, PartialEq, Eq, Error)]
 pub enum ToolFault {
+    /// An error in a script, or an input that is too long.
     #[error("{0}")]
     Script(FileFault),
+    /// The input of `plan` is not pairs of configurations.
     #[error("{0}")]
     Configurations(ConfigurationsFault),
+    /// A read failed.
     #[error("cannot read")]
     Read,
+    /// A write failed.
     #[error("cannot write")]
     Write,
+    /// Memory ran out.
     #[error("out of memory")]
     NoMemory,
 }

@@ -1,4 +1,4 @@
-//! The items of the script that undoes changes.
+//! The items for steps in the scripts that `undo` and `plan` print: directives and comments.
 ghost use Rattle.std.specs.Prelude.{◌≡◌, IfOk, map};
 ghost use Rattle.conf_tool.specs.UndoScript as spec;
 

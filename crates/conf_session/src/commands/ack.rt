@@ -13,8 +13,8 @@ use conf_change::{AckFault, Changer};
 use quorum_sets::NoMemory;
 use std::alloc::Global;
 
-/// Prints the member's progress after the acknowledgement, or why there is none. The progress itself is altered when the
-/// update is applied.
+/// Prints the member's progress after the acknowledgement, or why it is refused. The progress itself is altered when
+/// the update is applied.
 pub(super) fn run(
     alloc: Global,
     changer: &Changer<SessionIds>,

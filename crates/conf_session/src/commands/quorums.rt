@@ -1,5 +1,6 @@
-//! The commands that ask what a quorum has decided: `commit-index` of the current configuration, `committed` and `vote` of
-//! one that the arguments name. The latter two are commands of etcd's tests of its package `quorum`.
+//! The commands that ask what a quorum has decided: `commit-index` asks about the current configuration, `committed`
+//! and `vote` about a quorum that the arguments name. The latter two are commands of the tests of etcd's package
+//! `quorum`.
 ghost use Rattle.std.specs.Prelude.{◌≡◌, IfOk};
 ghost use Rattle.conf_session.specs.Commands.{committed_by};
 ghost use Rattle.conf_session.specs.Quorum.{committed_reply, index_text, vote_reply, wrong_number_text};

@@ -1,5 +1,5 @@
-//! `restore`: begins again from a saved configuration, as etcd's `confchange.Restore` does. Each member has the progress of
-//! a fresh one.
+//! `restore`: begins again from a saved configuration, as etcd's `confchange.Restore` does. The progress of each member
+//! is fresh.
 ghost use Rattle.std.specs.Prelude.{◌≡◌, IfOk};
 ghost use Rattle.conf_change.specs.ConfState.{restored};
 ghost use Rattle.conf_session.specs.Reply.{reply_in};
@@ -13,8 +13,8 @@ use conf_change::{Changer, ConfState, RestoreFault, laws};
 use quorum_sets::NoMemory;
 use std::alloc::Global;
 
-/// Restores the saved configuration into the next changer, and prints it, or that it is not a configuration. Last index and
-/// floor stay those of the session.
+/// Restores the saved configuration into the next changer, and prints it, or that it is not a configuration. The last
+/// index and the floor stay those of the session.
 pub(super) fn run(
     alloc: Global,
     changer: &Changer<SessionIds>,

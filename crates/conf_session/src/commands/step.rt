@@ -12,8 +12,8 @@ use conf_change::{Change, Changer, Refused, StepKind};
 use quorum_sets::NoMemory;
 use std::alloc::Global;
 
-/// Takes the step in the next changer and prints the configuration after it, or why the step is refused. After a refusal the
-/// next changer is of no use, and the update does not name it.
+/// Takes the step in the next changer and prints the configuration after it, or prints why the step is refused. After a
+/// refusal the next changer is not used.
 pub(super) fn run(
     alloc: Global,
     changer: &Changer<SessionIds>,

@@ -1,4 +1,4 @@
-//! `undo`: undoes the last accepted changes, by the steps of a plan (own). Changes are not made backwards one by one: the
+//! `undo`: undoes the last accepted changes, by the steps of a plan (own). Changes are not reversed one by one: the
 //! plan is the best one to the earlier configuration, whatever lies between.
 ghost use Rattle.std.specs.Prelude.{◌≡◌, ◌≤◌, ◌++◌, Ok, IfOk};
 ghost use Rattle.conf_plan.specs.PlanText.{plan_text};
@@ -19,7 +19,8 @@ use conf_plan::{Plan, apply_plan, print_plan};
 use quorum_sets::NoMemory;
 use std::alloc::Global;
 
-/// Undoes the last `count` changes in the next changer, and prints the plan and the resulting configuration.
+/// Undoes the last `count` changes in the next changer, and prints the plan and the resulting configuration, or prints
+/// why they cannot be undone.
 pub(super) fn run(
     alloc: Global,
     session: &State,

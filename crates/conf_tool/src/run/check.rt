@@ -52,7 +52,7 @@ impl Checking {
         })
     }
 
-    /// Runs an item that is a directive, counts it, and builds the report on it. There are fewer than 2^30 directives.
+    /// Runs and counts an item if it is a directive, and builds the report on it.
     fn check_item(&mut self, item: &Item) -> Result<(), NoMemory>
         requires { self.old.counts.directives < 2 ^ 30 }
         ensures session { OnOk result (self.new.session ≡ session_after self.old.session item.now) }

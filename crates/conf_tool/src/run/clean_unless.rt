@@ -1,4 +1,4 @@
-//! The result of a run that only an error in its input can spoil, as those of `lines` and `rewrite` are.
+//! The result of `lines` and `rewrite`, which have nothing to compare: a run ends clean unless its input has an error.
 ghost use Rattle.std.specs.Prelude.{◌≡◌};
 ghost use Rattle.conf_tool.specs.Outputs.{clean_unless};
 

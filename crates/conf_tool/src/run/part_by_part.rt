@@ -28,13 +28,14 @@ use crate::tool_fault::ToolFault;
 use dd_file::device::{Sink, Source};
 use dd_file::fault::{FileFault, WriteFault};
 
-/// A mode: the state that it keeps between parts, what it writes for a part, and what at the end. An error ends the
-/// run.
+/// A mode: the state that it keeps between parts, what it writes for each part, and what it writes at the end. An error
+/// ends the run.
 pub(super) trait PartByPart<P> {
     /// The name of the mode, which decides its statuses and its errors.
     ghost mode: { ModeName };
 
-    /// The replies to these parts were written; the writer's bytes grew by them, from the former to the latter.
+    /// The mode has replied to these parts: the writer's bytes were the former before the first reply, and are the
+    /// latter now.
     ghost HasAnswered: { Self → (ScriptOf P → Output) → List P → Option (List ℕ) → Option (List ℕ) → Type 0 };
 
     /// Writes the reply to a part. There are fewer than 2^30 parts, since an input has fewer bytes.
@@ -70,8 +71,8 @@ pub(super) trait PartByPart<P> {
         HasAnswered m total parts before after → AppendsPart before after (total (script (parts ++ more) fault)).text };
 }
 
-/// The next part. If none is buffered, the output is flushed first: the reader may be a user or a program that waits
-/// for the replies before it sends more.
+/// The next part. If none is buffered, the output is flushed first: the user or the program that sends the input may
+/// wait for the replies before sending more.
 fn next_part<P, S: Parts<P>, R: Source, W: Sink>(
     parts: &mut S,
     reader: &mut R,
@@ -91,8 +92,8 @@ fn next_part<P, S: Parts<P>, R: Source, W: Sink>(
     Ok(parts.read(reader, writer))
 }
 
-/// Runs a mode over an input, to its end or to an error. An error in the input is replied to by the mode; after a
-/// failed read, a failed write or `NoMemory` nothing more is written.
+/// Runs a mode over an input, to its end or to an error. The mode replies to an error in the input; after a failed
+/// read, a failed write or `NoMemory` nothing more is written.
 pub(super) fn run_by_part<P: Drop, S: Parts<P> + Drop, M: PartByPart<P> + Drop, R: Source, W: Sink>(
     mut parts: S,
     mut mode: M,

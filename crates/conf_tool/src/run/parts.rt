@@ -1,5 +1,5 @@
 //! The parts of an input that a mode replies to one by one: lines for `lines` and `plan`, items of a script for the
-//! other modes. Either can be returned without a read if it is buffered, and the modes need nothing else of them.
+//! other modes. A part that is wholly buffered can be returned without a read.
 ghost use Rattle.std.specs.Prelude.{◌≡◌, ℕ, List, Bool};
 ghost use Rattle.dd_file.specs.Position.{Position};
 ghost use Rattle.dd_file.specs.Grammar.{Next, script_from, followed};
@@ -20,13 +20,13 @@ pub(super) trait Parts<P> {
     /// What part comes next in an input, from a position on.
     ghost coming: { Position → List ℕ → Next P };
 
-    /// The errors that reading from a position on may have.
+    /// The errors that reading from a position on may give.
     ghost IsFault: { Position → ReadFault → Type 0 };
 
     /// Whether all of a part is buffered, by the position and the buffered bytes.
     ghost is_buffered: { Position → List ℕ → Bool };
 
-    /// The state that the part's reader is in: its buffer, its position and its error.
+    /// The state of this reader: its buffer, its position and its error.
     ghost reader_state: { Self → ReaderState };
 
     /// The next part, if all of it is buffered. Nothing is read.
@@ -42,7 +42,7 @@ pub(super) trait Parts<P> {
         requires { W.reached writer.now ≡ W.contents writer.now }
         ensures { ReadsOn R.remaining R.has_failed (λ part. part) coming IsFault (reader_state self.old) (reader_state self.new) reader.old reader.new result };
 
-    /// Takes back a part that was replied to, so that a later one reuses its buffer.
+    /// Takes back a part that was replied to, so that a later one may reuse its buffer.
     fn take_back(&mut self, part: P)
         ensures { reader_state self.new ≡ reader_state self.old };
 

@@ -41,7 +41,7 @@ use std::alloc::Global;
 pub(super) struct Planning {
     alloc: Global,
     options: PlanOptions,
-    /// How many lines were read, with those that were skipped.
+    /// How many lines were read, including those that were skipped.
     lines: usize,
     /// The number of the current pair, counted from 1.
     pair: u64,

@@ -30,7 +30,7 @@ pub(crate) fn script_text(
     text_in(alloc, &mut session, now, path)
 }
 
-// The script, run in its session.
+// The text of the script, run in this session.
 fn text_in(
     alloc: Global,
     session: &mut Session,
@@ -48,7 +48,7 @@ fn text_in(
     }
 }
 
-// Runs an item and the directives of steps after it, and writes them as a script with their actual output.
+// Runs an item and then the directives of the steps, and writes them as a script with their actual output.
 fn write_script<W: Sink>(
     alloc: Global,
     session: &mut Session,

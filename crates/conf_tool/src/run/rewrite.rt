@@ -32,8 +32,8 @@ use dd_file::stage::Stage;
 use quorum_sets::NoMemory;
 use std::alloc::Global;
 
-/// Runs an item that is a directive, and returns its actual output. Other items have none, and change nothing. On
-/// `NoMemory` the session is unchanged.
+/// Runs an item if it is a directive, and returns its actual output. That of other items is empty, and they change
+/// nothing. On `NoMemory` the session is unchanged.
 pub(super) fn run_item(
     alloc: Global,
     session: &mut Session,

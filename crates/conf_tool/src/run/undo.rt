@@ -113,7 +113,7 @@ impl PartByPart<Item> for Undoing {
 
     ghost HasAnswered = { λ s. HasRun s.session s.rewriter s.steps };
 
-    // Nothing is written of the first script, and its expected outputs are ignored.
+    // Runs the item. Nothing of the first script is written, and its expected outputs are ignored.
     fn answer<W: Sink>(&mut self, item: &Item, writer: &mut W) -> Result<(), ToolFault> {
         let _ = &*writer;
         run_item(self.alloc, &mut self.session, item)?;
