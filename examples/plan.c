@@ -1,4 +1,5 @@
-/* Plans the change that replaces 1 by 5, applies the plan, and computes the committed index afterwards. README says how to build it. */
+/* Plans the change that replaces 1 with 5, applies the plan, and computes the committed index afterwards. README says
+   how to build it. */
 #include <stdio.h>
 #include <string.h>
 

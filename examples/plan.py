@@ -1,4 +1,4 @@
-"""Plans the change that replaces 1 by 5, applies the plan, and computes the committed index afterwards."""
+"""Plans the change that replaces 1 with 5, applies the plan, and computes the committed index afterwards."""
 import confscript
 
 now = "Voters:[1 2 3] VotersOutgoing:[] Learners:[] LearnersNext:[] AutoLeave:false"

@@ -1,22 +1,24 @@
 /*
- * confscript: who votes in a replicated log, for programs in other languages. The same proved code as the program's.
+ * confscript: plans and checks who votes in a replicated log. This is the library for programs in other languages, with
+ * the proved code of the program.
  *
- * A configuration is passed as a ConfState line, without a newline or with one:
+ * A configuration is passed as a ConfState line, with or without a newline:
  *     Voters:[1 2 3] VotersOutgoing:[] Learners:[4] LearnersNext:[] AutoLeave:false
  * A plan is passed as its lines, each with a newline:
  *     enter-joint autoleave=false r1 v5
  *     leave-joint
  * docs/SPECIFICATION.md has both forms, and what each change does.
  *
- * Each call returns a status and a number, and keeps no state. It reads its arguments, and writes only to `out`.
- * Nothing checks these rules for callers:
- * - Each pointer is aligned and not NULL, even for no elements, and points to as many elements as the count after it says.
- *   For no elements any pointer will do that is aligned and not NULL: a C++ caller writes `v.empty() ? &one : v.data()`.
- * - `out` overlaps nothing else that the call is given, and nobody else uses it while the call runs. Nobody changes what the
- *   other pointers point to meanwhile.
+ * Each call but confscript_version returns a status and a number. A call keeps no state: it reads its arguments, and
+ * writes only to `out`. The caller must keep these rules, since no call checks them:
+ * - Each pointer is aligned and not NULL, even for no elements, and points to as many elements as the count after it
+ *   says. For no elements any pointer will do that is aligned and not NULL: a C++ caller writes
+ *   `v.empty() ? &one : v.data()`.
+ * - `out` overlaps no other argument. While the call runs, nothing else uses `out`, and nothing changes what the other
+ *   pointers point to.
  * - malloc, realloc and free belong to one allocator, which aligns a block as malloc of the C library does.
- * - No call comes from a signal handler, or from the forked child of a process with threads. Otherwise any thread may call,
- *   also at the same time as others.
+ * - No call comes from a signal handler, or from the forked child of a process with threads. Otherwise any thread may
+ *   call, also at the same time as others.
  * - The processor is an x86-64 of level v2.
  */
 #ifndef CONFSCRIPT_H
@@ -35,11 +37,11 @@
 extern "C" {
 #endif
 
-/* What a call returns. The number is 0 unless something else is said here. */
+/* The status that a call returns. The number is 0 unless stated otherwise here. */
 enum confscript_status {
     /* The call did its work. Each call below says what the number is. */
     CONFSCRIPT_DONE = 0,
-    /* The text does not fit into `out`. Nothing is written. The number is how many bytes the text takes. */
+    /* The text does not fit into `out`. Nothing is written. The number is the length of the text in bytes. */
     CONFSCRIPT_TOO_SMALL = 1,
     /* Memory ran out. Nothing is written. */
     CONFSCRIPT_NO_MEMORY = 2,
@@ -48,11 +50,12 @@ enum confscript_status {
     CONFSCRIPT_BAD_CONF_STATE = 3,
     /* confscript_check: a list of the line names an id twice. confscript_committed and _vote: `ids` does. */
     CONFSCRIPT_REPEATED_ID = 4,
-    /* The line names no configuration that the call accepts. confscript_check says why, with one exception: it accepts a
-       valid configuration with members but no incoming voter, and confscript_apply does not. The number is as for
+    /* The line names no configuration that the call accepts. confscript_check says why, with one exception: it accepts
+       a valid configuration with members but no incoming voter, and confscript_apply does not. The number is as for
        CONFSCRIPT_BAD_CONF_STATE. */
     CONFSCRIPT_NOT_A_CONFIGURATION = 5,
-    /* There is no plan, since a configuration has no incoming voter. The number is 1 for the first, and 2 for the second. */
+    /* There is no plan, since a configuration has no incoming voter. The number is 1 for the first, and 2 for the
+       second. */
     CONFSCRIPT_NO_VOTER = 6,
     /* A line of the plan is not a step. The number is that of the line, counted from 1. */
     CONFSCRIPT_BAD_LINE = 7,
@@ -82,9 +85,10 @@ enum confscript_status {
     /* confscript_may_be_down: the voters are no quorum even with none down. */
     CONFSCRIPT_NO_QUORUM = 23,
 
-    /* confscript_plan: the strategy is not an enum confscript_strategy. */
+    /* confscript_plan: the strategy is not one of enum confscript_strategy. */
     CONFSCRIPT_BAD_STRATEGY = 24,
-    /* There is no plan one at a time into a joint configuration, unless it equals the first. */
+    /* confscript_plan: no plan that changes one member a step leads into a joint configuration, unless it equals the
+       first. */
     CONFSCRIPT_JOINT_TARGET = 25
 };
 
@@ -111,67 +115,70 @@ struct confscript_answer {
 uint32_t confscript_version(void);
 
 /*
- * Writes what a status means, in words, or `unknown status` if the number is not a status. The text is written to `out`,
- * without a byte 0 after it. The number is how many bytes it has.
+ * Writes to `out` what a status means, in words, or `unknown status` for any other number. The text does not end with a
+ * zero byte. The number is its length in bytes.
  */
 struct confscript_answer confscript_status_text(uint32_t status, uint8_t *out, size_t out_len);
 
 /*
- * Writes the plan from the configuration of one ConfState line to that of another, by an enum confscript_strategy. Both
- * configurations must be valid and have an incoming voter. The voters before and after each step overlap, and no
- * configuration on the way tolerates fewer failures than the weaker end. If there is nothing to do, the text is
- * `nothing to do`. The lines are written to `out`, without a byte 0 after them. The number is how many bytes they have.
+ * Writes to `out` the plan from the configuration of one ConfState line to that of another, by an
+ * enum confscript_strategy. Both configurations must be valid and have an incoming voter. The voters before and after
+ * each step overlap, and no configuration on the way tolerates fewer failures than the weaker end. If there is nothing
+ * to do, the plan is the line `nothing to do`. The text does not end with a zero byte. The number is its length in
+ * bytes.
  *
- * - CONFSCRIPT_SHORTEST: at most four steps. No other plan has fewer steps, keeps the progress of a member that this one
- *   resets, or names a member in fewer changes. A plan does not see logs: a new voter begins with an empty one, so from
- *   [1 2 3] to [3 4 5] nothing commits until 4 or 5 has caught up.
- * - CONFSCRIPT_LEARNERS_FIRST: at most one step more than the shortest plan. Each new voter is a learner before, so the caller
- *   can let it catch up before it proposes the next step.
- * - CONFSCRIPT_ONE_AT_A_TIME: each step changes one member, and each new voter is a learner before. No plan of this kind has
- *   fewer steps. The second configuration must not be joint, unless it equals the first.
+ * - CONFSCRIPT_SHORTEST: at most four steps. No other plan has fewer steps, keeps the progress of a member that this
+ *   one resets, or names a member in fewer changes. A plan does not see logs: a new voter begins with an empty one, so
+ *   from [1 2 3] to [3 4 5] nothing commits until 4 or 5 has caught up.
+ * - CONFSCRIPT_LEARNERS_FIRST: at most one step more than the shortest plan. Each new voter is a learner first, so the
+ *   caller can let it catch up before proposing the next step.
+ * - CONFSCRIPT_ONE_AT_A_TIME: each step changes one member, and each new voter is a learner first. No plan of this kind
+ *   has fewer steps. The second configuration must not be joint, unless it equals the first.
  *
- * A step `simple` may have several changes, of which one at most changes who votes. A store that proposes etcd's ConfChangeV2
- * proposes them one at a time, each as a ConfChangeV2 of one change. As one ConfChangeV2 they would enter a joint
- * configuration.
+ * A step `simple` may have several changes, at most one of which changes who votes. To keep the step simple in etcd,
+ * propose each change as a ConfChangeV2 of its own. If they are proposed as a single ConfChangeV2, etcd's raft takes
+ * them through a joint configuration, which it leaves by itself.
  */
 struct confscript_answer confscript_plan(const uint8_t *now, size_t now_len, const uint8_t *target, size_t target_len,
                                          uint32_t strategy, uint8_t *out, size_t out_len);
 
 /*
- * Takes the steps of a plan, beginning with the configuration of a ConfState line. A single change is a plan of one line.
- * A call takes at most four lines; a longer plan is taken four lines a call, each from the line that the call before wrote.
- * The ConfState line of the result is written to `out`, its lists in ascending order, without a newline or a byte 0 after
- * it. The number is how many bytes it has. The first configuration must be valid, and have an incoming voter or no members.
+ * Applies the steps of a plan to the configuration of a ConfState line. A single step is a plan of one line. A call
+ * takes at most four lines: apply a longer plan four lines a call, each call to the line that the call before wrote.
+ * The ConfState line of the result is written to `out`, its lists in ascending order, without a newline or a zero byte
+ * at its end. The number is its length in bytes. The first configuration must be valid, and have an incoming voter or
+ * no members.
  */
 struct confscript_answer confscript_apply(const uint8_t *state, size_t state_len, const uint8_t *plan, size_t plan_len,
                                           uint8_t *out, size_t out_len);
 
-/* Says what is wrong with the configuration of a ConfState line. If nothing is wrong, the call is done, with the number 0. */
+/* Reports what is wrong with the configuration of a ConfState line. If nothing is, the call is done, with number 0. */
 struct confscript_answer confscript_check(const uint8_t *state, size_t state_len);
 
 /*
- * Returns the committed index of the voters in `incoming`, and of those in `outgoing` if there are any: both must have
- * committed it. Each id of `ids` has acknowledged the index at the same position of `acknowledged`. An id that is not in
- * `ids` has acknowledged 0. An id that a set names twice is one voter. The number is the committed index. It is 2^64-1 if
- * there are no voters.
+ * Returns the committed index of the voters in `incoming`, and of those in `outgoing` if there are any: both sets must
+ * have committed it. Each id of `ids` has acknowledged the index at the same position of `acknowledged`. An id that is
+ * not in `ids` has acknowledged 0. An id that a set names twice is one voter. The number is the committed index, which
+ * is 2^64-1 if there are no voters.
  */
 struct confscript_answer confscript_committed(const uint64_t *incoming, size_t incoming_len, const uint64_t *outgoing,
                                               size_t outgoing_len, const uint64_t *ids, size_t ids_len,
                                               const uint64_t *acknowledged, size_t acknowledged_len);
 
 /*
- * Returns the result of a vote of these voters: both sets must win it. Each id of `ids` said yes if the byte at the same
- * position of `votes` is 1, and no if it is 0. An id that is not in `ids` has not voted. The number is an
- * enum confscript_vote_result. If there are no voters, the vote is won.
+ * Returns the result of a vote by the voters in `incoming`, and by those in `outgoing` if there are any: both sets must
+ * win it. Each id of `ids` has voted yes if the byte at the same position of `votes` is 1, and no if it is 0. An id
+ * that is not in `ids` has not voted. The number is an enum confscript_vote_result. If there are no voters, the vote is
+ * won.
  */
 struct confscript_answer confscript_vote(const uint64_t *incoming, size_t incoming_len, const uint64_t *outgoing,
                                          size_t outgoing_len, const uint64_t *ids, size_t ids_len, const uint8_t *votes,
                                          size_t votes_len);
 
 /*
- * Returns how many ids may be down, whichever they are, while the other voters in `incoming`, and in `outgoing` if there are
- * any, are a quorum. The ids in `uncounted`, such as members whose logs are still empty, are no help to a quorum, whether
- * they are down or not. The number is the greatest such count.
+ * Returns how many ids may be down, whichever they are, while the other voters in `incoming`, and in `outgoing` if
+ * there are any, are a quorum. The ids in `uncounted`, such as members whose logs are still empty, do not count for a
+ * quorum, whether they are down or not. The number is the greatest such count.
  */
 struct confscript_answer confscript_may_be_down(const uint64_t *incoming, size_t incoming_len, const uint64_t *outgoing,
                                                 size_t outgoing_len, const uint64_t *uncounted, size_t uncounted_len);

@@ -66,8 +66,8 @@ func PlanBy(strategy Strategy, now, target string) (string, error) {
 	})
 }
 
-// Apply returns the ConfState line of the configuration after the steps of a plan, at most four, or after a single
-// change.
+// Apply returns the ConfState line of the configuration after the steps of a plan, at most four. A single step is a
+// plan of one line.
 func Apply(state, steps string) (string, error) {
 	from, by := []byte(state), []byte(steps)
 	return written(func(out *C.uint8_t, room C.size_t) C.struct_confscript_answer {
@@ -83,7 +83,7 @@ func Check(state string) error {
 }
 
 // Committed returns the committed index of a voter set, or of a joint pair. The map has the index that each id has
-// acknowledged. It is 2^64-1 if there are no voters.
+// acknowledged. The committed index is 2^64-1 if there are no voters.
 func Committed(incoming, outgoing []uint64, acknowledged map[uint64]uint64) (uint64, error) {
 	ids, indexes := []uint64{}, []uint64{}
 	for id, index := range acknowledged {
@@ -93,7 +93,7 @@ func Committed(incoming, outgoing []uint64, acknowledged map[uint64]uint64) (uin
 		first(ids), C.size_t(len(ids)), first(indexes), C.size_t(len(indexes))))
 }
 
-// Vote returns the result of a vote of a voter set, or of a joint pair. The map has the vote of each id that has voted.
+// Vote returns the result of a vote by a voter set, or by a joint pair. The map has the vote of each id that has voted.
 func Vote(incoming, outgoing []uint64, votes map[uint64]bool) (VoteResult, error) {
 	ids, said := []uint64{}, []byte{}
 	for id, vote := range votes {
@@ -109,8 +109,9 @@ func Vote(incoming, outgoing []uint64, votes map[uint64]bool) (VoteResult, error
 	return VoteResult(result), err
 }
 
-// MayBeDown returns how many ids may be down, whichever they are, while the other voters are a quorum without the
-// uncounted ones. If they are no quorum even with none down, the error is a Refused with the status 23.
+// MayBeDown returns how many ids may be down, whichever they are, while the other voters are a quorum, for which the
+// uncounted ids do not count. If the voters are no quorum even with none down, the error is a Refused with the status
+// 23.
 func MayBeDown(incoming, outgoing, uncounted []uint64) (uint64, error) {
 	return number(C.confscript_may_be_down(first(incoming), C.size_t(len(incoming)), first(outgoing), C.size_t(len(outgoing)),
 		first(uncounted), C.size_t(len(uncounted))))
@@ -145,7 +146,7 @@ func number(answer C.struct_confscript_answer) (uint64, error) {
 	return uint64(answer.number), nil
 }
 
-// written returns the text that a call writes. If the buffer is too small, the call returns the length that it needs.
+// written returns the text that a call writes. If the buffer is too small, the call is made again with a larger one.
 func written(call func(out *C.uint8_t, room C.size_t) C.struct_confscript_answer) (string, error) {
 	out := make([]byte, 256)
 	for {

@@ -7,8 +7,8 @@ A configuration is a ConfState line, and a plan is the text of its lines, both a
     >>> steps = plan("Voters:[1 2] ..", "Voters:[2 3] ..")
     >>> apply("Voters:[1 2] ..", steps)
 
-A call that is refused raises Refused, which has the status and the number. The library is the one that
-CONFSCRIPT_LIBRARY names, or the one that the system's loader finds.
+A call that is refused raises Refused, which has the status and the number; if memory runs out, it raises MemoryError.
+The library is the one that CONFSCRIPT_LIBRARY names, or the one that the system's loader finds.
 """
 import ctypes
 import os
@@ -82,7 +82,7 @@ def _number(answer):
 
 
 def _written(call, *arguments):
-    """The text that a call writes. If the buffer is too small, the call returns the length that it needs."""
+    """The text that a call writes. If the buffer is too small, the call is made again with a larger one."""
     room = 256
     while True:
         out = (ctypes.c_char * room)()
@@ -112,23 +112,23 @@ def check(state):
 
 
 def committed(incoming, outgoing, acknowledged):
-    """Returns the committed index of a voter set, or of a joint pair; `acknowledged` has the index of each id.
+    """Returns the committed index of a voter set, or of a joint pair; `acknowledged` maps each id to its index.
 
-    It is 2**64-1 if there are no voters.
+    The committed index is 2**64-1 if there are no voters.
     """
     return _number(_library.confscript_committed(*_ids([*incoming]), *_ids([*outgoing]), *_ids([*acknowledged]), *_ids([*acknowledged.values()])))
 
 
 def vote(incoming, outgoing, votes):
-    """Returns the result of a vote by a voter set, or by a joint pair; `votes` has True or False for each id that voted."""
+    """Returns the result of a vote by a voter set, or by a joint pair; `votes` maps each id that voted to a bool."""
     said = bytes(bool(it) for it in votes.values())
     return Vote(_number(_library.confscript_vote(*_ids([*incoming]), *_ids([*outgoing]), *_ids([*votes]), *_bytes(said))))
 
 
 def may_be_down(incoming, outgoing, uncounted=()):
-    """Returns how many ids may be down, whichever they are, while the others are a quorum without the uncounted ones.
+    """Returns how many ids may be down, whichever they are, while the other voters are a quorum.
 
-    None if they are no quorum even with none down.
+    The uncounted ids do not count for the quorum. Returns None if the voters are no quorum even with none down.
     """
     answer = _library.confscript_may_be_down(*_ids([*incoming]), *_ids([*outgoing]), *_ids([*uncounted]))
     return None if answer.status == NO_QUORUM else _number(answer)

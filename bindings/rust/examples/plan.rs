@@ -1,4 +1,4 @@
-//! Plans the change that replaces 1 by 5, applies the plan, and computes the committed index afterwards.
+//! Plans the change that replaces 1 with 5, applies the plan, and computes the committed index afterwards.
 fn main() -> Result<(), confscript::Error> {
     let now = "Voters:[1 2 3] VotersOutgoing:[] Learners:[] LearnersNext:[] AutoLeave:false";
     let steps = confscript::plan(now, "Voters:[2 3 5] VotersOutgoing:[] Learners:[] LearnersNext:[] AutoLeave:false")?;

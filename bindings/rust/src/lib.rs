@@ -50,7 +50,7 @@ pub enum Error {
     TooManySteps,
     /// A step is refused: the status that says why, and the number of the step, counted from 1.
     Step(u32, u64),
-    /// The configuration of a line is broken: the status that says how.
+    /// The configuration breaks an invariant: the status that says which.
     Broken(u32),
     DifferentLengths,
     BadVote,
@@ -136,7 +136,7 @@ fn number(answer: Answer) -> Result<u64, Error> {
     if answer.status == DONE { Ok(answer.number) } else { Err(Error::of(&answer)) }
 }
 
-// The text that a call writes. If the buffer is too small, the call returns the length that it needs.
+// The text that a call writes. If the buffer is too small, the call is made again with a larger one.
 fn written(call: impl Fn(&mut [u8]) -> Answer) -> Result<String, Error> {
     let mut out = vec![0; 256];
     loop {
@@ -163,23 +163,24 @@ pub fn plan_by(strategy: Strategy, now: &str, target: &str) -> Result<String, Er
     })
 }
 
-/// The ConfState line of the configuration after the steps of a plan, at most four, or after a single change.
+/// The ConfState line of the configuration after the steps of a plan, at most four. A single step is a plan of one
+/// line.
 pub fn apply(state: &str, steps: &str) -> Result<String, Error> {
-    // SAFETY: as in `plan`.
+    // SAFETY: as in `plan_by`.
     written(|out| unsafe { confscript_apply(state.as_ptr(), state.len(), steps.as_ptr(), steps.len(), out.as_mut_ptr(), out.len()) })
 }
 
 /// What is wrong with the configuration of a ConfState line, if anything is.
 pub fn check(state: &str) -> Result<(), Error> {
-    // SAFETY: as in `plan`.
+    // SAFETY: as in `plan_by`.
     number(unsafe { confscript_check(state.as_ptr(), state.len()) }).map(|_| ())
 }
 
-/// The committed index of a voter set, or of a joint pair, by the index that each id has acknowledged. It is `u64::MAX`
-/// if there are no voters.
+/// The committed index of a voter set, or of a joint pair, from the index that each id has acknowledged. It is
+/// `u64::MAX` if there are no voters.
 pub fn committed(incoming: &[u64], outgoing: &[u64], acknowledged: &[(u64, u64)]) -> Result<u64, Error> {
     let (ids, indexes): (Vec<u64>, Vec<u64>) = acknowledged.iter().copied().unzip();
-    // SAFETY: as in `plan`; a vector's pointer is not null, also where it is empty.
+    // SAFETY: as in `plan_by`; a vector's pointer is not null, even if the vector is empty.
     number(unsafe {
         confscript_committed(
             incoming.as_ptr(), incoming.len(), outgoing.as_ptr(), outgoing.len(), ids.as_ptr(), ids.len(), indexes.as_ptr(), indexes.len(),
@@ -187,7 +188,7 @@ pub fn committed(incoming: &[u64], outgoing: &[u64], acknowledged: &[(u64, u64)]
     })
 }
 
-/// The result of a vote of a voter set, or of a joint pair, by the vote of each id that has voted.
+/// The result of a vote by a voter set, or by a joint pair, from the vote of each id that has voted.
 pub fn vote(incoming: &[u64], outgoing: &[u64], votes: &[(u64, bool)]) -> Result<VoteResult, Error> {
     let (ids, said): (Vec<u64>, Vec<u8>) = votes.iter().map(|&(id, vote)| (id, u8::from(vote))).unzip();
     // SAFETY: as in `committed`.
@@ -201,8 +202,8 @@ pub fn vote(incoming: &[u64], outgoing: &[u64], votes: &[(u64, bool)]) -> Result
     })
 }
 
-/// How many ids may be down, whichever they are, while the other voters are a quorum without the uncounted ones.
-/// `Error::NoQuorum` if they are no quorum even with none down.
+/// How many ids may be down, whichever they are, while the other voters are a quorum, for which the uncounted ids do
+/// not count. The error is `Error::NoQuorum` if the voters are no quorum even with none down.
 pub fn may_be_down(incoming: &[u64], outgoing: &[u64], uncounted: &[u64]) -> Result<u64, Error> {
     // SAFETY: as in `committed`.
     number(unsafe {
@@ -212,6 +213,6 @@ pub fn may_be_down(incoming: &[u64], outgoing: &[u64], uncounted: &[u64]) -> Res
 
 /// The version of the library: 10,000 for each major version, 100 for each minor one, and the patch.
 pub fn version() -> u32 {
-    // SAFETY: the call takes nothing.
+    // SAFETY: the call takes no arguments.
     unsafe { confscript_version() }
 }

@@ -8,8 +8,8 @@
 //! 3   a file, a read or a write failed, or memory ran out
 //! ```
 //!
-//! An error is one line on standard error, `confscript: ` and what is wrong. What was printed before it is a prefix of
-//! the output.
+//! An error is one line on standard error, `confscript: ` and what is wrong, or a usage error as `clap` prints it. What
+//! was printed before the error is a prefix of the output.
 #![tactic(auto)]
 
 ghost use Rattle.conf_tool.specs.Ranges.{IsInRange};
@@ -30,7 +30,6 @@ const BAD_INPUT: u8 = 2;
 /// The exit status if a file, a read or a write failed, or memory ran out.
 const IO_FAILED: u8 = 3;
 
-// Runs the program, and returns its exit status.
 fn main(rt: HostRuntime) -> ExitCode {
     match arguments(&rt) {
         Ok(arguments) => run_arguments(&rt, arguments.as_slice()),
@@ -83,7 +82,7 @@ fn explain(rt: &HostRuntime, error: &clap::Error) -> ExitCode {
     }
 }
 
-// Runs the mode over the file that is named, or over standard input if none is, or `-`.
+// Runs the mode over the file that the arguments name, or over standard input if they name none, or `-`.
 fn open(rt: &HostRuntime, invocation: Invocation<'_>) -> ExitCode
     requires { IsInRange invocation.options }
 {
@@ -100,7 +99,8 @@ fn open(rt: &HostRuntime, invocation: Invocation<'_>) -> ExitCode
     }
 }
 
-// Runs the mode over this reader. Standard output is written in blocks, and flushed before more input is waited for.
+// Runs the mode over this reader. Standard output is written in blocks, which are flushed before the mode waits for
+// input.
 fn run_over<R: Source>(rt: &HostRuntime, invocation: Invocation<'_>, reader: &mut R) -> ExitCode
     requires { IsInRange invocation.options }
 {
@@ -123,7 +123,7 @@ fn run_over<R: Source>(rt: &HostRuntime, invocation: Invocation<'_>, reader: &mu
     }
 }
 
-// Reports an error in one line on standard error.
+// Reports an error in one line on standard error, and returns its exit status.
 fn fail(rt: &HostRuntime, fault: ToolFault) -> ExitCode {
     let _ = eprintln!(rt; "confscript: {fault}");
     match fault {

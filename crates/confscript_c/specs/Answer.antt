@@ -1,4 +1,4 @@
--- What a call answers: a status, and a number whose meaning depends on it.
+-- What a call returns: a status, and a number whose meaning depends on it.
 use Rattle.std.specs.Prelude.{ℕ}
 use Rattle.confscript_c.specs.Status.{code_of}
 use Rattle.confscript_c.specs.declared.answer.Answer.{Answer}

@@ -1,4 +1,4 @@
--- What the steps of a plan make of the configuration of a line.
+-- The configuration of a line after the steps of a plan.
 use Rattle.std.specs.Prelude.{ℕ, ◌+◌, List, [], ◌∷◌, Option, Some, None, Result, Ok, Err}
 use Rattle.conf_change.specs.Configuration.{Configuration}
 use Rattle.conf_change.specs.ConfState.{ConfStateLists, lists_of, restored}
@@ -16,23 +16,23 @@ use Rattle.confscript_c.specs.Written.{TextResult}
 use Rattle.confscript_c.specs.declared.answer.Answer.{Answer}
 use Rattle.confscript_c.specs.declared.status.Status.TheVariants.{NotAConfiguration, BadLine, TooManySteps, AlreadyJoint, ZeroVoterJoint, NotJoint, SimpleInJoint, RemovedAllVoters, MoreThanOneVoter}
 
--- the configuration that was restored from line 1, or that there is none
+-- the configuration that was restored from line 1, or the answer if none was
 abbrev pub restored_one : Option Configuration → Result Configuration Answer
 restored_one None = Err (status_answer NotAConfiguration 1)
 restored_one (Some c) = Ok c
 
--- the configuration to which a saved one is restored, if the line was read as one
+-- the configuration that is restored from a line, given what was read from it, or the answer if none is
 abbrev pub restored_of : Result ConfStateLists Answer → Result Configuration Answer
 restored_of (Err why) = Err why
 restored_of (Ok saved) = restored_one (restored saved)
 
--- why a text is not a plan
+-- the answer for a text that is not a plan
 abbrev pub text_fault_answer : PlanTextFault → Answer
 text_fault_answer (fault.BadLine number) = status_answer BadLine number
 text_fault_answer fault.TooManySteps = status_answer TooManySteps 0
 text_fault_answer fault.NoMemory = no_memory
 
--- why the step of this number is refused
+-- the answer for a refused step with this number
 abbrev pub refusal_answer : Refused → ℕ → Answer
 refusal_answer refused.AlreadyJoint number = status_answer AlreadyJoint number
 refusal_answer refused.ZeroVoterJoint number = status_answer ZeroVoterJoint number
@@ -42,18 +42,18 @@ refusal_answer refused.RemovedAllVoters number = status_answer RemovedAllVoters 
 refusal_answer refused.MoreThanOneVoter number = status_answer MoreThanOneVoter number
 refusal_answer refused.NoMemory number = no_memory
 
--- the result after the outcome of one step: why it is refused, or the result of the rest
+-- the result, given the outcome of one step: the answer if it is refused, else the result of the rest
 abbrev pub then_result : ℕ → Outcome → (Configuration → TextResult) → TextResult
 then_result number (Err why) rest = Err (refusal_answer why number)
 then_result number (Ok next) rest = rest next
 
--- The line of the configuration after all steps, the first of which has this number; or why the first refused step is
--- refused.
+-- the line of the configuration after all steps, the first of which has this number; or the answer for the first step
+-- that is refused
 abbrev pub steps_result : ℕ → Configuration → List Step → TextResult
 steps_result number c [] = Ok (conf_state_text (lists_of c))
 steps_result number c (step ∷ steps) = then_result number (outcome c step) (λ next. steps_result (number + 1) next steps)
 
--- the result of taking steps from a configuration: what is wrong with the configuration comes first, then with the plan
+-- the result of applying steps to a configuration; an error of the configuration comes before one of the plan
 abbrev pub applied : Result Configuration Answer → Result (List Step) PlanTextFault → TextResult
 applied (Err why) steps = Err why
 applied (Ok c) (Err fault) = Err (text_fault_answer fault)

@@ -31,7 +31,7 @@ abbrev pub described_answer : Option Configuration → Answer
 described_answer None = status_answer RepeatedId 0
 described_answer (Some c) = broken_answer (first_broken c)
 
--- the answer for a line that was read as a saved configuration, or was not
+-- the answer for a line, given what was read from it
 abbrev pub saved_answer : Result ConfStateLists Answer → Answer
 saved_answer (Err why) = why
 saved_answer (Ok saved) = described_answer (described saved)

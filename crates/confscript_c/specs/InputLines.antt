@@ -1,5 +1,4 @@
--- What the lines of a call denote. A line has a number, counted from 1, which the answer names if it is
--- wrong.
+-- What the lines of a call denote. If a line is wrong, the answer has its number, counted from 1.
 use Rattle.std.specs.Prelude.{ℕ, List, Option, Some, None, Result, Ok, Err}
 use Rattle.conf_change.specs.Configuration.{Configuration}
 use Rattle.conf_change.specs.ConfState.{ConfStateLists}
@@ -10,22 +9,22 @@ use Rattle.confscript_c.specs.Answer.{status_answer, no_memory}
 use Rattle.confscript_c.specs.declared.answer.Answer.{Answer}
 use Rattle.confscript_c.specs.declared.status.Status.TheVariants.{BadConfState, NotAConfiguration}
 
--- the saved configuration of the line of this number, or that it is not one
+-- the saved configuration of the line with this number, or the answer if the line has none
 abbrev pub read_as : ℕ → Option ConfStateLists → Result ConfStateLists Answer
 read_as number None = Err (status_answer BadConfState number)
 read_as number (Some saved) = Ok saved
 
--- what is wrong with the line of this number
+-- the answer for an error of the line with this number
 abbrev pub fault_answer : ℕ → ConfigurationFault → Answer
 fault_answer number BadLine = status_answer BadConfState number
 fault_answer number (NotValid violation) = status_answer NotAConfiguration number
 fault_answer number OutOfMemory = no_memory
 
--- a configuration, or what is wrong with the line of this number
+-- a configuration, or the answer for an error of the line with this number
 abbrev pub answered_at : ℕ → Result Configuration ConfigurationFault → Result Configuration Answer
 answered_at number (Ok c) = Ok c
 answered_at number (Err fault) = Err (fault_answer number fault)
 
--- the valid configuration of the line of this number
+-- the valid configuration of the line with this number, or the answer if the line has none
 abbrev pub configuration_or_answer : ℕ → List ℕ → Result Configuration Answer
 configuration_or_answer number line = answered_at number (configuration_in line)

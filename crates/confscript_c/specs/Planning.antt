@@ -16,14 +16,14 @@ use Rattle.confscript_c.specs.Written.{TextResult}
 use Rattle.confscript_c.specs.declared.answer.Answer.{Answer}
 use Rattle.confscript_c.specs.declared.status.Status.TheVariants.{NoVoter, BadStrategy, JointTarget}
 
--- the strategy of a code: 0, 1 or 2
+-- the strategy with this code: 0, 1 or 2; no other code has one
 abbrev pub strategy_at : ℕ → Result Strategy Answer
 strategy_at code =
     if code == 0 then Ok Shortest
     else (if code == 1 then Ok LearnersFirst
     else (if code == 2 then Ok OneAtATime else Err (status_answer BadStrategy 0)))
 
--- the text of the path, if both configurations have a voter and the strategy has a path between them
+-- the text of the path, or the answer if a configuration has no voter or the strategy has no path
 abbrev pub path_result : Strategy → Configuration → Configuration → TextResult
 path_result strategy now target =
     if has_voter now then
@@ -32,19 +32,19 @@ path_result strategy now target =
     else Err (status_answer NoVoter 2))
     else Err (status_answer NoVoter 1)
 
--- what is wrong is looked for in this order: with the strategy, with the first line, with the second
+-- the result for a strategy and two configurations; an error of the strategy comes first, then one of the first line
 abbrev pub result_for : Result Strategy Answer → Result Configuration Answer → Result Configuration Answer → TextResult
 result_for (Err why) now target = Err why
 result_for (Ok strategy) (Err why) target = Err why
 result_for (Ok strategy) (Ok now) (Err why) = Err why
 result_for (Ok strategy) (Ok now) (Ok target) = path_result strategy now target
 
--- the result of `confscript_plan` for a code and the texts of two lines
+-- the result of `confscript_plan` for the code of a strategy and the texts of two lines
 abbrev pub plan_result : ℕ → List ℕ → List ℕ → TextResult
 plan_result code now target = result_for (strategy_at code) (configuration_or_answer 1 now) (configuration_or_answer 2 target)
 
--- The text is that of steps that keep what the strategy promises. They lead from the one configuration to the other,
--- and at most four are read back.
+-- The text is that of steps that lead from one configuration to the other and keep what the strategy promises. If there
+-- are at most four, the text is read back as these steps.
 pub record IsPathText (strategy : Strategy) (now target : Configuration) (text : List ℕ) : Type 0 where
   pub steps : List Step
   pub printed : text ≡ plan_text steps
@@ -53,8 +53,9 @@ pub record IsPathText (strategy : Strategy) (now target : Configuration) (text :
   pub read : length steps ≤ 4 → plan_in text ≡ Ok steps
   pub voter : has_voter now ≡ true
 
--- The text is that of steps that keep what the strategy of this code promises. Taken in order from the configuration of
--- the one line, they give the other line; at most four give it in one call of `confscript_apply`.
+-- The text is that of steps that keep what the strategy with this code promises. Applied to the configuration of the
+-- first line, they give the line of the second configuration. If there are at most four, one call of `confscript_apply`
+-- gives it.
 pub record LeadsToTarget (code : ℕ) (now target text : List ℕ) : Type 0 where
   pub strategy : Strategy
   pub before : Configuration

@@ -1,5 +1,5 @@
--- Committed indexes, results of votes and how many ids may be down, for voters and values that come as lists. What they
--- are is defined by the quorums of the crate below.
+-- Committed indexes, results of votes and how many ids may be down, for voters and values that are given as lists. They
+-- are those that quorum_sets defines for sets and maps.
 use Rattle.std.specs.Prelude.{ℕ, Bool, not, ◌==◌, ◌||◌, List, length, map, nat_eq, Option, Some, None, if◌then◌else◌}
 use Rattle.std.specs.List.{zip, list_all}
 use Rattle.std.specs.Ordering.{nat_cmp}
@@ -16,11 +16,11 @@ use Rattle.confscript_c.specs.Answer.{status_answer, done}
 use Rattle.confscript_c.specs.declared.answer.Answer.{Answer}
 use Rattle.confscript_c.specs.declared.status.Status.TheVariants.{RepeatedId, DifferentLengths, BadVote, NoQuorum}
 
--- the voters of two lists, where each id counts once
+-- the voters of two lists; an id that a list names twice counts once
 abbrev pub voters_of_lists : List ℕ → List ℕ → Voters
 voters_of_lists incoming outgoing = pair (ids_of incoming) (ids_of outgoing)
 
--- the value that is known of each id: the one at its index
+-- the known value of each id: the one at the same index
 abbrev pub known : {V : Type 0} → List ℕ → List V → finite.FinMap nat_cmp V
 known ids values = finite.from_entries (zip ids values)
 
@@ -35,7 +35,7 @@ abbrev pub committed_answer : List ℕ → List ℕ → List ℕ → List ℕ �
 committed_answer incoming outgoing ids acknowledged =
     of_each ids acknowledged (done (joint_committed_index (voters_of_lists incoming outgoing) (known ids acknowledged)))
 
--- whether a byte is a vote: 0 is no, 1 is yes, and nothing else is one
+-- whether a byte is a vote: 0 for no, or 1 for yes
 abbrev pub is_vote : ℕ → Bool
 is_vote byte = (byte == 0) || (byte == 1)
 
@@ -56,7 +56,7 @@ vote_answer incoming outgoing ids votes =
     (if not (list_all is_vote votes) then status_answer BadVote 0
     else done (vote_number (joint_vote_result (voters_of_lists incoming outgoing) (known ids (map is_yes_byte votes)))))
 
--- a count, or that the voters are no quorum even with none down
+-- the answer for a count; without one, the voters are no quorum even with none down
 abbrev pub count_answer : Option ℕ → Answer
 count_answer (Some count) = done count
 count_answer None = status_answer NoQuorum 0

@@ -1,23 +1,22 @@
-//! What a call answers.
+//! What a call returns: a status and a number.
 ghost use Rattle.std.specs.Prelude.{◌≡◌};
 ghost use Rattle.confscript_c.specs.Answer.{status_answer, done, no_memory};
 
 use crate::status::Status;
 use quorum_sets::NoMemory;
 
-/// What each call returns, as `struct confscript_answer`: the code of a [`Status`], and a number whose meaning depends
-/// on the status. It is 0 if the status needs none.
+/// What each call but `confscript_version` returns, as `struct confscript_answer`: the code of a [`Status`], and a
+/// number whose meaning depends on the status. The number is 0 if the status needs none.
 #[repr(C)]
 #[derive(Clone, Copy)]
 pub struct Answer {
     /// The code of a status.
     pub status: u32,
-    /// The length of a text, an index, a count, or which line or step is meant, counted from 1.
+    /// The length of a text, an index, a count, the result of a vote, or the number of a line or a step, from 1.
     pub number: u64,
 }
 
 impl Answer {
-    // The answer of a status, with its number.
     pub(crate) fn new(status: Status, number: u64) -> Answer
         ensures { result ≡ status_answer status number }
     {

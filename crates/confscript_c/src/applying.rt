@@ -1,11 +1,11 @@
-//! Taking the steps of a plan:
+//! Applying the steps of a plan to the configuration of a line:
 //!
 //! ```text
 //! Voters:[1 2 3] ..  and  enter-joint autoleave=false r1 v5  ->  Voters:[2 3 5] VotersOutgoing:[1 2 3] ..
 //! ```
 //!
-//! A program keeps its configuration as a line. Once its cluster has committed a step, it takes the step here, and
-//! keeps the line that it gets. Progress is not looked at, so the line is all that it has to keep.
+//! A program keeps its configuration as a line. Once its cluster has committed a step, the program applies the step
+//! here and keeps the new line. Progress does not affect the configuration, so the line is all that it has to keep.
 ghost use Rattle.std.specs.Prelude.{◌≡◌, ◌⊎◌, Ok, Err, IfOk, IfErr, OnOk, MatchResult};
 ghost use Rattle.conf_change.specs.ConfState.{lists_of};
 ghost use Rattle.conf_change.specs.ConfStateLine.{conf_state_in, conf_state_text};
@@ -24,9 +24,10 @@ use conf_plan::{Plan, PlanTextFault, StepRefused, apply_plan, read_plan};
 use quorum_sets::{InlineIds, NoMemory};
 use std::alloc::Global;
 
-/// Takes the steps of a plan, at most four, from the configuration of a ConfState line, and writes the line of the
-/// result. The number is its length in bytes. It is refused if the line names no valid configuration, if the plan has a
-/// bad line or a fifth one, or if a step is refused; the number is then that of the line or the step (etcd's `confchange`).
+/// Applies the steps of a plan, at most four, to the configuration of a ConfState line, and writes the line of the
+/// result. The number is its length in bytes. The call is refused if the line names no valid configuration, or one with
+/// members but no incoming voter, if the plan has a bad line or a fifth line, or if a step is refused. The number is
+/// then that of the line or the step, and 0 for a fifth line (etcd's `confchange`).
 #[unsafe(no_mangle)]
 pub extern "C" fn confscript_apply(
     alloc: Global,
@@ -53,7 +54,7 @@ fn line_after(alloc: Global, state: &[u8], plan: &[u8]) -> Result<Vec<u8>, Answe
     Ok(line_of(alloc, changer.tracker().config())?)
 }
 
-// A changer with the configuration of a line. Its progress is fresh, and not looked at.
+// A changer with the configuration of a line. Its progress is fresh, and is not used.
 fn read_changer(alloc: Global, state: &[u8]) -> Result<Changer<InlineIds>, Answer>
     ensures restored { IfOk result (λ changer. restored_of (read_as 1 (conf_state_in state.now)) ≡ Ok changer.tracker.config) }
     ensures refused { IfErr result (λ why. (why ≡ no_memory) ⊎ (restored_of (read_as 1 (conf_state_in state.now)) ≡ Err why)) }
@@ -79,7 +80,7 @@ fn read_steps(alloc: Global, text: &[u8]) -> Result<Plan, Answer>
     }
 }
 
-// Takes the steps of a plan. The first step that is refused ends the call.
+// Applies the steps of a plan, up to the first that is refused.
 fn take(changer: &mut Changer<InlineIds>, plan: &Plan) -> Result<(), Answer>
     ensures taken { OnOk result (steps_result 1 changer.old.tracker.config plan.now ≡ Ok (conf_state_text (lists_of changer.new.tracker.config))) }
     ensures refused { IfErr result (λ why. (why ≡ no_memory) ⊎ (steps_result 1 changer.old.tracker.config plan.now ≡ Err why)) }

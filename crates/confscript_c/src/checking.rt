@@ -15,9 +15,9 @@ use conf_change::{ConfState, Config, Invariant, RestoreFault, check, described};
 use quorum_sets::InlineIds;
 use std::alloc::Global;
 
-/// Reports the first broken invariant of the configuration of a ConfState line, in the order of the statuses. It is
-/// done if none is broken, also if there is no voter. Refused are a text that is not a ConfState line, and a line that
-/// lists an id twice (etcd's `confchange`).
+/// Reports the first broken invariant of the configuration of a ConfState line, in the order of the statuses. The call
+/// is done if none is broken, even if there is no voter. It is refused if the text is not a ConfState line, or if a
+/// list of the line names an id twice (etcd's `confchange`; `ZeroId` and `NextAndIncoming` are own).
 #[unsafe(no_mangle)]
 pub extern "C" fn confscript_check(alloc: Global, state: &[u8]) -> Answer
     ensures { (result ≡ no_memory) ⊎ (result ≡ check_answer state.now) }

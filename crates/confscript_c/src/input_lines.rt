@@ -27,7 +27,7 @@ pub(crate) fn read_saved(alloc: Global, number: u64, line: &[u8]) -> Result<Conf
     }
 }
 
-/// The valid configuration of a line: a plan leads from one valid configuration to another.
+/// The configuration of a line. It must be valid, since a plan leads from one valid configuration to another.
 pub(crate) fn configuration_at(
     alloc: Global,
     number: u64,

@@ -1,7 +1,7 @@
 //! The library for C, Go, Rust and Python, declared in `include/confscript.h`: the plans, checks and quorums of the
 //! crates below, as calls that any language can make.
 //!
-//! A call takes numbers, texts and lists of ids, and keeps nothing. It returns a status with a number, and writes its
+//! A call takes numbers, texts and lists of ids, and keeps no state. It returns a status and a number, and writes its
 //! text, if it has one, into a buffer of the caller:
 //!
 //! ```text
@@ -11,7 +11,7 @@
 //! ```
 //!
 //! If the buffer is too small, nothing is written and the number is the length of the text, so that the caller can call
-//! again with a larger one. If memory runs out, that is the status, and nothing is written either.
+//! again with a larger buffer. If memory runs out, the status says so, and nothing is written either.
 //!
 //! ```text
 //! confscript_plan         two lines, a strategy        the steps from the first to the second

@@ -21,10 +21,10 @@ use conf_plan::{NoPath, Strategy, plan_by, print_path};
 use quorum_sets::InlineIds;
 use std::alloc::Global;
 
-/// Writes the text of the path from the configuration of one ConfState line to that of another: 0 for the shortest, 1
-/// for learners first, 2 for one at a time. The number is its length in bytes. It is refused if a line does not name a
-/// valid configuration with a voter, or if the strategy has no path (sections 4.2.1 and 4.3 of Ongaro's dissertation;
-/// the strategies are own).
+/// Writes the text of the path from the configuration of one ConfState line to that of another, by a strategy: 0 for
+/// the shortest path, 1 for learners first, 2 for one at a time. The number is the length of the text in bytes. The
+/// call is refused if the strategy is unknown or has no path, or if a line does not name a valid configuration with an
+/// incoming voter (sections 4.2.1 and 4.3 of Ongaro's dissertation; the strategies are own).
 #[unsafe(no_mangle)]
 pub extern "C" fn confscript_plan(
     alloc: Global,
@@ -35,7 +35,7 @@ pub extern "C" fn confscript_plan(
 ) -> Answer
     ensures writes { WritesText (plan_result strategy now.now target.now) out.old result out.new }
 
-    // The path leads there, and keeps what the strategy promises.
+    // The path leads to the target, and keeps what the strategy promises.
     ensures leads { result ≢ no_memory → (text : List ℕ) → plan_result strategy now.now target.now ≡ Ok text → LeadsToTarget strategy now.now target.now text }
 {
     match text_between_lines(alloc, now, target, strategy) {
@@ -61,7 +61,7 @@ fn text_between_lines(
     text_between(alloc, strategy, &now, &target)
 }
 
-// The strategy of a code, as `enum confscript_strategy` has them.
+// The strategy with this code in `enum confscript_strategy`.
 fn strategy_at(code: u32) -> Result<Strategy, Answer>
     ensures { result ≡ strategy_at code }
 {
@@ -73,7 +73,7 @@ fn strategy_at(code: u32) -> Result<Strategy, Answer>
     }
 }
 
-// The text of the path between two configurations, a step a line.
+// The text of the path between two configurations, one step a line.
 fn text_between(
     alloc: Global,
     strategy: Strategy,

@@ -1,5 +1,5 @@
-//! Committed indexes, results of votes, and how many ids may be down, for a pair of voter sets. What is known of the
-//! ids comes as two lists, since C has no maps: `ids`, and beside it a value for each of them.
+//! Committed indexes, results of votes, and how many ids may be down, for a pair of voter sets. C has no maps, so the
+//! acknowledged indexes and the votes come as two lists: `ids`, and the value of each id at the same position.
 //!
 //! ```text
 //! incoming 1 2 3    ids 1 2 3    acknowledged 7 5 4    ->  committed 5
@@ -137,8 +137,9 @@ fn result_of(
     Ok(joint_vote(&incoming, &outgoing, &votes))
 }
 
-/// How many ids may be down, whichever they are, while the other voters are still a quorum, if the uncounted ids never
-/// count: those of members whose logs are empty. It is refused if the voters are no quorum even with none down (own).
+/// How many ids may be down, whichever they are, while the other voters are still a quorum. The uncounted ids, such as
+/// members whose logs are empty, never count for a quorum. The call is refused if the voters are no quorum even with
+/// none down (own).
 #[unsafe(no_mangle)]
 pub extern "C" fn confscript_may_be_down(
     alloc: Global,
@@ -166,7 +167,7 @@ fn may_be_down_answer(
     Ok(count_answer(may_be_down((&incoming, &outgoing), &uncounted)))
 }
 
-// The answer of a count, or that there is no quorum.
+// The answer for a count; `NoQuorum` if there is none.
 fn count_answer(count: Option<usize>) -> Answer
     ensures { result ≡ spec.count_answer count }
 {
@@ -190,7 +191,7 @@ fn truths(alloc: Global, votes: &[u8]) -> Result<Vec<bool>, NoMemory>
     Ok(votes.iter().map(|byte| *byte == 1).collect(alloc)?)
 }
 
-// The number of a result, as `enum confscript_vote_result` has them.
+// The number of a result in `enum confscript_vote_result`.
 fn vote_number(vote: VoteResult) -> u64
     ensures { result ≡ spec.vote_number vote }
 {
@@ -208,8 +209,8 @@ fn names_once(alloc: Global, ids: &[u64]) -> Result<bool, NoMemory>
     Ok(InlineIds::of_list(alloc, ids)?.len() == ids.len())
 }
 
-// The value that is known of each id: the one at its index. They are inserted from the last one on, since then the map
-// is built as its definition builds it.
+// The known value of each id: the one at the same index. The ids are inserted from last to first, as the definition
+// builds the map.
 fn known<V: Copy + Drop>(
     alloc: Global,
     ids: &[u64],

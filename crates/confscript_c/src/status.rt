@@ -7,8 +7,8 @@ ghost use Rattle.confscript_c.specs.Written.{answer_to, buffer_after};
 use crate::answer::Answer;
 use crate::buffer::write_text;
 
-/// The statuses with their codes, which `enum confscript_status` names. The number of an answer is 0 unless
-/// documented otherwise (own; those of refused steps and broken invariants are etcd's).
+/// The statuses with their codes, which `enum confscript_status` names. The number of an answer is 0 unless documented
+/// otherwise (own; those of refused steps and broken invariants are etcd's, but for `ZeroId` and `NextAndIncoming`).
 #[derive(Clone, Copy)]
 pub enum Status {
     /// The call did its work. The number is its result.
@@ -21,7 +21,7 @@ pub enum Status {
     BadConfState = 3,
     /// An id is listed twice.
     RepeatedId = 4,
-    /// A line names no valid configuration. The number is that of the line: 1 or 2.
+    /// A line names no configuration that the call accepts. The number is that of the line: 1 or 2.
     NotAConfiguration = 5,
     /// A configuration has no incoming voter. The number is that of its line: 1 or 2.
     NoVoter = 6,

@@ -262,7 +262,7 @@ fn is_changed<S: MemberSet>(
         }
 }
 
-// Whether a step leads from a changer to the one after.
+// Whether a step leads from a changer to `after`, or is refused for this reason.
 fn is_stepped<S: MemberSet>(
     changer: &mut Changer<S>,
     step: &Step,
@@ -276,7 +276,7 @@ fn is_stepped<S: MemberSet>(
     (answer.err() == refused) & is_same(changer, after)
 }
 
-// Whether another changer is overwritten with the one after a step, and is empty once its configuration is moved out.
+// Whether another changer is overwritten with the result of a step, and is empty once its configuration is moved out.
 fn becomes<S: MemberSet>(
     other: &mut Changer<S>,
     before: &Changer<S>,
@@ -330,7 +330,7 @@ fn is_made<S: MemberSet>(alloc: Global, changer: &mut Changer<S>, row: &Row) -> 
     }
 }
 
-// Whether the calls of rows give their results, one after another. The last index counts them.
+// Whether the calls of rows give their results, one after another. The last index counts the calls.
 fn are_made<S: MemberSet>(alloc: Global, rows: &[Row]) -> bool {
     let mut changer: Changer<S> = Changer::new(alloc, 0);
     let mut is_so = true;

@@ -78,8 +78,8 @@ fn restored_or_empty<S: MemberSet>(alloc: Global, state: &ConfState) -> Changer<
     }
 }
 
-/// The changer with the configuration of a line; an empty one if the line has none, so that its row fails without a branch
-/// for it.
+/// The changer with the configuration of a line; an empty one if the line has none, so that its row fails without a
+/// branch for it.
 pub(crate) fn changer_at<S: MemberSet>(alloc: Global, line: &str) -> Changer<S> {
     match read(alloc, line) {
         Ok(state) => restored_or_empty(alloc, &state),
@@ -247,7 +247,7 @@ fn lines_of_no_configurations(rt: HostRuntime) {
     }
 }
 
-// Whether members acknowledge indexes as expected, in a changer whose initial next index is zero. This does not allocate.
+// Whether members acknowledge indexes as expected, in a changer whose initial next index is 0. This does not allocate.
 fn acknowledges<S: MemberSet>(changer: &mut Changer<S>) -> bool {
     let acked = changer.ack(3, 7);
     let again = changer.ack(3, 6);

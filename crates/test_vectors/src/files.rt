@@ -1,4 +1,4 @@
-//! Script files: their lines and items, and items written again.
+//! Script files: their lines and items, and items that are rewritten.
 use crate::matching::Matching;
 use crate::twice::twice;
 use dd_file::device::{FromRead, Source, ToWrite};
@@ -10,14 +10,14 @@ use dd_file::reader::Reader;
 use dd_file::rewriter::Rewriter;
 use std::alloc::{AllocError, Global};
 
-// A script, of which each line here is an item.
+// A script; each line of this literal is an item.
 const SCRIPT: &[u8] = b"# c\n\
     \n\
     simple\nv1\n----\nvoters=(1)\n\n\
     enter-joint autoleave=(true,false) \\\n  x\nr1 r2\nr9\n----\n----\na\n\nb\n----\n----\n\n\
     simple\nv2\n----";
 
-// The items: the script's text with `a` as actual output, and a directive's expected output.
+// The items: each as it is rewritten with `a` as the actual output, and its expected output.
 static ITEMS: [(&[u8], &[u8]); 5] = [
     (b"# c\n", b""),
     (b"\n", b""),
@@ -45,7 +45,8 @@ fn next_line<R: Source>(lines: &mut Lines, source: &mut R) -> Result<Option<Line
     }
 }
 
-// Whether an item is rewritten so, with `a` as actual output, or that and a blank line. This does not allocate.
+// Whether an item is rewritten as this text. The actual output is `a`, followed by a blank line if `is_double`. This
+// does not allocate.
 fn is_written(item: &Item, is_double: bool, text: &'static [u8]) -> bool {
     let mut writer = ToWrite::new(Matching::with(text));
     let mut rewriter = Rewriter::new();
@@ -69,8 +70,8 @@ fn is_item(item: &Item, text: &'static [u8], expected: &[u8]) -> bool {
     expects & is_written(item, false, text)
 }
 
-// Whether a reader gives these items until memory runs out, and whether it does. Each is given back, so that the next one
-// reuses its memory. Once memory ran out, the reader gives no more.
+// Whether a reader gives these items until memory runs out, and whether memory lasts. Each item is given back, so that
+// the next one reuses its memory. Once memory ran out, the reader gives no more.
 fn gives_items(reader: &mut Reader) -> (bool, bool) {
     let mut source = FromRead::new(SCRIPT);
     let mut is_so = true;
@@ -113,7 +114,7 @@ const INPUT: &[u8] = b"a\r\n\nbb\nc";
 
 static LINES: [&[u8]; 4] = [b"a", b"", b"bb", b"c"];
 
-// Whether a reader gives these lines until memory runs out, and whether it does.
+// Whether a reader gives these lines until memory runs out, and whether memory lasts.
 fn gives_lines(lines: &mut Lines) -> (bool, bool) {
     let mut source = FromRead::new(INPUT);
     let mut is_so = true;

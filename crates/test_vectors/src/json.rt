@@ -33,7 +33,7 @@ static READ: [(&str, &str); 9] = [
         "{\"voters\":[18446744073709551615,9007199254740993,0]}",
         "Voters:[18446744073709551615 9007199254740993 0] VotersOutgoing:[] Learners:[] LearnersNext:[] AutoLeave:false",
     ),
-    // An id may repeat, as in a line; of a key that does, the last counts.
+    // An id may repeat, as in a line; of a key that repeats, the last value counts.
     (
         "{\"voters\":[1,1]}",
         "Voters:[1 1] VotersOutgoing:[] Learners:[] LearnersNext:[] AutoLeave:false",

@@ -1,11 +1,11 @@
-//! Test vectors for the public calls of the other crates: inputs with the results that the rules give, for what the scripts
-//! of `tests/scripts` do not show. They are a crate of their own, so that the other crates are not proved again with their
-//! tests.
+//! Test vectors for the public calls of the other crates: inputs with the results that the rules give, where the
+//! scripts of `tests/scripts` do not show them. They are a crate of their own, so that the other crates are not proved
+//! again with their tests.
 //!
-//! Each test outside of `ample` is run once for each of its allocations, with that one refused, and once with none refused
-//! (see `tests/refused`). So a call either returns the right result, or reports that memory ran out and leaves its
-//! arguments unchanged, and then the same call again returns the right result. The tests in `ample` are run once: those of
-//! calls that do not allocate, and those that stop if memory runs out.
+//! Each test outside of `ample` is run once for each of its allocations, with that one refused, and once with none
+//! refused (see `tests/refused`). So a call either returns the right result, or reports that memory ran out and leaves
+//! its arguments as its contract says, and then a second call returns the right result. The tests in `ample` are run
+//! once: those of calls that do not allocate, and those that stop if memory runs out.
 #![tactic(auto)]
 
 #[cfg(test)]

@@ -52,7 +52,7 @@ const REWRITTEN: &[u8] = b"# c\n\
     voters=(1)\n\
     1: StateProbe match=0 next=1\n";
 
-// A script whose two changes leave a joint configuration, and the script that undoes the last of them.
+// A script whose second change enters a joint configuration, and the script that undoes this change.
 const ENTERED: &[u8] = b"simple\n\
     v1\n\
     ----\n\
@@ -97,14 +97,14 @@ const PLAN: &[u8] = b"leave-joint\n\
     leave-joint\n\
     enter-joint autoleave=false r3 r4 v5\n";
 
-// The target has no voter.
+// A pair whose target has no voter.
 const TO_EMPTY: &[u8] =
     b"Voters:[1] VotersOutgoing:[] Learners:[] LearnersNext:[] AutoLeave:false\n\
     Voters:[] VotersOutgoing:[] Learners:[] LearnersNext:[] AutoLeave:false\n";
 
 const NO_TARGET: &[u8] = b"# no plan: the target has no voter\n";
 
-// Pairs between a comment and blank lines; of the second one the target has no voter.
+// Pairs among comments and blank lines; the target of the second pair has no voter.
 const PAIRS: &[u8] = b"# first\n\
     Voters:[1] VotersOutgoing:[] Learners:[] LearnersNext:[] AutoLeave:false\n\
     Voters:[2 1] VotersOutgoing:[] Learners:[] LearnersNext:[] AutoLeave:false\n\n\
@@ -115,7 +115,7 @@ const PAIRS: &[u8] = b"# first\n\
 
 const PLANS: &[u8] = b"simple v2\n\n# no plan: the target has no voter\n\nsimple l2\n";
 
-// Pairs whose targets replace a voter, and remove one; the second is in JSON.
+// A pair whose target replaces a voter, and a pair in JSON whose target removes one.
 const REPLACED: &[u8] =
     b"Voters:[1 2 3] VotersOutgoing:[] Learners:[] LearnersNext:[] AutoLeave:false\n\
     Voters:[1 2 4] VotersOutgoing:[] Learners:[] LearnersNext:[] AutoLeave:false\n\
@@ -136,7 +136,8 @@ const TABLES: &[u8] =
     now          V V  2 of 2    0\n\
     1 simple r2  V .  1 of 1    0\n";
 
-// One pair, its table with an id down that stays and one that is removed, and the object of its step.
+// A pair whose target removes a voter; its tables with the voter down that stays and with the one that is removed; and
+// the JSON of its step.
 const REMOVED: &[u8] =
     b"Voters:[1 2] VotersOutgoing:[] Learners:[] LearnersNext:[] AutoLeave:false\n{\"voters\":[1]}";
 
@@ -155,7 +156,7 @@ const OBJECT: &[u8] = b"{\"catch_up\":[],\"commits\":true,\
     \"conf_state\":{\"auto_leave\":false,\"learners\":[],\"learners_next\":[],\"voters\":[1],\"voters_outgoing\":[]},\
     \"may_be_down\":0,\"plan\":1,\"step\":1,\"steps\":1,\"until_then\":0}\n";
 
-// A pair with a path, one with nothing to do, and two without a path one at a time.
+// A pair with a path, one with nothing to do, and two that have no path by the strategy one-at-a-time.
 const FOUR_PAIRS: &[u8] = b"{\"voters\":[1,2]}\n{\"voters\":[1]}\n\
     # the same\n\
     {\"voters\":[1]}\nVoters:[1] VotersOutgoing:[] Learners:[] LearnersNext:[] AutoLeave:false\n\
@@ -170,7 +171,7 @@ const OBJECTS: &[u8] = b"{\"catch_up\":[],\
     {\"no_plan\":\"the target is joint\",\"plan\":3}\n\
     {\"no_plan\":\"the target has no voter\",\"plan\":4}\n";
 
-// A pair, and the first line of another; and a pair, and a last line that is not a configuration.
+// Inputs whose last line has an error: it has no target, is not the JSON of a ConfState, or lists an id twice.
 const HALF: &[u8] = b"{\"voters\":[1,2]}\n{\"voters\":[1]}\n{\"voters\":[1]}\n";
 
 const BAD_JSON: &[u8] = b"{\"voters\":[1,2]}\n{\"voters\":[1,2]}\n\n{\"voters\":[1.0]}";
@@ -190,7 +191,7 @@ pub(crate) enum Command {
 
 const SHORTEST: Command = Command::Plan(Strategy::Shortest, PlanOutput::Steps, &[]);
 
-/// A command, its input and its output, and how it ends.
+/// A command, its input and its output, and how the run ends.
 pub(crate) type Case = (
     Command,
     &'static [u8],
@@ -383,7 +384,8 @@ fn is_whole(alloc: Global, case: Case) -> bool {
     (result == case.3) & writer.is_whole()
 }
 
-// Whether a run does so, or on `NoMemory` writes a prefix of its output, and another run does so.
+// Whether a run ends as expected and writes its output. On `NoMemory` it has to write a prefix, and a second run the
+// whole.
 fn ends(alloc: Global, case: Case) -> bool {
     let (result, writer) = outcome(alloc, case);
     if result == Err(ToolFault::NoMemory) {

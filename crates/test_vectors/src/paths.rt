@@ -146,7 +146,8 @@ static ROWS: [Row; 11] = [
             ),
         ],
     ),
-    // More voters retire than join, one of them as a learner; one of those that join is a learner already.
+    // More voters retire than join. One of those that retire becomes a learner; one of those that join is a learner
+    // already.
     (
         "Voters:[1 2 3 4] VotersOutgoing:[] Learners:[5 6] LearnersNext:[] AutoLeave:false",
         "Voters:[1 5 7] VotersOutgoing:[] Learners:[2 6] LearnersNext:[] AutoLeave:false",

@@ -182,7 +182,7 @@ fn has_steps(path: &Path, expected: &Plan) -> bool {
     is_so
 }
 
-// Whether this plan leads from one configuration to another, and the shortest path has its steps.
+// Whether this is the plan from one configuration to another, and the shortest path has its steps.
 fn is_planned<S: MemberSet>(
     alloc: Global,
     now: &Config<S>,
@@ -235,7 +235,8 @@ fn is_shown_after<S: MemberSet>(
     }
 }
 
-// Whether a plan is applied to a changer; on `NoMemory` the steps before are, and the whole plan is applied to another changer.
+// Whether a plan is applied to a changer. On `NoMemory` only the steps before the refused one are, and the whole plan
+// is applied to another changer.
 fn is_applied<S: MemberSet>(
     alloc: Global,
     changer: &mut Changer<S>,
@@ -306,7 +307,7 @@ static NO_PLANS: [(&str, PlanTextFault); 8] = [
     ),
 ];
 
-// A plan's text, and the command of its first step and its changes.
+// A plan's text, and the command and the changes of its first step.
 static TOKENS_OF_STEPS: [(&str, &str, &str); 5] = [
     ("simple v1 r2 l03 u4\nleave-joint", "simple", "v1 r2 l3 u4"),
     (

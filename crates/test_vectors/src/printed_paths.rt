@@ -18,8 +18,8 @@ enum Printed {
     Json(&'static str),
 }
 
-// The current configuration, the target, the strategy of the path, the ids that are down if there are any, what is printed,
-// and whether the path stalls with these ids down.
+// The current configuration, the target, the strategy of the path, the ids that are down if there are any, what is
+// printed, and whether the path stalls with these ids down.
 struct Row {
     now: &'static str,
     target: &'static str,
@@ -74,7 +74,7 @@ static ROWS: [Row; 13] = [
         ),
         stalls: false,
     },
-    // Nothing commits until one of the new voters has caught up, also with all ids up.
+    // Nothing commits until one of the new voters has caught up, even with all ids up.
     Row {
         now: "Voters:[1 2 3] VotersOutgoing:[] Learners:[] LearnersNext:[] AutoLeave:false",
         target: "Voters:[3 4 5] VotersOutgoing:[] Learners:[] LearnersNext:[] AutoLeave:false",
@@ -116,8 +116,8 @@ static ROWS: [Row; 13] = [
         ),
         stalls: false,
     },
-    // No step: the headings, and the row of the current configuration. An id that is down and no member counts for nothing, and
-    // one that is named twice counts once.
+    // No step: the headings, and the row of the current configuration. An id that is down but not a member makes no
+    // difference, and one that is named twice counts once.
     Row {
         now: FIVE,
         target: FIVE,
@@ -141,7 +141,7 @@ static ROWS: [Row; 13] = [
         ),
         stalls: true,
     },
-    // An id's marks are as wide as the id.
+    // The column of an id is as wide as the id.
     Row {
         now: "Voters:[9 10 18446744073709551615] VotersOutgoing:[] Learners:[] LearnersNext:[] AutoLeave:false",
         target: "Voters:[9 10 11 18446744073709551615] VotersOutgoing:[] Learners:[] LearnersNext:[] AutoLeave:false",
@@ -230,7 +230,7 @@ fn has_json_lines<S: MemberSet>(
     )
 }
 
-// Whether a path is printed so, and stalls as expected.
+// Whether a path is printed as in its row, and stalls if its row says so.
 fn is_printed<S: MemberSet>(
     alloc: Global,
     row: &Row,

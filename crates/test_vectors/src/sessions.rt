@@ -1,4 +1,4 @@
-//! Sessions.
+//! What sessions answer to directives, and the plans that undo their changes.
 use crate::changers::is_same;
 use crate::files::first_item;
 use crate::plans::plan_of;
@@ -246,7 +246,7 @@ fn is_undone_by(alloc: Global, session: &Session, expected: Result<&str, UndoFau
     }
 }
 
-// A session with this initial next index; a new session has one.
+// A session with this initial next index. A session that `new` makes has the initial next index 1.
 fn begun(alloc: Global, floor: Floor) -> Result<Session, NoMemory> {
     match floor {
         Floor::One => Session::new(alloc, 100),
@@ -254,7 +254,7 @@ fn begun(alloc: Global, floor: Floor) -> Result<Session, NoMemory> {
     }
 }
 
-// Whether the directives of rows have their outputs, one after another, and what would then be undone.
+// Whether the directives of rows have their outputs, one after another, and one more undo has this plan.
 fn holds(alloc: Global, floor: Floor, rows: &[Row], undone: Result<&str, UndoFault>) -> bool {
     match twice!(NoMemory, begun(alloc, floor)) {
         Ok(mut session) => holds_in(alloc, &mut session, floor, rows, undone),

@@ -1,4 +1,4 @@
-//! Sets of ids, and the indexes and votes that they decide.
+//! Sets of ids, and the committed indexes and votes of sets of voters.
 use crate::texts::appends;
 use crate::twice::twice;
 use quorum_sets::{
@@ -41,7 +41,7 @@ fn is_copied<S: MemberSet>(set: &S, ids: &[u64]) -> bool {
     }
 }
 
-// Whether a set is overwritten with another one; on `NoMemory` it is empty.
+// Whether a set is overwritten with another one; on `NoMemory` it is left empty.
 fn becomes<S: MemberSet>(copy: &mut S, set: &S, ids: &[u64]) -> bool {
     let mut answer = copy.try_clone_from(set);
     let mut is_left_empty = true;
@@ -63,7 +63,7 @@ fn is_inserted<S: MemberSet>(set: &mut S, before: &[u64], id: u64, after: &[u64]
     stays & (answer == Ok(true)) & has_ids(set, after)
 }
 
-// Whether inserting an id again changes nothing, and removing it removes it. Neither allocates.
+// Whether inserting an id again changes nothing, and removing it takes effect once. None of these calls allocates.
 fn is_removed<S: MemberSet>(set: &mut S, id: u64, after: &[u64]) -> bool {
     let again = set.insert(id);
     let was_there = set.remove(id);
@@ -97,7 +97,7 @@ const LIST: [u64; 12] = [9, 1, 8, 2, 7, 3, 6, 4, 5, 1, 9, 5];
 
 const NINE: &[u64] = &[1, 2, 3, 4, 5, 6, 7, 8, 9];
 
-// Whether the set of a list is made.
+// Whether the set of a list has the nine ids.
 fn is_listed<S: MemberSet>(alloc: Global, list: &[u64]) -> bool {
     match twice!(NoMemory, S::of_list(alloc, list)) {
         Ok(set) => has_ids(&set, NINE),
@@ -137,7 +137,7 @@ struct Acknowledged {
     joint_chart: &'static str,
 }
 
-// Charts of four ids, of three of which one has acknowledged nothing, and of nine.
+// Charts of four ids, of three ids one of which has acknowledged nothing, and of nine ids.
 const FOUR_ACKNOWLEDGED: &str = "        idx\n\
     >         1    (id=1)\n\
     x>        2    (id=2)\n\
@@ -253,7 +253,8 @@ fn has_joint_chart<S: MemberSet>(
     )
 }
 
-// Whether the committed indexes and the charts are those of a row. For up to eight ids an index does not allocate.
+// Whether the committed indexes and the charts are those of a row. For up to eight ids the committed index is computed
+// without allocating.
 fn commits<S: MemberSet>(
     alloc: Global,
     incoming: &S,

@@ -27,7 +27,8 @@ pub(crate) fn is_appended(text: &[u8], expected: &str) -> bool {
     text.strip_prefix(PREFIX) == Some(expected.as_bytes())
 }
 
-/// Whether a call appends a text; on `NoMemory` it appends nothing, and does when it is repeated. A macro, as `twice` is.
+/// Whether a call appends a text. On `NoMemory` it has to append nothing, and the text when it is repeated. A macro for
+/// the reason that `twice` is one.
 macro_rules! appends {
     ($alloc:expr, $expected:expr, |$text:ident| $append:expr $(,)?) => {{
         let mut buffer = $crate::texts::begun($alloc);
@@ -110,7 +111,7 @@ fn are_read(alloc: Global, text: &'static [u8], expected: &[Change]) -> bool {
     }
 }
 
-// Whether they are read into a list that has others; on `NoMemory` it is left empty.
+// Whether the changes of a text replace those in a list; on `NoMemory` the list is left empty.
 fn are_read_into(list: &mut Vec<Change>, text: &'static [u8], expected: &[Change]) -> bool {
     let mut answer = read_changes_into(list, text);
     let mut is_left_empty = true;

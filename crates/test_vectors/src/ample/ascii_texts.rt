@@ -28,7 +28,7 @@ fn knows_white_space(rt: HostRuntime) {
     }
 }
 
-// A text, and the same without white space before it, after it, and at both ends.
+// A text, and the same text without white space before it, after it, and at both ends.
 static ENDS: [(&[u8], &[u8], &[u8], &[u8]); 4] = [
     (b"", b"", b"", b""),
     (b" \t\n\x0b\x0c\r", b"", b"", b""),
@@ -100,7 +100,7 @@ fn finds_the_position_of_a_byte(rt: HostRuntime) {
     }
 }
 
-// A line with its newline, the line without it, and whether it ends in one.
+// A line with its end, the line without it, and whether it ends in a newline.
 static LINES: [(&[u8], &[u8], bool); 5] = [
     (b"", b"", false),
     (b"a\r\n", b"a", true),

@@ -14,7 +14,7 @@ fn write_parts<W: Sink>(writer: &mut W) -> bool {
     is_reported
 }
 
-// Whether a writer gets this many bytes in three calls, one for each block, and an error is reported if it stops early.
+// Whether a writer gets this many bytes in three calls, and an error is reported if it stops before the end.
 fn is_written(rt: &impl Runtime, room: usize, stop: Stop) -> bool {
     let device = limited(rt.alloc(), 80_000, room, stop);
     let mut blocks = Blocks::new(rt.alloc(), device).expect(rt, "a block");

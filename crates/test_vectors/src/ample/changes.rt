@@ -30,7 +30,7 @@ fn changes(rt: &impl Runtime, count: usize) -> Changes {
     Changes::from(prefix(count).to_vec(rt.alloc()).expect(rt, "a list"))
 }
 
-// Whether lists of `count` changes give back what they are made of, and equal their copies.
+// Whether a list of `count` changes has the changes that it is made of, and equals its copy.
 fn keeps(rt: &impl Runtime, count: usize) -> bool {
     let changes = changes(rt, count);
     let copy = changes.try_clone().expect(rt, "a copy");

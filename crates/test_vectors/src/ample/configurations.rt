@@ -18,7 +18,7 @@ pub(crate) fn config_of(rt: &impl Runtime, sets: Sets, auto_leave: bool) -> Conf
     }
 }
 
-// What is wrong with a configuration, and the least id for which it is.
+// Configurations, and of each the first broken invariant, and the violation with the least id.
 static CHECKED: [(Sets, bool, Result<(), Invariant>, Option<Violation>); 9] = [
     (
         [&[1], &[2, 3], &[], &[1, 2, 3]],
@@ -84,7 +84,7 @@ fn reports_the_first_violation(rt: HostRuntime) {
 
 const ONE: Sets = [&[3], &[1], &[2], &[1]];
 
-// Configurations that differ from the first in one set, or in the flag.
+// Configurations that differ from `ONE` with auto-leave in one set, or in the flag.
 static OTHERS: [(Sets, bool); 5] = [
     ([&[3, 4], &[1], &[2], &[1]], true),
     ([&[3], &[1, 4], &[2], &[1]], true),
@@ -93,7 +93,7 @@ static OTHERS: [(Sets, bool); 5] = [
     (ONE, false),
 ];
 
-// Whether a configuration equals another, compared in both directions.
+// Whether a configuration equals another, compared in either direction.
 fn is_same(rt: &impl Runtime, config: &Config<TreeIds>, sets: Sets, auto_leave: bool) -> bool {
     let other = config_of(rt, sets, auto_leave);
     config.same(&other) | other.same(config)

@@ -1,11 +1,11 @@
-//! Readers and writers that read and write little at once, and that fail where a test asks for it, with the error after
-//! which other programs try again.
+//! Readers and writers that read and write little at once, and that fail where a test asks for it. The error is
+//! `Interrupted`, after which other programs try again.
 use dd_file::device::{FromRead, ToWrite};
 use std::alloc::Global;
 use std::io;
 use std::io::{ErrorKind, Read, Write};
 
-/// A reader of one byte per call, which fails once, after a number of bytes. It counts its calls.
+/// A reader that gives one byte per call, and fails once, after a number of bytes. It counts its calls.
 #[derive(Drop)]
 pub(crate) struct Trickle {
     pub(crate) calls: usize,
@@ -30,7 +30,7 @@ impl Read for Trickle {
     }
 }
 
-/// A reader that fails after this many bytes.
+/// A reader that gives one byte per call, and fails after this many.
 pub(crate) fn byte_by_byte(bytes: &'static [u8], until_fault: usize) -> FromRead<Trickle> {
     FromRead::new(Trickle {
         calls: 0,

@@ -1,4 +1,4 @@
-//! Runs over readers and writers that fail at each byte, on the rows of `crate::modes`.
+//! Runs of the rows of `crate::modes` over readers and writers that fail, at each byte in turn.
 use crate::ample::devices::{Stop, byte_by_byte, limited};
 use crate::ample::runtime::Runtime;
 use crate::modes::{Case, MODES, PLANNED, run_and_flush_command, run_command};
@@ -49,8 +49,8 @@ fn writes_until(alloc: Global, case: Case, limit: usize, stop: Stop) -> bool {
         & (device.later_calls == 0)
 }
 
-// Whether a run over a block ends as expected if its writer stops after this many bytes: the output is written with the
-// last block, after the run.
+// Whether a run over a block ends as expected if its writer stops after this many bytes: the output fits the block, and
+// is written after the run.
 fn flushes_until(rt: &impl Runtime, case: Case, limit: usize) -> bool {
     let (command, input, output, _) = case;
     let device = limited(rt.alloc(), 4096, limit, Stop::Fault);

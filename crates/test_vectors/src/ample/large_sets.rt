@@ -16,8 +16,8 @@ fn evens<S: MemberSet>(rt: &impl Runtime, count: u64) -> S
     set
 }
 
-// Whether the multiples of a number are the set's ids from the first index on. A tree walks up to an index, so only some
-// indexes are tried.
+// Whether a set's ids are the first `count` multiples of a number. A tree walks up to an index, so only some indexes
+// are tried.
 fn has_multiples<S: MemberSet>(set: &S, count: usize, of: u64) -> bool
     requires few { count ≤ 10000 }
     requires small { of ≤ 10 }
@@ -33,7 +33,7 @@ fn has_multiples<S: MemberSet>(set: &S, count: usize, of: u64) -> bool
     is_so
 }
 
-// Removes every second id of a set of even numbers, and inserts others that it has already.
+// Removes every second id of a set of even numbers, and inserts the others again. Returns whether each call is right.
 fn removes_half<S: MemberSet>(rt: &impl Runtime, set: &mut S, count: u64) -> bool
     requires { count ≤ 10000 }
 {
@@ -49,7 +49,7 @@ fn removes_half<S: MemberSet>(rt: &impl Runtime, set: &mut S, count: u64) -> boo
     is_so
 }
 
-// Half of the ids are removed again; the other half stay, and an earlier copy keeps them all.
+// Whether half of the ids are removed, the other half stay, and an earlier copy keeps all of them.
 fn keeps_half<S: MemberSet>(rt: &impl Runtime, count: u64) -> bool
     requires { count ≤ 10000 }
 {

@@ -1,5 +1,5 @@
-//! All pairs of configurations of three ids without auto-leave: how many steps the path by each strategy has, compared with
-//! a search of all runs.
+//! All pairs of configurations of three ids without auto-leave: how many steps the path by each strategy has, compared
+//! with a search of all runs.
 ghost use Rattle.std.specs.Prelude.{◌≡◌, ◌≤◌, true};
 ghost use Rattle.conf_change.specs.Configuration.{is_valid};
 
@@ -19,7 +19,8 @@ fn put(rt: &impl Runtime, ids: &mut TreeIds, id: u64) {
     ids.insert(id).expect(rt, "an id");
 }
 
-// The digits: not a member, an incoming voter, an outgoing one, both, a learner, an outgoing voter that is a next learner.
+// The digits: 0 not a member, 1 an incoming voter, 2 an outgoing voter, 3 both, 4 a learner, 5 an outgoing voter that
+// is a next learner.
 fn put_as(rt: &impl Runtime, config: &mut Config<TreeIds>, roles: usize, id: u64) {
     if roles == 1 || roles == 3 {
         put(rt, &mut config.incoming, id);
@@ -64,7 +65,7 @@ fn code_of(config: &Config<TreeIds>) -> usize {
     roles_of(config, 1) + 6 * roles_of(config, 2) + 36 * roles_of(config, 3)
 }
 
-// The configuration is valid, and has a voter.
+// Whether the configuration is valid, and has a voter.
 fn is_counted(config: &Config<TreeIds>) -> bool {
     check(config).is_ok() && config.incoming.len() != 0
 }
@@ -111,7 +112,7 @@ fn changes_of(rt: &impl Runtime, digits: usize) -> Vec<Change> {
     changes
 }
 
-// Where all steps lead, except into configurations with auto-leave.
+// The codes of the configurations after each accepted step, except steps that enter with auto-leave.
 fn all_nexts(rt: &impl Runtime, before: &Changer<TreeIds>) -> Vec<usize> {
     let mut nexts = Vec::new(rt.alloc());
     add_next(rt, &mut nexts, before, StepKind::Leave, &[]);
@@ -133,7 +134,8 @@ fn add_change_of(
     add_next(rt, nexts, before, StepKind::Simple, &[Change { kind, id }]);
 }
 
-// Where steps of one change lead that make voters of learners only, and leaving a joint configuration.
+// The codes of the configurations after leaving a joint one, and after each accepted simple step of one change. Such a
+// step makes only learners voters.
 fn single_nexts(rt: &impl Runtime, before: &Changer<TreeIds>) -> Vec<usize> {
     let mut nexts = Vec::new(rt.alloc());
     add_next(rt, &mut nexts, before, StepKind::Leave, &[]);
@@ -190,7 +192,7 @@ fn add_nexts(distances: &mut Vec<usize>, nexts: &[usize], steps: usize) {
     }
 }
 
-// From the ends of the runs of some number of steps, adds those of one step more.
+// Adds the configurations that are one step away from those at this many steps.
 fn add_round(distances: &mut Vec<usize>, edges: &[Vec<usize>], steps: usize)
     requires { steps ≤ 10 }
 {
@@ -227,7 +229,7 @@ fn leads(rt: &impl Runtime, now: &Config<TreeIds>, target: &Config<TreeIds>, pat
     is_so & changer.tracker().config().same(target)
 }
 
-// How many steps the path by a strategy has, which leads to the target.
+// How many steps the path by a strategy has; `NOWHERE` if it does not lead to the target.
 fn steps_by(
     rt: &impl Runtime,
     strategy: Strategy,
@@ -245,8 +247,8 @@ fn steps_by(
     })
 }
 
-// Whether the paths between two configurations have the right number of steps: the fewest of all runs, at most one more,
-// and the fewest of the runs of single changes, if there is one.
+// Whether the paths between two configurations have the right number of steps: the fewest of all runs, at most one
+// more, and the fewest of the runs of single changes, if there is such a run.
 fn is_pair(
     rt: &impl Runtime,
     now: &Config<TreeIds>,

@@ -19,7 +19,7 @@ const ONE: Sets = [&[1], &[], &[], &[]];
 
 const TWO: Sets = [&[1, 2], &[], &[], &[]];
 
-// The result of applying a text's plan to a changer at `voters=(1)`, and whether it has these voters then.
+// Whether applying a text's plan to a changer at `voters=(1)` has this result, and leaves it with these voters.
 fn is_stopped(
     rt: &impl Runtime,
     text: &str,

@@ -2,7 +2,7 @@
 use std::alloc::AllocGlobal;
 use std::process::Abort;
 
-/// Ends the test if something is missing, and gives memory.
+/// Ends a test that cannot go on, and gives an allocator.
 pub(crate) trait Runtime: Abort + AllocGlobal {}
 
 impl<R: Abort + AllocGlobal> Runtime for R {}

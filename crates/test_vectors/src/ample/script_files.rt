@@ -1,4 +1,4 @@
-//! Scripts and the items that are read of them and made, and the lines of inputs.
+//! Lines that are read from inputs, items that are read from scripts, and items that are made.
 use crate::ample::devices::byte_by_byte;
 use crate::ample::runtime::Runtime;
 use dd_file::device::{FromRead, Source};

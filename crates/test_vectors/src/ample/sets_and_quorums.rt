@@ -67,7 +67,7 @@ fn failures_that_are_tolerated(rt: HostRuntime) {
     }
 }
 
-// The voters of one pair, those of another, a set for each, and the least id of both sets if both are quorums.
+// The voters of one pair, those of another, a set for each, and the least id in both sets if both are quorums.
 struct Sharing {
     before: (&'static [u64], &'static [u64]),
     after: (&'static [u64], &'static [u64]),
@@ -139,7 +139,7 @@ fn acknowledgements(rt: HostRuntime) {
     }
 }
 
-// Ids in an order that is not ascending throughout, and whether each is one of 2, 4 and 9.
+// Ids that do not always ascend, and whether each is one of 2, 4 and 9.
 static LOOKED_UP: [(u64, bool); 8] = [
     (1, false),
     (2, true),

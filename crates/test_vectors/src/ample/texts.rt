@@ -3,7 +3,7 @@ use crate::ample::runtime::Runtime;
 use conf_change::Kind::Learner;
 use conf_change::{Change, TokenFault, read_change, read_changes_into};
 
-// Whether a text is refused for this reason, and leaves a list without changes that had two.
+// Whether a text is refused for this reason, and leaves a list empty that had two changes.
 fn is_left_empty(rt: &impl Runtime, text: &'static [u8], fault: TokenFault<'_>) -> bool {
     let mut list = Vec::new(rt.alloc());
     read_changes_into(&mut list, b"v1 l2").expect(rt, "changes");

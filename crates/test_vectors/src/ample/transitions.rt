@@ -16,6 +16,7 @@ const UPDATE: Change = Change {
     id: 1,
 };
 
+// Lists of changes, and the kind of step that `Auto` makes of each.
 static LISTS: [(&[Change], StepKind); 5] = [
     (&[], StepKind::Leave),
     (&[VOTER], StepKind::Simple),
