@@ -5,10 +5,10 @@ use Rattle.conf_change.specs.declared.step.Step.{Step}
 use Rattle.conf_change.specs.Step.{changes_of}
 
 -- the ids of a step are numbers of 64 bits
-abbrev pub HasTokenIds : Step → Type 0
-HasTokenIds step = All (λ change. change.id < 2 ^ 64) (changes_of step)
+abbrev pub HasU64Ids : Step → Type 0
+HasU64Ids step = All (λ change. change.id < 2 ^ 64) (changes_of step)
 
 -- the steps of a plan are at most four, with ids of 64 bits
 pub record IsPlan (steps : List Step) : Type 0 where
   pub at_most_four : length steps ≤ 4
-  pub token_ids : All HasTokenIds steps
+  pub u64_ids : All HasU64Ids steps

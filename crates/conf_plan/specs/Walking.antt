@@ -3,7 +3,7 @@ use Rattle.std.specs.Prelude.{◌≡◌, ℕ, ◌+◌, ◌^◌, ◌<◌, ◌≤�
 use Rattle.std.specs.List.{All}
 use Rattle.quorum_sets.specs.Ids.{Ids, ascending, size}
 use Rattle.conf_change.specs.declared.step.Step.{Step}
-use Rattle.conf_plan.specs.PlanSteps.{HasTokenIds}
+use Rattle.conf_plan.specs.PlanSteps.{HasU64Ids}
 
 -- the first id is at most the second; None, at the end of a walk, is later than any id
 abbrev pub IsNoLater : Option ℕ → Option ℕ → Type 0
@@ -18,16 +18,16 @@ pub record IsEarliest (a b first : Option ℕ) : Type 0 where
   pub either : (first ≡ a) ⊎ (first ≡ b)
 
 -- whether the id is at the index, and the next index: one more if it is, and the same otherwise
-pub record IsPassed (ids : Ids) (index id : ℕ) (is_here : Bool) (next : ℕ) : Type 0 where
+pub record IsAdvanced (ids : Ids) (index id : ℕ) (is_here : Bool) (next : ℕ) : Type 0 where
   pub here : (is_here ≡ true) ↔ (slice_get (ascending ids) index ≡ Some id)
   pub after : next ≡ index + (if is_here then 1 else 0)
 
 -- a walk over the ids is at the index, this id is next, and indexes are numbers of 64 bits
-pub record IsStanding (ids : Ids) (index : ℕ) (next : Option ℕ) : Type 0 where
+pub record IsAt (ids : Ids) (index : ℕ) (next : Option ℕ) : Type 0 where
   pub here : next ≡ slice_get (ascending ids) index
   pub few : size ids < 2 ^ 64
 
 -- these steps are appended; their ids are numbers of 64 bits
 pub record IsAdded (before more after : List Step) : Type 0 where
   pub whole : after ≡ before ++ more
-  pub token_ids : All HasTokenIds more
+  pub u64_ids : All HasU64Ids more

@@ -17,7 +17,7 @@ ghost use Rattle.conf_plan.specs.declared.text.PlanTextFault.{PlanTextFault};
 ghost use Rattle.conf_plan.specs.Best.{times_named, HasSameRoles, IsBest};
 ghost use Rattle.conf_plan.specs.PathBy.{has_path, path_by, Serves};
 ghost use Rattle.conf_plan.specs.Planned.{planned};
-ghost use Rattle.conf_plan.specs.PlanSteps.{HasTokenIds, IsPlan};
+ghost use Rattle.conf_plan.specs.PlanSteps.{HasU64Ids, IsPlan};
 ghost use Rattle.conf_plan.specs.PlanText.{ParsesToPlan, HasFault, change_text, plan_text};
 ghost use Rattle.conf_plan.specs.PlanCode.{plan_in};
 ghost use Rattle.conf_plan.specs.Run.{IsRun, IsValidWithVoter, Takes, HasKeptProgress, after_steps};
@@ -98,7 +98,7 @@ pub fn one_plan_per_text()
     ensures each { (text : List ℕ) → ((steps : List Step) × ParsesToPlan text steps) ⊎ ((fault : PlanTextFault) × HasFault text fault) }
     ensures one { (text : List ℕ) (a b : List Step) → ParsesToPlan text a → ParsesToPlan text b → a ≡ b }
     ensures printed { (steps : List Step) → IsPlan steps → ParsesToPlan (plan_text steps) steps }
-    ensures changes { (step : Step) → HasTokenIds step → Denotes (join_with_byte 32 (map change_text (changes_of step))) (changes_of step) }
+    ensures changes { (step : Step) → HasU64Ids step → Denotes (join_with_byte 32 (map change_text (changes_of step))) (changes_of step) }
 {}
 
 /// `==` on plans is equality of their steps.

@@ -7,14 +7,14 @@
 ghost use Rattle.std.specs.Prelude.{◌≡◌, ◌<◌, ◌^◌, IfOk};
 ghost use Rattle.std.specs.List.{All};
 ghost use Rattle.conf_plan.specs.Planned.{kind_by, moves, single_with};
-ghost use Rattle.conf_plan.specs.Walking.{IsEarliest, IsPassed, IsStanding};
+ghost use Rattle.conf_plan.specs.Walking.{IsEarliest, IsAdvanced, IsAt};
 
 use conf_change::{Change, Kind};
 use quorum_sets::{MemberSet, NoMemory};
 use std::alloc::Global;
 
 // The initial capacity of a list of changes.
-const USUAL_CHANGES: usize = 16;
+const INITIAL_CAPACITY: usize = 16;
 
 // The changes from the current voters and learners to those of the target, by ascending id. The four sets are walked
 // side by side, so that each id is met once with its roles in all of them.
@@ -26,9 +26,9 @@ pub(crate) fn moves_to<S: MemberSet>(
     to_learners: &S,
 ) -> Result<Vec<Change>, NoMemory>
     ensures moves { IfOk result (λ changes. changes.items ≡ moves (single_with (S.ids incoming.now) (S.ids learners.now)) (S.ids to_voters.now) (S.ids to_learners.now)) }
-    ensures token_ids { IfOk result (λ changes. All (λ change. change.id < 2 ^ 64) changes.items) }
+    ensures u64_ids { IfOk result (λ changes. All (λ change. change.id < 2 ^ 64) changes.items) }
 {
-    let mut changes = Vec::with_capacity(alloc, USUAL_CHANGES)?;
+    let mut changes = Vec::with_capacity(alloc, INITIAL_CAPACITY)?;
     let mut voter_walk = Walk::begin(incoming);
     let mut learner_walk = Walk::begin(learners);
     let mut to_voter_walk = Walk::begin(to_voters);
@@ -59,7 +59,7 @@ impl Walk {
     // A walk at the first id.
     fn begin<S: MemberSet>(ids: &S) -> Walk
         ensures begun { result.index ≡ 0 }
-        ensures standing { IsStanding (S.ids ids.now) result.index result.next }
+        ensures standing { IsAt (S.ids ids.now) result.index result.next }
     {
         // The length fits a usize, so the indexes do.
         let _len = ids.len();
@@ -71,9 +71,9 @@ impl Walk {
 
     // Moves past the id if it comes next, and returns whether it does.
     fn pass<S: MemberSet>(&mut self, ids: &S, id: u64) -> bool
-        requires { IsStanding (S.ids ids.now) self.old.index self.old.next }
-        ensures passed { IsPassed (S.ids ids.now) self.old.index id result self.new.index }
-        ensures standing { IsStanding (S.ids ids.now) self.new.index self.new.next }
+        requires { IsAt (S.ids ids.now) self.old.index self.old.next }
+        ensures passed { IsAdvanced (S.ids ids.now) self.old.index id result self.new.index }
+        ensures standing { IsAt (S.ids ids.now) self.new.index self.new.next }
     {
         let here = self.next == Some(id);
         if here {

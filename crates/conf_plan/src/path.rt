@@ -1,7 +1,7 @@
 //! Paths: lists of steps of any length.
 ghost use Rattle.std.specs.Prelude.{◌≡◌, length, option_copied, slice_get};
 ghost use Rattle.std.specs.List.{All};
-ghost use Rattle.conf_plan.specs.PlanSteps.{HasTokenIds};
+ghost use Rattle.conf_plan.specs.PlanSteps.{HasU64Ids};
 
 use conf_change::Step;
 use std::marker::Model;
@@ -17,19 +17,19 @@ impl Model for Path {
     ghost use Rattle.std.specs.Prelude.{List};
     ghost use Rattle.std.specs.List.{All};
     ghost use Rattle.conf_change.specs.declared.step.Step.{Step};
-    ghost use Rattle.conf_plan.specs.PlanSteps.{HasTokenIds};
+    ghost use Rattle.conf_plan.specs.PlanSteps.{HasU64Ids};
 
     ghost Value = { List Step };
 
     ghost view = { λ path. path.steps.items };
 
-    ghost invariant = { λ path. All HasTokenIds path.steps.items };
+    ghost invariant = { λ path. All HasU64Ids path.steps.items };
 }
 
 impl Path {
     // The path of these steps.
     pub(crate) fn of_steps(steps: Vec<Step>) -> Path
-        requires { All HasTokenIds steps.items }
+        requires { All HasU64Ids steps.items }
         ensures { result ≡ steps.items }
     {
         Path { steps }
@@ -39,7 +39,7 @@ impl Path {
     pub fn as_slice(&self) -> &[Step]
         ensures steps { result.now ≡ self.now }
         // The ids have 64 bits, so printed steps can be read back.
-        ensures token_ids { All HasTokenIds self.now }
+        ensures u64_ids { All HasU64Ids self.now }
     {
         self.steps.as_slice()
     }

@@ -25,7 +25,7 @@ use Rattle.conf_session.specs.Input.{Input, read_input}
 use Rattle.conf_session.specs.Values.{Values, read_arguments}
 use Rattle.conf_session.specs.Reply.{Reply}
 use Rattle.conf_session.specs.Undo.{IsEarlier, LeadsBack, plan_back, undo_plan_of, undone_changer}
-use Rattle.conf_session.specs.Commands.{Row, row_of, after_step, after_restored, after_planned, undo_last, after_ack, if_read, reply_of, reply_by, answer, after_answers}
+use Rattle.conf_session.specs.Commands.{Row, row_of, step_reply, restore_reply, undo_reply, undo_last, ack_reply, if_read, reply_of, reply_by, answer, after_answers}
 use Rattle.conf_session.specs.declared.undo_fault.UndoFault.{UndoFault}
 use Rattle.conf_session.specs.declared.undo_fault.UndoFault.TheVariants.{NoVoterTarget}
 use Rattle.conf_session.specs.declared.commands.Command.{Command}
@@ -151,15 +151,15 @@ due-stays laws session (Undone after count) is due =
     }
 
 -- ---- each command makes such an update
-step-due : ChangeLaws → (session : SessionState) (step : Step) (made : Result ChangerState Refused) → changer_after session.changer step ≡ made → IsDue session (after_step made).update
+step-due : ChangeLaws → (session : SessionState) (step : Step) (made : Result ChangerState Refused) → changer_after session.changer step ≡ made → IsDue session (step_reply made).update
 step-due laws session step (Ok after) e = (step, (laws.accepted session.changer after step).1 e)
 step-due laws session step (Err refused) e = tt
 
-restored-due : ChangeLaws → (session : SessionState) (saved : ConfStateLists) (actual : Option Configuration) → restored saved ≡ actual → IsDue session (after_restored session.changer actual).update
+restored-due : ChangeLaws → (session : SessionState) (saved : ConfStateLists) (actual : Option Configuration) → restored saved ≡ actual → IsDue session (restore_reply session.changer actual).update
 restored-due laws session saved None e = tt
 restored-due laws session saved (Some c) e = laws.begun session.changer.tracker.floor session.changer.last_index c (((laws.described saved c).0 e).1)
 
-ack-due : ChangeLaws → (session : SessionState) (id index : ℕ) (made : Result Progress AckFault) → IsSession session → ack_answer session.changer.tracker id index ≡ made → IsDue session (after_ack session.changer id made).update
+ack-due : ChangeLaws → (session : SessionState) (id index : ℕ) (made : Result Progress AckFault) → IsSession session → ack_answer session.changer.tracker id index ≡ made → IsDue session (ack_reply session.changer id made).update
 ack-due laws session id index (Ok p) is e = (laws.acknowledged session.changer id index p is.sound e, refl)
 ack-due laws session id index (Err NotMember) is e = tt
 ack-due laws session id index (Err IndexTooLarge) is e = tt
@@ -190,19 +190,19 @@ Arrives-planned plans session count older is some e voter =
     }
 
 voter-due : ChangeLaws → PlanLaws → (session : SessionState) (count : ℕ) (older : Configuration) (voter : Bool) → IsSession session → 1 ≤ count → slice_get session.kept (count - 1) ≡ Some older → has_voter older ≡ voter →
-    IsDue session (after_planned session count (plan_back session (Some older))).update
+    IsDue session (undo_reply session count (plan_back session (Some older))).update
 voter-due laws plans session count older true is some e voter =
     let steps = planned (current session) older in
     let arrives = Arrives-planned plans session count older is some e voter in
     let sound = taken-sound laws session.changer steps (undone_changer session steps) ((plans.taken session.changer (undone_changer session steps) steps).1 arrives.taken) is.sound in
-    let Due : Bool → Type 0 = λ b. IsDue session (after_planned session count (cond b (Ok (planned (current session) older)) (Err NoVoterTarget))).update in
+    let Due : Bool → Type 0 = λ b. IsDue session (undo_reply session count (cond b (Ok (planned (current session) older)) (Err NoVoterTarget))).update in
     subst Due (sym voter) (some, sound, e ∙ ap Some (sym arrives.there))
 voter-due laws plans session count older false is some e voter =
-    let Due : Bool → Type 0 = λ b. IsDue session (after_planned session count (cond b (Ok (planned (current session) older)) (Err NoVoterTarget))).update in
+    let Due : Bool → Type 0 = λ b. IsDue session (undo_reply session count (cond b (Ok (planned (current session) older)) (Err NoVoterTarget))).update in
     subst Due (sym voter) tt
 
 planned-due : ChangeLaws → PlanLaws → (session : SessionState) (count : ℕ) (actual : Option Configuration) → IsSession session → 1 ≤ count → slice_get session.kept (count - 1) ≡ actual →
-    IsDue session (after_planned session count (plan_back session actual)).update
+    IsDue session (undo_reply session count (plan_back session actual)).update
 planned-due laws plans session count None is some e = tt
 planned-due laws plans session count (Some older) is some e = voter-due laws plans session count older (has_voter older) is some e refl
 

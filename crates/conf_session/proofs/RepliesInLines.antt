@@ -37,7 +37,7 @@ use Rattle.conf_session.specs.Quorum.{voters_named, ids_named, values_by_id, is_
 use Rattle.conf_session.specs.Input.{Input, no_input_line, changes_read, no_change_read, conf_state_read, read_input}
 use Rattle.conf_session.specs.Values.{Values, values_in, values_read, read_arguments}
 use Rattle.conf_session.specs.ReplyTexts.{line}
-use Rattle.conf_session.specs.Commands.{row_of, after_step, after_restored, after_planned, after_ack, committed_by, if_read, reply_of, reply_to}
+use Rattle.conf_session.specs.Commands.{row_of, step_reply, restore_reply, undo_reply, ack_reply, committed_by, if_read, reply_of, reply_to}
 use Rattle.conf_session.specs.ReplyLines.{is_line_byte, is_reply_line, IsReplyText}
 use Rattle.conf_session.specs.declared.parameter.Parameter.{Parameter}
 use Rattle.conf_session.specs.declared.parameter.Parameter.TheVariants.{AutoLeave, Transition, Steps, Id, Index, Incoming, Outgoing, Indexes, Votes}
@@ -164,19 +164,19 @@ arguments-in_lines (Some parameters) arguments actual keys e =
     values-in_lines (bad_argument parameters arguments) (missing_argument parameters arguments) (values_in arguments) actual (λ key bad. bad-key parameters [] arguments key keys bad) e
 
 -- ---- the commands
-step-in_lines : (made : Result ChangerState Refused) → HasReplyText (after_step made)
+step-in_lines : (made : Result ChangerState Refused) → HasReplyText (step_reply made)
 step-in_lines (Ok after) = tracker-in_lines after.tracker
 step-in_lines (Err refused) = replied_line-in_lines (refused_text refused) (refused-in_lines refused)
 
-restored-in_lines : (changer : ChangerState) (c : Option Configuration) → HasReplyText (after_restored changer c)
+restored-in_lines : (changer : ChangerState) (c : Option Configuration) → HasReplyText (restore_reply changer c)
 restored-in_lines changer None = replied_line-in_lines (codes "not a configuration") refl
 restored-in_lines changer (Some c) = tracker-in_lines (begun_with changer.tracker.floor changer.last_index c).tracker
 
-undo-in_lines : (session : SessionState) (count : ℕ) (plan : Result (List Step) UndoFault) → HasReplyText (after_planned session count plan)
+undo-in_lines : (session : SessionState) (count : ℕ) (plan : Result (List Step) UndoFault) → HasReplyText (undo_reply session count plan)
 undo-in_lines session count (Ok steps) = reply_text-append _ _ (plan-in_lines steps) (tracker-in_lines (undone_changer session steps).tracker)
 undo-in_lines session count (Err fault) = replied_line-in_lines (undo_fault_text fault) (undo_fault-in_lines fault)
 
-ack-in_lines : (changer : ChangerState) (id : ℕ) (made : Result Progress AckFault) → HasReplyText (after_ack changer id made)
+ack-in_lines : (changer : ChangerState) (id : ℕ) (made : Result Progress AckFault) → HasReplyText (ack_reply changer id made)
 ack-in_lines changer id (Ok p) = replied_line-in_lines (progress_text id p) (progress-in_lines id p)
 ack-in_lines changer id (Err NotMember) = replied_line-in_lines (codes "not a member") refl
 ack-in_lines changer id (Err IndexTooLarge) = replied_line-in_lines (codes "index too large") refl

@@ -60,37 +60,37 @@ row_of name =
     else row_with Unknown Changes None))))))))))
 
 -- the reply to a change: the configuration after it, or why it is refused
-abbrev pub after_step : Result ChangerState Refused → Reply
-after_step (Ok after) = stepped after
-after_step (Err refused) = replied_line (refused_text refused)
+abbrev pub step_reply : Result ChangerState Refused → Reply
+step_reply (Ok after) = stepped after
+step_reply (Err refused) = replied_line (refused_text refused)
 
 -- the reply to a step
-abbrev pub on_step : ChangerState → Step → Reply
-on_step changer step = after_step (changer_after changer step)
+abbrev pub reply_to_step : ChangerState → Step → Reply
+reply_to_step changer step = step_reply (changer_after changer step)
 
 -- the reply to `restore`: the restored configuration, or that the saved lists describe none
-abbrev pub after_restored : ChangerState → Option Configuration → Reply
-after_restored changer None = replied_line (codes "not a configuration")
-after_restored changer (Some c) = restored_with (begun_with changer.tracker.floor changer.last_index c)
+abbrev pub restore_reply : ChangerState → Option Configuration → Reply
+restore_reply changer None = replied_line (codes "not a configuration")
+restore_reply changer (Some c) = restored_with (begun_with changer.tracker.floor changer.last_index c)
 
 -- the reply to `undo` with this plan, or with the reason why there is none
-abbrev pub after_planned : SessionState → ℕ → Result (List Step) UndoFault → Reply
-after_planned session count (Ok steps) = undone session count steps
-after_planned session count (Err fault) = replied_line (undo_fault_text fault)
+abbrev pub undo_reply : SessionState → ℕ → Result (List Step) UndoFault → Reply
+undo_reply session count (Ok steps) = undone session count steps
+undo_reply session count (Err fault) = replied_line (undo_fault_text fault)
 
 -- the reply to `undo` of the last `count` changes
 abbrev pub undo_last : SessionState → ℕ → Reply
-undo_last session count = after_planned session count (undo_plan_of session count)
+undo_last session count = undo_reply session count (undo_plan_of session count)
 
 -- the reply to `ack`: the member's progress after the acknowledgement, or why it is refused
-abbrev pub after_ack : ChangerState → ℕ → Result Progress AckFault → Reply
-after_ack changer id (Ok p) = acknowledged_by (changer_with_progress changer id p) id p
-after_ack changer id (Err NotMember) = replied_line (codes "not a member")
-after_ack changer id (Err IndexTooLarge) = replied_line (codes "index too large")
+abbrev pub ack_reply : ChangerState → ℕ → Result Progress AckFault → Reply
+ack_reply changer id (Ok p) = acknowledged_by (changer_with_progress changer id p) id p
+ack_reply changer id (Err NotMember) = replied_line (codes "not a member")
+ack_reply changer id (Err IndexTooLarge) = replied_line (codes "index too large")
 
 -- the reply to `ack` of this index by the member with this id
-abbrev pub on_ack : ChangerState → ℕ → ℕ → Reply
-on_ack changer id index = after_ack changer id (ack_answer changer.tracker id index)
+abbrev pub reply_to_ack : ChangerState → ℕ → ℕ → Reply
+reply_to_ack changer id index = ack_reply changer id (ack_answer changer.tracker id index)
 
 -- the index that the configuration commits if each member has acknowledged its match index
 abbrev pub committed_by : TrackerState → ℕ
@@ -98,14 +98,14 @@ committed_by tracker = joint_committed_index (voters_of tracker.config) (matches
 
 -- the reply of a command to its input and the values of its arguments
 abbrev pub reply_of : Command → SessionState → Input → Values → Reply
-reply_of Simple session input values = on_step session.changer (SimpleStep input.changes)
-reply_of EnterJoint session input values = on_step session.changer (EnterStep values.auto_leave input.changes)
-reply_of LeaveJoint session input values = on_step session.changer LeaveStep
-reply_of ConfChange session input values = on_step session.changer (step_for values.transition input.changes)
+reply_of Simple session input values = reply_to_step session.changer (SimpleStep input.changes)
+reply_of EnterJoint session input values = reply_to_step session.changer (EnterStep values.auto_leave input.changes)
+reply_of LeaveJoint session input values = reply_to_step session.changer LeaveStep
+reply_of ConfChange session input values = reply_to_step session.changer (step_for values.transition input.changes)
 reply_of ConfState session input values = replied_line (conf_state_text (lists_of session.changer.tracker.config))
-reply_of Restore session input values = after_restored session.changer (restored input.saved)
+reply_of Restore session input values = restore_reply session.changer (restored input.saved)
 reply_of Undo session input values = undo_last session values.steps
-reply_of Ack session input values = on_ack session.changer values.id values.index
+reply_of Ack session input values = reply_to_ack session.changer values.id values.index
 reply_of CommitIndex session input values = replied_line (index_text (committed_by session.changer.tracker))
 reply_of Committed session input values = replied_line (committed_reply values)
 reply_of Vote session input values = replied_line (vote_reply values)

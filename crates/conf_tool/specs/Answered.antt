@@ -16,7 +16,7 @@ use Rattle.conf_change.specs.Configuration.{Configuration, is_valid}
 use Rattle.conf_tool.specs.Pairs.{NumberedLine, numbered, configuration_lines, configuration_at, both_of}
 use Rattle.conf_tool.specs.declared.plan_options.PlanOptions.{PlanOptions}
 use Rattle.conf_tool.specs.declared.status.Status.{Status}
-use Rattle.conf_tool.specs.declared.configurations_fault.ConfigurationsFault.{ConfigurationsFault}
+use Rattle.conf_tool.specs.declared.plan_input_fault.PlanInputFault.{PlanInputFault}
 use Rattle.conf_tool.specs.declared.tool_fault.ToolFault.TheVariants.{Script as ScriptFault}
 
 -- a script of these items, ended by this error if there is one
@@ -81,7 +81,7 @@ pub record HasRun (session : SessionState) (rewriter : RewriterState) (count : �
   pub is : (rest : Script Item) → total (prepended parts rest) ≡ undo_left session count rest
 
 -- what is left of the output of `plan` after the first line of a pair, by the configuration of that line
-abbrev pub pairs_within : PlanOptions → ℕ → Result Configuration ConfigurationsFault → List NumberedLine → Option FileFault → Output
+abbrev pub pairs_within : PlanOptions → ℕ → Result Configuration PlanInputFault → List NumberedLine → Option FileFault → Output
 pairs_within options number first [] fault = ends_within first fault
 pairs_within options number first (second ∷ lines) fault = pair_then options number (both_of first (configuration_at second)) (planned_pairs options (number + 1) lines fault)
 

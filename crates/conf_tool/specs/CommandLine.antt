@@ -28,65 +28,65 @@ mode_named name =
     else Lines)))
 
 -- the mode that a parsed subcommand names; `lines` if there is none
-abbrev pub asked_mode : Option (Text × List Row) → Mode
-asked_mode None = Lines
-asked_mode (Some matches) = mode_named matches.0
+abbrev pub selected_mode : Option (Text × List Row) → Mode
+selected_mode None = Lines
+selected_mode (Some matches) = mode_named matches.0
 
 -- the value that a parsed subcommand gives an argument, if it does
-abbrev pub asked_text : Text → Option (Text × List Row) → Option Text
-asked_text id None = None
-asked_text id (Some matches) = first_of id matches.1
+abbrev pub option_text : Text → Option (Text × List Row) → Option Text
+option_text id None = None
+option_text id (Some matches) = first_of id matches.1
 
 -- the initial next index that a name denotes: 1 if none is given
-abbrev pub asked_floor : Option Text → Floor
-asked_floor None = One
-asked_floor (Some name) = if bytes_eq name (codes "0") then Zero else One
+abbrev pub floor_named : Option Text → Floor
+floor_named None = One
+floor_named (Some name) = if bytes_eq name (codes "0") then Zero else One
 
 -- the strategy of a name: the shortest plan if none is given
-abbrev pub asked_strategy : Option Text → Strategy
-asked_strategy None = Shortest
-asked_strategy (Some name) = if bytes_eq name (codes "learners-first") then LearnersFirst else (if bytes_eq name (codes "one-at-a-time") then OneAtATime else Shortest)
+abbrev pub strategy_named : Option Text → Strategy
+strategy_named None = Shortest
+strategy_named (Some name) = if bytes_eq name (codes "learners-first") then LearnersFirst else (if bytes_eq name (codes "one-at-a-time") then OneAtATime else Shortest)
 
 -- the form of output that a name denotes: steps if none is given
-abbrev pub asked_output : Option Text → PlanOutput
-asked_output None = Steps
-asked_output (Some name) =
+abbrev pub output_named : Option Text → PlanOutput
+output_named None = Steps
+output_named (Some name) =
     if bytes_eq name (codes "script") then Script else (if bytes_eq name (codes "table") then Table else (if bytes_eq name (codes "json") then Json else Steps))
 
 -- the ids that are down: Some None if the option is left out, None if its text is not a list of ids
-abbrev pub asked_down : Option Text → Option (Option Ids)
-asked_down None = Some None
-asked_down (Some text) = option_map (λ ids. Some (ids_of ids)) (ids_listed text)
+abbrev pub ids_down : Option Text → Option (Option Ids)
+ids_down None = Some None
+ids_down (Some text) = option_map (λ ids. Some (ids_of ids)) (ids_listed text)
 
 -- the error of reading the option `--down`: its text is not a list of ids, or memory ran out
 abbrev pub IsIdsFault : Option Text → ArgumentFault → Type 0
 IsIdsFault text (Clap error) = ⊥
-IsIdsFault text BadIds = asked_down text ≡ None
+IsIdsFault text BadIds = ids_down text ≡ None
 IsIdsFault text NoMemory = ⊤
 
 -- The arguments are refused for this reason: that of `clap`, that the text of `--down` is not a list of ids, or that
 -- memory ran out.
 abbrev pub IsRefusal : App → List Text → ArgumentFault → Type 0
 IsRefusal app arguments (Clap error) = HasKind (fault_of app arguments) error × (takes app arguments ≡ true → kind_of error ≡ OutOfMemory)
-IsRefusal app arguments BadIds = (fault_of app arguments ≡ []) × (asked_down (asked_text (codes "down") (subcommand_of app arguments)) ≡ None)
+IsRefusal app arguments BadIds = (fault_of app arguments ≡ []) × (ids_down (option_text (codes "down") (subcommand_of app arguments)) ≡ None)
 IsRefusal app arguments NoMemory = ⊤
 
 -- The number of an option: the default if it is left out, otherwise the one that its text denotes. If that is not from
 -- the least to the most, the arguments are refused.
-abbrev pub IsAsked : ℕ → ℕ → ℕ → Option Text → ℕ → Type 0
-IsAsked least most default None number = number ≡ default
-IsAsked least most default (Some text) number =
+abbrev pub IsOptionValue : ℕ → ℕ → ℕ → Option Text → ℕ → Type 0
+IsOptionValue least most default None number = number ≡ default
+IsOptionValue least most default (Some text) number =
     let digits = without_leading_plus text in
     IsNumeral 10 digits → least ≤ digits_value 10 digits → digits_value 10 digits ≤ most → number ≡ digits_value 10 digits
 
 -- the invocation is that of the parsed subcommand
 pub record IsInvocation (matches : Option (Text × List Row)) (invocation : Invocation) : Type 0 where
-  pub mode : invocation.mode ≡ asked_mode matches
-  pub file : option_map (λ name. name.now) invocation.file ≡ asked_text (codes "FILE") matches
-  pub history : IsAsked 0 1000 100 (asked_text (codes "history") matches) invocation.options.history
-  pub steps : IsAsked 1 1000 1 (asked_text (codes "steps") matches) invocation.options.steps
-  pub floor : invocation.options.floor ≡ asked_floor (asked_text (codes "next-floor") matches)
-  pub strategy : invocation.options.plan.strategy ≡ asked_strategy (asked_text (codes "strategy") matches)
-  pub output : invocation.options.plan.output ≡ asked_output (asked_text (codes "output") matches)
-  pub down : asked_down (asked_text (codes "down") matches) ≡ Some invocation.options.plan.down
+  pub mode : invocation.mode ≡ selected_mode matches
+  pub file : option_map (λ name. name.now) invocation.file ≡ option_text (codes "FILE") matches
+  pub history : IsOptionValue 0 1000 100 (option_text (codes "history") matches) invocation.options.history
+  pub steps : IsOptionValue 1 1000 1 (option_text (codes "steps") matches) invocation.options.steps
+  pub floor : invocation.options.floor ≡ floor_named (option_text (codes "next-floor") matches)
+  pub strategy : invocation.options.plan.strategy ≡ strategy_named (option_text (codes "strategy") matches)
+  pub output : invocation.options.plan.output ≡ output_named (option_text (codes "output") matches)
+  pub down : ids_down (option_text (codes "down") matches) ≡ Some invocation.options.plan.down
   pub range : IsInRange invocation.options

@@ -4,7 +4,6 @@ use Rattle.std.specs.List.{slice_split}
 use Rattle.dd_file.specs.DirectiveLine.{is_comma}
 use Rattle.conf_change.specs.ConfStateLine.{and_number}
 use Rattle.conf_session.specs.Parameter.{id_in}
-use Rattle.std.specs.Prelude.{ℕ, List, [], ◌∷◌, Option, Some}
 
 -- the ids that the parts denote, if each part is an id
 abbrev pub ids_in_parts : List (List ℕ) → Option (List ℕ)

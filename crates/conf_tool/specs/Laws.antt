@@ -16,7 +16,7 @@ use Rattle.conf_plan.specs.PlanText.{plan_text}
 use Rattle.conf_session.specs.SessionState.{SessionState, new_session, current}
 use Rattle.conf_session.specs.Undo.{undo_plan_of}
 use Rattle.conf_tool.specs.Pairs.{NumberedLine, numbered, configuration_lines, configuration_at, both_of}
-use Rattle.conf_tool.specs.declared.configurations_fault.ConfigurationsFault.{ConfigurationsFault}
+use Rattle.conf_tool.specs.declared.plan_input_fault.PlanInputFault.{PlanInputFault}
 use Rattle.conf_tool.specs.PlanScript.{script_text}
 use Rattle.conf_tool.specs.PlanAnswer.{plan_text_between}
 use Rattle.conf_tool.specs.declared.plan_options.PlanOptions.{PlanOptions}
@@ -61,7 +61,7 @@ UndoScriptLeadsBack = (script : List ℕ) (history : ℕ) (floor : Floor) (count
     LeadsBackBy session count steps (script_of printed)
 
 -- pairs with one more before them, if both of its lines are configurations; else no pairs
-abbrev pub pair_before : Result (Configuration × Configuration) ConfigurationsFault → List (Configuration × Configuration) → List (Configuration × Configuration)
+abbrev pub pair_before : Result (Configuration × Configuration) PlanInputFault → List (Configuration × Configuration) → List (Configuration × Configuration)
 pair_before (Err bad) pairs = []
 pair_before (Ok pair) pairs = pair ∷ pairs
 

@@ -25,8 +25,8 @@ use Rattle.conf_tool.specs.declared.status.Status.TheVariants.{Clean, Different}
 use Rattle.conf_session.specs.declared.undo_fault.UndoFault.{UndoFault}
 use Rattle.conf_tool.specs.Pairs.{NumberedLine, numbered, configuration_lines, configuration_at, both_of}
 use Rattle.conf_tool.specs.PlanAnswer.{plan_text_between, plan_status}
-use Rattle.conf_tool.specs.declared.configurations_fault.ConfigurationsFault.{ConfigurationsFault}
-use Rattle.conf_tool.specs.declared.configurations_fault.ConfigurationsFault.TheVariants.{NotTwoLines}
+use Rattle.conf_tool.specs.declared.plan_input_fault.PlanInputFault.{PlanInputFault}
+use Rattle.conf_tool.specs.declared.plan_input_fault.PlanInputFault.TheVariants.{NotTwoLines}
 use Rattle.conf_tool.specs.declared.tool_fault.ToolFault.{ToolFault}
 use Rattle.conf_tool.specs.declared.tool_fault.ToolFault.TheVariants.{Script as ScriptFault, Configurations}
 
@@ -126,7 +126,7 @@ worse_of Clean (Ok later) = Ok later
 worse_of Different (Ok later) = Ok Different
 
 -- the output of `plan` for a pair and the pairs after it; a line with an error ends it
-abbrev pub pair_then : PlanOptions → ℕ → Result (Configuration × Configuration) ConfigurationsFault → Output → Output
+abbrev pub pair_then : PlanOptions → ℕ → Result (Configuration × Configuration) PlanInputFault → Output → Output
 pair_then options number (Err bad) rest = ends (Err (Configurations bad))
 pair_then options number (Ok pair) rest = record {
   text = pair_text options number pair.0 pair.1 ++ rest.text;
@@ -139,7 +139,7 @@ ends_before number (Some fault) = ends (Err (ScriptFault fault))
 ends_before number None = ends (if nat_lt 1 number then Ok Clean else Err (Configurations NotTwoLines))
 
 -- the output of `plan` at the end of its input, after the first line of a pair: an error
-abbrev pub ends_within : Result Configuration ConfigurationsFault → Option FileFault → Output
+abbrev pub ends_within : Result Configuration PlanInputFault → Option FileFault → Output
 ends_within (Err bad) fault = ends (Err (Configurations bad))
 ends_within (Ok now) (Some fault) = ends (Err (ScriptFault fault))
 ends_within (Ok now) None = ends (Err (Configurations NotTwoLines))

@@ -11,8 +11,8 @@ use Rattle.conf_change.specs.Configuration.{Configuration}
 use Rattle.conf_change.specs.ConfState.{ConfStateLists}
 use Rattle.conf_change.specs.Violation.{valid_of, configuration_in}
 use Rattle.conf_change.specs.declared.configuration_line.ConfigurationFault.{ConfigurationFault}
-use Rattle.conf_tool.specs.declared.configurations_fault.ConfigurationsFault.{ConfigurationsFault}
-use Rattle.conf_tool.specs.declared.configurations_fault.ConfigurationsFault.TheVariants.{BadLine, BadJson}
+use Rattle.conf_tool.specs.declared.plan_input_fault.PlanInputFault.{PlanInputFault}
+use Rattle.conf_tool.specs.declared.plan_input_fault.PlanInputFault.TheVariants.{BadLine, BadJson}
 use Rattle.conf_tool.specs.declared.tool_fault.ToolFault.{ToolFault}
 use Rattle.conf_tool.specs.declared.tool_fault.ToolFault.TheVariants.{Configurations, NoMemory}
 
@@ -35,7 +35,7 @@ abbrev pub configuration_lines : List NumberedLine → List NumberedLine
 configuration_lines lines = filter (λ line. not (is_skipped line.text)) lines
 
 -- a configuration, or what is wrong with it, as the error of the line with this number
-abbrev pub at_line : ℕ → Result Configuration ConfigurationFault → Result Configuration ConfigurationsFault
+abbrev pub at_line : ℕ → Result Configuration ConfigurationFault → Result Configuration PlanInputFault
 at_line number (Ok c) = Ok c
 at_line number (Err fault) = Err (BadLine number fault)
 
@@ -48,20 +48,20 @@ abbrev pub saved_in_json : List ℕ → Option ConfStateLists
 saved_in_json line = if is_utf8 line then option_and_then conf_state_of_json (read line) else None
 
 -- the valid configuration that a saved one describes, or the error of the line with this number
-abbrev pub at_json : ℕ → Option ConfStateLists → Result Configuration ConfigurationsFault
+abbrev pub at_json : ℕ → Option ConfStateLists → Result Configuration PlanInputFault
 at_json number None = Err (BadJson number)
 at_json number (Some saved) = at_line number (valid_of saved)
 
 -- the valid configuration that a line denotes, as JSON or as a ConfState line, or what is wrong with it
-abbrev pub configuration_at : NumberedLine → Result Configuration ConfigurationsFault
+abbrev pub configuration_at : NumberedLine → Result Configuration PlanInputFault
 configuration_at line = if is_json line.text then at_json line.number (saved_in_json line.text) else at_line line.number (configuration_in line.text)
 
 -- two configurations, or what is wrong with the first of them that is not one
-abbrev pub both_of : Result Configuration ConfigurationsFault → Result Configuration ConfigurationsFault → Result (Configuration × Configuration) ConfigurationsFault
+abbrev pub both_of : Result Configuration PlanInputFault → Result Configuration PlanInputFault → Result (Configuration × Configuration) PlanInputFault
 both_of (Err fault) target = Err fault
 both_of (Ok now) (Err fault) = Err fault
 both_of (Ok now) (Ok target) = Ok (now, target)
 
 -- the error of reading a line that is not a configuration: what is wrong with it, or that memory ran out
-abbrev pub IsFaultOf : {A : Type 0} → Result A ConfigurationsFault → ToolFault → Type 0
-IsFaultOf read fault = (fault ≡ NoMemory) ⊎ ((bad : ConfigurationsFault) × (fault ≡ Configurations bad) × (read ≡ Err bad))
+abbrev pub IsFaultOf : {A : Type 0} → Result A PlanInputFault → ToolFault → Type 0
+IsFaultOf read fault = (fault ≡ NoMemory) ⊎ ((bad : PlanInputFault) × (fault ≡ Configurations bad) × (read ≡ Err bad))

@@ -26,9 +26,9 @@ abbrev pub script_items : Configuration → List Step → List Item
 script_items now steps = restore_directive now ∷ step_items steps
 
 -- the session of a script that is run without options
-unfoldable pub usual_session : SessionState
-usual_session = new_session 100 One
+unfoldable pub default_session : SessionState
+default_session = new_session 100 One
 
 -- the script with its actual output
 unfoldable pub script_text : Configuration → List Step → List ℕ
-script_text now steps = rewritten_text (answered_entries usual_session (script_items now steps))
+script_text now steps = rewritten_text (answered_entries default_session (script_items now steps))

@@ -2,7 +2,7 @@
 ghost use Rattle.std.specs.Prelude.{◌≡◌, ◌≤◌, ◌<◌, ◌^◌, [], Some, map, codes, option_map, MatchResult, IfOk, IfErr};
 ghost use Rattle.clap.specs.Words.{fault_of, first_of, found_of, rows_of, subcommand_of, subcommand_rows_of};
 ghost use Rattle.conf_tool.specs.Program.{program as the_program, OfProgram};
-ghost use Rattle.conf_tool.specs.CommandLine.{mode_named, asked_text, asked_floor, asked_strategy, asked_output, asked_down, IsAsked, IsInvocation, IsIdsFault, IsRefusal};
+ghost use Rattle.conf_tool.specs.CommandLine.{mode_named, option_text, floor_named, strategy_named, output_named, ids_down, IsOptionValue, IsInvocation, IsIdsFault, IsRefusal};
 ghost use Rattle.conf_tool.specs.Ranges.{IsInRange};
 
 use crate::argument_fault::ArgumentFault;
@@ -58,7 +58,7 @@ fn invocation_of<'a>(
     matches: &ArgMatches<'a>,
 ) -> Result<Invocation<'a>, ArgumentFault>
     ensures asked { IfOk result (IsInvocation (subcommand_rows_of matches.now)) }
-    ensures fault { IfErr result (IsIdsFault (asked_text (codes "down") (subcommand_rows_of matches.now))) }
+    ensures fault { IfErr result (IsIdsFault (option_text (codes "down") (subcommand_rows_of matches.now))) }
 {
     match matches.subcommand() {
         Some((name, matches)) => Ok(Invocation {
@@ -89,23 +89,23 @@ fn mode_named(name: &str) -> Mode
 
 // The options of a mode, each with its default if it is left out.
 fn options_of(alloc: Global, matches: &ArgMatches<'_>) -> Result<Options, ArgumentFault>
-    ensures history { IfOk result (λ options. IsAsked 0 1000 100 (first_of (codes "history") (rows_of (found_of matches.now))) options.history) }
-    ensures steps { IfOk result (λ options. IsAsked 1 1000 1 (first_of (codes "steps") (rows_of (found_of matches.now))) options.steps) }
-    ensures floor { IfOk result (λ options. options.floor ≡ asked_floor (first_of (codes "next-floor") (rows_of (found_of matches.now)))) }
-    ensures strategy { IfOk result (λ options. options.plan.strategy ≡ asked_strategy (first_of (codes "strategy") (rows_of (found_of matches.now)))) }
-    ensures output { IfOk result (λ options. options.plan.output ≡ asked_output (first_of (codes "output") (rows_of (found_of matches.now)))) }
-    ensures down { IfOk result (λ options. asked_down (first_of (codes "down") (rows_of (found_of matches.now))) ≡ Some options.plan.down) }
+    ensures history { IfOk result (λ options. IsOptionValue 0 1000 100 (first_of (codes "history") (rows_of (found_of matches.now))) options.history) }
+    ensures steps { IfOk result (λ options. IsOptionValue 1 1000 1 (first_of (codes "steps") (rows_of (found_of matches.now))) options.steps) }
+    ensures floor { IfOk result (λ options. options.floor ≡ floor_named (first_of (codes "next-floor") (rows_of (found_of matches.now)))) }
+    ensures strategy { IfOk result (λ options. options.plan.strategy ≡ strategy_named (first_of (codes "strategy") (rows_of (found_of matches.now)))) }
+    ensures output { IfOk result (λ options. options.plan.output ≡ output_named (first_of (codes "output") (rows_of (found_of matches.now)))) }
+    ensures down { IfOk result (λ options. ids_down (first_of (codes "down") (rows_of (found_of matches.now))) ≡ Some options.plan.down) }
     ensures range { IfOk result IsInRange }
     ensures fault { IfErr result (IsIdsFault (first_of (codes "down") (rows_of (found_of matches.now)))) }
 {
     Ok(Options {
         history: asked_number(text_of(matches, "history"), 0, 1000, 100),
         steps: asked_number(text_of(matches, "steps"), 1, 1000, 1),
-        floor: asked_floor(text_of(matches, "next-floor")),
+        floor: floor_named(text_of(matches, "next-floor")),
         plan: PlanOptions {
-            strategy: asked_strategy(text_of(matches, "strategy")),
-            output: asked_output(text_of(matches, "output")),
-            down: asked_down(alloc, text_of(matches, "down"))?,
+            strategy: strategy_named(text_of(matches, "strategy")),
+            output: output_named(text_of(matches, "output")),
+            down: ids_down(alloc, text_of(matches, "down"))?,
         },
     })
 }
@@ -122,7 +122,7 @@ fn text_of<'a>(matches: &ArgMatches<'a>, id: &str) -> Option<&'a str>
 fn asked_number(value: Option<&str>, least: usize, most: usize, default: usize) -> usize
     requires least { least ≤ default }
     requires most { default ≤ most }
-    ensures asked { IsAsked least most default (option_map (λ text. text.now) value.entry) result }
+    ensures asked { IsOptionValue least most default (option_map (λ text. text.now) value.entry) result }
     ensures least { least ≤ result }
     ensures most { result ≤ most }
 {
@@ -136,8 +136,8 @@ fn asked_number(value: Option<&str>, least: usize, most: usize, default: usize) 
 }
 
 // The initial next index that a name denotes: 1 if none is given.
-fn asked_floor(name: Option<&str>) -> Floor
-    ensures { result ≡ asked_floor (option_map (λ text. text.now) name.entry) }
+fn floor_named(name: Option<&str>) -> Floor
+    ensures { result ≡ floor_named (option_map (λ text. text.now) name.entry) }
 {
     match name {
         Some("0") => Floor::Zero,
@@ -146,8 +146,8 @@ fn asked_floor(name: Option<&str>) -> Floor
 }
 
 // The strategy of a name: the shortest plan if none is given.
-fn asked_strategy(name: Option<&str>) -> Strategy
-    ensures { result ≡ asked_strategy (option_map (λ text. text.now) name.entry) }
+fn strategy_named(name: Option<&str>) -> Strategy
+    ensures { result ≡ strategy_named (option_map (λ text. text.now) name.entry) }
 {
     match name {
         Some("learners-first") => Strategy::LearnersFirst,
@@ -157,8 +157,8 @@ fn asked_strategy(name: Option<&str>) -> Strategy
 }
 
 // The form of output that a name denotes: steps if none is given.
-fn asked_output(name: Option<&str>) -> PlanOutput
-    ensures { result ≡ asked_output (option_map (λ text. text.now) name.entry) }
+fn output_named(name: Option<&str>) -> PlanOutput
+    ensures { result ≡ output_named (option_map (λ text. text.now) name.entry) }
 {
     match name {
         Some("script") => PlanOutput::Script,
@@ -169,8 +169,8 @@ fn asked_output(name: Option<&str>) -> PlanOutput
 }
 
 // The ids of a list, if one is given.
-fn asked_down(alloc: Global, list: Option<&str>) -> Result<Option<SessionIds>, ArgumentFault>
-    ensures down { IfOk result (λ down. asked_down (option_map (λ text. text.now) list.entry) ≡ Some down) }
+fn ids_down(alloc: Global, list: Option<&str>) -> Result<Option<SessionIds>, ArgumentFault>
+    ensures down { IfOk result (λ down. ids_down (option_map (λ text. text.now) list.entry) ≡ Some down) }
     ensures fault { IfErr result (IsIdsFault (option_map (λ text. text.now) list.entry)) }
 {
     let Some(text) = list else {

@@ -17,7 +17,7 @@ Exit statuses:
 
 /// The help of `lines`.
 pub(crate) const LINES: &str =
-    "Reads one change a line and applies it to the configuration, which begins
+    "Reads one change per line and applies it to the configuration, which begins
 empty. Prints the configuration after each line, or why the change is refused.
 
 Changes:
@@ -61,18 +61,18 @@ expected output, unless the output stands between two pairs of lines of dashes.
 A directive line that ends in a backslash continues on the next. A line that
 begins with # is a comment.
 
-Commands that read changes (see confscript help lines), none or more of them:
+Commands that read a list of changes (see confscript help lines):
   simple         at most one of them changes who votes
   enter-joint    enters a joint configuration; autoleave=true or false (default)
-  leave-joint    leaves it, with no change
-  conf-change    leaves, is simple or enters by the number of the changes;
+  leave-joint    leaves it; the list has to be empty
+  conf-change    leaves with no change, is simple with one, enters with more;
                  transition=auto (default), implicit or explicit
 
 Commands that read something else, or nothing:
   conf-state     prints the configuration as a ConfState
   restore        starts again from the ConfState that it reads
   undo           undoes the last changes; steps=N (default 1)
-  ack            a member acknowledges an index; id=N index=N
+  ack            makes a member acknowledge an index; id=N index=N
   commit-index   prints the index that the configuration commits
   committed      charts what the voters have acknowledged, and prints what
                  they commit; cfg=(1,2) cfgj=(3) idx=(7,_,9)
@@ -111,9 +111,9 @@ it prints
 
 /// The help of `undo`.
 pub(crate) const UNDO: &str =
-    "Runs a script (see confscript help check), whatever output it expects, and
-prints a second script, which undoes the last changes of the first. If the first
-checks clean, so do both as one, with an empty line between them.
+    "Runs a script (see confscript help check), ignoring the output that it expects,
+and prints a second script, which undoes the last changes of the first. If the
+first checks clean, so do the two joined by an empty line.
 
 If there is nothing to do, it prints a comment. If there is no plan, it prints
 the reason in a comment, and the status is 1.
@@ -138,8 +138,9 @@ it prints
 pub(crate) const PLAN: &str =
     "Reads pairs of lines, the current configuration and the target, each as the
 command conf-state prints it, or as the JSON of a raftpb.ConfState. Prints for
-each pair the steps that lead from the one to the other, with an empty line
-between two pairs. Blank lines and lines that begin with # are skipped.
+each pair the steps that lead from the one to the other; except in json, an
+empty line separates two pairs. Blank lines and lines that begin with # are
+skipped.
 
 Strategies:
   shortest        at most four steps. No other plan has fewer, keeps the
@@ -151,14 +152,15 @@ Strategies:
 Outputs:
   steps   one step a line
   script  a script that restores the current configuration and takes the steps
-  table   who votes and learns at each step, and what the cluster endures there
+  table   who votes and learns at each step, and how many failures it tolerates
   json    an object for each step, with what is proposed to etcd for it
 
 A plan does not see logs: a new member begins with an empty one. From [1 2 3] to
 [3 4 5] the shortest plan commits nothing until 4 or 5 has caught up.
 
-If there is no plan, it prints the reason in a comment, and the status is 1. So
-it is if some step cannot be committed with the ids of --down down.
+If there is no plan, it prints the reason in a comment (or in json), and the
+status is 1. The status is also 1 if a configuration on the way cannot commit
+with the ids of --down down.
 
 For the lines
   Voters:[1 2 3] VotersOutgoing:[] Learners:[] LearnersNext:[] AutoLeave:false

@@ -15,7 +15,6 @@
 
 pub mod argument_fault;
 pub mod command_line;
-pub mod configurations_fault;
 mod help;
 mod id_list;
 pub mod invocation;
@@ -24,6 +23,7 @@ mod line_reply;
 pub mod mode;
 pub mod options;
 mod plan_answer;
+pub mod plan_input_fault;
 mod plan_line;
 pub mod plan_options;
 mod program;
@@ -34,10 +34,10 @@ pub mod tool_fault;
 mod undo_script;
 
 pub use argument_fault::ArgumentFault;
-pub use configurations_fault::ConfigurationsFault;
 pub use invocation::Invocation;
 pub use mode::Mode;
 pub use options::Options;
+pub use plan_input_fault::PlanInputFault;
 pub use plan_options::{PlanOptions, PlanOutput};
 pub use status::Status;
 pub use tool_fault::ToolFault;

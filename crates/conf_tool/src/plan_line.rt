@@ -4,7 +4,7 @@ ghost use Rattle.conf_change.specs.Configuration.{is_valid};
 ghost use Rattle.conf_change.specs.Violation.{valid_of, configuration_in};
 ghost use Rattle.conf_tool.specs.Pairs.{is_skipped, is_json, saved_in_json, at_line, at_json, configuration_at, IsFaultOf};
 
-use crate::configurations_fault::ConfigurationsFault;
+use crate::plan_input_fault::PlanInputFault;
 use crate::tool_fault::ToolFault;
 use ascii_text::white_space::{is_blank, trimmed};
 use conf_change::{ConfState, Config, ConfigurationFault, read_configuration, valid_configuration};
@@ -51,9 +51,7 @@ fn json_at(alloc: Global, number: usize, line: &[u8]) -> Result<Config<SessionId
 {
     match read_conf_state_json(alloc, line) {
         Ok(state) => valid_at(alloc, number, &state),
-        Err(JsonFault::BadJson) => Err(ToolFault::Configurations(ConfigurationsFault::BadJson(
-            number,
-        ))),
+        Err(JsonFault::BadJson) => Err(ToolFault::Configurations(PlanInputFault::BadJson(number))),
         Err(JsonFault::NoMemory) => Err(ToolFault::NoMemory),
     }
 }
@@ -71,7 +69,7 @@ fn valid_at(
     match valid_configuration(alloc, state) {
         Ok(config) => Ok(config),
         Err(ConfigurationFault::NoMemory) => Err(ToolFault::NoMemory),
-        Err(fault) => Err(ToolFault::Configurations(ConfigurationsFault::BadLine(number, fault))),
+        Err(fault) => Err(ToolFault::Configurations(PlanInputFault::BadLine(number, fault))),
     }
 }
 
@@ -84,6 +82,6 @@ fn line_at(alloc: Global, number: usize, line: &[u8]) -> Result<Config<SessionId
     match read_configuration(alloc, line) {
         Ok(config) => Ok(config),
         Err(ConfigurationFault::NoMemory) => Err(ToolFault::NoMemory),
-        Err(fault) => Err(ToolFault::Configurations(ConfigurationsFault::BadLine(number, fault))),
+        Err(fault) => Err(ToolFault::Configurations(PlanInputFault::BadLine(number, fault))),
     }
 }

@@ -25,7 +25,7 @@ pub(crate) fn program<'a>(alloc: Global, names: OptionNames<'a>) -> Result<Comma
     ensures app { IfOk result (λ command. app_of command ≡ program names.entry) }
     ensures memory { IfErr result (λ error. kind_of error ≡ ErrorKind.OutOfMemory) }
 {
-    let lines = mode_command(alloc, "lines", "Applies one change a line", LINES)?;
+    let lines = mode_command(alloc, "lines", "Applies one change per line", LINES)?;
     let check = script_command(
         alloc,
         "check",
@@ -146,7 +146,7 @@ fn plan_command<'a>(alloc: Global, names: OptionNames<'a>) -> Result<Command<'a>
     let down = Arg::new(alloc, "down")
         .long("down")
         .value_name("IDS")
-        .help("Ids that are down, with commas between them");
+        .help("Ids that are down, separated by commas");
     let mode = mode_command(
         alloc,
         "plan",

@@ -3,7 +3,7 @@ ghost use Rattle.std.specs.Prelude.{◌≡◌};
 ghost use Rattle.conf_tool.specs.Run.{as_tool_fault};
 ghost use Rattle.conf_tool.specs.declared.tool_fault.ToolFault.TheVariants.{Write, NoMemory};
 
-use crate::configurations_fault::ConfigurationsFault;
+use crate::plan_input_fault::PlanInputFault;
 use dd_file::fault::{FileFault, WriteFault};
 use quorum_sets::NoMemory;
 use std::alloc::AllocError;
@@ -17,7 +17,7 @@ pub enum ToolFault {
     Script(FileFault),
     /// The input of `plan` is not pairs of configurations.
     #[error("{0}")]
-    Configurations(ConfigurationsFault),
+    Configurations(PlanInputFault),
     /// A read failed.
     #[error("cannot read")]
     Read,

@@ -115,7 +115,7 @@ fn vote_answer(
     if !are_votes(votes) {
         return Ok(Answer::new(Status::BadVote, 0));
     }
-    let yes = truths(alloc, votes)?;
+    let yes = yes_votes(alloc, votes)?;
     let result = result_of(alloc, incoming, outgoing, ids, yes.as_slice())?;
     Ok(Answer::done(vote_number(result)))
 }
@@ -185,8 +185,8 @@ fn are_votes(votes: &[u8]) -> bool
 }
 
 // Votes as truth values: a yes is true.
-fn truths(alloc: Global, votes: &[u8]) -> Result<Vec<bool>, NoMemory>
-    ensures { IfOk result (λ truths. truths.items ≡ map is_yes_byte votes.now) }
+fn yes_votes(alloc: Global, votes: &[u8]) -> Result<Vec<bool>, NoMemory>
+    ensures { IfOk result (λ yes_votes. yes_votes.items ≡ map is_yes_byte votes.now) }
 {
     Ok(votes.iter().map(|byte| *byte == 1).collect(alloc)?)
 }

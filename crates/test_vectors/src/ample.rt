@@ -15,5 +15,6 @@ mod plans;
 mod runtime;
 mod script_files;
 mod sets_and_quorums;
+mod stages;
 mod texts;
 mod transitions;

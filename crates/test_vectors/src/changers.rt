@@ -347,12 +347,12 @@ fn are_all_made<S: MemberSet>(alloc: Global) -> bool {
 }
 
 #[test]
-fn changes_over_trees(rt: HostRuntime) {
+fn takes_steps_over_trees(rt: HostRuntime) {
     assert!(rt; are_all_made::<TreeIds>(rt.alloc()));
 }
 
 #[test]
-fn changes_over_lists(rt: HostRuntime) {
+fn takes_steps_over_lists(rt: HostRuntime) {
     assert!(rt; are_all_made::<InlineIds>(rt.alloc()));
 }
 
@@ -374,7 +374,7 @@ fn are_together<S: MemberSet>(alloc: Global) -> bool {
 }
 
 #[test]
-fn unions(rt: HostRuntime) {
+fn unites_sets(rt: HostRuntime) {
     assert!(rt; are_together::<TreeIds>(rt.alloc()) & are_together::<InlineIds>(rt.alloc()));
 }
 
@@ -395,6 +395,6 @@ fn is_fault_written(alloc: Global) -> bool {
 }
 
 #[test]
-fn texts_of_faults(rt: HostRuntime) {
+fn appends_refusals_and_token_errors(rt: HostRuntime) {
     assert!(rt; is_refusal_written(rt.alloc()) & is_fault_written(rt.alloc()));
 }

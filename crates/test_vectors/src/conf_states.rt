@@ -159,7 +159,7 @@ fn is_no_line(alloc: Global, line: &str) -> bool {
 }
 
 #[test]
-fn saved_configurations(rt: HostRuntime) {
+fn saves_and_restores(rt: HostRuntime) {
     for (index, (line, shown)) in RESTORED.iter().enumerate() {
         assert!(rt;
             is_line::<TreeIds>(rt.alloc(), *line, *shown)
@@ -170,7 +170,7 @@ fn saved_configurations(rt: HostRuntime) {
 }
 
 #[test]
-fn lines_that_are_refused(rt: HostRuntime) {
+fn refuses_bad_lines(rt: HostRuntime) {
     let no_configuration =
         "Voters:[1 2 3] VotersOutgoing:[1 2 4 6] Learners:[5] LearnersNext:[7] AutoLeave:false";
     assert!(rt;
@@ -227,7 +227,7 @@ fn is_faulty<S: MemberSet>(alloc: Global, line: &str, fault: ConfigurationFault)
 }
 
 #[test]
-fn lines_of_configurations(rt: HostRuntime) {
+fn reads_configurations(rt: HostRuntime) {
     for (index, (line, _)) in RESTORED.iter().enumerate() {
         assert!(rt;
             is_named::<TreeIds>(rt.alloc(), *line) & is_named::<InlineIds>(rt.alloc(), *line),
@@ -237,7 +237,7 @@ fn lines_of_configurations(rt: HostRuntime) {
 }
 
 #[test]
-fn lines_of_no_configurations(rt: HostRuntime) {
+fn refuses_lines_of_no_configuration(rt: HostRuntime) {
     for (index, (line, fault)) in FAULTY.iter().enumerate() {
         assert!(rt;
             is_faulty::<TreeIds>(rt.alloc(), *line, *fault)
@@ -292,7 +292,7 @@ fn both_begin_with_zero(alloc: Global, line: &str) -> bool {
 }
 
 #[test]
-fn acknowledgements(rt: HostRuntime) {
+fn records_acknowledgements(rt: HostRuntime) {
     let line = "Voters:[3] VotersOutgoing:[] Learners:[1] LearnersNext:[] AutoLeave:false";
     assert!(rt; both_begin_with_zero(rt.alloc(), line));
 }

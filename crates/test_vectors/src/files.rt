@@ -150,7 +150,7 @@ fn lines(alloc: Global) -> bool {
 }
 
 #[test]
-fn script_files(rt: HostRuntime) {
+fn reads_lines_and_items(rt: HostRuntime) {
     assert!(rt; lines(rt.alloc()) & items(rt.alloc()));
 }
 
@@ -179,7 +179,7 @@ fn is_directive_written(alloc: Global) -> bool {
 }
 
 #[test]
-fn made_items(rt: HostRuntime) {
+fn makes_items(rt: HostRuntime) {
     assert!(rt; is_comment_written(rt.alloc()) & is_directive_written(rt.alloc()));
 }
 
@@ -201,6 +201,6 @@ fn is_written_twice(alloc: Global) -> bool {
 }
 
 #[test]
-fn rewritten_directives(rt: HostRuntime) {
+fn rewrites_directives(rt: HostRuntime) {
     assert!(rt; is_written_twice(rt.alloc()));
 }

@@ -157,7 +157,7 @@ fn is_bad(alloc: Global, json: &[u8]) -> bool {
 }
 
 #[test]
-fn saved_configurations_in_json(rt: HostRuntime) {
+fn reads_and_writes_conf_states(rt: HostRuntime) {
     for (json, line) in &READ {
         assert!(rt; is_read(rt.alloc(), *json, *line), "{}", *json);
     }
@@ -165,7 +165,7 @@ fn saved_configurations_in_json(rt: HostRuntime) {
 }
 
 #[test]
-fn bad_json(rt: HostRuntime) {
+fn refuses_bad_json(rt: HostRuntime) {
     for json in &BAD {
         assert!(rt; is_bad(rt.alloc(), json.as_bytes()), "{}", *json);
     }
@@ -173,7 +173,7 @@ fn bad_json(rt: HostRuntime) {
 }
 
 #[test]
-fn proposed_changes(rt: HostRuntime) {
+fn writes_proposals(rt: HostRuntime) {
     for (changes, json) in &PROPOSED {
         assert!(rt;
             proposes::<TreeIds>(rt.alloc(), *changes, *json)

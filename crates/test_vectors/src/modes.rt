@@ -9,7 +9,7 @@ use conf_change::{ConfigurationFault, Floor, Violation};
 use conf_plan::Strategy;
 use conf_session::SessionIds;
 use conf_tool::run::{run, run_and_flush};
-use conf_tool::{ConfigurationsFault, Mode, Options, PlanOptions, PlanOutput, Status, ToolFault};
+use conf_tool::{Mode, Options, PlanInputFault, PlanOptions, PlanOutput, Status, ToolFault};
 use dd_file::blocks::Blocks;
 use dd_file::device::{FromRead, Sink, Source, ToWrite};
 use quorum_sets::{MemberSet, NoMemory};
@@ -286,19 +286,19 @@ pub(crate) static PLANNED: [Case; 12] = [
         SHORTEST,
         HALF,
         b"simple r2\n",
-        Err(ToolFault::Configurations(ConfigurationsFault::NotTwoLines)),
+        Err(ToolFault::Configurations(PlanInputFault::NotTwoLines)),
     ),
     (
         Command::Plan(Strategy::Shortest, PlanOutput::Json, &[]),
         BAD_JSON,
         b"{\"plan\":1,\"steps\":0}\n",
-        Err(ToolFault::Configurations(ConfigurationsFault::BadJson(4))),
+        Err(ToolFault::Configurations(PlanInputFault::BadJson(4))),
     ),
     (
         Command::Plan(Strategy::LearnersFirst, PlanOutput::Table, &[]),
         TWICE,
         b"",
-        Err(ToolFault::Configurations(ConfigurationsFault::BadLine(
+        Err(ToolFault::Configurations(PlanInputFault::BadLine(
             2,
             ConfigurationFault::NotAConfiguration(Violation::ListedTwice(1)),
         ))),
@@ -396,14 +396,14 @@ fn ends(alloc: Global, case: Case) -> bool {
 }
 
 #[test]
-fn modes(rt: HostRuntime) {
+fn runs_each_mode(rt: HostRuntime) {
     for (index, case) in MODES.iter().enumerate() {
         assert!(rt; ends(rt.alloc(), *case), "row {index}");
     }
 }
 
 #[test]
-fn options_of_plan(rt: HostRuntime) {
+fn runs_plan_with_each_option(rt: HostRuntime) {
     for (index, case) in PLANNED.iter().enumerate() {
         assert!(rt; ends(rt.alloc(), *case), "row {index}");
     }
@@ -448,14 +448,14 @@ fn ends_over_blocks(alloc: Global, case: Case) -> bool {
 }
 
 #[test]
-fn modes_over_blocks(rt: HostRuntime) {
+fn runs_each_mode_over_blocks(rt: HostRuntime) {
     for (index, case) in MODES.iter().enumerate() {
         assert!(rt; ends_over_blocks(rt.alloc(), *case), "row {index}");
     }
 }
 
 #[test]
-fn options_of_plan_over_blocks(rt: HostRuntime) {
+fn runs_plan_with_each_option_over_blocks(rt: HostRuntime) {
     for (index, case) in PLANNED.iter().enumerate() {
         assert!(rt; ends_over_blocks(rt.alloc(), *case), "row {index}");
     }

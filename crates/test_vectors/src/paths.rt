@@ -283,7 +283,7 @@ fn is_path<S: MemberSet>(alloc: Global, row: &Row, expected: &Expected) -> bool 
 }
 
 #[test]
-fn paths(rt: HostRuntime) {
+fn makes_paths_by_each_strategy(rt: HostRuntime) {
     for (index, row) in ROWS.iter().enumerate() {
         for expected in row.2 {
             assert!(rt;

@@ -287,7 +287,7 @@ fn is_row_of_both(alloc: Global, row: &Row) -> bool {
 }
 
 #[test]
-fn plans(rt: HostRuntime) {
+fn makes_and_applies_plans(rt: HostRuntime) {
     for row in &ROWS {
         assert!(rt; is_row_of_both(rt.alloc(), row), "{}", row.plan);
     }
@@ -350,14 +350,14 @@ fn is_no_plan(alloc: Global, text: &str, expected: PlanTextFault) -> bool {
 }
 
 #[test]
-fn texts_of_no_plans(rt: HostRuntime) {
+fn refuses_bad_plan_texts(rt: HostRuntime) {
     for (text, expected) in &NO_PLANS {
         assert!(rt; is_no_plan(rt.alloc(), *text, *expected), "{text}");
     }
 }
 
 #[test]
-fn steps_of_plans(rt: HostRuntime) {
+fn reads_steps(rt: HostRuntime) {
     for (text, command, changes) in &TOKENS_OF_STEPS {
         assert!(rt;
             begins_with(rt.alloc(), *text, *command, *changes),

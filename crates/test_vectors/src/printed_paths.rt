@@ -291,7 +291,7 @@ fn is_no_plan_line(alloc: Global, number: u64, why: &str, expected: &str) -> boo
 }
 
 #[test]
-fn printed_paths(rt: HostRuntime) {
+fn prints_paths(rt: HostRuntime) {
     for (index, row) in ROWS.iter().enumerate() {
         assert!(rt;
             is_row_over::<TreeIds>(rt.alloc(), row) & is_row_over::<InlineIds>(rt.alloc(), row),
@@ -301,7 +301,7 @@ fn printed_paths(rt: HostRuntime) {
 }
 
 #[test]
-fn lines_without_a_path(rt: HostRuntime) {
+fn prints_lines_without_a_path(rt: HostRuntime) {
     let why = "the target is joint";
     let expected = "{\"no_plan\":\"the target is joint\",\"plan\":7}\n";
     assert!(rt; is_no_plan_line(rt.alloc(), 7, why, expected));

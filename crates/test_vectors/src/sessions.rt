@@ -298,7 +298,7 @@ static SCRIPTS: [Script; 6] = [
 ];
 
 #[test]
-fn sessions(rt: HostRuntime) {
+fn answers_directives(rt: HostRuntime) {
     for (index, (floor, rows, undone)) in SCRIPTS.iter().enumerate() {
         assert!(rt; holds(rt.alloc(), *floor, *rows, *undone), "row {index}");
     }
@@ -313,7 +313,7 @@ fn has_text(alloc: Global, fault: UndoFault, expected: &[u8]) -> bool {
 }
 
 #[test]
-fn undo_faults(rt: HostRuntime) {
+fn appends_undo_errors(rt: HostRuntime) {
     let fault = UndoFault::NotKept(12);
     assert!(rt;
         has_text(

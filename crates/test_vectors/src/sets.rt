@@ -106,7 +106,7 @@ fn is_listed<S: MemberSet>(alloc: Global, list: &[u64]) -> bool {
 }
 
 #[test]
-fn inserted_ids(rt: HostRuntime) {
+fn inserts_and_removes_ids(rt: HostRuntime) {
     for (index, (before, id, after)) in INSERTED.iter().enumerate() {
         assert!(rt;
             is_set::<TreeIds>(rt.alloc(), *before, *id, *after)
@@ -117,7 +117,7 @@ fn inserted_ids(rt: HostRuntime) {
 }
 
 #[test]
-fn listed_ids(rt: HostRuntime) {
+fn makes_sets_of_lists(rt: HostRuntime) {
     for list in [&LIST[..], NINE] {
         assert!(rt;
             is_listed::<TreeIds>(rt.alloc(), list) & is_listed::<InlineIds>(rt.alloc(), list)
@@ -286,7 +286,7 @@ fn is_committed<S: MemberSet>(alloc: Global, row: &Acknowledged) -> bool {
 }
 
 #[test]
-fn acknowledged_indexes(rt: HostRuntime) {
+fn commits_and_charts(rt: HostRuntime) {
     for (index, row) in ACKNOWLEDGED.iter().enumerate() {
         assert!(rt;
             is_committed::<TreeIds>(rt.alloc(), row) & is_committed::<InlineIds>(rt.alloc(), row),
@@ -327,6 +327,6 @@ fn is_decided<S: MemberSet>(alloc: Global) -> bool {
 }
 
 #[test]
-fn votes_and_quorums(rt: HostRuntime) {
+fn counts_votes(rt: HostRuntime) {
     assert!(rt; is_decided::<TreeIds>(rt.alloc()) & is_decided::<InlineIds>(rt.alloc()));
 }

@@ -62,7 +62,7 @@ fn is_printed(alloc: Global, number: u64, expected: &str) -> bool {
 }
 
 #[test]
-fn numbers(rt: HostRuntime) {
+fn appends_numbers(rt: HostRuntime) {
     for (number, text) in &NUMBERS {
         assert!(rt; is_printed(rt.alloc(), *number, *text), "{text}");
     }
@@ -130,7 +130,7 @@ fn are_read_again(alloc: Global, text: &'static [u8], expected: &[Change]) -> bo
 }
 
 #[test]
-fn lists_of_changes(rt: HostRuntime) {
+fn reads_lists_of_changes(rt: HostRuntime) {
     for (index, (text, expected)) in CHANGES.iter().enumerate() {
         assert!(rt;
             are_read(rt.alloc(), *text, *expected) & are_read_again(rt.alloc(), *text, *expected),

@@ -14,7 +14,7 @@ use Rattle.conf_change.specs.declared.change.Change.{Change}
 use Rattle.conf_change.specs.declared.change.Kind.{Kind}
 use Rattle.conf_change.specs.declared.step.Step.{Step}
 use Rattle.conf_plan.specs.OneAtATime.{one_change, join_steps, retire_step, in_turn, learner_change}
-use Rattle.conf_plan.specs.PlanSteps.{HasTokenIds}
+use Rattle.conf_plan.specs.PlanSteps.{HasU64Ids}
 use Rattle.conf_plan.specs.Walking.{IsAdded}
 use Rattle.conf_plan.proofs.FindingMoves.FourSetWalk.{left-none, left-some}
 use Rattle.conf_plan.proofs.PlannedSteps.Cases.{added-nothing, added-more}
@@ -23,7 +23,7 @@ use Rattle.conf_plan.proofs.PlannedSteps.Cases.{added-nothing, added-more}
 pub added-change : (before after : List Step) (kind : Kind) (id : ℕ) → id < 2 ^ 64 → after ≡ before ++ one_change kind id ∷ [] → IsAdded before (one_change kind id ∷ []) after
 added-change before after kind id token e = record {
   whole = e;
-  token_ids = All-push HasTokenIds [] (one_change kind id) (All-nil HasTokenIds) (All-push (λ (change : Change). change.id < 2 ^ 64) [] (record { kind = kind; id = id }) (All-nil _) token);
+  u64_ids = All-push HasU64Ids [] (one_change kind id) (All-nil HasU64Ids) (All-push (λ (change : Change). change.id < 2 ^ 64) [] (record { kind = kind; id = id }) (All-nil _) token);
 }
 
 -- ---- one turn

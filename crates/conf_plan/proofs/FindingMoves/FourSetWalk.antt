@@ -12,7 +12,7 @@ use Rattle.conf_change.specs.Configuration.{Configuration}
 use Rattle.conf_change.specs.declared.change.Change.{Change}
 use Rattle.conf_change.specs.declared.change.Kind.{Kind}
 use Rattle.conf_plan.specs.Planned.{kind_by, move_of, moves}
-use Rattle.conf_plan.specs.Walking.{IsNoLater, IsEarliest, IsPassed}
+use Rattle.conf_plan.specs.Walking.{IsNoLater, IsEarliest, IsAdvanced}
 use Rattle.conf_plan.proofs.FindingMoves.OfEachId.{has-union}
 use Rattle.conf_plan.proofs.FindingMoves.AscendingIds.{ids_from, ids_from-start, ids_from-later, ids_from-here, holds-none_left, ids_from-nothing, IsFirstFrom-from_ids}
 
@@ -78,7 +78,7 @@ step_past s bound position id left here =
     }
 
 pub IsStep-from_IsPassed : (s : Ids) (bound position id next : ℕ) (found : Bool) → IsLeft position bound s → bound ≤ id → IsNoLater (Some id) (slice_get (ascending s) position)
-    → IsPassed s position id found next → IsStep s bound id next found
+    → IsAdvanced s position id found next → IsStep s bound id next found
 IsStep-from_IsPassed s bound position id next true left up no_later passed =
     subst (λ k. IsStep s bound id k true) (sym passed.after) (step_past s bound position id left (passed.here.0 refl))
 IsStep-from_IsPassed s bound position id next false left up no_later passed =
@@ -94,13 +94,13 @@ IsStep-from_IsPassed s bound position id next false left up no_later passed =
         step_over s bound position id left up (λ q low high. first.none q low (omega (arith, high, no_later, differs)))
 
 -- what is after the position gets shorter where the id was found
-pub IsPassed-shorter : (s : Ids) (position id next : ℕ) (found : Bool) → IsPassed s position id found next
+pub IsAdvanced-shorter : (s : Ids) (position id next : ℕ) (found : Bool) → IsAdvanced s position id found next
     → length (drop next (ascending s)) + cond found 1 0 ≡ length (drop position (ascending s))
-IsPassed-shorter s position id next true passed =
+IsAdvanced-shorter s position id next true passed =
     let here : length (drop position (ascending s)) ≡ length (id ∷ drop (position + 1) (ascending s)) = ap length (left-some (ascending s) position id (passed.here.0 refl)) in
     let P : ℕ → Type 0 = λ k. length (drop k (ascending s)) + 1 ≡ length (drop position (ascending s)) in
     subst P (sym passed.after) (omega (arith, here))
-IsPassed-shorter s position id next false passed =
+IsAdvanced-shorter s position id next false passed =
     let same : next ≡ position = omega (arith, passed.after) in
     let P : ℕ → Type 0 = λ k. length (drop k (ascending s)) + 0 ≡ length (drop position (ascending s)) in
     subst P (sym same) (omega arith)
@@ -175,7 +175,7 @@ pub record IsWalked (c : Configuration) (voters learners : Ids) (voter_position 
   pub voters_left : IsLeft voter_position bound c.incoming
   pub learners_left : IsLeft learner_position bound c.learners
   pub moved : changes ++ filter_map (move_of c voters learners) (ids_from bound (ascending (all_ids voters learners c.incoming c.learners))) ≡ moves c voters learners
-  pub token_ids : All (λ change. change.id < 2 ^ 64) changes
+  pub u64_ids : All (λ change. change.id < 2 ^ 64) changes
 
 -- at the first position all of a set is left
 left-begun : (s : Ids) (position : ℕ) → position ≡ 0 → IsLeft position 0 s
@@ -191,7 +191,7 @@ IsWalked-begun c voters learners i l v m changes i_first l_first v_first m_first
       voters_left = left-begun c.incoming i i_first;
       learners_left = left-begun c.learners l l_first;
       moved = ap moved_from none ∙ ap (filter_map (move_of c voters learners)) (ids_from-start (ascending (all_ids voters learners c.incoming c.learners)));
-      token_ids = subst (All (λ change. change.id < 2 ^ 64)) (sym none) (All-nil _);
+      u64_ids = subst (All (λ change. change.id < 2 ^ 64)) (sym none) (All-nil _);
     }
 
 -- the four sets at an id that is the first of those that are left
@@ -236,7 +236,7 @@ tokens_with_move changes (Some kind) id tokens_in fits = All-push IsToken change
 pub IsWalked-one_more : (c : Configuration) (voters learners : Ids) (i l v m i' l' v' m' id : ℕ) (changes : List Change) (in_i in_l in_v in_m : Bool)
     → IsWalked c voters learners i l v m changes
     → IsFirstOfFour voters learners c.incoming c.learners v m i l id
-    → IsPassed voters v id in_v v' → IsPassed learners m id in_m m' → IsPassed c.incoming i id in_i i' → IsPassed c.learners l id in_l l' → id < 2 ^ 64
+    → IsAdvanced voters v id in_v v' → IsAdvanced learners m id in_m m' → IsAdvanced c.incoming i id in_i i' → IsAdvanced c.learners l id in_l l' → id < 2 ^ 64
     → IsWalked c voters learners i' l' v' m' (with_move changes (kind_by in_v in_m in_i in_l) id)
 IsWalked-one_more c voters learners i l v m i' l' v' m' id changes in_i in_l in_v in_m walked first v_passed m_passed i_passed l_passed fits =
     let bound = walked.bound in
@@ -265,7 +265,7 @@ IsWalked-one_more c voters learners i l v m i' l' v' m' id changes in_i in_l in_
           ∙ ap (λ ids. changes ++ filter_map (move_of c voters learners) ids)
           (sym (step_of_all voters learners c.incoming c.learners bound id v' m' i' l' in_v in_m in_i in_l step))
           ∙ walked.moved;
-      token_ids = tokens_with_move changes (kind_by in_v in_m in_i in_l) id walked.token_ids fits;
+      u64_ids = tokens_with_move changes (kind_by in_v in_m in_i in_l) id walked.u64_ids fits;
     }
   where
     holds_one : (a b c d : Bool) → (a ≡ true) ⊎ ((b ≡ true) ⊎ ((c ≡ true) ⊎ (d ≡ true))) → ((a || b) || (c || d)) ≡ true
@@ -308,13 +308,13 @@ left_of_four a b c d p q r s =
 
 pub left_of_four-shorter : (a b c d : Ids) (p q r s p' q' r' s' id : ℕ) (in_a in_b in_c in_d : Bool)
     → IsFirstOfFour a b c d p q r s id
-    → IsPassed a p id in_a p' → IsPassed b q id in_b q' → IsPassed c r id in_c r' → IsPassed d s id in_d s'
+    → IsAdvanced a p id in_a p' → IsAdvanced b q id in_b q' → IsAdvanced c r id in_c r' → IsAdvanced d s id in_d s'
     → left_of_four a b c d p' q' r' s' < left_of_four a b c d p q r s
 left_of_four-shorter a b c d p q r s p' q' r' s' id in_a in_b in_c in_d first a_passed b_passed c_passed d_passed =
-    let ea = IsPassed-shorter a p id p' in_a a_passed in
-    let eb = IsPassed-shorter b q id q' in_b b_passed in
-    let ec = IsPassed-shorter c r id r' in_c c_passed in
-    let ed = IsPassed-shorter d s id s' in_d d_passed in
+    let ea = IsAdvanced-shorter a p id p' in_a a_passed in
+    let eb = IsAdvanced-shorter b q id q' in_b b_passed in
+    let ec = IsAdvanced-shorter c r id r' in_c c_passed in
+    let ed = IsAdvanced-shorter d s id s' in_d d_passed in
     by first.one ea eb ec ed
   where
     is_one : (found : Bool) → found ≡ true → ◌≡◌ {A = ℕ} (cond found 1 0) 1

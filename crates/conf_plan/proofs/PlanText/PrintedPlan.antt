@@ -20,7 +20,7 @@ use Rattle.conf_change.specs.declared.change.Kind.TheVariants.{Voter, Learner, R
 use Rattle.conf_change.specs.declared.step.Step.{Step}
 use Rattle.conf_change.specs.declared.step.Step.TheVariants.{Simple, EnterJoint, LeaveJoint}
 use Rattle.conf_change.specs.Step.{changes_of}
-use Rattle.conf_plan.specs.PlanSteps.{HasTokenIds, IsPlan}
+use Rattle.conf_plan.specs.PlanSteps.{HasU64Ids, IsPlan}
 use Rattle.conf_plan.specs.PlanText.{flag_token, command_tokens, change_text, line_text, line_and_newline, plan_text, is_newline, plan_lines, IsLineOf, ParsesToPlan}
 use Rattle.conf_plan.specs.PlanCode.{plan_in}
 use Rattle.conf_plan.proofs.PlanText.LineByLine.{lines_of-on, lines_of-alone}
@@ -127,15 +127,15 @@ Denotes-printed (change ∷ changes) h =
 abbrev all_tokens : Step → List (List ℕ)
 all_tokens step = command_tokens step ++ map change_text (changes_of step)
 
-all_are_tokens : (step : Step) → HasTokenIds step → All IsToken (all_tokens step)
+all_are_tokens : (step : Step) → HasU64Ids step → All IsToken (all_tokens step)
 all_are_tokens step h = All-append IsToken (command_tokens step) (map change_text (changes_of step)) (commands_are_tokens step) (changes_are_tokens (changes_of step) h)
 
-tokens_in-line_text : (step : Step) → HasTokenIds step → tokens_in (line_text step) ≡ all_tokens step
+tokens_in-line_text : (step : Step) → HasU64Ids step → tokens_in (line_text step) ≡ all_tokens step
 tokens_in-line_text (Simple changes) h = tokens_in-join (codes "simple") (map change_text changes) (all_are_tokens (Simple changes) h)
 tokens_in-line_text (EnterJoint auto_leave changes) h = tokens_in-join (codes "enter-joint") (flag_token auto_leave ∷ map change_text changes) (all_are_tokens (EnterJoint auto_leave changes) h)
 tokens_in-line_text LeaveJoint h = tokens_in-join (codes "leave-joint") [] (all_are_tokens LeaveJoint h)
 
-IsLineOf-printed : (step : Step) → HasTokenIds step → IsLineOf (line_text step) step
+IsLineOf-printed : (step : Step) → HasU64Ids step → IsLineOf (line_text step) step
 IsLineOf-printed step h = record { tokens = map change_text (changes_of step); line_tokens = tokens_in-line_text step h; parsed = parsed-printed (changes_of step) h }
 
 -- ---- the lines
@@ -145,27 +145,27 @@ lines_of-end line in_line = lines_of-alone (line ++ 10 ∷ []) line (omega (arit
 lines_of-next : (line rest : List ℕ) → All IsNoNewline line → 0 < length rest → plan_lines (line ++ 10 ∷ rest) ≡ line ∷ plan_lines rest
 lines_of-next line rest in_line more = lines_of-on (line ++ 10 ∷ rest) line rest (omega (arith, length-append line (10 ∷ rest))) more (slice_split_at is_newline line 10 rest in_line refl)
 
-IsNoNewline-line_text : (step : Step) → HasTokenIds step → All IsNoNewline (line_text step)
+IsNoNewline-line_text : (step : Step) → HasU64Ids step → All IsNoNewline (line_text step)
 IsNoNewline-line_text step h = IsNoNewline-join (all_tokens step) (all_are_tokens step h)
 
-lines_of-printed : (step : Step) (steps : List Step) → All HasTokenIds (step ∷ steps) → plan_lines (flat_map line_and_newline (step ∷ steps)) ≡ map line_text (step ∷ steps)
+lines_of-printed : (step : Step) (steps : List Step) → All HasU64Ids (step ∷ steps) → plan_lines (flat_map line_and_newline (step ∷ steps)) ≡ map line_text (step ∷ steps)
 lines_of-printed step [] h =
-    ap plan_lines (append-nil (line_and_newline step)) ∙ lines_of-end (line_text step) (IsNoNewline-line_text step (All-head HasTokenIds step [] h))
+    ap plan_lines (append-nil (line_and_newline step)) ∙ lines_of-end (line_text step) (IsNoNewline-line_text step (All-head HasU64Ids step [] h))
 lines_of-printed step (next ∷ steps) h =
     let rest = flat_map line_and_newline (next ∷ steps) in
     let more : 0 < length rest = omega (arith, length-append (line_and_newline next) (flat_map line_and_newline steps), length-append (line_text next) (codes "\n")) in
-    ap plan_lines (append_assoc (line_text step) (codes "\n") rest) ∙ lines_of-next (line_text step) rest (IsNoNewline-line_text step (All-head HasTokenIds step (next ∷ steps) h)) more
-    ∙ ap (λ lines. line_text step ∷ lines) (lines_of-printed next steps (All-tail HasTokenIds step (next ∷ steps) h))
+    ap plan_lines (append_assoc (line_text step) (codes "\n") rest) ∙ lines_of-next (line_text step) rest (IsNoNewline-line_text step (All-head HasU64Ids step (next ∷ steps) h)) more
+    ∙ ap (λ lines. line_text step ∷ lines) (lines_of-printed next steps (All-tail HasU64Ids step (next ∷ steps) h))
 
-lines-printed : (steps : List Step) → All HasTokenIds steps → AllZip IsLineOf (map line_text steps) steps
+lines-printed : (steps : List Step) → All HasU64Ids steps → AllZip IsLineOf (map line_text steps) steps
 lines-printed [] h = tt
-lines-printed (step ∷ steps) h = (IsLineOf-printed step (All-head HasTokenIds step steps h), lines-printed steps (All-tail HasTokenIds step steps h))
+lines-printed (step ∷ steps) h = (IsLineOf-printed step (All-head HasU64Ids step steps h), lines-printed steps (All-tail HasU64Ids step steps h))
 
 pub ParsesToPlan-printed : (steps : List Step) → IsPlan steps → ParsesToPlan (plan_text steps) steps
 ParsesToPlan-printed [] h = inl (refl, record { line = codes "nothing to do"; alone = refl; line_tokens = refl })
 ParsesToPlan-printed (step ∷ steps) h = inr (record {
   at_most_four = h.at_most_four;
-  lines = rw (lines_of-printed step steps h.token_ids) (lines-printed (step ∷ steps) h.token_ids);
+  lines = rw (lines_of-printed step steps h.u64_ids) (lines-printed (step ∷ steps) h.u64_ids);
 })
 
 pub plan_in-printed : (steps : List Step) → IsPlan steps → plan_in (plan_text steps) ≡ Ok steps

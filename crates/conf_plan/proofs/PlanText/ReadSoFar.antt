@@ -5,13 +5,13 @@ use Rattle.std.proofs.lemmas.List.{append_assoc, length-append}
 use Rattle.std.proofs.lemmas.List.Elements.{All-nil, All-push}
 use Rattle.ascii_text.specs.Tokens.{tokens_in}
 use Rattle.conf_change.specs.declared.step.Step.{Step}
-use Rattle.conf_plan.specs.PlanSteps.{HasTokenIds, IsPlan}
+use Rattle.conf_plan.specs.PlanSteps.{HasU64Ids, IsPlan}
 use Rattle.conf_plan.specs.PlanText.{plan_lines, IsNothingToDo}
 use Rattle.conf_plan.specs.PlanCode.{step_in, and_steps, steps_in, plan_in}
 use Rattle.conf_plan.specs.declared.text.PlanTextFault.{PlanTextFault}
 use Rattle.conf_plan.specs.declared.text.PlanTextFault.TheVariants.{TooManySteps}
 use Rattle.conf_plan.proofs.PlanText.LineByLine.{lines_of-some}
-use Rattle.conf_plan.proofs.PlanText.StepFromTokens.{IsLineOf-from_some, HasTokenIds-from_line}
+use Rattle.conf_plan.proofs.PlanText.StepFromTokens.{IsLineOf-from_some, HasU64Ids-from_line}
 use Rattle.conf_plan.proofs.PlanText.PlanFromLines.{plan_in-steps}
 
 -- steps that were read, before what the rest denotes
@@ -25,7 +25,7 @@ pub record IsReadSoFar (text rest : List ℕ) (steps : List Step) : Type 0 where
   pub plan : IsPlan steps
 
 IsPlan-empty : IsPlan []
-IsPlan-empty = record { at_most_four = omega arith; token_ids = All-nil HasTokenIds }
+IsPlan-empty = record { at_most_four = omega arith; u64_ids = All-nil HasU64Ids }
 
 onto-none : (answer : Result (List Step) PlanTextFault) → answer ≡ onto [] answer
 onto-none (Ok steps) = refl
@@ -51,7 +51,7 @@ with_step text rest line lines steps step h not_four are is =
 pub IsPlan-push : (steps : List Step) (step : Step) (line : List ℕ) → IsPlan steps → length steps ≢ 4 → step_in (tokens_in line) ≡ Some step → IsPlan (steps ++ step ∷ [])
 IsPlan-push steps step line h not_four is = record {
   at_most_four = omega (arith, h.at_most_four, not_four, length-append steps (step ∷ []));
-  token_ids = All-push HasTokenIds steps step h.token_ids (HasTokenIds-from_line line step (IsLineOf-from_some line step is));
+  u64_ids = All-push HasU64Ids steps step h.u64_ids (HasU64Ids-from_line line step (IsLineOf-from_some line step is));
 }
 
 pub IsReadSoFar-more : (text rest line later : List ℕ) (steps : List Step) (step : Step) → IsReadSoFar text rest steps → length steps ≢ 4 → plan_lines rest ≡ line ∷ plan_lines later → step_in (tokens_in line) ≡ Some step

@@ -11,7 +11,7 @@ use Rattle.conf_change.specs.declared.step.Step.{Step}
 use Rattle.conf_change.specs.declared.step.Step.TheVariants.{Simple, EnterJoint, LeaveJoint}
 use Rattle.conf_change.proofs.Offered.{changes_in_tokens-ok, AllZip-from_ok}
 use Rattle.conf_change.specs.Step.{changes_of}
-use Rattle.conf_plan.specs.PlanSteps.{HasTokenIds}
+use Rattle.conf_plan.specs.PlanSteps.{HasU64Ids}
 use Rattle.conf_plan.specs.PlanText.{flag_token, command_tokens, IsLineOf}
 use Rattle.conf_plan.specs.PlanCode.{list_in, flag_of_token, enter_with, enter_in, leave_in, step_in}
 
@@ -103,12 +103,12 @@ step_in-none line none =
     ] refl
 
 -- ---- ids that were spelled are numbers of 64 bits
-token_ids-parsed : (tokens : List (List ℕ)) (changes : List Change) → AllZip ParsesTo tokens changes → All (λ change. change.id < 2 ^ 64) changes
-token_ids-parsed [] [] h = All-nil (λ change. change.id < 2 ^ 64)
-token_ids-parsed [] (change ∷ changes) h = absurd h
-token_ids-parsed (token ∷ tokens) [] h = absurd h
-token_ids-parsed (token ∷ tokens) (change ∷ changes) h =
-    All-cons (λ change. change.id < 2 ^ 64) change changes h.0.id_after.in_range (token_ids-parsed tokens changes h.1)
+u64_ids-parsed : (tokens : List (List ℕ)) (changes : List Change) → AllZip ParsesTo tokens changes → All (λ change. change.id < 2 ^ 64) changes
+u64_ids-parsed [] [] h = All-nil (λ change. change.id < 2 ^ 64)
+u64_ids-parsed [] (change ∷ changes) h = absurd h
+u64_ids-parsed (token ∷ tokens) [] h = absurd h
+u64_ids-parsed (token ∷ tokens) (change ∷ changes) h =
+    All-cons (λ change. change.id < 2 ^ 64) change changes h.0.id_after.in_range (u64_ids-parsed tokens changes h.1)
 
-pub HasTokenIds-from_line : (line : List ℕ) (step : Step) → IsLineOf line step → HasTokenIds step
-HasTokenIds-from_line line step h = token_ids-parsed h.tokens (changes_of step) h.parsed
+pub HasU64Ids-from_line : (line : List ℕ) (step : Step) → IsLineOf line step → HasU64Ids step
+HasU64Ids-from_line line step h = u64_ids-parsed h.tokens (changes_of step) h.parsed

@@ -12,7 +12,7 @@ use Rattle.conf_change.specs.declared.step.Step.{Step}
 use Rattle.conf_change.specs.declared.step.Step.TheVariants.{LeaveJoint}
 use Rattle.conf_change.proofs.Offered.{is_same_set-equal, is_same-equal, is_same-is_equality, is_empty-no_ids}
 use Rattle.conf_plan.specs.Run.{IsValidWithVoter}
-use Rattle.conf_plan.specs.PlanSteps.{HasTokenIds, IsPlan}
+use Rattle.conf_plan.specs.PlanSteps.{HasU64Ids, IsPlan}
 use Rattle.conf_plan.specs.PathBy.{from_single_by, path_by}
 use Rattle.conf_plan.specs.declared.strategy.Strategy.{Strategy}
 use Rattle.conf_plan.specs.Planned.{single_with, single_steps, shared_members, inserted_steps, configuration_after, entering_step, joint_steps, planned_from_single, planned}
@@ -121,20 +121,20 @@ own-is_valid now single = subst IsValidWithVoter (sym (single_with-own now singl
 
 -- ---- steps that are added
 pub added-nothing : (before : List Step) → IsAdded before [] before
-added-nothing before = record { whole = sym (append-nil before); token_ids = All-nil HasTokenIds }
+added-nothing before = record { whole = sym (append-nil before); u64_ids = All-nil HasU64Ids }
 
 pub added-leave : (before after : List Step) → after ≡ before ++ LeaveJoint ∷ [] → IsAdded before (LeaveJoint ∷ []) after
-added-leave before after e = record { whole = e; token_ids = All-push HasTokenIds [] LeaveJoint (All-nil HasTokenIds) (All-nil _) }
+added-leave before after e = record { whole = e; u64_ids = All-push HasU64Ids [] LeaveJoint (All-nil HasU64Ids) (All-nil _) }
 
 pub added-more : (before xs between ys after : List Step) → IsAdded before xs between → IsAdded between ys after → IsAdded before (xs ++ ys) after
 added-more before xs between ys after first second = record {
   whole = second.whole ∙ ap (λ steps. steps ++ ys) first.whole ∙ append_assoc before xs ys;
-  token_ids = All-append HasTokenIds xs ys first.token_ids second.token_ids;
+  u64_ids = All-append HasU64Ids xs ys first.u64_ids second.u64_ids;
 }
 
 pub added-is_plan : (now target : Configuration) (after : List Step) → IsAdded [] (planned now target) after → (after ≡ planned now target) × IsPlan after
 added-is_plan now target after added =
-    (added.whole, subst IsPlan (sym added.whole) (record { at_most_four = planned-at_most_four now target; token_ids = added.token_ids }))
+    (added.whole, subst IsPlan (sym added.whole) (record { at_most_four = planned-at_most_four now target; u64_ids = added.u64_ids }))
 
-pub added-is_path : (more after : List Step) → IsAdded [] more after → (after ≡ more) × All HasTokenIds after
-added-is_path more after added = (added.whole, subst (All HasTokenIds) (sym added.whole) added.token_ids)
+pub added-is_path : (more after : List Step) → IsAdded [] more after → (after ≡ more) × All HasU64Ids after
+added-is_path more after added = (added.whole, subst (All HasU64Ids) (sym added.whole) added.u64_ids)

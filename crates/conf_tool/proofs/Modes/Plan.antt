@@ -12,8 +12,8 @@ use Rattle.conf_tool.specs.Pairs.{NumberedLine, numbered, is_skipped, configurat
 use Rattle.conf_tool.specs.Run.{Wrote, IsStop}
 use Rattle.conf_tool.specs.declared.mode.Mode.TheVariants.{Plan as OfPlan}
 use Rattle.conf_tool.specs.PlanAnswer.{plan_status}
-use Rattle.conf_tool.specs.declared.configurations_fault.ConfigurationsFault.{ConfigurationsFault}
-use Rattle.conf_tool.specs.declared.configurations_fault.ConfigurationsFault.TheVariants.{NotTwoLines}
+use Rattle.conf_tool.specs.declared.plan_input_fault.PlanInputFault.{PlanInputFault}
+use Rattle.conf_tool.specs.declared.plan_input_fault.PlanInputFault.TheVariants.{NotTwoLines}
 use Rattle.conf_tool.specs.declared.plan_options.PlanOptions.{PlanOptions}
 use Rattle.conf_tool.specs.declared.status.Status.{Status}
 use Rattle.conf_tool.specs.declared.status.Status.TheVariants.{Clean, Different}
@@ -71,12 +71,12 @@ pub plan_left-passed : (options : PlanOptions) (count number : ℕ) (now : Optio
 plan_left-passed options count number now status line passed rest =
     ap (λ lines. with_status status (pairs_left options number now lines rest.fault)) (configuration_lines-passed (record { number = count + 1; text = line }) (numbered (count + 1 + 1) rest.items) passed)
 
-pairs-first : (options : PlanOptions) (number : ℕ) (line : NumberedLine) (first : Result Configuration ConfigurationsFault) (lines : List NumberedLine) (fault : Option FileFault) → configuration_at line ≡ first →
+pairs-first : (options : PlanOptions) (number : ℕ) (line : NumberedLine) (first : Result Configuration PlanInputFault) (lines : List NumberedLine) (fault : Option FileFault) → configuration_at line ≡ first →
     planned_pairs options number (line ∷ lines) fault ≡ pairs_within options number first lines fault
 pairs-first options number line first [] fault is = ap (λ actual. ends_within actual fault) is
 pairs-first options number line first (second ∷ lines) fault is = ap (λ actual. pair_then options number (both_of actual (configuration_at second)) (planned_pairs options (number + 1) lines fault)) is
 
-pairs_within-bad : (options : PlanOptions) (number : ℕ) (bad : ConfigurationsFault) (lines : List NumberedLine) (fault : Option FileFault) → pairs_within options number (Err bad) lines fault ≡ ends (Err (Configurations bad))
+pairs_within-bad : (options : PlanOptions) (number : ℕ) (bad : PlanInputFault) (lines : List NumberedLine) (fault : Option FileFault) → pairs_within options number (Err bad) lines fault ≡ ends (Err (Configurations bad))
 pairs_within-bad options number bad [] fault = refl
 pairs_within-bad options number bad (second ∷ lines) fault = refl
 
@@ -103,7 +103,7 @@ plan_left-second options count number now target status after line kept is worse
     ∙ ap (λ outcome. record { text = pair_text options number now target ++ left.text; outcome = outcome }) (worse_of-twice status (plan_status options now target) after left.outcome worse)
 
 -- a line that names no configuration ends the output
-pub plan_left-bad : (options : PlanOptions) (count number : ℕ) (now : Option Configuration) (status : Status) (line : List ℕ) (bad : ConfigurationsFault) →
+pub plan_left-bad : (options : PlanOptions) (count number : ℕ) (now : Option Configuration) (status : Status) (line : List ℕ) (bad : PlanInputFault) →
     is_skipped line ≡ false → configuration_at (record { number = count + 1; text = line }) ≡ Err bad → (rest : Script (List ℕ)) →
     plan_left options count number now status (prepended (line ∷ []) rest) ≡ ends (Err (Configurations bad))
 plan_left-bad options count number None status line bad kept is rest =

@@ -8,7 +8,7 @@ use Rattle.dd_file.specs.declared.item.Item.{Item}
 use Rattle.conf_change.specs.Configuration.{Configuration}
 use Rattle.conf_change.specs.declared.step.Step.{Step}
 use Rattle.conf_session.specs.SessionState.{SessionState}
-use Rattle.conf_tool.specs.PlanScript.{restore_directive, usual_session, script_text}
+use Rattle.conf_tool.specs.PlanScript.{restore_directive, default_session, script_text}
 use Rattle.conf_tool.specs.Reports.{actual_for, session_after, answered_entries, answered_text}
 use Rattle.conf_tool.specs.UndoScript.{step_items}
 
@@ -22,7 +22,7 @@ items-written n a b old first mid new s after item items nothing begins is goes_
     (ends old (prefix ++ answered_text after items) (goes_on old prefix (begins old [] (nothing old))))
 
 -- in the session of a script, after the directive that restores the configuration
-pub script-written : (old new : Option (List ℕ)) (now : Configuration) (steps taken : List Step) (s : SessionState) (item : Item) → s ≡ usual_session → item ≡ restore_directive now → taken ≡ steps →
+pub script-written : (old new : Option (List ℕ)) (now : Configuration) (steps taken : List Step) (s : SessionState) (item : Item) → s ≡ default_session → item ≡ restore_directive now → taken ≡ steps →
     Appends old new (rewritten_text (answered_entries s (item ∷ step_items taken))) → Appends old new (script_text now steps)
 unfolding script_text
 script-written old new now steps taken s item session_is item_is steps_is wrote =

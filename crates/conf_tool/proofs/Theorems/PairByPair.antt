@@ -14,11 +14,11 @@ use Rattle.conf_tool.specs.Laws.{pair_before, named_pairs, pairs_in, texts_from,
 use Rattle.conf_tool.specs.Outputs.{separator, pair_text, pair_then, ends_within, planned_pairs, planned_output}
 use Rattle.conf_tool.specs.Pairs.{NumberedLine, numbered, configuration_lines, is_json, saved_in_json, at_line, at_json, configuration_at, both_of}
 use Rattle.conf_tool.specs.PlanAnswer.{plan_text_between}
-use Rattle.conf_tool.specs.declared.configurations_fault.ConfigurationsFault.{ConfigurationsFault}
+use Rattle.conf_tool.specs.declared.plan_input_fault.PlanInputFault.{PlanInputFault}
 use Rattle.conf_tool.specs.declared.plan_options.PlanOptions.{PlanOptions}
 
 abbrev Found : Type 0
-Found = Result Configuration ConfigurationsFault
+Found = Result Configuration PlanInputFault
 
 abbrev pub Pair : Type 0
 Pair = Configuration × Configuration
@@ -48,7 +48,7 @@ pub record AreValid (pair : Pair) : Type 0 where
   pub now : is_valid pair.0 ≡ true
   pub target : is_valid pair.1 ≡ true
 
-both-valid : (first second : NumberedLine) (a b : Found) (pair : Pair) → configuration_at first ≡ a → configuration_at second ≡ b → ◌≡◌ {A = Result Pair ConfigurationsFault} (both_of a b) (Ok pair) → AreValid pair
+both-valid : (first second : NumberedLine) (a b : Found) (pair : Pair) → configuration_at first ≡ a → configuration_at second ≡ b → ◌≡◌ {A = Result Pair PlanInputFault} (both_of a b) (Ok pair) → AreValid pair
 both-valid first second (Err bad) b pair is_a is_b e = let wrong : ⊥ = cc in absurd wrong
 both-valid first second (Ok now) (Err bad) pair is_a is_b e = let wrong : ⊥ = cc in absurd wrong
 both-valid first second (Ok now) (Ok target) pair is_a is_b e =
@@ -62,7 +62,7 @@ each-named R options holds number [] = tt
 each-named R options holds number (line ∷ []) = tt
 each-named R options holds number (first ∷ second ∷ lines) = by_pair (both_of (configuration_at first) (configuration_at second)) refl (each-named R options holds (number + 1) lines)
   where
-    by_pair : (read : Result Pair ConfigurationsFault) → both_of (configuration_at first) (configuration_at second) ≡ read →
+    by_pair : (read : Result Pair PlanInputFault) → both_of (configuration_at first) (configuration_at second) ≡ read →
         AllZip R (named_pairs lines) (texts_from options (number + 1) (named_pairs lines)) →
         AllZip R (pair_before read (named_pairs lines)) (texts_from options number (pair_before read (named_pairs lines)))
     by_pair (Err bad) is rest = tt
@@ -92,7 +92,7 @@ pairs-text options number [] (Some fault) some = refl
 pairs-text options number (line ∷ []) fault some = half-text (configuration_at line) fault
 pairs-text options number (first ∷ second ∷ lines) fault some = by_pair (both_of (configuration_at first) (configuration_at second)) (pairs-text options (number + 1) lines fault (omega (arith, some)))
   where
-    by_pair : (read : Result Pair ConfigurationsFault) →
+    by_pair : (read : Result Pair PlanInputFault) →
         (planned_pairs options (number + 1) lines fault).text ≡ suffix (separator options.output) (number + 1) (texts_from options (number + 1) (named_pairs lines)) →
         (pair_then options number read (planned_pairs options (number + 1) lines fault)).text ≡ suffix (separator options.output) number (texts_from options number (pair_before read (named_pairs lines)))
     by_pair (Err bad) rest = refl

@@ -10,7 +10,7 @@ use Rattle.conf_change.specs.declared.floor.Floor.TheVariants.{One}
 use Rattle.conf_change.specs.declared.step.Step.{Step}
 use Rattle.conf_session.proofs.Offered.{and-both, conf_state-in_lines, reply_line-bytes}
 use Rattle.conf_tool.specs.Laws.{PlanScriptClean}
-use Rattle.conf_tool.specs.PlanScript.{restore_command, restore_directive, script_items, usual_session, script_text}
+use Rattle.conf_tool.specs.PlanScript.{restore_command, restore_directive, script_items, default_session, script_text}
 use Rattle.conf_tool.proofs.Theorems.JoinedScript.{bytes-line, undo-given, undo-keys, undo-short}
 use Rattle.conf_tool.proofs.Theorems.RewrittenScript.{ActualIsValid, written-clean}
 
@@ -37,6 +37,6 @@ script-short now [] = refl
 script-short now (step ∷ steps) = undo-short (Ok (step ∷ steps))
 
 pub script-clean : WrittenScript → DirectiveIsWellFormed → ActualIsValid → PlanScriptClean
-unfolding script_text usual_session
+unfolding script_text default_session
 script-clean written given holds now steps fits =
     written-clean written holds 100 One (script_items now steps) (script-given given now steps) (script-keys now steps) (script-short now steps) fits

@@ -28,10 +28,10 @@ use Rattle.conf_change.specs.declared.floor.Floor.{Floor}
 use Rattle.conf_change.specs.declared.refused.Refused.{Refused}
 use Rattle.conf_change.specs.declared.step.Step.{Step}
 use Rattle.conf_change.specs.declared.step.Step.TheVariants.{Simple, EnterJoint, LeaveJoint}
-use Rattle.conf_plan.specs.PlanSteps.{HasTokenIds, IsPlan}
+use Rattle.conf_plan.specs.PlanSteps.{HasU64Ids, IsPlan}
 use Rattle.conf_plan.specs.PlanText.{change_text}
 use Rattle.conf_plan.specs.Run.{IsRun}
-use Rattle.conf_session.specs.Commands.{Answer, Row, answer, answered, after_answers, after_step, if_read, reply_of, row_of}
+use Rattle.conf_session.specs.Commands.{Answer, Row, answer, answered, after_answers, step_reply, if_read, reply_of, row_of}
 use Rattle.conf_session.specs.Input.{changes_read}
 use Rattle.conf_session.specs.Reply.{Reply, stepped}
 use Rattle.conf_session.specs.SessionState.{SessionState, IsSession, new_session, current, after_directive}
@@ -49,7 +49,7 @@ use Rattle.conf_tool.proofs.Theorems.RewrittenScript.{ActualIsValid}
 -- ---- the input of a step's directive is read as the step's changes
 -- the printed changes of a step are read as they are
 abbrev ChangesAreRead : Type 0
-ChangesAreRead = (step : Step) → HasTokenIds step → changes_in (join_with_byte 32 (map change_text (changes_of step))) ≡ Ok (changes_of step)
+ChangesAreRead = (step : Step) → HasU64Ids step → changes_in (join_with_byte 32 (map change_text (changes_of step))) ≡ Ok (changes_of step)
 
 abbrev input_of : List Change → List ℕ
 input_of changes = trimmed (text_of (change_lines changes))
@@ -114,30 +114,30 @@ reply_read row session arguments read =
 step-answer : (session : SessionState) (step : Step) (next : ChangerState) → changes_in (input_of (changes_of step)) ≡ Ok (changes_of step) → changer_after session.changer step ≡ Ok next
     → answer session (directive_for step) ≡ answered session (stepped next)
 step-answer session (Simple changes) next read made =
-    ap (λ (r : Read). answered session (reply_read (row_of (codes "simple")) session [] r)) read ∙ ap (λ (r : Made). answered session (after_step r)) made
+    ap (λ (r : Read). answered session (reply_read (row_of (codes "simple")) session [] r)) read ∙ ap (λ (r : Made). answered session (step_reply r)) made
 step-answer session (EnterJoint true changes) next read made =
     ap (λ (r : Read). answered session (reply_read (row_of (codes "enter-joint")) session (step_command (EnterJoint true changes)).arguments r)) read
-    ∙ ap (λ (r : Made). answered session (after_step r)) made
+    ∙ ap (λ (r : Made). answered session (step_reply r)) made
 step-answer session (EnterJoint false changes) next read made =
     ap (λ (r : Read). answered session (reply_read (row_of (codes "enter-joint")) session (step_command (EnterJoint false changes)).arguments r)) read
-    ∙ ap (λ (r : Made). answered session (after_step r)) made
-step-answer session LeaveJoint next read made = ap (λ (r : Made). answered session (after_step r)) made
+    ∙ ap (λ (r : Made). answered session (step_reply r)) made
+step-answer session LeaveJoint next read made = ap (λ (r : Made). answered session (step_reply r)) made
 
 -- ---- so it takes the steps of a run in turn
 record Comes (session : SessionState) (directives : List DirectiveText) (steps : List Step) (target : Configuration) : Type 0 where
   taken : TakesSteps session directives steps
   there : current (after_answers session directives) ≡ target
 
-run-comes : ChangesAreRead → (session : SessionState) (steps : List Step) (target : Configuration) → All HasTokenIds steps → IsRun (current session) steps target
+run-comes : ChangesAreRead → (session : SessionState) (steps : List Step) (target : Configuration) → All HasU64Ids steps → IsRun (current session) steps target
     → Comes session (map directive_for steps) steps target
 run-comes read session [] target small run = record { taken = tt; there = run }
 run-comes read session (step ∷ steps) target small run =
     let next = moved_to session.changer step run.0 in
     let made : changer_after session.changer step ≡ Ok next = ap (moved_by session.changer step) run.1 in
     let accepts : Accepts session.changer step next = record { configuration = run.1; whole = refl } in
-    let answers = step-answer session step next (changes-of_input (changes_of step) (read step (All-head HasTokenIds step steps small))) made in
+    let answers = step-answer session step next (changes-of_input (changes_of step) (read step (All-head HasU64Ids step steps small))) made in
     let after = ap (λ (a : Answer). a.session) answers in
-    let rest = run-comes read (after_directive session (stepped next).effect) steps target (All-tail HasTokenIds step steps small) run.2 in
+    let rest = run-comes read (after_directive session (stepped next).effect) steps target (All-tail HasU64Ids step steps small) run.2 in
     let Rest : SessionState → Type 0 = λ s. Comes s (map directive_for steps) steps target in
     let moved = subst Rest (sym after) rest in
     record { taken = ((next, accepts, answers), moved.taken); there = moved.there }
@@ -204,7 +204,7 @@ undo_of-session : WrittenScript → DirectiveIsWellFormed → ActualIsValid → 
     length (rewritten_text (answered_entries session (undo_items (Ok steps)))) ≤ longest_input → LeadsBackBy session count steps (script_of (rewritten_text (answered_entries session (undo_items (Ok steps)))))
 undo_of-session written given holds changes session count steps back plan fits =
     let read = undo-read written given holds session (Ok steps) fits in
-    let comes = run-comes changes session steps back.older plan.token_ids back.run in
+    let comes = run-comes changes session steps back.older plan.u64_ids back.run in
     let again = undo-again session steps _ read.1 comes.taken in
     record { whole = read.0; taken = again.taken; back = back.is_kept ∙ ap Some (sym (ap current again.after ∙ comes.there)) }
 

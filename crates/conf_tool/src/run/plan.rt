@@ -21,8 +21,8 @@ ghost use Rattle.conf_tool.specs.Run.{IsAnswerFault, is_write_failure};
 ghost use Rattle.conf_tool.specs.declared.tool_fault.ToolFault.TheVariants.{NoMemory as OutOfMemory};
 
 use super::part_by_part::PartByPart;
-use crate::configurations_fault::ConfigurationsFault;
 use crate::plan_answer::plan_answer;
+use crate::plan_input_fault::PlanInputFault;
 use crate::plan_line::{configuration_at, is_skipped};
 use crate::plan_options::{PlanOptions, PlanOutput};
 use crate::status::Status;
@@ -175,7 +175,7 @@ impl PartByPart<Line> for Planning {
             return Err(ToolFault::Script(fault));
         }
         if self.now.is_some() || self.pair <= 1 {
-            return Err(ToolFault::Configurations(ConfigurationsFault::NotTwoLines));
+            return Err(ToolFault::Configurations(PlanInputFault::NotTwoLines));
         }
         Ok(self.status)
     }

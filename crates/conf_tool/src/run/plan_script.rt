@@ -26,7 +26,7 @@ pub(crate) fn script_text(
 ) -> Result<Vec<u8>, NoMemory>
     ensures { IfOk result (λ text. text.items ≡ spec.script_text now.now path.now) }
 {
-    let mut session = usual_session(alloc)?;
+    let mut session = default_session(alloc)?;
     text_in(alloc, &mut session, now, path)
 }
 
@@ -37,7 +37,7 @@ fn text_in(
     now: &Config<SessionIds>,
     path: &Path,
 ) -> Result<Vec<u8>, NoMemory>
-    requires { session.old ≡ spec.usual_session }
+    requires { session.old ≡ spec.default_session }
     ensures { IfOk result (λ text. text.items ≡ spec.script_text now.now path.now) }
 {
     let restore = restore_directive(alloc, now)?;
@@ -66,8 +66,8 @@ fn write_script<W: Sink>(
 }
 
 // A new session, with the options that `check` has by default.
-fn usual_session(alloc: Global) -> Result<Session, NoMemory>
-    ensures { IfOk result (λ session. session ≡ spec.usual_session) }
+fn default_session(alloc: Global) -> Result<Session, NoMemory>
+    ensures { IfOk result (λ session. session ≡ spec.default_session) }
 {
     Session::with_floor(alloc, 100, Floor::One)
 }

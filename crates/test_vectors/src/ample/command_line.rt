@@ -272,7 +272,7 @@ fn have_floor(rt: &impl Runtime, arguments: &[&str], floor: Floor) -> bool {
 }
 
 #[test]
-fn accepts_floors(rt: HostRuntime) {
+fn accepts_initial_next_indexes(rt: HostRuntime) {
     for (arguments, floor) in &FLOORS {
         assert!(rt; have_floor(&rt, *arguments, *floor), "of {arguments:?}");
     }

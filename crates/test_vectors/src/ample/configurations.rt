@@ -93,20 +93,26 @@ static OTHERS: [(Sets, bool); 5] = [
     (ONE, false),
 ];
 
-// Whether a configuration equals another, compared in either direction.
-fn is_same(rt: &impl Runtime, config: &Config<TreeIds>, sets: Sets, auto_leave: bool) -> bool {
+// Whether a configuration equals one of these sets and this flag, compared in both directions; `None` if these disagree.
+fn is_same(
+    rt: &impl Runtime,
+    config: &Config<TreeIds>,
+    sets: Sets,
+    auto_leave: bool,
+) -> Option<bool> {
     let other = config_of(rt, sets, auto_leave);
-    config.same(&other) | other.same(config)
+    let answer = config.same(&other);
+    (answer == other.same(config)).then_some(answer)
 }
 
 // Whether a configuration equals one that is made in the same way, and none of the others.
 fn equals_only_itself(rt: &impl Runtime) -> bool {
     let config = config_of(rt, ONE, true);
-    let mut is_other = false;
+    let mut is_so = is_same(rt, &config, ONE, true) == Some(true);
     for (sets, auto_leave) in &OTHERS {
-        is_other |= is_same(rt, &config, *sets, *auto_leave);
+        is_so &= is_same(rt, &config, *sets, *auto_leave) == Some(false);
     }
-    !is_other & is_same(rt, &config, ONE, true)
+    is_so
 }
 
 #[test]

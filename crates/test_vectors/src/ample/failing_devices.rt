@@ -95,11 +95,11 @@ fn stop(rt: &impl Runtime, cases: &[Case]) {
 }
 
 #[test]
-fn modes(rt: HostRuntime) {
+fn each_mode_fails_at_each_byte(rt: HostRuntime) {
     stop(&rt, &MODES);
 }
 
 #[test]
-fn options_of_plan(rt: HostRuntime) {
+fn plan_fails_at_each_byte(rt: HostRuntime) {
     stop(&rt, &PLANNED);
 }

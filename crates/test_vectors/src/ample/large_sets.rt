@@ -63,21 +63,21 @@ fn keeps_half<S: MemberSet>(rt: &impl Runtime, count: u64) -> bool
 }
 
 #[test]
-fn inline_ids(rt: HostRuntime) {
+fn large_inline_sets(rt: HostRuntime) {
     for count in [8, 9, 10_000] {
         assert!(rt; keeps_half::<InlineIds>(&rt, count), "{count}");
     }
 }
 
 #[test]
-fn tree_ids(rt: HostRuntime) {
+fn large_tree_sets(rt: HostRuntime) {
     for count in [8, 9, 10_000] {
         assert!(rt; keeps_half::<TreeIds>(&rt, count), "{count}");
     }
 }
 
 #[test]
-fn differences(rt: HostRuntime) {
+fn counts_differences(rt: HostRuntime) {
     let few: InlineIds = evens(&rt, 9);
     let many: InlineIds = evens(&rt, 10_000);
     assert!(rt;
@@ -162,6 +162,6 @@ fn changes_all(rt: &impl Runtime) -> bool {
 }
 
 #[test]
-fn a_list_of_10_000_changes(rt: HostRuntime) {
+fn applies_10_000_changes(rt: HostRuntime) {
     assert!(rt; changes_all(&rt));
 }

@@ -6,7 +6,7 @@ use conf_change::{
 };
 use conf_plan::{NoPath, PlanFault, PlanTextFault, StepRefused};
 use conf_session::UndoFault;
-use conf_tool::{ConfigurationsFault, ToolFault};
+use conf_tool::{PlanInputFault, ToolFault};
 use dd_file::fault::{DeviceFault, FileFault, WriteFault};
 use quorum_sets::NoMemory;
 use std::fmt::Display;
@@ -77,7 +77,7 @@ static INVARIANTS: [(Invariant, &str); 6] = [
 ];
 
 #[test]
-fn sets_and_changes(rt: HostRuntime) {
+fn messages_of_changes(rt: HostRuntime) {
     assert!(rt;
         have_texts(&rt, &[(NoMemory, NO_MEMORY)])
             & have_texts(&rt, &REFUSALS)
@@ -134,7 +134,7 @@ static VIOLATIONS: [(Violation, &str); 7] = [
 ];
 
 #[test]
-fn texts_of_changes(rt: HostRuntime) {
+fn messages_of_change_texts(rt: HostRuntime) {
     assert!(rt;
         have_texts(&rt, &TOKENS)
             & have_texts(&rt, &LINES)
@@ -195,7 +195,7 @@ static PLAN_TEXTS: [(PlanTextFault, &str); 4] = [
 ];
 
 #[test]
-fn plans(rt: HostRuntime) {
+fn messages_of_plans(rt: HostRuntime) {
     assert!(rt;
         have_texts(&rt, &NO_PLANS)
             & have_texts(&rt, &NO_PATHS)
@@ -221,7 +221,7 @@ static FILES: [(FileFault, &str); 7] = [
 ];
 
 #[test]
-fn files(rt: HostRuntime) {
+fn messages_of_files(rt: HostRuntime) {
     assert!(rt;
         have_texts(&rt, &FILES)
             & have_texts(&rt, &[(DeviceFault, "device fault")])
@@ -237,24 +237,24 @@ const BAD_JSON: &str =
     "line 3: bad JSON: expected {\"voters\":[1,2],\"voters_outgoing\":[],\"learners\":[3],\"learners_next\":[],\
     \"auto_leave\":false}";
 
-static CONFIGURATIONS: [(ConfigurationsFault, &str); 5] = [
-    (ConfigurationsFault::BadJson(3), BAD_JSON),
+static CONFIGURATIONS: [(PlanInputFault, &str); 5] = [
+    (PlanInputFault::BadJson(3), BAD_JSON),
     (
-        ConfigurationsFault::BadLine(1, ConfigurationFault::BadConfState),
+        PlanInputFault::BadLine(1, ConfigurationFault::BadConfState),
         BAD_LINE,
     ),
     (
-        ConfigurationsFault::BadLine(
+        PlanInputFault::BadLine(
             2,
             ConfigurationFault::NotAConfiguration(Violation::LearnerAndVoter(3)),
         ),
         "line 2: not a configuration: 3 is a voter and a learner",
     ),
     (
-        ConfigurationsFault::BadLine(2, ConfigurationFault::NoMemory),
+        PlanInputFault::BadLine(2, ConfigurationFault::NoMemory),
         "line 2: out of memory",
     ),
-    (ConfigurationsFault::NotTwoLines, "expected two lines"),
+    (PlanInputFault::NotTwoLines, "expected two lines"),
 ];
 
 static RUNS: [(ToolFault, &str); 7] = [
@@ -267,14 +267,14 @@ static RUNS: [(ToolFault, &str); 7] = [
         "line 2: bad directive",
     ),
     (
-        ToolFault::Configurations(ConfigurationsFault::BadLine(
+        ToolFault::Configurations(PlanInputFault::BadLine(
             2,
             ConfigurationFault::NotAConfiguration(Violation::ZeroId),
         )),
         "line 2: not a configuration: 0 is not an id",
     ),
     (
-        ToolFault::Configurations(ConfigurationsFault::NotTwoLines),
+        ToolFault::Configurations(PlanInputFault::NotTwoLines),
         "expected two lines",
     ),
     (ToolFault::Read, "cannot read"),
@@ -299,7 +299,7 @@ static UNDONE: [(UndoFault, &str); 4] = [
 ];
 
 #[test]
-fn sessions_and_runs(rt: HostRuntime) {
+fn messages_of_sessions_and_runs(rt: HostRuntime) {
     assert!(rt;
         have_texts(&rt, &UNDONE) & have_texts(&rt, &CONFIGURATIONS) & have_texts(&rt, &RUNS)
     );

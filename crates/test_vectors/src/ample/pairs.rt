@@ -290,7 +290,7 @@ fn are_pairs(rt: &impl Runtime, graph: &Graph, from: usize, now: &Config<TreeIds
 }
 
 #[test]
-fn pairs_of_configurations(rt: HostRuntime) {
+fn paths_have_the_fewest_steps(rt: HostRuntime) {
     let graph = graph_of_all(&rt);
     for (code, now) in graph.configs.iter().enumerate() {
         if check(now).is_ok() && now.incoming.len() != 0 {

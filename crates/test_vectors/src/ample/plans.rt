@@ -180,7 +180,7 @@ fn is_without_path(
 }
 
 #[test]
-fn without_a_path(rt: HostRuntime) {
+fn reports_why_there_is_no_path(rt: HostRuntime) {
     for (row, (strategy, now, target, expected)) in NO_PATHS.iter().enumerate() {
         assert!(rt;
             is_without_path(&rt, *strategy, *now, *target, *expected),

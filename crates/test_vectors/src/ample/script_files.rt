@@ -58,7 +58,7 @@ static LINES: [(&str, &str); 6] = [
 ];
 
 #[test]
-fn gives_lines(rt: HostRuntime) {
+fn reads_lines(rt: HostRuntime) {
     for (input, expected) in &LINES {
         let shown = lines_of(&rt, *input);
         assert!(rt; shown.as_slice() == expected.as_bytes(), "at {input}");
@@ -130,7 +130,7 @@ static VALUES: [(&str, &str); 8] = [
 ];
 
 #[test]
-fn walks_values(rt: HostRuntime) {
+fn reads_values(rt: HostRuntime) {
     for (line, expected) in &VALUES {
         let shown = values_of(&rt, *line);
         assert!(rt; shown.as_slice() == expected.as_bytes(), "at {line}");

@@ -12,7 +12,7 @@ pub(crate) fn set_of(rt: &impl Runtime, ids: &[u64]) -> TreeIds {
 }
 
 #[test]
-fn majorities(rt: HostRuntime) {
+fn computes_majorities(rt: HostRuntime) {
     for (n, majority) in [(0, 1), (1, 1), (2, 2), (3, 2), (4, 3)] {
         assert!(rt; quorum(n) == majority, "of {n}");
     }
@@ -28,7 +28,7 @@ static QUORUMS: [(&[u64], &[u64], &[u64], bool); 5] = [
 ];
 
 #[test]
-fn quorums(rt: HostRuntime) {
+fn decides_quorums(rt: HostRuntime) {
     for (index, (incoming, outgoing, ids, expected)) in QUORUMS.iter().enumerate() {
         let incoming = set_of(&rt, *incoming);
         let outgoing = set_of(&rt, *outgoing);
@@ -54,7 +54,7 @@ static TOLERATED: [(&[u64], &[u64], &[u64], Option<usize>); 9] = [
 ];
 
 #[test]
-fn failures_that_are_tolerated(rt: HostRuntime) {
+fn counts_tolerated_failures(rt: HostRuntime) {
     for (index, (incoming, outgoing, uncounted, expected)) in TOLERATED.iter().enumerate() {
         let incoming = set_of(&rt, *incoming);
         let outgoing = set_of(&rt, *outgoing);
@@ -121,7 +121,7 @@ fn shared_member(rt: &impl Runtime, row: &Sharing) -> Option<u64> {
 }
 
 #[test]
-fn common_members(rt: HostRuntime) {
+fn finds_common_members(rt: HostRuntime) {
     for (number, row) in SHARED.iter().enumerate() {
         assert!(rt; shared_member(&rt, row) == row.least, "row {number}");
     }
@@ -132,7 +132,7 @@ fn acks_of(rt: &impl Runtime, entries: &[(u64, u64)]) -> BTreeMap<u64, u64> {
 }
 
 #[test]
-fn acknowledgements(rt: HostRuntime) {
+fn commits_what_a_majority_acknowledged(rt: HostRuntime) {
     let acks = acks_of(&rt, &[(1, 5), (3, 0)]);
     for (id, index) in [(1, Some(5)), (2, None), (3, Some(0))] {
         assert!(rt; acks.acked(id) == index, "of {id}");
@@ -152,7 +152,7 @@ static LOOKED_UP: [(u64, bool); 8] = [
 ];
 
 #[test]
-fn looked_up_in_a_walk(rt: HostRuntime) {
+fn looks_up_ascending_ids(rt: HostRuntime) {
     let set = set_of(&rt, &[2, 4, 9]);
     let mut index = 0;
     for (id, there) in &LOOKED_UP {

@@ -1,5 +1,5 @@
 use Rattle.conf_plan.specs.Planned.{single_with}
-use Rattle.conf_plan.specs.Walking.{IsStanding}
+use Rattle.conf_plan.specs.Walking.{IsAt}
 use Rattle.conf_plan.proofs.FindingMoves.FourSetWalk.{IsWalked, left_of_four}
 use Rattle.conf_plan.proofs.moves.moves_to.Given as goal
 
@@ -7,10 +7,10 @@ abbrev pub invariant-loop-id : goal.invariant-loop-id
 invariant-loop-id g l = record {
   walked : IsWalked (single_with (g.S.MemberSet.ids l.incoming) (g.S.MemberSet.ids l.learners)) (g.S.MemberSet.ids l.to_voters) (g.S.MemberSet.ids l.to_learners)
       l.voter_walk.index l.learner_walk.index l.to_voter_walk.index l.to_learner_walk.index l.changes.items;
-  to_voter : IsStanding (g.S.MemberSet.ids l.to_voters) l.to_voter_walk.index l.to_voter_walk.next;
-  to_learner : IsStanding (g.S.MemberSet.ids l.to_learners) l.to_learner_walk.index l.to_learner_walk.next;
-  voter : IsStanding (g.S.MemberSet.ids l.incoming) l.voter_walk.index l.voter_walk.next;
-  learner : IsStanding (g.S.MemberSet.ids l.learners) l.learner_walk.index l.learner_walk.next;
+  to_voter : IsAt (g.S.MemberSet.ids l.to_voters) l.to_voter_walk.index l.to_voter_walk.next;
+  to_learner : IsAt (g.S.MemberSet.ids l.to_learners) l.to_learner_walk.index l.to_learner_walk.next;
+  voter : IsAt (g.S.MemberSet.ids l.incoming) l.voter_walk.index l.voter_walk.next;
+  learner : IsAt (g.S.MemberSet.ids l.learners) l.learner_walk.index l.learner_walk.next;
 }
 
 abbrev pub decreases-loop-id : goal.decreases-loop-id

@@ -13,5 +13,5 @@ returns c =
     let outgoing = c.args.outgoing.now in
     let once : names_once ids ≡ true = sym c.in_ok-names_once.ensures ∙ c.if-not-branch.false in
     let good = sym c.are_votes.ensures ∙ c.if-not-are_votes.false in
-    c.done.ensures ∙ ap done (c.vote_number.ensures ∙ ap vote_number (c.in_ok-result.ensures ∙ ap (λ truths. joint_vote_result (voters_of_lists incoming outgoing) (known ids truths)) (c.as_slice.ensures.value ∙ c.in_ok-yes.ensures)))
+    c.done.ensures ∙ ap done (c.vote_number.ensures ∙ ap vote_number (c.in_ok-result.ensures ∙ ap (λ yes_votes. joint_vote_result (voters_of_lists incoming outgoing) (known ids yes_votes)) (c.as_slice.ensures.value ∙ c.in_ok-yes.ensures)))
     ∙ vote_answer-good incoming outgoing ids c.args.votes.now c.if-ids-votes.false once good

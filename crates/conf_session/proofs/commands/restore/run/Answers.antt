@@ -1,6 +1,6 @@
 use Rattle.std.proofs.Common.{◌≡◌, List, ℕ, sym, ap, ◌∙◌}
 use Rattle.conf_change.specs.Changer.{begun_with}
-use Rattle.conf_session.specs.Commands.{after_restored}
+use Rattle.conf_session.specs.Commands.{restore_reply}
 use Rattle.conf_session.specs.Reply.{Reply, reply_in, restored_with}
 use Rattle.conf_session.specs.ReplyTexts.{tracker_text}
 use Rattle.conf_session.specs.SessionState.{Restored}
@@ -16,4 +16,4 @@ returns-in_ok-tracker_lines-in-Ok c =
     is.described config is.restored is.sound.restorable ∙ (λ i. begun_with (c.floor.ensures i) (c.last_index.ensures i) config) in
     let reply : List ℕ → Reply = λ actual. record { actual = actual; update = Restored after } in
     ap (reply_in changer after) c.new.ensures ∙ ap reply (c.in_ok-tracker_lines-in-Ok.ensures ∙ ap tracker_text c.tracker.ensures.tracker)
-    ∙ ap restored_with begun ∙ sym (ap (after_restored changer) is.as_function)
+    ∙ ap restored_with begun ∙ sym (ap (restore_reply changer) is.as_function)

@@ -4,7 +4,7 @@ use thiserror::Error;
 
 /// Why an input is not pairs of configurations.
 #[derive(Clone, Copy, Debug, PartialEq, Eq, Error)]
-pub enum ConfigurationsFault {
+pub enum PlanInputFault {
     /// The line with this number, counted from 1, is not a valid configuration.
     #[error("line {0}: {1}")]
     BadLine(usize, ConfigurationFault),

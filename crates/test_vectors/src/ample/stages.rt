@@ -1,0 +1,56 @@
+//! The stages of a path.
+use crate::ample::configurations::{Sets, config_of};
+use crate::ample::runtime::Runtime;
+use crate::ample::sets_and_quorums::set_of;
+use conf_change::{Changer, conf_state};
+use conf_plan::{Strategy, plan_by};
+use plan_output::{Stage, stages};
+use quorum_sets::{TreeIds, symdiff};
+
+// The configuration of a stage, who has to catch up, how many ids may be down, and how many until then, and whether it
+// commits with 3 down.
+type Row = (Sets, &'static [u64], Option<usize>, Option<usize>, bool);
+
+const NOW: Sets = [&[1, 2, 3], &[], &[], &[]];
+
+const JOINT: Sets = [&[3, 4, 5], &[1, 2, 3], &[], &[]];
+
+const TARGET: Sets = [&[3, 4, 5], &[], &[], &[]];
+
+// The stages of the shortest path.
+static ROWS: [Row; 3] = [
+    (NOW, &[], Some(1), Some(1), true),
+    (JOINT, &[4, 5], Some(1), None, false),
+    (TARGET, &[], Some(1), Some(1), true),
+];
+
+fn is_stage(rt: &impl Runtime, stage: &Stage<TreeIds>, row: &Row) -> bool {
+    let (sets, catching_up, may_be_down, until_then, commits) = row;
+    stage.config().same(&config_of(rt, *sets, false))
+        & (symdiff(stage.catching_up(), &set_of(rt, *catching_up)) == 0)
+        & (stage.may_be_down() == *may_be_down)
+        & (stage.until_then() == *until_then)
+        & (stage.commits(&set_of(rt, &[3])) == Ok(*commits))
+}
+
+#[test]
+fn has_the_stages_of_a_path(rt: HostRuntime) {
+    let state = conf_state(rt.alloc(), &config_of(&rt, NOW, false)).expect(&rt, "a ConfState");
+    let changer: Changer<TreeIds> = Changer::restore(rt.alloc(), &state, 0).expect(
+        &rt,
+        "a changer",
+    );
+    let now = changer.tracker().config();
+    let path = plan_by(
+        rt.alloc(),
+        now,
+        &config_of(&rt, TARGET, false),
+        Strategy::Shortest,
+    );
+    let path = path.expect(&rt, "a path");
+    let stages = stages(rt.alloc(), now, &path).expect(&rt, "the stages");
+    assert!(rt; stages.len() == ROWS.len());
+    for (index, (stage, row)) in stages.iter().zip(&ROWS).enumerate() {
+        assert!(rt; is_stage(&rt, stage, row), "stage {index}");
+    }
+}
