@@ -6,14 +6,14 @@ use Rattle.std.specs.Str.{all_ascii_digits}
 use Rattle.std.specs.Str.Parse.{AllDigits, digits_value}
 use Rattle.std.proofs.lemmas.Bool.{lt-ltb, ltb-true, le-leb, leb-true, and_parts, and_from, true≢false}
 use Rattle.std.proofs.lemmas.Option.{cond_some}
-use Rattle.std.proofs.lemmas.Str.Parse.{IsNumeralModel, numerals_by_value, digits-decide, all_ascii_digits-decide, digits_value_short, digits_value-take-le, digit_at}
+use Rattle.std.proofs.lemmas.Str.Parse.{IsNumeralModel, numerals_by_value, tells_digits, tells_all_ascii_digits, digits_value_short, digits_value-take-le, digit_at}
 use Rattle.std.proofs.lemmas.Int.Digits.{digits_value_more}
 use Rattle.std.proofs.lemmas.Str.{digit_value_digit}
 use Rattle.ascii_text.specs.Tokens.{has_bytes}
 use Rattle.ascii_text.specs.Number.{ParsesToNumber, number_in}
 
 model : IsNumeralModel (λ ds. all_ascii_digits ds ≡ true) (digits_value 10)
-model = numerals_by_value _ all_ascii_digits-decide
+model = numerals_by_value _ tells_all_ascii_digits
 
 pub number_in-ok : (digits : List ℕ) (number : ℕ) → ParsesToNumber digits number → number_in digits ≡ Some number
 number_in-ok digits number h =
@@ -60,7 +60,7 @@ digit_value-lt byte digit = let range = IsInRange-digit byte digit in omega (ari
 
 -- few digits spell a small number
 pub digits_value-few : (digits : List ℕ) (k : ℕ) → AllDigits 10 digits → length digits ≤ k → digits_value 10 digits < 10 ^ k
-digits_value-few = digits_value_short (numerals_by_value _ digits-decide)
+digits_value-few = digits_value_short (numerals_by_value _ tells_digits)
 
 -- one digit more
 pub digits_value-take_more : (digits : List ℕ) (i : ℕ) → i < length digits → is_ascii_digit (get_or digits i 0) ≡ true → digits_value 10 (take (i + 1) digits) ≡ digits_value 10 (take i digits) * 10 + (get_or digits i 0 - 48)
