@@ -19,9 +19,9 @@ func TestNumbers(t *testing.T) {
 	for _, strategy := range strategies {
 		for i := 0; i < 100; i++ {
 			p := pair(chance, strategy)
-			down := some(chance, append(members(p.now), members(p.target)...), 3)
-			if len(down) == 0 {
-				continue
+			var down []uint64
+			for len(down) == 0 {
+				down = some(chance, append(members(p.now), members(p.target)...), 3)
 			}
 			status := askPlans(t, strategy, []*plan{p}, "--down", list(down))
 			t.Run(fmt.Sprint(strategy, " ", i), func(t *testing.T) {
