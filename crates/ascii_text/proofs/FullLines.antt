@@ -2,7 +2,7 @@
 use Rattle.std.proofs.Common.{◌≡◌, ℕ, suc, ◌+◌, ◌≤◌, ◌<◌, Bool, true, false, cond, List, [], ◌∷◌, ◌++◌, length, take, drop, refl, sym, ◌∙◌, ap, arith, rules}
 use Rattle.std.specs.Prelude.{◌==◌}
 use Rattle.std.proofs.lemmas.List.{append_assoc, length-take}
-use Rattle.ascii_text.specs.Lines.{newline, first_len, full_lines, before_first_line, is_whole}
+use Rattle.ascii_text.specs.Lines.{newline, first_len, full_lines, before_first_line, ends_in_newline}
 
 -- there is one where there are bytes
 pub first_len-positive : (b : ℕ) (bytes : List ℕ) → 0 < first_len (b ∷ bytes)
@@ -47,10 +47,10 @@ first_len-some [] h = absurd (omega (arith, h))
 first_len-some (b ∷ bytes) h = first_len-positive b bytes
 
 -- bytes with one more at their end
-pub is_whole-append : (x : ℕ) (xs : List ℕ) → is_whole (xs ++ x ∷ []) ≡ (x == 10)
-is_whole-append x [] = refl
-is_whole-append x (y ∷ []) = refl
-is_whole-append x (y ∷ z ∷ xs) = is_whole-append x (z ∷ xs)
+pub ends_in_newline-append : (x : ℕ) (xs : List ℕ) → ends_in_newline (xs ++ x ∷ []) ≡ (x == 10)
+ends_in_newline-append x [] = refl
+ends_in_newline-append x (y ∷ []) = refl
+ends_in_newline-append x (y ∷ z ∷ xs) = ends_in_newline-append x (z ∷ xs)
 
 -- one full line, and more after it
 one-more : (c : Bool) (n : ℕ) → c ≡ false → cond c 1 (suc n) ≡ 1 + n
@@ -65,7 +65,7 @@ pub cond-shorter : (c : Bool) (n k : ℕ) → c ≡ false → cond c 1 (suc n) �
 cond-shorter true n k f e = cc
 cond-shorter false n k f e = omega (arith, e)
 
-pub first_len-append : (xs ys : List ℕ) → first_len xs ≡ length xs → is_whole xs ≡ false → first_len (xs ++ ys) ≡ length xs + first_len ys
+pub first_len-append : (xs ys : List ℕ) → first_len xs ≡ length xs → ends_in_newline xs ≡ false → first_len (xs ++ ys) ≡ length xs + first_len ys
 first_len-append [] ys e h = omega arith
 first_len-append (b ∷ []) ys e h = one-more (b == 10) (first_len ys) h
 first_len-append (b ∷ c ∷ xs) ys e h =
@@ -87,11 +87,11 @@ pub length-first : (bytes : List ℕ) → length (take (first_len bytes) bytes) 
 length-first bytes = let h = first_len-bound bytes in simp length-take (omega (arith, h))
 
 -- bytes that go on without a newline have no byte after them
-rest-step : (c : Bool) (b : ℕ) (part bytes : List ℕ) → (b == 10) ≡ c → (is_whole ((part ++ b ∷ []) ++ take (first_len bytes) bytes) ≡ false → drop (first_len bytes) bytes ≡ []) →
-    is_whole (part ++ take (cond c 1 (suc (first_len bytes))) (b ∷ bytes)) ≡ false → drop (cond c 1 (suc (first_len bytes))) (b ∷ bytes) ≡ []
-rest-step true b part bytes e ih h = let bad : true ≡ false = sym e ∙ sym (is_whole-append b part) ∙ h in cc
-rest-step false b part bytes e ih h = ih (ap is_whole (append_assoc part (b ∷ []) (take (first_len bytes) bytes)) ∙ h)
+rest-step : (c : Bool) (b : ℕ) (part bytes : List ℕ) → (b == 10) ≡ c → (ends_in_newline ((part ++ b ∷ []) ++ take (first_len bytes) bytes) ≡ false → drop (first_len bytes) bytes ≡ []) →
+    ends_in_newline (part ++ take (cond c 1 (suc (first_len bytes))) (b ∷ bytes)) ≡ false → drop (cond c 1 (suc (first_len bytes))) (b ∷ bytes) ≡ []
+rest-step true b part bytes e ih h = let bad : true ≡ false = sym e ∙ sym (ends_in_newline-append b part) ∙ h in cc
+rest-step false b part bytes e ih h = ih (ap ends_in_newline (append_assoc part (b ∷ []) (take (first_len bytes) bytes)) ∙ h)
 
-pub unfinished-rest : (part rest : List ℕ) → is_whole (part ++ take (first_len rest) rest) ≡ false → drop (first_len rest) rest ≡ []
+pub unfinished-rest : (part rest : List ℕ) → ends_in_newline (part ++ take (first_len rest) rest) ≡ false → drop (first_len rest) rest ≡ []
 unfinished-rest part [] h = refl
 unfinished-rest part (b ∷ bytes) h = rest-step (b == 10) b part bytes refl (unfinished-rest (part ++ b ∷ []) bytes) h

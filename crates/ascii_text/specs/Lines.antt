@@ -39,7 +39,7 @@ abbrev pub text_of : List (List ℕ) → List ℕ
 text_of lines = flat_map (λ line. line ++ newline) lines
 
 -- whether a full line has its newline
-abbrev pub is_whole : List ℕ → Bool
-is_whole [] = false
-is_whole (b ∷ []) = b == 10
-is_whole (b ∷ c ∷ full_line) = is_whole (c ∷ full_line)
+abbrev pub ends_in_newline : List ℕ → Bool
+ends_in_newline [] = false
+ends_in_newline (b ∷ []) = b == 10
+ends_in_newline (b ∷ c ∷ full_line) = ends_in_newline (c ∷ full_line)

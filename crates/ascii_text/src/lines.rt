@@ -1,7 +1,7 @@
 //! The lines of a text. A full line is a line with its newline; the last line of a text may have none. `"a\r\nb"` has
 //! the full lines `"a\r\n"` and `"b"`, and the lines `"a"` and `"b"`.
 ghost use Rattle.std.specs.Prelude.{◌≡◌, ◌≤◌, ◌<◌, [], ◌∷◌, length, IfSome, MatchOption};
-ghost use Rattle.ascii_text.specs.Lines.{first_len, full_lines, without_last, line_of, is_whole};
+ghost use Rattle.ascii_text.specs.Lines.{first_len, full_lines, without_last, line_of, ends_in_newline};
 
 use memchr::memchr;
 
@@ -47,8 +47,8 @@ pub fn line_of(full_line: &[u8]) -> &[u8]
 }
 
 /// Whether the bytes end in a newline. A line that is read in parts is complete after the first part that does.
-pub fn is_whole(bytes: &[u8]) -> bool
-    ensures { result ≡ is_whole bytes.now }
+pub fn ends_in_newline(bytes: &[u8]) -> bool
+    ensures { result ≡ ends_in_newline bytes.now }
 {
     match bytes.split_last() {
         Some((last, _)) => *last == b'\n',

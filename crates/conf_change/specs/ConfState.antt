@@ -65,9 +65,13 @@ named_by saved = record {
   auto_leave = saved.auto_leave;
 }
 
+-- no list names an id twice
+abbrev pub names_each_once : ConfStateLists → Bool
+names_each_once saved = names_once saved.voters && names_once saved.voters_outgoing && names_once saved.learners && names_once saved.learners_next
+
 -- the configuration to which a ConfState is restored, if no list names an id twice and the configuration can be
 -- restored
 abbrev pub restored : ConfStateLists → Option Configuration
 restored saved =
-    if names_once saved.voters && names_once saved.voters_outgoing && names_once saved.learners && names_once saved.learners_next && is_restorable (named_by saved)
+    if names_each_once saved && is_restorable (named_by saved)
     then Some (named_by saved) else None

@@ -1,11 +1,7 @@
 -- The configuration that a ConfState describes, valid or not.
-use Rattle.std.specs.Prelude.{Bool, ◌&&◌, Option, Some, None, if◌then◌else◌}
+use Rattle.std.specs.Prelude.{Option, Some, None, if◌then◌else◌}
 use Rattle.conf_change.specs.Configuration.{Configuration}
-use Rattle.conf_change.specs.ConfState.{ConfStateLists, names_once, named_by}
-
--- no list names an id twice
-abbrev pub names_each_once : ConfStateLists → Bool
-names_each_once saved = names_once saved.voters && names_once saved.voters_outgoing && names_once saved.learners && names_once saved.learners_next
+use Rattle.conf_change.specs.ConfState.{ConfStateLists, names_each_once, named_by}
 
 -- the configuration whose sets have the ids of the lists, if no list names an id twice
 abbrev pub described : ConfStateLists → Option Configuration

@@ -10,7 +10,7 @@ ghost use Rattle.conf_change.specs.Configuration.{empty_configuration, first_bro
 ghost use Rattle.conf_change.specs.Outcome.{after_leave};
 ghost use Rattle.conf_change.specs.declared.config.Invariant.{Invariant};
 
-use quorum_sets::{MemberSet, NoMemory, has_next, symdiff, union};
+use quorum_sets::{MemberSet, NoMemory, contains_from, symdiff, union};
 use std::alloc::Global;
 use std::marker::Model;
 use thiserror::Error;
@@ -190,7 +190,7 @@ fn holds_zero<S: MemberSet>(config: &Config<S>) -> bool
 fn begins_with_zero<S: MemberSet>(set: &S) -> bool
     ensures { result ≡ has (S.ids set.now) 0 }
 {
-    has_next(set, &mut 0, 0)
+    contains_from(set, &mut 0, 0)
 }
 
 // Checks the two invariants of the next learners.
@@ -204,10 +204,10 @@ fn check_next<S: MemberSet>(next: &S, incoming: &S, outgoing: &S) -> Result<(), 
     let mut outgoing_position = 0;
     for position in 0..next.len() {
         if let Some(id) = next.at(position) {
-            if !has_next(outgoing, &mut outgoing_position, id) {
+            if !contains_from(outgoing, &mut outgoing_position, id) {
                 return Err(Invariant::NextNotOutgoing);
             }
-            if has_next(incoming, &mut incoming_position, id) {
+            if contains_from(incoming, &mut incoming_position, id) {
                 apart = false;
             }
         }
@@ -227,8 +227,8 @@ fn is_apart_from_both<S: MemberSet>(ids: &S, first: &S, second: &S) -> bool
     let mut second_position = 0;
     for position in 0..ids.len() {
         if let Some(id) = ids.at(position) {
-            if has_next(first, &mut first_position, id)
-                || has_next(second, &mut second_position, id)
+            if contains_from(first, &mut first_position, id)
+                || contains_from(second, &mut second_position, id)
             {
                 return false;
             }

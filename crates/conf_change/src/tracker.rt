@@ -27,7 +27,7 @@ use crate::members::{progress_of, set_progress_of, update_member};
 use crate::positions::Positions;
 use crate::progress::Progress;
 use crate::roles::Roles;
-use quorum_sets::{MemberSet, NoMemory, has_next, symdiff};
+use quorum_sets::{MemberSet, NoMemory, contains_from, symdiff};
 use smallvec::SmallVec;
 use std::alloc::Global;
 use std::marker::Model;
@@ -310,10 +310,10 @@ impl<S: MemberSet> Tracker<S> {
         ensures { result ≡ roles_in (beginning self.now (S.ids outgoing.now) self.now.config.auto_leave).config id }
     {
         Roles {
-            incoming: has_next(&self.config.incoming, &mut positions.incoming, id),
-            outgoing: has_next(outgoing, &mut positions.outgoing, id),
-            learner: has_next(&self.config.learners, &mut positions.learners, id),
-            next: has_next(&self.config.learners_next, &mut positions.next, id),
+            incoming: contains_from(&self.config.incoming, &mut positions.incoming, id),
+            outgoing: contains_from(outgoing, &mut positions.outgoing, id),
+            learner: contains_from(&self.config.learners, &mut positions.learners, id),
+            next: contains_from(&self.config.learners_next, &mut positions.next, id),
         }
     }
 
@@ -447,9 +447,9 @@ fn kept<S: MemberSet>(
 ) -> Option<Progress>
     ensures { result ≡ progress_kept (is_member config.now id) (has config.now.learners id) (Some progress) }
 {
-    let learner = has_next(&config.learners, &mut positions.learners, id);
-    let incoming = has_next(&config.incoming, &mut positions.incoming, id);
-    if learner || incoming || has_next(&config.outgoing, &mut positions.outgoing, id) {
+    let learner = contains_from(&config.learners, &mut positions.learners, id);
+    let incoming = contains_from(&config.incoming, &mut positions.incoming, id);
+    if learner || incoming || contains_from(&config.outgoing, &mut positions.outgoing, id) {
         Some(Progress {
             learner,
             ..progress

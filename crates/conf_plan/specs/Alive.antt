@@ -4,7 +4,7 @@ use Rattle.std.specs.Prelude.{◌≡◌, ℕ, ◌+◌, ◌≤◌, true, false, n
 use Rattle.quorum_sets.specs.Ids.{Ids, no_ids, has, ids_where}
 use Rattle.quorum_sets.specs.Voters.{is_quorum}
 use Rattle.quorum_sets.specs.Overlap.{Overlap}
-use Rattle.quorum_sets.specs.Tolerance.{Endures}
+use Rattle.quorum_sets.specs.Tolerance.{Tolerates}
 use Rattle.conf_change.specs.Configuration.{Configuration, voters_of, members}
 use Rattle.conf_change.specs.Progress.{keeps_progress}
 use Rattle.conf_change.specs.declared.step.Step.{Step}
@@ -30,7 +30,7 @@ KeepsQuorums now steps target = EachOnTheWay (HasQuorumsOf now target) now steps
 -- as many ids as may be down in both ends may be down in the configuration
 abbrev pub IsAsTolerant : Configuration → Configuration → Configuration → Type 0
 IsAsTolerant now target c =
-    (k : ℕ) → Endures (voters_of now) no_ids k → Endures (voters_of target) no_ids k → Endures (voters_of c) no_ids k
+    (k : ℕ) → Tolerates (voters_of now) no_ids k → Tolerates (voters_of target) no_ids k → Tolerates (voters_of c) no_ids k
 
 -- no configuration on the way tolerates fewer failures than the weaker end: from (1 2 3) to (3 4 5) each tolerates one
 abbrev pub KeepsTolerance : Configuration → List Step → Configuration → Type 0

@@ -6,7 +6,7 @@ ghost use Rattle.conf_tool.specs.Reports.{marked, difference_text, counts_line};
 
 use crate::status::Status;
 use ascii_text::append::append_number;
-use ascii_text::lines::{is_whole, next_full_line};
+use ascii_text::lines::{ends_in_newline, next_full_line};
 use dd_file::item::Directive;
 use quorum_sets::NoMemory;
 
@@ -107,7 +107,7 @@ fn append_line(text: &mut Vec<u8>, full_line: &[u8]) -> Result<(), NoMemory>
     ensures { OnOk result (text.new.items ≡ text.old.items ++ (without_last 10 full_line.now ++ newline)) }
 {
     text.extend_from_slice(full_line)?;
-    if !is_whole(full_line) {
+    if !ends_in_newline(full_line) {
         text.push(b'\n')?;
     }
     Ok(())

@@ -118,13 +118,13 @@ pub fn run_and_flush<R: Source, W: Sink>(
     let outcome = run(alloc, mode, options, reader, writer);
     nothing_waits::<W>();
     match writer.flush() {
-        Err(_) if is_whole(&outcome) => Err(ToolFault::Write),
+        Err(_) if is_whole_output(&outcome) => Err(ToolFault::Write),
         _ => outcome,
     }
 }
 
 /// Whether a result means that the output is whole: a status, or an error in the input.
-fn is_whole(outcome: &Result<Status, ToolFault>) -> bool
+fn is_whole_output(outcome: &Result<Status, ToolFault>) -> bool
     ensures { result ≡ is_whole_output outcome.now }
 {
     matches!(

@@ -1,7 +1,7 @@
 -- Lines and items that are buffered, and so can be returned without a read.
 use Rattle.std.specs.Prelude.{◌≡◌, ◌≤◌, ◌+◌, ℕ, Bool, false, List, length, drop, map, filter, Option, Some, None, Result}
 use Rattle.std.specs.List.{list_any}
-use Rattle.ascii_text.specs.Lines.{full_lines, line_of, is_whole}
+use Rattle.ascii_text.specs.Lines.{full_lines, line_of, ends_in_newline}
 use Rattle.dd_file.specs.Position.{Position, longest_input}
 use Rattle.dd_file.specs.Script.{FirstItem, first_of}
 use Rattle.dd_file.specs.Grammar.{Next}
@@ -24,11 +24,11 @@ passed state lines bytes = record state {
 
 -- those lines of the bytes that end in a newline, without it
 abbrev pub whole_lines : List ℕ → List (List ℕ)
-whole_lines bytes = map line_of (filter is_whole (full_lines bytes))
+whole_lines bytes = map line_of (filter ends_in_newline (full_lines bytes))
 
 -- a line is buffered if a newline is
 abbrev pub is_line_buffered : Position → List ℕ → Bool
-is_line_buffered position buffered = list_any is_whole (full_lines buffered)
+is_line_buffered position buffered = list_any ends_in_newline (full_lines buffered)
 
 -- whether there is an item, and no further line could change it
 abbrev pub is_ended_item : Option FirstItem → Bool

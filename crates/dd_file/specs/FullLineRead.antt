@@ -1,7 +1,7 @@
 -- A full line, while it is read in parts.
 use Rattle.std.specs.Prelude.{◌≡◌, ◌≤◌, ◌<◌, ◌+◌, ℕ, true, ◌⊎◌, List, [], ◌++◌, length, Option, ⊤}
 use Rattle.std.specs.Io.KnownBytes.{Consumes}
-use Rattle.ascii_text.specs.Lines.{first_len, is_whole}
+use Rattle.ascii_text.specs.Lines.{first_len, ends_in_newline}
 use Rattle.dd_file.specs.Position.{longest_input, longest_lookahead}
 use Rattle.dd_file.specs.ReaderState.{ReaderState}
 use Rattle.dd_file.specs.declared.fault.FileFault.{FileFault}
@@ -21,7 +21,7 @@ pub record FullLineRead (old new : ReaderState) (before after : Option (List ℕ
   pub ahead : length new.buffered ≤ longest_lookahead
   pub counted : new.position.lines ≤ longest_input
   pub fits : old.position.bytes + length full_line ≤ longest_input
-  pub done : (is_whole full_line ≡ true) ⊎ ((new.is_ended ≡ true) × (new.buffered ≡ []))
+  pub done : (ends_in_newline full_line ≡ true) ⊎ ((new.is_ended ≡ true) × (new.buffered ≡ []))
 
 -- A part of a line was read that exceeds the limit; the error names the line.
 pub record LongRead (old new : ReaderState) (before after : Option (List ℕ)) (line : ℕ) : Type 0 where

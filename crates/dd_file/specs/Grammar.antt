@@ -3,7 +3,7 @@
 use Rattle.std.specs.Prelude.{ℕ, ◌+◌, ◌-◌, zero, suc, Bool, true, false, not, ◌&&◌, List, [], ◌∷◌, nat_lt, length, take, drop, map, filter, Option, Some, None, Result, Ok, Err, if◌then◌else◌}
 use Rattle.std.specs.List.{concat}
 use Rattle.dd_file.specs.Position.{Position, start, longest_input}
-use Rattle.ascii_text.specs.Lines.{full_lines, line_of, is_whole}
+use Rattle.ascii_text.specs.Lines.{full_lines, line_of, ends_in_newline}
 use Rattle.dd_file.specs.Script.{FirstItem, first_of}
 use Rattle.dd_file.specs.declared.item.Item.{Item}
 use Rattle.dd_file.specs.declared.fault.FileFault.{FileFault}
@@ -23,7 +23,7 @@ is_too_long limit position bytes = nat_lt limit (position.bytes + length bytes)
 -- the full lines that are read: all of them, or, if the input is too long, those that end within the limit
 abbrev pub full_lines_within : ℕ → Position → List ℕ → List (List ℕ)
 full_lines_within limit position bytes =
-    if is_too_long limit position bytes then filter is_whole (full_lines (take (limit - position.bytes) bytes)) else full_lines bytes
+    if is_too_long limit position bytes then filter ends_in_newline (full_lines (take (limit - position.bytes) bytes)) else full_lines bytes
 
 -- what comes next is this result, made of the first count full lines
 abbrev pub next_of_lines : {A : Type 0} → ℕ → A → Position → List ℕ → Next A

@@ -19,7 +19,7 @@ use crate::buffer::Buffer;
 use crate::device::Source;
 use crate::fault::FileFault;
 use crate::line::Line;
-use ascii_text::lines::{first_line_len, is_whole, line_of, without_end};
+use ascii_text::lines::{ends_in_newline, first_line_len, line_of, without_end};
 use std::alloc::Global;
 use std::marker::Model;
 
@@ -108,7 +108,7 @@ impl Lines {
         let buffered = self.buffered();
         let len = first_line_len(buffered);
         let full_line = &buffered[..len];
-        if !is_whole(full_line) {
+        if !ends_in_newline(full_line) {
             return None;
         }
         match Vec::from_slice(self.alloc, line_of(full_line)) {
@@ -193,7 +193,7 @@ impl Lines {
             if full_line.len() > LONGEST_INPUT - self.bytes {
                 return Err(FileFault::InputTooLong(self.lines + 1));
             }
-            if self.is_ended || is_whole(full_line.as_slice()) {
+            if self.is_ended || ends_in_newline(full_line.as_slice()) {
                 return Ok(full_line);
             }
             self.buffer.fill(reader).map_err(|_| FileFault::Read)?;

@@ -21,7 +21,7 @@ use crate::fault::FileFault;
 use crate::item::Item;
 use crate::lines::Lines;
 use crate::raw_lines::RawLines;
-use ascii_text::lines::{first_line_len, is_whole, line_of};
+use ascii_text::lines::{ends_in_newline, first_line_len, line_of};
 use std::alloc::Global;
 use std::marker::Model;
 
@@ -181,7 +181,7 @@ fn buffered_item<R: Source>(
         let rest = &lines.buffered()[consumed..];
         let len = first_line_len(rest);
         let full_line = &rest[..len];
-        if !is_whole(full_line) {
+        if !ends_in_newline(full_line) {
             return None;
         }
         count += 1;

@@ -8,4 +8,4 @@ pub use Rattle.quorum_sets.proofs.KeptSets.AscendingList.{ascending-is_ascending
 pub use Rattle.quorum_sets.proofs.ListPositions.{slice_get-not_past, slice_get-split, take-one_more}
 pub use Rattle.quorum_sets.proofs.Quorums.Overlap.{CommittedMeetsWon-from_neighbours, CommittedMeetsWon-from_neighbours_back, QuorumsMeet-from_neighbours, QuorumsMeet-from_neighbours_back}
 pub use Rattle.quorum_sets.proofs.Quorums.SortedRows.{rows-first, rows-partitioned}
-pub use Rattle.quorum_sets.proofs.Quorums.Tolerance.{Endures-from_counts, counted-all, counts-from_Endures, is_quorum-without}
+pub use Rattle.quorum_sets.proofs.Quorums.Tolerance.{Tolerates-from_counts, counted-all, counts-from_Tolerates, is_quorum-without}

@@ -2,7 +2,7 @@
 use Rattle.std.specs.Prelude.{◌≡◌, ℕ, ◌-◌, ◌^◌, min, Bool, false, List, map, filter, fold, max, nat_le, nat_lt, unwrap_or, IsTrue, if◌then◌else◌}
 use Rattle.std.specs.Ordering.{nat_cmp}
 use Rattle.std.specs.FinMap as finite
-use Rattle.quorum_sets.specs.Ids.{Ids, ascending, on_most, is_empty}
+use Rattle.quorum_sets.specs.Ids.{Ids, ascending, majority_passes, is_empty}
 use Rattle.quorum_sets.specs.Voters.{Voters}
 
 -- the acknowledged indexes, by id
@@ -23,11 +23,11 @@ greatest_index = 2 ^ 64 - 1
 
 -- more than half of the ids have acknowledged at least k
 abbrev pub is_reached : Ids → Acks → ℕ → Bool
-is_reached ids acks k = on_most (λ id. nat_le k (acked_index acks id)) ids
+is_reached ids acks k = majority_passes (λ id. nat_le k (acked_index acks id)) ids
 
 -- more than half of the ids have acknowledged more than k
 abbrev pub is_passed : Ids → Acks → ℕ → Bool
-is_passed ids acks k = on_most (λ id. nat_lt k (acked_index acks id)) ids
+is_passed ids acks k = majority_passes (λ id. nat_lt k (acked_index acks id)) ids
 
 -- k is the committed index: more than half have acknowledged at least k, and not more than half have acknowledged more
 pub record IsCommitted (ids : Ids) (acks : Acks) (k : ℕ) : Type 0 where

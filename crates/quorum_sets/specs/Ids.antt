@@ -50,8 +50,8 @@ abbrev pub count_of : (ℕ → Bool) → Ids → ℕ
 count_of test ids = count_by test (ascending ids)
 
 -- whether more than half of the ids pass the test, which is false for the empty set
-abbrev pub on_most : (ℕ → Bool) → Ids → Bool
-on_most test ids = nat_lt (size ids) (2 * count_of test ids)
+abbrev pub majority_passes : (ℕ → Bool) → Ids → Bool
+majority_passes test ids = nat_lt (size ids) (2 * count_of test ids)
 
 -- whether the set is empty
 abbrev pub is_empty : Ids → Bool

@@ -32,7 +32,7 @@ pub record HasAcknowledgedAndVoted (acks : Acks) (votes : Votes) (index id : ℕ
 
 -- the result is the smallest id that two quorums share; it is none if one of the sets is not a quorum or they share no
 -- id; quorums of neighbours share one
-pub record IsSharedMember (before after : Voters) (first second : Ids) (answer : Option ℕ) : Type 0 where
+pub record IsCommonMember (before after : Voters) (first second : Ids) (answer : Option ℕ) : Type 0 where
   pub quorums : OnSome answer (AreQuorums before after first second)
   pub least : IfSome answer (IsLeastCommon first second)
   pub none : IfNone answer (AreQuorums before after first second → (id : ℕ) → ¬ IsCommon first second id)

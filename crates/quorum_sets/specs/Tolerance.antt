@@ -13,15 +13,15 @@ abbrev pub commits_without : Voters → Ids → Bool
 commits_without voters away = is_quorum voters (voters_without voters away)
 
 -- whenever at most k ids are down besides the uncounted ones, the other voters are still a quorum
-abbrev pub Endures : Voters → Ids → ℕ → Type 0
-Endures voters uncounted k = (down : Ids) → size down ≤ k → IsTrue (commits_without voters (union down uncounted))
+abbrev pub Tolerates : Voters → Ids → ℕ → Type 0
+Tolerates voters uncounted k = (down : Ids) → size down ≤ k → IsTrue (commits_without voters (union down uncounted))
 
 -- the result is the greatest number of ids that may be down, or none if the counted voters are not a quorum even when
 -- all are up
 pub record IsMostDown (voters : Voters) (uncounted : Ids) (answer : Option ℕ) : Type 0 where
-  pub endured : IfSome answer (Endures voters uncounted)
-  pub greatest : IfSome answer (λ k. (other : ℕ) → Endures voters uncounted other → other ≤ k)
-  pub none : IfNone answer (¬ Endures voters uncounted 0)
+  pub endured : IfSome answer (Tolerates voters uncounted)
+  pub greatest : IfSome answer (λ k. (other : ℕ) → Tolerates voters uncounted other → other ≤ k)
+  pub none : IfNone answer (¬ Tolerates voters uncounted 0)
 
 -- ---- by counting
 -- by how many the counted ids of a set exceed a majority, or none if they are not a majority

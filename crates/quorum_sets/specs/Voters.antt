@@ -1,7 +1,7 @@
 -- Pairs of voter sets, their quorums, and which pairs are neighbours: one safe change apart (Ongaro's dissertation, 4.1
 -- and 4.3).
 use Rattle.std.specs.Prelude.{◌≡◌, ℕ, ◌≤◌, ◌+◌, ◌/◌, Bool, ◌&&◌, ◌||◌, ◌⊎◌}
-use Rattle.quorum_sets.specs.Ids.{Ids, has, on_most, is_empty, no_ids, difference_count}
+use Rattle.quorum_sets.specs.Ids.{Ids, has, majority_passes, is_empty, no_ids, difference_count}
 
 -- the incoming and the outgoing voters; only a joint configuration has outgoing voters
 pub record Voters : Type 0 where
@@ -19,7 +19,7 @@ majority n = n / 2 + 1
 -- whether the ids are more than half of the incoming voters and, if there are outgoing voters, more than half of these
 abbrev pub is_quorum : Voters → Ids → Bool
 is_quorum voters ids =
-    on_most (has ids) voters.incoming && (is_empty voters.outgoing || on_most (has ids) voters.outgoing)
+    majority_passes (has ids) voters.incoming && (is_empty voters.outgoing || majority_passes (has ids) voters.outgoing)
 
 -- a simple change: neither is joint, and at most one voter differs, as in (1 2 3) and (1 2 3 4)
 pub record DifferInOneVoter (before after : Voters) : Type 0 where

@@ -3,7 +3,7 @@ use Rattle.std.specs.Prelude.{ℕ, Bool, true, false, not, ◌&&◌, ◌||◌, u
 use Rattle.std.specs.Ordering.{nat_cmp}
 use Rattle.std.specs.BTreeMap.{BTreeMap}
 use Rattle.std.specs.FinMap as finite
-use Rattle.quorum_sets.specs.Ids.{Ids, on_most, is_empty}
+use Rattle.quorum_sets.specs.Ids.{Ids, majority_passes, is_empty}
 use Rattle.quorum_sets.specs.Voters.{Voters}
 use Rattle.quorum_sets.specs.declared.voting.VoteResult.{VoteResult}
 use Rattle.quorum_sets.specs.declared.voting.VoteResult.TheVariants.{VotePending, VoteLost, VoteWon}
@@ -26,11 +26,11 @@ may_be_yes votes id = unwrap_or (finite.get votes id) true
 
 -- the set is empty, or more than half voted yes
 abbrev pub is_won : Ids → Votes → Bool
-is_won ids votes = is_empty ids || on_most (is_yes votes) ids
+is_won ids votes = is_empty ids || majority_passes (is_yes votes) ids
 
 -- the set is not empty, and at most half voted yes or have not voted
 abbrev pub is_lost : Ids → Votes → Bool
-is_lost ids votes = not (is_empty ids || on_most (may_be_yes votes) ids)
+is_lost ids votes = not (is_empty ids || majority_passes (may_be_yes votes) ids)
 
 -- the result of the vote of one set
 abbrev pub vote_result : Ids → Votes → VoteResult

@@ -1,7 +1,7 @@
 //! Counting the ids of a set that pass a test. Quorums and failures are both counted in this way.
 ghost use Rattle.std.specs.Prelude.{◌≡◌, ℕ, Bool};
-ghost use Rattle.quorum_sets.specs.Ids.{count_of, on_most};
-ghost use Rattle.quorum_sets.specs.Counting.{Decides};
+ghost use Rattle.quorum_sets.specs.Ids.{count_of, majority_passes};
+ghost use Rattle.quorum_sets.specs.Counting.{Computes};
 
 use crate::majority::quorum;
 use crate::member_set::MemberSet;
@@ -9,7 +9,7 @@ use crate::member_set::MemberSet;
 /// The number of ids that pass the test.
 pub fn count_where<S: MemberSet, F: Fn(u64) -> bool>(set: &S, test: F) -> usize
     requires { F.IsAlwaysCallable test }
-    ensures { (passes : ℕ → Bool) → Decides (F.post test) passes → result ≡ count_of passes (S.ids set.now) }
+    ensures { (passes : ℕ → Bool) → Computes (F.post test) passes → result ≡ count_of passes (S.ids set.now) }
 {
     let mut count = 0;
     for position in 0..set.len() {
@@ -23,9 +23,9 @@ pub fn count_where<S: MemberSet, F: Fn(u64) -> bool>(set: &S, test: F) -> usize
 }
 
 /// Whether a majority of the ids passes the test. The empty set has no majority.
-pub fn most_pass<S: MemberSet, F: Fn(u64) -> bool>(set: &S, test: F) -> bool
+pub fn majority_passes<S: MemberSet, F: Fn(u64) -> bool>(set: &S, test: F) -> bool
     requires { F.IsAlwaysCallable test }
-    ensures { (passes : ℕ → Bool) → Decides (F.post test) passes → result ≡ on_most passes (S.ids set.now) }
+    ensures { (passes : ℕ → Bool) → Computes (F.post test) passes → result ≡ majority_passes passes (S.ids set.now) }
 {
     count_where(set, test) >= quorum(set.len())
 }

@@ -3,7 +3,7 @@
 ghost use Rattle.std.specs.Prelude.{◌≡◌, ◌-◌, ◌^◌, ◌≤◌, min};
 ghost use Rattle.quorum_sets.specs.Ids.{has, size, count_of, difference_count};
 
-use crate::lookup::has_next;
+use crate::lookup::contains_from;
 use crate::member_set::MemberSet;
 
 /// The number of ids that are in exactly one of the sets, saturating at the greatest `usize` (`symdiff` of etcd's
@@ -25,7 +25,7 @@ fn common_count<S: MemberSet>(a: &S, b: &S) -> usize
     let mut other_position = 0;
     for position in 0..a.len() {
         if let Some(id) = a.at(position) {
-            if has_next(b, &mut other_position, id) {
+            if contains_from(b, &mut other_position, id) {
                 count += 1;
             }
         }

@@ -47,7 +47,7 @@ pub use charts::{chart, joint_chart};
 pub use commit::{committed, joint_committed};
 pub use difference::symdiff;
 pub use inline_ids::InlineIds;
-pub use lookup::has_next;
+pub use lookup::contains_from;
 pub use majority::{is_quorum, quorum};
 pub use member_set::MemberSet;
 pub use overlap::common_member;

@@ -8,7 +8,7 @@ use crate::member_set::MemberSet;
 /// Whether the set has the id. The search begins at `position` and sets it to where the search ended, so ascending ids
 /// are looked up in one pass over the set. The position is only a hint: the result is right for an id below it too.
 #[inline(always)]
-pub fn has_next<S: MemberSet>(set: &S, position: &mut usize, id: u64) -> bool
+pub fn contains_from<S: MemberSet>(set: &S, position: &mut usize, id: u64) -> bool
     ensures { result ≡ has (S.ids set.now) id }
 {
     if seek(set, position, id) {

@@ -3,7 +3,7 @@
 ghost use Rattle.std.specs.Prelude.{◌≡◌};
 ghost use Rattle.quorum_sets.specs.Voters.{majority, pair, is_quorum};
 
-use crate::counting::most_pass;
+use crate::counting::majority_passes;
 use crate::member_set::MemberSet;
 
 /// The size of a majority of `n` voters: 2 of 3, 3 of 4, 3 of 5. For no voters it is 1, so the empty set has no
@@ -21,6 +21,6 @@ pub fn is_quorum<S: MemberSet>(voters: (&S, &S), ids: &S) -> bool
     ensures { result ≡ is_quorum (pair (S.ids voters.entry.0.now) (S.ids voters.entry.1.now)) (S.ids ids.now) }
 {
     let (incoming, outgoing) = voters;
-    most_pass(incoming, |id| ids.contains(id))
-        && (outgoing.len() == 0 || most_pass(outgoing, |id| ids.contains(id)))
+    majority_passes(incoming, |id| ids.contains(id))
+        && (outgoing.len() == 0 || majority_passes(outgoing, |id| ids.contains(id)))
 }

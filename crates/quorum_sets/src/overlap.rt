@@ -2,7 +2,7 @@
 //! quorum of (1 2 3) and 2 3 4 is one of (1 2 3 4), and they share 2.
 ghost use Rattle.std.specs.Prelude.{◌≡◌, ℕ, IfSome, IfNone};
 ghost use Rattle.quorum_sets.specs.Voters.{pair};
-ghost use Rattle.quorum_sets.specs.Overlap.{IsCommon, IsLeastCommon, IsSharedMember};
+ghost use Rattle.quorum_sets.specs.Overlap.{IsCommon, IsLeastCommon, IsCommonMember};
 
 use crate::majority::is_quorum;
 use crate::member_set::MemberSet;
@@ -18,7 +18,7 @@ pub fn common_member<S: MemberSet>(
 ) -> Option<u64>
     ensures { let was = pair (S.ids before.entry.0.now) (S.ids before.entry.1.now) in
         let is = pair (S.ids after.entry.0.now) (S.ids after.entry.1.now) in
-        IsSharedMember was is (S.ids first.now) (S.ids second.now) result }
+        IsCommonMember was is (S.ids first.now) (S.ids second.now) result }
 {
     if is_quorum(before, first) && is_quorum(after, second) {
         least_common(first, second)

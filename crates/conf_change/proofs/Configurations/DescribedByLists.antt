@@ -6,7 +6,7 @@ use Rattle.std.proofs.lemmas.List.{nil_from_length, append-nil}
 use Rattle.quorum_sets.specs.Ids.{Ids, ascending, size, ids_of}
 use Rattle.quorum_sets.proofs.Offered.{has-same_ids, has-ids_of, has-ascending}
 use Rattle.conf_change.specs.Configuration.{Configuration, is_restorable}
-use Rattle.conf_change.specs.ConfState.{ConfStateLists, Lists, Describes, lists_of, names_once, named_by, restored}
+use Rattle.conf_change.specs.ConfState.{ConfStateLists, Lists, Describes, lists_of, names_once, names_each_once, named_by, restored}
 
 -- ---- lists that name a set
 pub ids_of-ascending : (s : Ids) → ids_of (ascending s) ≡ s
@@ -46,19 +46,16 @@ pub Describes-same : (saved : ConfStateLists) (c d : Configuration) → Describe
 Describes-same saved c d is_c is_d = sym (named_by-from_Describes saved c is_c) ∙ named_by-from_Describes saved d is_d
 
 -- ---- the configuration to which a saved form is restored
-abbrev all_once : ConfStateLists → Bool
-all_once saved = names_once saved.voters && names_once saved.voters_outgoing && names_once saved.learners && names_once saved.learners_next
-
-all_once-from_Describes : (saved : ConfStateLists) (c : Configuration) → Describes saved c → all_once saved ≡ true
-all_once-from_Describes saved c d =
+names_each_once-from_Describes : (saved : ConfStateLists) (c : Configuration) → Describes saved c → names_each_once saved ≡ true
+names_each_once-from_Describes saved c d =
     and_from _ (names_once saved.learners_next)
     (and_from _ (names_once saved.learners)
     (and_from (names_once saved.voters) (names_once saved.voters_outgoing)
     (names_once-from_Lists saved.voters c.incoming d.incoming) (names_once-from_Lists saved.voters_outgoing c.outgoing d.outgoing))
     (names_once-from_Lists saved.learners c.learners d.learners)) (names_once-from_Lists saved.learners_next c.learners_next d.learners_next)
 
-Describes-from_all_once : (saved : ConfStateLists) → all_once saved ≡ true → Describes saved (named_by saved)
-Describes-from_all_once saved e =
+Describes-from_names_each_once : (saved : ConfStateLists) → names_each_once saved ≡ true → Describes saved (named_by saved)
+Describes-from_names_each_once saved e =
     let four = and_parts (names_once saved.voters && names_once saved.voters_outgoing && names_once saved.learners) (names_once saved.learners_next) e in
     let three = and_parts (names_once saved.voters && names_once saved.voters_outgoing) (names_once saved.learners) four.0 in
     let two = and_parts (names_once saved.voters) (names_once saved.voters_outgoing) three.0 in
@@ -74,21 +71,21 @@ pub restored-from_Describes : (saved : ConfStateLists) (c : Configuration) → D
 restored-from_Describes saved c d ok =
     (λ i. cond (passes i) (Some (named_by-from_Describes saved c d i)) None)
   where
-    passes : (all_once saved && is_restorable (named_by saved)) ≡ true
-    passes = and_from _ _ (all_once-from_Describes saved c d) (ap is_restorable (named_by-from_Describes saved c d) ∙ ok)
+    passes : (names_each_once saved && is_restorable (named_by saved)) ≡ true
+    passes = and_from _ _ (names_each_once-from_Describes saved c d) (ap is_restorable (named_by-from_Describes saved c d) ∙ ok)
 
 pub record IsDescribed (saved : ConfStateLists) (c : Configuration) : Type 0 where
   pub describes : Describes saved c
   pub restorable : is_restorable c ≡ true
 
 pub IsDescribed-from_restored : (saved : ConfStateLists) (c : Configuration) → restored saved ≡ Some c → IsDescribed saved c
-IsDescribed-from_restored saved c e = of_test (all_once saved && is_restorable (named_by saved)) refl e
+IsDescribed-from_restored saved c e = of_test (names_each_once saved && is_restorable (named_by saved)) refl e
   where
-    of_test : (b : Bool) → (all_once saved && is_restorable (named_by saved)) ≡ b → cond b (Some (named_by saved)) None ≡ Some c → IsDescribed saved c
+    of_test : (b : Bool) → (names_each_once saved && is_restorable (named_by saved)) ≡ b → cond b (Some (named_by saved)) None ≡ Some c → IsDescribed saved c
     of_test true is e =
-        let parts = and_parts (all_once saved) (is_restorable (named_by saved)) is in
+        let parts = and_parts (names_each_once saved) (is_restorable (named_by saved)) is in
         let same : named_by saved ≡ c = cc in
-        subst (IsDescribed saved) same (record { describes = Describes-from_all_once saved parts.0; restorable = parts.1 })
+        subst (IsDescribed saved) same (record { describes = Describes-from_names_each_once saved parts.0; restorable = parts.1 })
     of_test false is e = cc
 
 pub restored-none : (saved : ConfStateLists) → ((c : Configuration) → Describes saved c → is_restorable c ≡ true → ⊥) → restored saved ≡ None

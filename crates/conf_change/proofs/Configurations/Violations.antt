@@ -7,8 +7,8 @@ use Rattle.std.proofs.lemmas.Bool.{and_from, and_parts}
 use Rattle.quorum_sets.specs.Ids.{has, with_id, ascending, size, ids_of, is_empty}
 use Rattle.quorum_sets.proofs.Offered.{ascending-no_ids, size-with_id}
 use Rattle.conf_change.specs.Configuration.{Configuration, keeps, is_joint, is_valid, invariants, first_broken}
-use Rattle.conf_change.specs.ConfState.{ConfStateLists, names_once, named_by}
-use Rattle.conf_change.specs.Described.{names_each_once, described}
+use Rattle.conf_change.specs.ConfState.{ConfStateLists, names_once, names_each_once, named_by}
+use Rattle.conf_change.specs.Described.{described}
 use Rattle.conf_change.specs.Violation.{violation_by, violation_of, violation_in, first_repeat, repeat_in, unless_violated, valid_of, unless_bad, configuration_in}
 use Rattle.conf_change.specs.ConfStateLine.{conf_state_in}
 use Rattle.conf_change.specs.declared.config.Invariant.{Invariant}

@@ -1,7 +1,7 @@
 -- A set of ids that is a quorum of both ends is a quorum on the whole way of the plan.
 use Rattle.std.proofs.Common.{◌≡◌, true, false, ◌||◌, ◌⊎◌, inl, inr, refl, sym, ap, subst, ◌∙◌}
 use Rattle.std.proofs.lemmas.Bool.{and_parts, and_from, or_left, or_right, not-true}
-use Rattle.quorum_sets.specs.Ids.{Ids, has, is_empty, on_most}
+use Rattle.quorum_sets.specs.Ids.{Ids, has, is_empty, majority_passes}
 use Rattle.quorum_sets.specs.Voters.{is_quorum}
 use Rattle.conf_change.specs.Configuration.{Configuration, is_joint, voters_of}
 use Rattle.conf_change.specs.Outcome.{after_leave}
@@ -19,7 +19,7 @@ use Rattle.conf_plan.proofs.Runs.Chains.{IsChain-append}
 
 -- ---- voters of whom each quorum of both ends has most
 abbrev pub AreCovered : Configuration → Configuration → Ids → Type 0
-AreCovered now target voters = (ids : Ids) → is_quorum (voters_of now) ids ≡ true → is_quorum (voters_of target) ids ≡ true → on_most (has ids) voters ≡ true
+AreCovered now target voters = (ids : Ids) → is_quorum (voters_of now) ids ≡ true → is_quorum (voters_of target) ids ≡ true → majority_passes (has ids) voters ≡ true
 
 pub AreCovered-now : (now target : Configuration) → AreCovered now target now.incoming
 AreCovered-now now target ids of_now of_target = (and_parts _ _ of_now).0
@@ -29,7 +29,7 @@ AreCovered-target now target ids of_now of_target = (and_parts _ _ of_target).0
 
 AreCovered-outgoing : (now target : Configuration) → is_joint target ≡ true → AreCovered now target target.outgoing
 AreCovered-outgoing now target joint ids of_now of_target =
-    ap (λ none. none || on_most (has ids) target.outgoing) (sym (not-true (is_empty target.outgoing) joint)) ∙ (and_parts _ _ of_target).1
+    ap (λ none. none || majority_passes (has ids) target.outgoing) (sym (not-true (is_empty target.outgoing) joint)) ∙ (and_parts _ _ of_target).1
 
 pub HasQuorumsOf-covered : (now target c : Configuration) → AreCovered now target c.incoming → (is_empty c.outgoing ≡ true) ⊎ AreCovered now target c.outgoing → HasQuorumsOf now target c
 HasQuorumsOf-covered now target c incoming (inl none) ids of_now of_target = and_from _ _ (incoming ids of_now of_target) (or_left _ _ none)

@@ -1,6 +1,6 @@
 -- Lines after a sign, one by one.
 use Rattle.std.proofs.Common.{◌≡◌, ℕ, List, [], ◌∷◌, ◌++◌, flat_map, true, false, cond, refl, sym, ap, ◌∙◌, append_assoc, rules}
-use Rattle.ascii_text.specs.Lines.{is_whole, newline, full_lines, without_last}
+use Rattle.ascii_text.specs.Lines.{ends_in_newline, newline, full_lines, without_last}
 use Rattle.conf_session.specs.ReplyTexts.{line}
 use Rattle.conf_tool.specs.Reports.{marked}
 
@@ -17,12 +17,12 @@ marked-first so_far sign bytes full_line rest first =
     ∙ ap (λ t. so_far ++ (t ++ more)) (sym (append_assoc sign bare newline)) ∙ ap (λ t. so_far ++ t) (sym (ap (marked_parts sign) first))
 
 -- a part has its newline, or none
-pub whole-line : (full_line : List ℕ) → is_whole full_line ≡ true → without_last 10 full_line ++ newline ≡ full_line
+pub whole-line : (full_line : List ℕ) → ends_in_newline full_line ≡ true → without_last 10 full_line ++ newline ≡ full_line
 whole-line [] whole = cc
 whole-line (b ∷ []) whole = let end : b ≡ 10 = search rules in ap (λ c. cond c [] (b ∷ []) ++ newline) whole ∙ ap (λ e. e ∷ []) (sym end)
 whole-line (b ∷ c ∷ full_line) whole = ap (λ t. b ∷ t) (whole-line (c ∷ full_line) whole)
 
-pub bare-line : (full_line : List ℕ) → is_whole full_line ≡ false → without_last 10 full_line ≡ full_line
+pub bare-line : (full_line : List ℕ) → ends_in_newline full_line ≡ false → without_last 10 full_line ≡ full_line
 bare-line [] bare = refl
 bare-line (b ∷ []) bare = ap (λ c. cond c [] (b ∷ [])) bare
 bare-line (b ∷ c ∷ full_line) bare = ap (λ t. b ∷ t) (bare-line (c ∷ full_line) bare)

@@ -4,7 +4,7 @@ use Rattle.std.specs.Prelude.{filter, Option, Some, None, Result, Ok, IfErr}
 use Rattle.std.specs.List.{list_any}
 use Rattle.std.proofs.lemmas.List.{append-nil, take-append-drop, drop-drop, length-drop}
 use Rattle.std.specs.Io.KnownBytes.{Consumes}
-use Rattle.ascii_text.specs.Lines.{first_len, full_lines, line_of, is_whole}
+use Rattle.ascii_text.specs.Lines.{first_len, full_lines, line_of, ends_in_newline}
 use Rattle.dd_file.specs.Position.{longest_input}
 use Rattle.dd_file.specs.Script.{FirstItem, first_of}
 use Rattle.dd_file.specs.Grammar.{next_line, next_item}
@@ -33,13 +33,13 @@ pub same-full_line : (bytes buffered : List ℕ) (len : ℕ) → bytes ≡ buffe
 same-full_line bytes buffered len is count = ap (λ n. take n bytes) count ∙ ap (λ b. take (first_len b) b) is
 
 -- a full line with its newline has a byte
-pub whole-some : (buffered : List ℕ) → is_whole (take (first_len buffered) buffered) ≡ true → 0 < first_len buffered
+pub whole-some : (buffered : List ℕ) → ends_in_newline (take (first_len buffered) buffered) ≡ true → 0 < first_len buffered
 whole-some [] h = cc
 whole-some (b ∷ bytes) h = first_len-some (b ∷ bytes) (omega arith)
 
 -- the first full line of what is buffered is the next line, where it has its newline
 pub buffered-line : {R V : Type 0} (remaining : R → Option (List ℕ)) (has_failed : R → Bool) (view : V → List ℕ) (old : ReaderState) (reader : R) (line : V) → CanReadBuffered old → Within old →
-    is_whole (take (first_len old.buffered) old.buffered) ≡ true → view line ≡ line_of (take (first_len old.buffered) old.buffered) →
+    ends_in_newline (take (first_len old.buffered) old.buffered) ≡ true → view line ≡ line_of (take (first_len old.buffered) old.buffered) →
     ReadsOn remaining has_failed view (next_line longest_input) IsLineFault old (passed old 1 (first_len old.buffered)) reader reader (Ok (Some line))
 buffered-line remaining has_failed view old reader line can within whole is =
     let buffered = old.buffered in
@@ -66,17 +66,17 @@ buffered-line remaining has_failed view old reader line can within whole is =
     (is, omega (arith, len, some), omega (arith, limit, counted, bound, some), ap (λ n. record mid { position = record { lines = old.position.lines + 1; bytes = old.position.bytes + n } }) (sym len))
 
 -- no newline is buffered
-no-whole : (buffered : List ℕ) → is_whole (take (first_len buffered) buffered) ≡ false → filter is_whole (full_lines buffered) ≡ []
+no-whole : (buffered : List ℕ) → ends_in_newline (take (first_len buffered) buffered) ≡ false → filter ends_in_newline (full_lines buffered) ≡ []
 no-whole [] h = refl
 no-whole (b ∷ bytes) h =
     let buffered = b ∷ bytes in
     let none : drop (first_len buffered) buffered ≡ [] = unfinished-rest [] buffered h in
-    ap (filter is_whole) (full_lines-first buffered (omega arith)) ∙ rw h (ap (λ r. filter is_whole (full_lines r)) none)
+    ap (filter ends_in_newline) (full_lines-first buffered (omega arith)) ∙ rw h (ap (λ r. filter ends_in_newline (full_lines r)) none)
 
 -- the first of the whole full lines, and the others
-one-whole : (buffered : List ℕ) → is_whole (take (first_len buffered) buffered) ≡ true → filter is_whole (full_lines buffered) ≡ take (first_len buffered) buffered ∷ filter is_whole (full_lines (drop (first_len buffered) buffered))
+one-whole : (buffered : List ℕ) → ends_in_newline (take (first_len buffered) buffered) ≡ true → filter ends_in_newline (full_lines buffered) ≡ take (first_len buffered) buffered ∷ filter ends_in_newline (full_lines (drop (first_len buffered) buffered))
 one-whole [] h = cc
-one-whole (b ∷ bytes) h = ap (filter is_whole) (full_lines-first (b ∷ bytes) (omega arith)) ∙ rw h refl
+one-whole (b ∷ bytes) h = ap (filter ends_in_newline) (full_lines-first (b ∷ bytes) (omega arith)) ∙ rw h refl
 
 -- The lines so far of what is buffered are the item's.
 pub record BufferedSoFar {R : Type 0} (remaining : R → Option (List ℕ)) (old : ReaderState) (reader : R) (draft : DraftText) (count consumed : ℕ) : Type 0 where
@@ -123,14 +123,14 @@ passed-within state m n can within le few =
     }
 
 pub buffered-more : {R : Type 0} (remaining : R → Option (List ℕ)) (has_failed : R → Bool) (old : ReaderState) (reader : R) (draft next : DraftText) (count consumed : ℕ) (rest : List ℕ) → CanReadBuffered old → Within old →
-    BufferedSoFar remaining old reader draft count consumed → rest ≡ drop consumed old.buffered → is_whole (take (first_len rest) rest) ≡ true → AddsIn draft.state draft next (line_of (take (first_len rest) rest)) →
+    BufferedSoFar remaining old reader draft count consumed → rest ≡ drop consumed old.buffered → ends_in_newline (take (first_len rest) rest) ≡ true → AddsIn draft.state draft next (line_of (take (first_len rest) rest)) →
     BufferedSoFar remaining old reader next (count + 1) (consumed + first_len rest)
 buffered-more remaining has_failed old reader draft next count consumed rest can within so_far is whole adds =
     let now = passed old count consumed in
     let k = first_len rest in
     let line = line_of (take k rest) in
     let same : rest ≡ now.buffered = is in
-    let now-whole : is_whole (take (first_len now.buffered) now.buffered) ≡ true = subst (λ r. is_whole (take (first_len r) r) ≡ true) same whole in
+    let now-whole : ends_in_newline (take (first_len now.buffered) now.buffered) ≡ true = subst (λ r. ends_in_newline (take (first_len r) r) ≡ true) same whole in
     let read = buffered-line remaining has_failed (λ (l : List ℕ). l) now reader line (passed-can old count consumed can so_far.within) (passed-within old count consumed can within so_far.within so_far.counted) now-whole
     (ap (λ r. line_of (take (first_len r) r)) same) in
     let moved : passed now 1 (first_len now.buffered) ≡ passed old (count + 1) (consumed + k) = ap (λ r. passed now 1 (first_len r)) (sym same) ∙ passed-more old count consumed k in
@@ -165,17 +165,17 @@ open-prefix count None ends = refl
 open-prefix count (Some prefix) ends = ends.ended
 
 pub buffered-open : {R : Type 0} (remaining : R → Option (List ℕ)) (old : ReaderState) (reader : R) (draft : DraftText) (count consumed : ℕ) (rest : List ℕ) → BufferedSoFar remaining old reader draft count consumed → is_done draft.state ≡ false →
-    rest ≡ drop consumed old.buffered → is_whole (take (first_len rest) rest) ≡ false → is_item_buffered old.position old.buffered ≡ false
+    rest ≡ drop consumed old.buffered → ends_in_newline (take (first_len rest) rest) ≡ false → is_item_buffered old.position old.buffered ≡ false
 buffered-open remaining old reader draft count consumed rest so_far open_end is unfinished =
     let none : whole_lines (drop consumed old.buffered) ≡ [] = ap whole_lines (sym is) ∙ ap (map line_of) (no-whole rest unfinished) in
     ap is_ended_item (sym so_far.ahead ∙ ap (first_item_of draft) none)
     ∙ open-prefix draft.count (first_item_of draft []) (subst (λ c. Ends c draft.count (first_item_of draft [])) open_end (draft-ends draft.state draft so_far.reading.fits))
 
 -- no line ends in it
-pub buffered-no_line : (old : ReaderState) → is_whole (take (first_len old.buffered) old.buffered) ≡ false → is_line_buffered old.position old.buffered ≡ false
+pub buffered-no_line : (old : ReaderState) → ends_in_newline (take (first_len old.buffered) old.buffered) ≡ false → is_line_buffered old.position old.buffered ≡ false
 buffered-no_line old unfinished = at old.buffered unfinished where
-  at : (buffered : List ℕ) → is_whole (take (first_len buffered) buffered) ≡ false → is_line_buffered old.position buffered ≡ false
+  at : (buffered : List ℕ) → ends_in_newline (take (first_len buffered) buffered) ≡ false → is_line_buffered old.position buffered ≡ false
   at [] h = refl
   at (b ∷ bytes) h =
       let none : drop (first_len (b ∷ bytes)) (b ∷ bytes) ≡ [] = unfinished-rest [] (b ∷ bytes) h in
-      ap (list_any is_whole) (full_lines-first (b ∷ bytes) (omega arith) ∙ ap (λ r. take (first_len (b ∷ bytes)) (b ∷ bytes) ∷ full_lines r) none) ∙ rw h refl
+      ap (list_any ends_in_newline) (full_lines-first (b ∷ bytes) (omega arith) ∙ ap (λ r. take (first_len (b ∷ bytes)) (b ∷ bytes) ∷ full_lines r) none) ∙ rw h refl

@@ -4,7 +4,7 @@ use Rattle.std.specs.Prelude.{filter, Option, Some, None, Result, Ok, Err}
 use Rattle.std.specs.List.{concat, list_all, list_any}
 use Rattle.std.proofs.lemmas.List.{length-append, length-drop}
 use Rattle.ascii_text.specs.WhiteSpace.{is_blank}
-use Rattle.ascii_text.specs.Lines.{first_len, full_lines, line_of, is_whole}
+use Rattle.ascii_text.specs.Lines.{first_len, full_lines, line_of, ends_in_newline}
 use Rattle.dd_file.specs.DirectiveLine.{CommandText, command_of}
 use Rattle.dd_file.specs.Script.{FirstItem, first_item, first_of, directive_lines_of, joined, is_continued, is_comment, is_separator, begins_with_dashes, before_pair, has_pair, directive, after_pair, in_double, in_single, body, at_command, at_directive}
 use Rattle.dd_file.specs.Parts.{up_to, suffix}
@@ -98,7 +98,7 @@ some-leaves position suffix bytes left item (Faulty fault) h e = cc
 -- no bytes have no full lines
 pub none-within : (limit : ℕ) (position : Position) → full_lines_within limit position [] ≡ []
 none-within limit position = at (is_too_long limit position []) (limit - position.bytes) where
-  at : (c : Bool) (k : ℕ) → cond c (filter is_whole (full_lines (take k []))) [] ≡ []
+  at : (c : Bool) (k : ℕ) → cond c (filter ends_in_newline (full_lines (take k []))) [] ≡ []
   at true zero = refl
   at true (suc k) = refl
   at false k = refl

@@ -3,7 +3,7 @@ use Rattle.std.proofs.Common.{◌≡◌, ℕ, ◌+◌, ◌≤◌, ◌<◌, Bool,
 use Rattle.std.specs.Prelude.{◌⊎◌, ◌||◌, Option, Some, None, Ok, Err, MatchOption}
 use Rattle.std.proofs.lemmas.List.{append_assoc, append_cancel_right}
 use Rattle.std.specs.Io.KnownBytes.{IsAtEnd}
-use Rattle.ascii_text.specs.Lines.{line_of, is_whole}
+use Rattle.ascii_text.specs.Lines.{line_of, ends_in_newline}
 use Rattle.dd_file.specs.Position.{Position, longest_input}
 use Rattle.dd_file.specs.Grammar.{Over, Parsed, Faulty, next_line}
 use Rattle.dd_file.specs.ReaderState.{ReaderState, IsOver}
@@ -34,7 +34,7 @@ found-line : (old mid : ReaderState) (before after : Option (List ℕ)) (full_li
 found-line old mid (Some before) (Some after) full_line input more open_end read met agrees some =
     ap (next_line longest_input old.position) (part-input old mid.buffered before after input more full_line read.part agrees)
     ∙ next_line-found longest_input old.position full_line (mid.buffered ++ more) read.part.full_line read.fits some (at read.done) where
-      at : (is_whole full_line ≡ true) ⊎ ((mid.is_ended ≡ true) × (mid.buffered ≡ [])) → (is_whole full_line ≡ true) ⊎ (mid.buffered ++ more ≡ [])
+      at : (ends_in_newline full_line ≡ true) ⊎ ((mid.is_ended ≡ true) × (mid.buffered ≡ [])) → (ends_in_newline full_line ≡ true) ⊎ (mid.buffered ++ more ≡ [])
       at (inl whole) = inl whole
       at (inr end) = inr (ap (λ t. t ++ more) end.1 ∙ none-suffix old mid before after input more open_end met agrees end.0)
 found-line old mid (Some before) None full_line input more open_end read met agrees some = absurd agrees
@@ -46,8 +46,8 @@ over-line : (old mid : ReaderState) (before after : Option (List ℕ)) (full_lin
 over-line old mid (Some before) (Some after) full_line input more open_end read met agrees none =
     ap (next_line longest_input old.position) (part-input old mid.buffered before after input more full_line read.part agrees ∙ ap (λ t. t ++ (mid.buffered ++ more)) none ∙ at read.done)
     ∙ next_line-over longest_input old.position (let h = read.fits in omega (arith, h)) where
-      at : (is_whole full_line ≡ true) ⊎ ((mid.is_ended ≡ true) × (mid.buffered ≡ [])) → mid.buffered ++ more ≡ []
-      at (inl whole) = let bad : false ≡ true = ap is_whole (sym none) ∙ whole in cc
+      at : (ends_in_newline full_line ≡ true) ⊎ ((mid.is_ended ≡ true) × (mid.buffered ≡ [])) → mid.buffered ++ more ≡ []
+      at (inl whole) = let bad : false ≡ true = ap ends_in_newline (sym none) ∙ whole in cc
       at (inr end) = ap (λ t. t ++ more) end.1 ∙ none-suffix old mid before after input more open_end met agrees end.0
 over-line old mid (Some before) None full_line input more open_end read met agrees none = absurd agrees
 over-line old mid None after full_line input more open_end read met agrees none = absurd agrees
@@ -82,8 +82,8 @@ over-reads remaining has_failed view old mid before after full_line faultless un
   kind = λ _. tt;
   read = λ _. sound;
 } where
-  at : (is_whole full_line ≡ true) ⊎ ((mid.is_ended ≡ true) × (mid.buffered ≡ [])) → (mid.is_ended ≡ true) × (mid.buffered ≡ [])
-  at (inl whole) = let bad : false ≡ true = ap is_whole (sym none) ∙ whole in cc
+  at : (ends_in_newline full_line ≡ true) ⊎ ((mid.is_ended ≡ true) × (mid.buffered ≡ [])) → (mid.is_ended ≡ true) × (mid.buffered ≡ [])
+  at (inl whole) = let bad : false ≡ true = ap ends_in_newline (sym none) ∙ whole in cc
   at (inr end) = end
 
 -- a line was found

@@ -3,7 +3,7 @@ use Rattle.std.proofs.Common.{◌≡◌, ℕ, suc, ◌+◌, ◌-◌, ◌≤◌, 
 use Rattle.std.specs.Prelude.{◌==◌, ◌⊎◌, filter, nat_lt}
 use Rattle.std.specs.List.{concat}
 use Rattle.std.proofs.lemmas.List.{append-nil, drop-drop, drop-take, take-append-drop, take-append-le, length-append, length-drop, length-take}
-use Rattle.ascii_text.specs.Lines.{first_len, full_lines, line_of, is_whole}
+use Rattle.ascii_text.specs.Lines.{first_len, full_lines, line_of, ends_in_newline}
 use Rattle.dd_file.specs.Position.{Position}
 use Rattle.dd_file.specs.Grammar.{Next, Over, Parsed, Faulty, next_line, from_full_lines, next_of_lines, at_end, is_too_long, full_lines_within}
 use Rattle.dd_file.specs.InOrder.{ReadsTo}
@@ -12,22 +12,22 @@ use Rattle.ascii_text.proofs.Offered.{full_lines-first, first_len-bound, length-
 use Rattle.dd_file.proofs.ItemReading.BytesTaken.{none-within}
 
 -- a first full line that is whole stays the first, whatever follows
-whole-step : (c : Bool) (b : ℕ) (bytes more : List ℕ) → (b == 10) ≡ c → (is_whole (take (first_len bytes) bytes) ≡ true → first_len (bytes ++ more) ≡ first_len bytes) →
-    is_whole (take (cond c 1 (suc (first_len bytes))) (b ∷ bytes)) ≡ true → cond c 1 (suc (first_len (bytes ++ more))) ≡ cond c 1 (suc (first_len bytes))
+whole-step : (c : Bool) (b : ℕ) (bytes more : List ℕ) → (b == 10) ≡ c → (ends_in_newline (take (first_len bytes) bytes) ≡ true → first_len (bytes ++ more) ≡ first_len bytes) →
+    ends_in_newline (take (cond c 1 (suc (first_len bytes))) (b ∷ bytes)) ≡ true → cond c 1 (suc (first_len (bytes ++ more))) ≡ cond c 1 (suc (first_len bytes))
 whole-step true b bytes more e ih h = refl
 whole-step false b [] more e ih h = let bad : false ≡ true = sym e ∙ h in cc
 whole-step false b (x ∷ bytes) more e ih h = ap suc (ih (at (x == 10) h)) where
-  at : (c : Bool) → is_whole (b ∷ take (cond c 1 (suc (first_len bytes))) (x ∷ bytes)) ≡ true → is_whole (take (cond c 1 (suc (first_len bytes))) (x ∷ bytes)) ≡ true
+  at : (c : Bool) → ends_in_newline (b ∷ take (cond c 1 (suc (first_len bytes))) (x ∷ bytes)) ≡ true → ends_in_newline (take (cond c 1 (suc (first_len bytes))) (x ∷ bytes)) ≡ true
   at true h = h
   at false h = h
 
-first_len-whole : (bytes more : List ℕ) → is_whole (take (first_len bytes) bytes) ≡ true → first_len (bytes ++ more) ≡ first_len bytes
+first_len-whole : (bytes more : List ℕ) → ends_in_newline (take (first_len bytes) bytes) ≡ true → first_len (bytes ++ more) ≡ first_len bytes
 first_len-whole [] more h = cc
 first_len-whole (b ∷ bytes) more h = whole-step (b == 10) b bytes more refl (first_len-whole bytes more) h
 
 -- the whole lines of a prefix: none, or the first full line and the whole ones of the rest
-long-at : (c : Bool) (k : ℕ) (bytes : List ℕ) → is_whole (take (first_len (take k bytes)) (take k bytes)) ≡ c →
-    (filter is_whole (full_lines (take k bytes)) ≡ []) ⊎ (filter is_whole (full_lines (take k bytes)) ≡ take (first_len bytes) bytes ∷ filter is_whole (full_lines (take (k - first_len bytes) (drop (first_len bytes) bytes))))
+long-at : (c : Bool) (k : ℕ) (bytes : List ℕ) → ends_in_newline (take (first_len (take k bytes)) (take k bytes)) ≡ c →
+    (filter ends_in_newline (full_lines (take k bytes)) ≡ []) ⊎ (filter ends_in_newline (full_lines (take k bytes)) ≡ take (first_len bytes) bytes ∷ filter ends_in_newline (full_lines (take (k - first_len bytes) (drop (first_len bytes) bytes))))
 long-at true k bytes whole =
     let t = take k bytes in
     let f = first_len t in
@@ -39,15 +39,15 @@ long-at true k bytes whole =
     let sum : k ≡ f + (k - f) = omega (arith, fits) in
     let first : take f t ≡ take f bytes = sym (ap (take f) (sym (take-append-drop k bytes)) ∙ take-append-le f t (drop k bytes) bound) in
     let rest : drop f t ≡ take (k - f) (drop f bytes) = ap (λ n. drop f (take n bytes)) sum ∙ drop-take f (k - f) bytes in
-    inr (ap (filter is_whole) (full_lines-first t some) ∙ rw whole (ap (λ x. x ∷ filter is_whole (full_lines (drop f t))) first ∙ ap (λ r. take f bytes ∷ filter is_whole (full_lines r)) rest)
-    ∙ ap (λ n. take n bytes ∷ filter is_whole (full_lines (take (k - n) (drop n bytes)))) (sym same)) where
-      whole-some : (xs : List ℕ) → is_whole (take (first_len xs) xs) ≡ true → 0 < length xs
+    inr (ap (filter ends_in_newline) (full_lines-first t some) ∙ rw whole (ap (λ x. x ∷ filter ends_in_newline (full_lines (drop f t))) first ∙ ap (λ r. take f bytes ∷ filter ends_in_newline (full_lines r)) rest)
+    ∙ ap (λ n. take n bytes ∷ filter ends_in_newline (full_lines (take (k - n) (drop n bytes)))) (sym same)) where
+      whole-some : (xs : List ℕ) → ends_in_newline (take (first_len xs) xs) ≡ true → 0 < length xs
       whole-some [] h = cc
       whole-some (x ∷ xs) h = omega arith
 long-at false k bytes open_end = inl (none (take k bytes) open_end) where
-  none : (xs : List ℕ) → is_whole (take (first_len xs) xs) ≡ false → filter is_whole (full_lines xs) ≡ []
+  none : (xs : List ℕ) → ends_in_newline (take (first_len xs) xs) ≡ false → filter ends_in_newline (full_lines xs) ≡ []
   none [] h = refl
-  none (x ∷ xs) h = ap (filter is_whole) (full_lines-first (x ∷ xs) (omega arith)) ∙ rw h (ap (λ r. filter is_whole (full_lines r)) (unfinished-rest [] (x ∷ xs) h))
+  none (x ∷ xs) h = ap (filter ends_in_newline) (full_lines-first (x ∷ xs) (omega arith)) ∙ rw h (ap (λ r. filter ends_in_newline (full_lines r)) (unfinished-rest [] (x ∷ xs) h))
 
 -- the position after the first full line
 abbrev after_first : Position → List ℕ → Position
@@ -69,11 +69,11 @@ within-first limit position bytes some = at (is_too_long limit position bytes) (
   left = omega arith
 
   at : (c d : Bool) → c ≡ d →
-      (cond c (filter is_whole (full_lines (take (limit - position.bytes) bytes))) (full_lines bytes) ≡ [])
-      ⊎ (cond c (filter is_whole (full_lines (take (limit - position.bytes) bytes))) (full_lines bytes) ≡ take (first_len bytes) bytes ∷ cond d (filter is_whole (full_lines (take (limit - (position.bytes + first_len bytes)) rest))) (full_lines rest))
-  at true true e = elim (long-at (is_whole (take (first_len (take (limit - position.bytes) bytes)) (take (limit - position.bytes) bytes))) (limit - position.bytes) bytes refl) [
+      (cond c (filter ends_in_newline (full_lines (take (limit - position.bytes) bytes))) (full_lines bytes) ≡ [])
+      ⊎ (cond c (filter ends_in_newline (full_lines (take (limit - position.bytes) bytes))) (full_lines bytes) ≡ take (first_len bytes) bytes ∷ cond d (filter ends_in_newline (full_lines (take (limit - (position.bytes + first_len bytes)) rest))) (full_lines rest))
+  at true true e = elim (long-at (ends_in_newline (take (first_len (take (limit - position.bytes) bytes)) (take (limit - position.bytes) bytes))) (limit - position.bytes) bytes refl) [
     | inl none ↦ inl none
-    | inr first ↦ inr (first ∙ ap (λ n. take (first_len bytes) bytes ∷ filter is_whole (full_lines (take n rest))) left)
+    | inr first ↦ inr (first ∙ ap (λ n. take (first_len bytes) bytes ∷ filter ends_in_newline (full_lines (take n rest))) left)
   ]
   at true false e = cc
   at false true e = cc
@@ -188,4 +188,4 @@ no-full_lines (b ∷ bytes) e = let first = full_lines-first (b ∷ bytes) (omeg
 pub line-over_bytes : (limit : ℕ) (position : Position) (bytes : List ℕ) → next_line limit position bytes ≡ Over → bytes ≡ []
 line-over_bytes limit position bytes e =
     let parts = end-at (is_too_long limit position bytes) (full_lines_within limit position bytes) position bytes e in
-    no-full_lines bytes (sym (ap (λ c. cond c (filter is_whole (full_lines (take (limit - position.bytes) bytes))) (full_lines bytes)) parts.1) ∙ parts.0)
+    no-full_lines bytes (sym (ap (λ c. cond c (filter ends_in_newline (full_lines (take (limit - position.bytes) bytes))) (full_lines bytes)) parts.1) ∙ parts.0)

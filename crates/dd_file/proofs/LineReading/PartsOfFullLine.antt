@@ -3,12 +3,12 @@ use Rattle.std.proofs.Common.{◌≡◌, ℕ, suc, ◌+◌, ◌-◌, ◌≤◌, 
 use Rattle.std.specs.Prelude.{◌==◌, Option, Some, None}
 use Rattle.std.proofs.lemmas.List.{append_assoc, append-nil, take-append-drop, length-append, length-drop, drop-drop, drop-take}
 use Rattle.std.specs.Io.KnownBytes.{Consumes}
-use Rattle.ascii_text.specs.Lines.{first_len, is_whole}
+use Rattle.ascii_text.specs.Lines.{first_len, ends_in_newline}
 use Rattle.dd_file.specs.FullLineRead.{PartRead}
 use Rattle.ascii_text.proofs.Offered.{first_len-append, first_len-bound, first_len-take, length-first}
 
 -- the first full line of what is buffered, after a part without newline
-pub part-moved : (buffered rest suffix : List ℕ) (before after : Option (List ℕ)) (part full_line : List ℕ) → PartRead buffered rest before after part → is_whole part ≡ false →
+pub part-moved : (buffered rest suffix : List ℕ) (before after : Option (List ℕ)) (part full_line : List ℕ) → PartRead buffered rest before after part → ends_in_newline part ≡ false →
     full_line ≡ part ++ take (first_len rest) rest → suffix ≡ drop (first_len rest) rest → PartRead buffered suffix before after full_line
 part-moved buffered rest suffix before after part full_line read unfinished is left =
     let k = first_len rest in

@@ -2,7 +2,7 @@
 use Rattle.std.proofs.Common.{◌≡◌, ℕ, zero, suc, Bool, true, false, not, cond, ◌&&◌, ◌+◌, ◌-◌, List, [], ◌∷◌, length, take, map, refl, ◌∙◌, ap}
 use Rattle.std.specs.Prelude.{◌==◌, Option, Some, None, Result, Ok, Err, filter}
 use Rattle.std.specs.List.{list_all}
-use Rattle.ascii_text.specs.Lines.{newline, full_lines, before_first_line, without_last, line_of, is_whole}
+use Rattle.ascii_text.specs.Lines.{newline, full_lines, before_first_line, without_last, line_of, ends_in_newline}
 use Rattle.dd_file.specs.Script.{FirstItem, first_item, first_of}
 use Rattle.dd_file.specs.Position.{Position, start, longest_input}
 use Rattle.dd_file.specs.Grammar.{followed, first_items, at_end, with_count, from_first_item, next_item, script_of, is_too_long, full_lines_within}
@@ -40,8 +40,8 @@ full_lines_within-are limit position bytes = at (is_too_long limit position byte
   cut : List ℕ
   cut = take (limit - position.bytes) bytes
 
-  at : (c : Bool) → list_all is_line (map line_of (cond c (filter is_whole (full_lines cut)) (full_lines bytes))) ≡ true
-  at true = lines-are (filter is_whole (full_lines cut)) (all-filter is_full_line is_whole (full_lines cut) (full_lines-are cut))
+  at : (c : Bool) → list_all is_line (map line_of (cond c (filter ends_in_newline (full_lines cut)) (full_lines bytes))) ≡ true
+  at true = lines-are (filter ends_in_newline (full_lines cut)) (all-filter is_full_line ends_in_newline (full_lines cut) (full_lines-are cut))
   at false = lines-are (full_lines bytes) (full_lines-are bytes)
 
 -- at most this many items

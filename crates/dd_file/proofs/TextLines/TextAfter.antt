@@ -4,7 +4,7 @@ use Rattle.std.specs.Prelude.{◌==◌, filter}
 use Rattle.std.specs.List.{list_all}
 use Rattle.std.proofs.lemmas.List.Elements.{filter-append}
 use Rattle.std.proofs.Math.Seq.{take-append-add}
-use Rattle.ascii_text.specs.Lines.{newline, full_lines, before_first_line, is_whole}
+use Rattle.ascii_text.specs.Lines.{newline, full_lines, before_first_line, ends_in_newline}
 use Rattle.dd_file.specs.Position.{Position}
 use Rattle.dd_file.specs.Grammar.{is_too_long, full_lines_within}
 
@@ -44,7 +44,7 @@ full_lines-append (b ∷ []) ys h = append-last (b == 10) b ys h
 full_lines-append (b ∷ c ∷ xs) ys h = append-more (b == 10) b (full_lines (c ∷ xs)) (full_lines ys) (full_lines (c ∷ xs ++ ys)) (some-step (c == 10) c (full_lines xs)) (full_lines-append (c ∷ xs) ys h)
 
 -- each full line of a whole text is whole
-whole-more : (b : ℕ) (full_line : List ℕ) → is_whole full_line ≡ true → is_whole (b ∷ full_line) ≡ true
+whole-more : (b : ℕ) (full_line : List ℕ) → ends_in_newline full_line ≡ true → ends_in_newline (b ∷ full_line) ≡ true
 whole-more b [] h = cc
 whole-more b (c ∷ full_line) h = h
 
@@ -52,22 +52,22 @@ and-left : (a b : Bool) → (a && b) ≡ true → a ≡ true
 and-left true b h = refl
 and-left false b h = h
 
-whole-first : (b : ℕ) (ps : List (List ℕ)) → has_some ps ≡ true → list_all is_whole ps ≡ true → list_all is_whole (before_first_line b ps) ≡ true
+whole-first : (b : ℕ) (ps : List (List ℕ)) → has_some ps ≡ true → list_all ends_in_newline ps ≡ true → list_all ends_in_newline (before_first_line b ps) ≡ true
 whole-first b [] s h = cc
 whole-first b (full_line ∷ ps) s h = rw (whole-more b full_line (and-left _ _ h)) (and-right _ _ h) where
   and-right : (a c : Bool) → (a && c) ≡ true → c ≡ true
   and-right true c h = h
   and-right false c h = cc
 
-whole-step : (c : Bool) (b : ℕ) (ps : List (List ℕ)) → has_some ps ≡ true → list_all is_whole ps ≡ true → list_all is_whole (cond c (newline ∷ ps) (before_first_line b ps)) ≡ true
+whole-step : (c : Bool) (b : ℕ) (ps : List (List ℕ)) → has_some ps ≡ true → list_all ends_in_newline ps ≡ true → list_all ends_in_newline (cond c (newline ∷ ps) (before_first_line b ps)) ≡ true
 whole-step true b ps s h = h
 whole-step false b ps s h = whole-first b ps s h
 
-whole-last : (c : Bool) (b : ℕ) → c ≡ true → list_all is_whole (cond c (newline ∷ []) (before_first_line b [])) ≡ true
+whole-last : (c : Bool) (b : ℕ) → c ≡ true → list_all ends_in_newline (cond c (newline ∷ []) (before_first_line b [])) ≡ true
 whole-last true b h = refl
 whole-last false b h = cc
 
-pub full_lines-whole : (xs : List ℕ) → is_whole_text xs ≡ true → list_all is_whole (full_lines xs) ≡ true
+pub full_lines-whole : (xs : List ℕ) → is_whole_text xs ≡ true → list_all ends_in_newline (full_lines xs) ≡ true
 full_lines-whole [] h = refl
 full_lines-whole (b ∷ []) h = whole-last (b == 10) b h
 full_lines-whole (b ∷ c ∷ xs) h = whole-step (b == 10) b (full_lines (c ∷ xs)) (some-step (c == 10) c (full_lines xs)) (full_lines-whole (c ∷ xs) h)
@@ -91,10 +91,10 @@ full_lines_within-whole limit position bs more whole fits = at (is_too_long limi
   rest : List (List ℕ)
   rest = full_lines (take (limit - position.bytes - length bs) more)
 
-  at : (c : Bool) → (suffix : List (List ℕ)) × (cond c (filter is_whole (full_lines (take (limit - position.bytes) (bs ++ more)))) (full_lines (bs ++ more)) ≡ full_lines bs ++ suffix)
+  at : (c : Bool) → (suffix : List (List ℕ)) × (cond c (filter ends_in_newline (full_lines (take (limit - position.bytes) (bs ++ more)))) (full_lines (bs ++ more)) ≡ full_lines bs ++ suffix)
   at true = (
-    filter is_whole rest,
-    ap (λ t. filter is_whole (full_lines t)) cut ∙ ap (filter is_whole) (full_lines-append bs _ whole) ∙ filter-append is_whole (full_lines bs) rest
-        ∙ ap (λ t. t ++ filter is_whole rest) (filter-all is_whole (full_lines bs) (full_lines-whole bs whole)),
+    filter ends_in_newline rest,
+    ap (λ t. filter ends_in_newline (full_lines t)) cut ∙ ap (filter ends_in_newline) (full_lines-append bs _ whole) ∙ filter-append ends_in_newline (full_lines bs) rest
+        ∙ ap (λ t. t ++ filter ends_in_newline rest) (filter-all ends_in_newline (full_lines bs) (full_lines-whole bs whole)),
   )
   at false = (full_lines more, full_lines-append bs more whole)

@@ -7,7 +7,7 @@ use Rattle.std.proofs.lemmas.Bool.Decides.{nat_tests}
 use Rattle.std.proofs.lemmas.List.{length-map}
 use Rattle.std.proofs.lemmas.List.Folds.{fold-map}
 use Rattle.std.proofs.lemmas.List.Sums.{sum_by-cons}
-use Rattle.quorum_sets.specs.Ids.{Ids, ascending, on_most, is_empty, size}
+use Rattle.quorum_sets.specs.Ids.{Ids, ascending, majority_passes, is_empty, size}
 use Rattle.quorum_sets.specs.Committed.{Acks, acked_index, acked_indexes, greatest_index, is_reached, is_passed, IsCommitted, committed_index}
 use Rattle.quorum_sets.proofs.Quorums.Counts.{count_by-mono}
 
@@ -16,8 +16,8 @@ abbrev pub most : (ℕ → Bool) → List ℕ → Bool
 most p xs = nat_lt (length xs) (2 * count_by p xs)
 
 -- a count over ids is one over their indexes
-pub on_most-acked : (p : ℕ → Bool) (ids : Ids) (acks : Acks) → on_most (λ id. p (acked_index acks id)) ids ≡ most p (acked_indexes ids acks)
-on_most-acked p ids acks = λ i. nat_lt (sym (length-map (ascending ids) (acked_index acks)) i) (2 * sym (fold-map (λ a x. a + cond (p x) 1 0) (acked_index acks) 0 (ascending ids)) i)
+pub majority_passes-acked : (p : ℕ → Bool) (ids : Ids) (acks : Acks) → majority_passes (λ id. p (acked_index acks id)) ids ≡ most p (acked_indexes ids acks)
+majority_passes-acked p ids acks = λ i. nat_lt (sym (length-map (ascending ids) (acked_index acks)) i) (2 * sym (fold-map (λ a x. a + cond (p x) 1 0) (acked_index acks) 0 (ascending ids)) i)
 
 -- ---- the greatest item that passes
 fold_max-le : (a : ℕ) (xs : List ℕ) → a ≤ fold max a xs
@@ -94,10 +94,10 @@ most-above_top m xs top = false_from_ne_true _ (λ start.
 
 -- ---- the law
 is_reached-acked : (ids : Ids) (acks : Acks) (k : ℕ) → is_reached ids acks k ≡ most (nat_le k) (acked_indexes ids acks)
-is_reached-acked ids acks k = on_most-acked (nat_le k) ids acks
+is_reached-acked ids acks k = majority_passes-acked (nat_le k) ids acks
 
 is_passed-acked : (ids : Ids) (acks : Acks) (k : ℕ) → is_passed ids acks k ≡ most (nat_lt k) (acked_indexes ids acks)
-is_passed-acked ids acks k = on_most-acked (nat_lt k) ids acks
+is_passed-acked ids acks k = majority_passes-acked (nat_lt k) ids acks
 
 length-acked_indexes : (ids : Ids) (acks : Acks) → length (acked_indexes ids acks) ≡ size ids
 length-acked_indexes ids acks = length-map (ascending ids) (acked_index acks)

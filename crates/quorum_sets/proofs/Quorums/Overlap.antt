@@ -7,7 +7,7 @@ use Rattle.std.proofs.lemmas.List.Folds.{Any-from_list_any}
 use Rattle.std.proofs.lemmas.List.Filters.{length-filter_both}
 use Rattle.std.proofs.lemmas.List.Sorted.{IsPermutation-filter_both, sum_by-IsPermutation}
 use Rattle.std.proofs.lemmas.List.Sums.{sum_by-cons, count_by-le-length, length-filter, sum_by-append}
-use Rattle.quorum_sets.specs.Ids.{Ids, has, ascending, size, on_most, is_empty, difference_count}
+use Rattle.quorum_sets.specs.Ids.{Ids, has, ascending, size, majority_passes, is_empty, difference_count}
 use Rattle.quorum_sets.specs.Voters.{Voters, AreNeighbours}
 use Rattle.quorum_sets.specs.Committed.{Acks, acked_index, committed_index}
 use Rattle.quorum_sets.specs.Votes.{Votes, is_yes, is_won, is_lost}
@@ -99,21 +99,21 @@ meet_across p q a b few most_p most_q = elim (cases_Bool (list_any (both p q) (a
 -- ---- across neighbours
 -- the test passes on more than half of the incoming voters and, where there are outgoing voters, on more than half of these
 abbrev passes_in : Voters → (ℕ → Bool) → Bool
-passes_in voters p = on_most p voters.incoming && (is_empty voters.outgoing || on_most p voters.outgoing)
+passes_in voters p = majority_passes p voters.incoming && (is_empty voters.outgoing || majority_passes p voters.outgoing)
 
-most_from_test : (p : ℕ → Bool) (ids : Ids) → on_most p ids ≡ true → Most p (ascending ids)
+most_from_test : (p : ℕ → Bool) (ids : Ids) → majority_passes p ids ≡ true → Most p (ascending ids)
 most_from_test p ids passes = ltb-true _ _ passes
 
 -- where more than half pass, there is some id
-not_both : (p : ℕ → Bool) (ids : Ids) → on_most p ids ≡ true → is_empty ids ≡ true → ⊥
+not_both : (p : ℕ → Bool) (ids : Ids) → majority_passes p ids ≡ true → is_empty ids ≡ true → ⊥
 not_both p ids passes no_voter =
     let some = ltb-true _ _ passes in
     let none = eqb-true (size ids) 0 no_voter in
     let all = count_by-le-length p (ascending ids) in
     absurd (omega arith)
 
-meet_in_set : (p q : ℕ → Bool) (ids : Ids) → on_most p ids ≡ true → (is_empty ids || on_most q ids) ≡ true → Shared p q
-meet_in_set p q ids first second = elim (or_cases (is_empty ids) (on_most q ids) second) [
+meet_in_set : (p q : ℕ → Bool) (ids : Ids) → majority_passes p ids ≡ true → (is_empty ids || majority_passes q ids) ≡ true → Shared p q
+meet_in_set p q ids first second = elim (or_cases (is_empty ids) (majority_passes q ids) second) [
   | inl no_voter ↦ absurd (not_both p ids first no_voter)
   | inr passes ↦ meet_in_one p q (ascending ids) (most_from_test p ids first) (most_from_test q ids passes)
 ]
@@ -126,11 +126,11 @@ neighbours_meet before after (inl differ) p q first second =
 neighbours_meet before after (inr (inl joint)) p q first second =
     let quorum_before = and_parts _ _ first in
     let quorum_after = and_parts _ _ second in
-    meet_in_set p q before.incoming quorum_before.0 ((λ i. is_empty (sym joint.outgoing i) || on_most q (sym joint.outgoing i)) ∙ quorum_after.1)
+    meet_in_set p q before.incoming quorum_before.0 ((λ i. is_empty (sym joint.outgoing i) || majority_passes q (sym joint.outgoing i)) ∙ quorum_after.1)
 neighbours_meet before after (inr (inr left)) p q first second =
     let quorum_before = and_parts _ _ first in
     let quorum_after = and_parts _ _ second in
-    meet_in_one p q (ascending before.incoming) (most_from_test p before.incoming quorum_before.0) (most_from_test q before.incoming (ap (on_most q) (sym left.incoming) ∙ quorum_after.0))
+    meet_in_one p q (ascending before.incoming) (most_from_test p before.incoming quorum_before.0) (most_from_test q before.incoming (ap (majority_passes q) (sym left.incoming) ∙ quorum_after.0))
 
 -- ---- the laws
 pub QuorumsMeet-from_neighbours_back : (before after : Voters) → AreNeighbours before after → QuorumsMeet after before
@@ -144,13 +144,13 @@ QuorumsMeet-from_neighbours before after neighbours first second quorums =
     (found.0, record { in_first = found.1; in_second = found.2 })
 
 -- a majority has acknowledged what is committed
-acknowledged : (ids : Ids) (acks : Acks) (index : ℕ) → is_empty ids ≡ false → index ≤ committed_index ids acks → on_most (λ id. nat_le index (acked_index acks id)) ids ≡ true
+acknowledged : (ids : Ids) (acks : Acks) (index : ℕ) → is_empty ids ≡ false → index ≤ committed_index ids acks → majority_passes (λ id. nat_le index (acked_index acks id)) ids ≡ true
 acknowledged ids acks index some_voter low =
     let reached = ltb-true _ _ ((IsCommitted-committed_index ids acks).reached some_voter) in
     let more = count_by-mono (λ id. nat_le (committed_index ids acks) (acked_index acks id)) (λ id. nat_le index (acked_index acks id)) (λ id enough. le-leb _ _ (let at_least = leb-true _ _ enough in omega arith)) (ascending ids) in
     lt-ltb _ _ (omega arith)
 
-acknowledged_or_empty : (ids : Ids) (acks : Acks) (index : ℕ) → index ≤ committed_index ids acks → (is_empty ids || on_most (λ id. nat_le index (acked_index acks id)) ids) ≡ true
+acknowledged_or_empty : (ids : Ids) (acks : Acks) (index : ℕ) → index ≤ committed_index ids acks → (is_empty ids || majority_passes (λ id. nat_le index (acked_index acks id)) ids) ≡ true
 acknowledged_or_empty ids acks index low = elim (cases_Bool (is_empty ids)) [
   | inl no_voter ↦ or_left _ _ no_voter
   | inr some_voter ↦ or_right _ _ (acknowledged ids acks index some_voter low)

@@ -5,9 +5,9 @@ use Rattle.std.specs.List.{list_any}
 use Rattle.std.proofs.lemmas.Bool.{cases_Bool, both_ways, and_parts, and_from, or_cases, or_left, or_right, ltb-true, lt-ltb, le-ltb, leb-true, leb-false, le-leb, lt-leb, eqb-true, eqb-false, cond-true, cond-false, cond_both, false_from_ne_true}
 use Rattle.std.proofs.lemmas.List.Folds.{list_any-append}
 use Rattle.std.proofs.lemmas.List.Sums.{sum_by-cons, sum_by-take-drop, count_by-le-length, length-filter}
-use Rattle.quorum_sets.specs.Ids.{Ids, no_ids, has, with_id, ascending, size, ids_of, union, count_of, on_most, is_empty}
+use Rattle.quorum_sets.specs.Ids.{Ids, no_ids, has, with_id, ascending, size, ids_of, union, count_of, majority_passes, is_empty}
 use Rattle.quorum_sets.specs.Voters.{Voters, majority, is_quorum}
-use Rattle.quorum_sets.specs.Tolerance.{voters_without, commits_without, Endures, IsMostDown, surplus, least, may_be_down, least_minority}
+use Rattle.quorum_sets.specs.Tolerance.{voters_without, commits_without, Tolerates, IsMostDown, surplus, least, may_be_down, least_minority}
 use Rattle.quorum_sets.proofs.IdSets.Members.{has-ascending, has-ids_of, has-ids_where, has-no_ids, has-same_ids, has-with_id, ascending-no_ids}
 use Rattle.quorum_sets.proofs.IdSets.Difference.{count_of-rest, count_of-within, size-with_id}
 use Rattle.quorum_sets.proofs.IdSets.Union.{has-union}
@@ -28,14 +28,14 @@ count_by-none p (x ∷ xs) none =
     let head : ◌≡◌ {A = ℕ} (cond (p x) 1 0) 0 = ap (λ b. cond b 1 0) (none x (or_left (x == x) _ (eq-eqb x x refl))) in
     rw (sum_by-cons (λ y. cond (p y) 1 0) x xs) (omega arith)
 
-on_most-alike : (p q : ℕ → Bool) (ids : Ids) → ((x : ℕ) → has ids x ≡ true → p x ≡ q x) → on_most p ids ≡ on_most q ids
-on_most-alike p q ids alike = ap (λ n. nat_lt (size ids) (2 * n)) (count_by-alike p q (ascending ids) (λ x here. alike x (has-ascending ids x ∙ here)))
+majority_passes-alike : (p q : ℕ → Bool) (ids : Ids) → ((x : ℕ) → has ids x ≡ true → p x ≡ q x) → majority_passes p ids ≡ majority_passes q ids
+majority_passes-alike p q ids alike = ap (λ n. nat_lt (size ids) (2 * n)) (count_by-alike p q (ascending ids) (λ x here. alike x (has-ascending ids x ∙ here)))
 
 -- a quorum rests on the voters alone
 pub is_quorum-alike : (voters : Voters) (a b : Ids) → ((q : ℕ) → (has voters.incoming q || has voters.outgoing q) ≡ true → has a q ≡ has b q) → is_quorum voters a ≡ is_quorum voters b
 is_quorum-alike voters a b alike = λ i.
-    on_most-alike (has a) (has b) voters.incoming (λ q here. alike q (or_left _ _ here)) i
-    && (is_empty voters.outgoing || on_most-alike (has a) (has b) voters.outgoing (λ q here. alike q (or_right (has voters.incoming q) _ here)) i)
+    majority_passes-alike (has a) (has b) voters.incoming (λ q here. alike q (or_left _ _ here)) i
+    && (is_empty voters.outgoing || majority_passes-alike (has a) (has b) voters.outgoing (λ q here. alike q (or_right (has voters.incoming q) _ here)) i)
 
 -- ---- which voters are left
 pub has-voters_without : (voters : Voters) (away : Ids) (q : ℕ) → has (voters_without voters away) q ≡ (not (has away q) && (has voters.incoming q || has voters.outgoing q))
@@ -52,10 +52,10 @@ and_any false b e = refl
 abbrev stay : Ids → ℕ → Bool
 stay away id = not (has away id)
 
-commits_without-on_most : (voters : Voters) (away : Ids) → commits_without voters away ≡ (on_most (stay away) voters.incoming && (is_empty voters.outgoing || on_most (stay away) voters.outgoing))
-commits_without-on_most voters away = λ i.
-    on_most-alike (has (voters_without voters away)) (stay away) voters.incoming (λ q here. left q (or_left _ _ here)) i
-    && (is_empty voters.outgoing || on_most-alike (has (voters_without voters away)) (stay away) voters.outgoing (λ q here. left q (or_right (has voters.incoming q) _ here)) i)
+commits_without-majority_passes : (voters : Voters) (away : Ids) → commits_without voters away ≡ (majority_passes (stay away) voters.incoming && (is_empty voters.outgoing || majority_passes (stay away) voters.outgoing))
+commits_without-majority_passes voters away = λ i.
+    majority_passes-alike (has (voters_without voters away)) (stay away) voters.incoming (λ q here. left q (or_left _ _ here)) i
+    && (is_empty voters.outgoing || majority_passes-alike (has (voters_without voters away)) (stay away) voters.outgoing (λ q here. left q (or_right (has voters.incoming q) _ here)) i)
   where
     left : (q : ℕ) → (has voters.incoming q || has voters.outgoing q) ≡ true → has (voters_without voters away) q ≡ stay away q
     left q here = has-voters_without voters away q ∙ and_any (stay away q) _ here
@@ -89,8 +89,8 @@ counted-union : (ids down uncounted : Ids) → counted ids (union down uncounted
 counted-union ids down uncounted = λ i. count_of (λ id. not (has-union down uncounted id i)) ids
 
 -- a majority stays where at most k are down and the counted ids are k more than a majority
-on_most-lasts : (ids uncounted down : Ids) (k : ℕ) → majority (size ids) + k ≤ counted ids uncounted → size down ≤ k → on_most (stay (union down uncounted)) ids ≡ true
-on_most-lasts ids uncounted down k enough few =
+majority_passes-lasts : (ids uncounted down : Ids) (k : ℕ) → majority (size ids) + k ≤ counted ids uncounted → size down ≤ k → majority_passes (stay (union down uncounted)) ids ≡ true
+majority_passes-lasts ids uncounted down k enough few =
     let lost = count_by-stay_or_down (has down) (has uncounted) (ascending ids) in
     let within = count_of-within ids down (count_of (has down) ids) refl in
     let same = counted-union ids down uncounted in
@@ -134,7 +134,7 @@ size-ids_of (x ∷ xs) =
 record Broken (ids uncounted : Ids) (k : ℕ) : Type 0 where
   down : Ids
   few : size down ≤ k
-  broken : on_most (stay (union down uncounted)) ids ≡ false
+  broken : majority_passes (stay (union down uncounted)) ids ≡ false
 
 broken-from_count : (ids uncounted : Ids) (k : ℕ) → counted ids uncounted < majority (size ids) + k → Broken ids uncounted k
 broken-from_count ids uncounted k less =
@@ -158,24 +158,24 @@ pub record HaveMore (voters : Voters) (uncounted : Ids) (k : ℕ) : Type 0 where
   pub incoming : majority (size voters.incoming) + k ≤ count_of (λ id. not (has uncounted id)) voters.incoming
   pub outgoing : is_empty voters.outgoing ≡ false → majority (size voters.outgoing) + k ≤ count_of (λ id. not (has uncounted id)) voters.outgoing
 
-pub Endures-from_counts : (voters : Voters) (uncounted : Ids) (k : ℕ) → HaveMore voters uncounted k → Endures voters uncounted k
-Endures-from_counts voters uncounted k more down few =
-    commits_without-on_most voters (union down uncounted)
-    ∙ and_from _ _ (on_most-lasts voters.incoming uncounted down k more.incoming few) (elim (cases_Bool (is_empty voters.outgoing)) [
+pub Tolerates-from_counts : (voters : Voters) (uncounted : Ids) (k : ℕ) → HaveMore voters uncounted k → Tolerates voters uncounted k
+Tolerates-from_counts voters uncounted k more down few =
+    commits_without-majority_passes voters (union down uncounted)
+    ∙ and_from _ _ (majority_passes-lasts voters.incoming uncounted down k more.incoming few) (elim (cases_Bool (is_empty voters.outgoing)) [
       | inl no_voter ↦ or_left _ _ no_voter
-      | inr some_voter ↦ or_right _ _ (on_most-lasts voters.outgoing uncounted down k (more.outgoing some_voter) few)
+      | inr some_voter ↦ or_right _ _ (majority_passes-lasts voters.outgoing uncounted down k (more.outgoing some_voter) few)
     ])
 
 or_second : (a b : Bool) → a ≡ false → (a || b) ≡ true → b ≡ true
 or_second a b not_first some = elim (or_cases a b some) [ inl first ↦ absurd (both_ways a not_first first) | inr second ↦ second ]
 
 -- in each set, more than half stay
-stays_in : (voters : Voters) (away : Ids) → commits_without voters away ≡ true → (on_most (stay away) voters.incoming ≡ true) × (is_empty voters.outgoing ≡ false → on_most (stay away) voters.outgoing ≡ true)
+stays_in : (voters : Voters) (away : Ids) → commits_without voters away ≡ true → (majority_passes (stay away) voters.incoming ≡ true) × (is_empty voters.outgoing ≡ false → majority_passes (stay away) voters.outgoing ≡ true)
 stays_in voters away commits =
-    let parts = and_parts _ _ (sym (commits_without-on_most voters away) ∙ commits) in
+    let parts = and_parts _ _ (sym (commits_without-majority_passes voters away) ∙ commits) in
     (parts.0, λ some_voter. or_second _ _ some_voter parts.1)
 
-counted-from_lasting : (ids uncounted : Ids) (k : ℕ) → ((down : Ids) → size down ≤ k → on_most (stay (union down uncounted)) ids ≡ true) → majority (size ids) + k ≤ counted ids uncounted
+counted-from_lasting : (ids uncounted : Ids) (k : ℕ) → ((down : Ids) → size down ≤ k → majority_passes (stay (union down uncounted)) ids ≡ true) → majority (size ids) + k ≤ counted ids uncounted
 counted-from_lasting ids uncounted k lasts = elim (cases_Bool (nat_le (majority (size ids) + k) (counted ids uncounted))) [
   | inl enough ↦ leb-true _ _ enough
   | inr less ↦
@@ -183,8 +183,8 @@ counted-from_lasting ids uncounted k lasts = elim (cases_Bool (nat_le (majority 
       absurd (both_ways _ breaks.broken (lasts breaks.down breaks.few))
 ]
 
-pub counts-from_Endures : (voters : Voters) (uncounted : Ids) (k : ℕ) → Endures voters uncounted k → HaveMore voters uncounted k
-counts-from_Endures voters uncounted k endures = record {
+pub counts-from_Tolerates : (voters : Voters) (uncounted : Ids) (k : ℕ) → Tolerates voters uncounted k → HaveMore voters uncounted k
+counts-from_Tolerates voters uncounted k endures = record {
   incoming = counted-from_lasting voters.incoming uncounted k (λ down few. (stays_in voters _ (endures down few)).0);
   outgoing = λ some_voter. counted-from_lasting voters.outgoing uncounted k (λ down few. (stays_in voters _ (endures down few)).1 some_voter);
 }
@@ -204,11 +204,11 @@ most_of_one : (voters : Voters) (uncounted : Ids) (a : Option ℕ) → is_empty 
 most_of_one voters uncounted None single a_is = record {
   endured = tt;
   greatest = tt;
-  none = λ endures. let more = (counts-from_Endures voters uncounted 0 endures).incoming in absurd (omega arith);
+  none = λ endures. let more = (counts-from_Tolerates voters uncounted 0 endures).incoming in absurd (omega arith);
 }
 most_of_one voters uncounted (Some k) single a_is = record {
-  endured = Endures-from_counts voters uncounted k (record { incoming = omega arith; outgoing = λ some_voter. absurd (both_ways _ some_voter single) });
-  greatest = λ other endures. let more = (counts-from_Endures voters uncounted other endures).incoming in omega arith;
+  endured = Tolerates-from_counts voters uncounted k (record { incoming = omega arith; outgoing = λ some_voter. absurd (both_ways _ some_voter single) });
+  greatest = λ other endures. let more = (counts-from_Tolerates voters uncounted other endures).incoming in omega arith;
   none = tt;
 }
 
@@ -217,17 +217,17 @@ most_of_both : (voters : Voters) (uncounted : Ids) (a b : Option ℕ) → is_emp
 most_of_both voters uncounted None b joint a_is b_is = record {
   endured = tt;
   greatest = tt;
-  none = λ endures. let more = (counts-from_Endures voters uncounted 0 endures).incoming in absurd (omega arith);
+  none = λ endures. let more = (counts-from_Tolerates voters uncounted 0 endures).incoming in absurd (omega arith);
 }
 most_of_both voters uncounted (Some a) None joint a_is b_is = record {
   endured = tt;
   greatest = tt;
-  none = λ endures. let more = (counts-from_Endures voters uncounted 0 endures).outgoing joint in absurd (omega arith);
+  none = λ endures. let more = (counts-from_Tolerates voters uncounted 0 endures).outgoing joint in absurd (omega arith);
 }
 most_of_both voters uncounted (Some a) (Some b) joint a_is b_is = record {
-  endured = Endures-from_counts voters uncounted (min a b) (record { incoming = omega arith; outgoing = λ some_voter. omega arith });
+  endured = Tolerates-from_counts voters uncounted (min a b) (record { incoming = omega arith; outgoing = λ some_voter. omega arith });
   greatest = λ other endures.
-      let more = counts-from_Endures voters uncounted other endures in
+      let more = counts-from_Tolerates voters uncounted other endures in
       let of_incoming = more.incoming in
       let of_outgoing = more.outgoing joint in
       omega arith;
@@ -244,7 +244,7 @@ IsMostDown-may_be_down voters uncounted =
 pub IsMostDown-from_counted : (voters : Voters) (uncounted : Ids) (answer : Option ℕ) → answer ≡ may_be_down voters uncounted → IsMostDown voters uncounted answer
 IsMostDown-from_counted voters uncounted answer is = let P : Option ℕ → Type 0 = IsMostDown voters uncounted in subst P (sym is) (IsMostDown-may_be_down voters uncounted)
 
-endures_none : (voters : Voters) (uncounted : Ids) (k : ℕ) → Endures voters uncounted k → Endures voters uncounted 0
+endures_none : (voters : Voters) (uncounted : Ids) (k : ℕ) → Tolerates voters uncounted k → Tolerates voters uncounted 0
 endures_none voters uncounted k endures = λ down few. endures down (omega arith)
 
 pub IsMostDown-alone : (voters : Voters) (uncounted : Ids) (a b : Option ℕ) → IsMostDown voters uncounted a → IsMostDown voters uncounted b → a ≡ b
@@ -291,7 +291,7 @@ commits_with_answer voters away (Some k) is =
     ap (commits_without voters) (has-same_ids away (union no_ids away) (λ q. sym (has-union no_ids away q ∙ ap (λ b. b || has away q) (has-no_ids q)))) ∙ is.endured no_ids (omega arith)
 commits_with_answer voters away None is = false_from_ne_true _ (λ commits.
     let stays = stays_in voters away commits in
-    is.none (Endures-from_counts voters away 0 (record {
+    is.none (Tolerates-from_counts voters away 0 (record {
       incoming = let most = ltb-true _ _ stays.0 in omega arith;
       outgoing = λ some_voter. let most = ltb-true _ _ (stays.1 some_voter) in omega arith;
     })))

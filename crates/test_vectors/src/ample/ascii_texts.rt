@@ -1,5 +1,5 @@
 //! White space, tokens, lines and numbers in texts.
-use ascii_text::lines::{first_line_len, is_whole, line_of, next_full_line, without_end};
+use ascii_text::lines::{ends_in_newline, first_line_len, line_of, next_full_line, without_end};
 use ascii_text::number::read_number;
 use ascii_text::position::{far_position_of, position_of};
 use ascii_text::tokens::next_token;
@@ -113,7 +113,7 @@ static LINES: [(&[u8], &[u8], bool); 5] = [
 fn trims_the_ends_of_lines(rt: HostRuntime) {
     for (index, (full_line, line, whole)) in LINES.iter().enumerate() {
         assert!(rt;
-            (line_of(*full_line) == *line) & (is_whole(*full_line) == *whole),
+            (line_of(*full_line) == *line) & (ends_in_newline(*full_line) == *whole),
             "row {index}"
         );
     }

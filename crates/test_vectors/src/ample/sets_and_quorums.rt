@@ -2,7 +2,7 @@
 use crate::ample::runtime::Runtime;
 use crate::sets::with_acks;
 use quorum_sets::{
-    AckSource, MemberSet, TreeIds, commits_without, common_member, has_next, is_quorum,
+    AckSource, MemberSet, TreeIds, commits_without, common_member, contains_from, is_quorum,
     may_be_down, quorum,
 };
 use std::collections::BTreeMap;
@@ -156,6 +156,6 @@ fn looks_up_ascending_ids(rt: HostRuntime) {
     let set = set_of(&rt, &[2, 4, 9]);
     let mut index = 0;
     for (id, there) in &LOOKED_UP {
-        assert!(rt; has_next(&set, &mut index, *id) == *there, "{id}");
+        assert!(rt; contains_from(&set, &mut index, *id) == *there, "{id}");
     }
 }

@@ -33,19 +33,20 @@ fn is_stage(rt: &impl Runtime, stage: &Stage<TreeIds>, row: &Row) -> bool {
         & (stage.commits(&set_of(rt, &[3])) == Ok(*commits))
 }
 
+fn changer_at(rt: &impl Runtime, sets: Sets) -> Changer<TreeIds> {
+    let state = conf_state(rt.alloc(), &config_of(rt, sets, false)).expect(rt, "a ConfState");
+    Changer::restore(rt.alloc(), &state, 0).expect(rt, "a changer")
+}
+
 #[test]
 fn has_the_stages_of_a_path(rt: HostRuntime) {
-    let state = conf_state(rt.alloc(), &config_of(&rt, NOW, false)).expect(&rt, "a ConfState");
-    let changer: Changer<TreeIds> = Changer::restore(rt.alloc(), &state, 0).expect(
-        &rt,
-        "a changer",
-    );
-    let now = changer.tracker().config();
+    let (current, target) = (changer_at(&rt, NOW), changer_at(&rt, TARGET));
+    let now = current.tracker().config();
     let path = plan_by(
         rt.alloc(),
-        now,
-        &config_of(&rt, TARGET, false),
         Strategy::Shortest,
+        now,
+        target.tracker().config(),
     );
     let path = path.expect(&rt, "a path");
     let stages = stages(rt.alloc(), now, &path).expect(&rt, "the stages");

@@ -3,21 +3,21 @@ use Rattle.std.proofs.lemmas.Bool.{and_from, and_left, and_right}
 use Rattle.quorum_sets.proofs.Offered.{slice_get-not_past}
 use Rattle.conf_change.proofs.SetWalks.TestOfEachId.{list_all-one_more, list_all-but_one, list_all-walked}
 use Rattle.conf_change.proofs.config.is_apart_from_both.Goals as goal
-use Rattle.conf_change.proofs.config.is_apart_from_both.Goals.{then-has_next-via-then-has_next, then-has_next-via-else-has_next+then-has_next-2, in-Some+else-has_next+else-has_next-2, in_default}
+use Rattle.conf_change.proofs.config.is_apart_from_both.Goals.{then-contains_from-via-then-contains_from, then-contains_from-via-else-contains_from+then-contains_from-2, in-Some+else-contains_from+else-contains_from-2, in_default}
 
-pub returns-then-has_next : goal.returns-then-has_next
-returns-then-has_next g c = elim c.then-has_next.branch [
-  | then-has_next-via-then-has_next w ↦
-      sym (and_left _ _ (list_all-but_one _ _ c.loop-position.position c.in-Some.id (sym c.in-Some.ensures) (sym (ap not c.has_next.ensures) ∙ ap not w.if-has_next.true)))
-  | then-has_next-via-else-has_next+then-has_next-2 w ↦
-      sym (and_right _ _ (list_all-but_one _ _ c.loop-position.position c.in-Some.id (sym c.in-Some.ensures) (sym (ap not w.has_next-else-has_next.ensures) ∙ ap not w.if-has_next-2.true)))
+pub returns-then-contains_from : goal.returns-then-contains_from
+returns-then-contains_from g c = elim c.then-contains_from.branch [
+  | then-contains_from-via-then-contains_from w ↦
+      sym (and_left _ _ (list_all-but_one _ _ c.loop-position.position c.in-Some.id (sym c.in-Some.ensures) (sym (ap not c.contains_from.ensures) ∙ ap not w.if-contains_from.true)))
+  | then-contains_from-via-else-contains_from+then-contains_from-2 w ↦
+      sym (and_right _ _ (list_all-but_one _ _ c.loop-position.position c.in-Some.id (sym c.in-Some.ensures) (sym (ap not w.contains_from-else-contains_from.ensures) ∙ ap not w.if-contains_from-2.true)))
 ]
 
 pub loop-position-preserved : goal.loop-position-preserved
 loop-position-preserved g c = elim c.match-at.branch [
-  | in-Some+else-has_next+else-has_next-2 w ↦ record {
-    from_first = list_all-one_more _ _ c.loop-position.position w.in-Some.id true (sym w.in-Some.ensures) (sym (ap not w.has_next.ensures) ∙ ap not w.if-has_next.false) c.loop-position.invariant.from_first;
-    from_second = list_all-one_more _ _ c.loop-position.position w.in-Some.id true (sym w.in-Some.ensures) (sym (ap not w.has_next-else-has_next.ensures) ∙ ap not w.if-has_next-2.false) c.loop-position.invariant.from_second;
+  | in-Some+else-contains_from+else-contains_from-2 w ↦ record {
+    from_first = list_all-one_more _ _ c.loop-position.position w.in-Some.id true (sym w.in-Some.ensures) (sym (ap not w.contains_from.ensures) ∙ ap not w.if-contains_from.false) c.loop-position.invariant.from_first;
+    from_second = list_all-one_more _ _ c.loop-position.position w.in-Some.id true (sym w.in-Some.ensures) (sym (ap not w.contains_from-else-contains_from.ensures) ∙ ap not w.if-contains_from-2.false) c.loop-position.invariant.from_second;
   }
   | in_default w ↦ slice_get-not_past _ _ _ (sym w.in_default.is ∙ c.at.ensures) c.len-position-end.ensures c.loop-position-test.true
 ]

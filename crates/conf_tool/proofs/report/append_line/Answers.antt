@@ -7,9 +7,9 @@ returns-in_ok-push c =
     let before = c.args.text.now.items in
     let full_line = c.args.full_line.now in
     c.in_ok-push.ensures.items ∙ ap (λ t. t ++ 10 ∷ []) c.in_ok-extend_from_slice.ensures.items ∙ append_assoc before full_line (10 ∷ [])
-    ∙ ap (λ t. before ++ (t ++ 10 ∷ [])) (sym (bare-line full_line (sym c.is_whole.ensures ∙ c.if-not-is_whole.true)))
+    ∙ ap (λ t. before ++ (t ++ 10 ∷ [])) (sym (bare-line full_line (sym c.ends_in_newline.ensures ∙ c.if-not-ends_in_newline.true)))
 
-pub returns-else-not-is_whole : goal.returns-else-not-is_whole
-returns-else-not-is_whole c =
+pub returns-else-not-ends_in_newline : goal.returns-else-not-ends_in_newline
+returns-else-not-ends_in_newline c =
     let before = c.args.text.now.items in
-    c.in_ok-extend_from_slice.ensures.items ∙ ap (λ t. before ++ t) (sym (whole-line c.args.full_line.now (sym c.is_whole.ensures ∙ c.if-not-is_whole.false)))
+    c.in_ok-extend_from_slice.ensures.items ∙ ap (λ t. before ++ t) (sym (whole-line c.args.full_line.now (sym c.ends_in_newline.ensures ∙ c.if-not-ends_in_newline.false)))

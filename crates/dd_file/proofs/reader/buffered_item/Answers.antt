@@ -1,5 +1,5 @@
 use Rattle.std.proofs.Common.{◌≡◌, ℕ, ◌+◌, false, drop, refl, sym, ap, subst, ◌∙◌}
-use Rattle.ascii_text.specs.Lines.{line_of, is_whole}
+use Rattle.ascii_text.specs.Lines.{line_of, ends_in_newline}
 use Rattle.dd_file.specs.Position.{longest_input}
 use Rattle.dd_file.specs.Grammar.{next_item}
 use Rattle.dd_file.specs.ReaderState.{ReaderState}
@@ -19,13 +19,13 @@ buffered-init g c =
       same = refl;
     }
 
-pub returns-then-not-is_whole-clause-unread : goal.returns-then-not-is_whole-clause-unread
-returns-then-not-is_whole-clause-unread g c _ =
+pub returns-then-not-ends_in_newline-clause-unread : goal.returns-then-not-ends_in_newline-clause-unread
+returns-then-not-ends_in_newline-clause-unread g c _ =
     let loop = c.buffered.invariant in
     let lines = c.buffered.lines in
     let rest = rest-whole c.buffered.consumed c.buffered-in-buffered.result.now ∙ ap (drop c.buffered.consumed) c.buffered-in-buffered.ensures in
     let full_line = same-full_line _ _ c.first_line_len-len.result refl c.first_line_len-len.ensures.count in
-    let unfinished = ap is_whole (sym full_line) ∙ sym c.is_whole.ensures ∙ c.if-not-is_whole.true in
+    let unfinished = ap ends_in_newline (sym full_line) ∙ sym c.ends_in_newline.ensures ∙ c.if-not-ends_in_newline.true in
     (loop.same, subst (λ (s : ReaderState). is_item_buffered s.position s.buffered ≡ false) loop.same (buffered-open g.R.Source.remaining lines c.args.reader.now c.buffered.draft c.buffered.count c.buffered.consumed _ loop.so_far loop.open_end rest unfinished))
 
 pub returns-in-Ok-true-clause-read : goal.returns-in-Ok-true-clause-read
@@ -39,7 +39,7 @@ returns-in-Ok-true-clause-read g c =
     let within : Within lines = subst Within (sym loop.same) c.requires.within in
     let rest = rest-whole c.buffered.consumed c.buffered-in-buffered.result.now ∙ ap (drop c.buffered.consumed) c.buffered-in-buffered.ensures in
     let full_line = same-full_line _ _ c.first_line_len-len.result refl c.first_line_len-len.ensures.count in
-    let whole = ap is_whole (sym full_line) ∙ sym c.is_whole.ensures ∙ c.if-not-is_whole.false in
+    let whole = ap ends_in_newline (sym full_line) ∙ sym c.ends_in_newline.ensures ∙ c.if-not-ends_in_newline.false in
     let adds = subst (λ l. AddsIn c.buffered.draft.state c.buffered.draft c.add.new.self l) (c.line_of.ensures ∙ ap line_of full_line) c.in-Ok-true.ensures.added in
     let so_far = buffered-more remaining has_failed lines reader c.buffered.draft c.add.new.self c.buffered.count c.buffered.consumed _ can_read within loop.so_far rest whole adds in
     let consumed = ap (λ n. passed lines (c.buffered.count + 1) (c.buffered.consumed + n)) c.first_line_len-len.ensures.count in
@@ -55,7 +55,7 @@ buffered-preserved g c =
     let within : Within lines = subst Within (sym loop.same) c.requires.within in
     let rest = rest-whole c.buffered.consumed c.buffered-in-buffered.result.now ∙ ap (drop c.buffered.consumed) c.buffered-in-buffered.ensures in
     let full_line = same-full_line _ _ c.first_line_len-len.result refl c.first_line_len-len.ensures.count in
-    let whole = ap is_whole (sym full_line) ∙ sym c.is_whole.ensures ∙ c.if-not-is_whole.false in
+    let whole = ap ends_in_newline (sym full_line) ∙ sym c.ends_in_newline.ensures ∙ c.if-not-ends_in_newline.false in
     let adds = subst (λ l. AddsIn c.buffered.draft.state c.buffered.draft c.add.new.self l) (c.line_of.ensures ∙ ap line_of full_line) c.in-Ok-false.ensures.added in
     let so_far = buffered-more remaining g.R.Source.has_failed lines c.args.reader.now c.buffered.draft c.add.new.self c.buffered.count c.buffered.consumed _ can_read within loop.so_far rest whole adds in
     record {

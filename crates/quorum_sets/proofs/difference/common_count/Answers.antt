@@ -5,18 +5,18 @@ use Rattle.quorum_sets.proofs.ListPositions.{slice_get-not_past}
 use Rattle.quorum_sets.proofs.Quorums.Counts.{count_by-one_more, count_by-no_more}
 use Rattle.quorum_sets.proofs.IdSets.Difference.{count_of-within}
 use Rattle.quorum_sets.proofs.difference.common_count.Goals as goal
-use Rattle.quorum_sets.proofs.difference.common_count.Goals.{in-Some+then-has_next, in-Some+else-has_next, in_default}
+use Rattle.quorum_sets.proofs.difference.common_count.Goals.{in-Some+then-contains_from, in-Some+else-contains_from, in_default}
 
 pub loop-position-preserved : goal.loop-position-preserved
 loop-position-preserved g c =
     let other = has (g.S.MemberSet.ids c.args.b.now) in
     elim c.match-at.branch [
-      | in-Some+then-has_next w ↦ record {
-        counted = w.count-is ∙ count_by-one_more other _ c.loop-position.position w.in-Some.id c.loop-position.count (sym w.in-Some.ensures) (sym w.has_next.ensures ∙ w.if-has_next.true) c.loop-position.invariant.counted;
+      | in-Some+then-contains_from w ↦ record {
+        counted = w.count-is ∙ count_by-one_more other _ c.loop-position.position w.in-Some.id c.loop-position.count (sym w.in-Some.ensures) (sym w.contains_from.ensures ∙ w.if-contains_from.true) c.loop-position.invariant.counted;
         small = omega arith;
       }
-      | in-Some+else-has_next w ↦ record {
-        counted = w.count-is ∙ count_by-no_more other _ c.loop-position.position w.in-Some.id c.loop-position.count (sym w.in-Some.ensures) (sym w.has_next.ensures ∙ w.if-has_next.false) c.loop-position.invariant.counted;
+      | in-Some+else-contains_from w ↦ record {
+        counted = w.count-is ∙ count_by-no_more other _ c.loop-position.position w.in-Some.id c.loop-position.count (sym w.in-Some.ensures) (sym w.contains_from.ensures ∙ w.if-contains_from.false) c.loop-position.invariant.counted;
         small = omega arith;
       }
       | in_default w ↦ slice_get-not_past _ _ _ (sym w.in_default.is ∙ c.at.ensures) c.len-position-end.ensures c.loop-position-test.true

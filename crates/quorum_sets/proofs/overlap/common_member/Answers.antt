@@ -2,12 +2,12 @@ use Rattle.std.proofs.Common.{◌≡◌, ℕ, true, refl, sym}
 use Rattle.std.specs.Prelude.{Option, Some, None, IfSome, IfNone}
 use Rattle.quorum_sets.specs.Ids.{Ids}
 use Rattle.quorum_sets.specs.Voters.{Voters, is_quorum}
-use Rattle.quorum_sets.specs.Overlap.{IsCommon, IsLeastCommon, IsSharedMember}
+use Rattle.quorum_sets.specs.Overlap.{IsCommon, IsLeastCommon, IsCommonMember}
 use Rattle.quorum_sets.proofs.Quorums.Overlap.{QuorumsMeet-from_neighbours}
 use Rattle.quorum_sets.proofs.overlap.common_member.Goals as goal
 
 shared_member : (before after : Voters) (first second : Ids) (answer : Option ℕ) → is_quorum before first ≡ true → is_quorum after second ≡ true
-    → IfSome answer (IsLeastCommon first second) → IfNone answer ((id : ℕ) → ¬ IsCommon first second id) → IsSharedMember before after first second answer
+    → IfSome answer (IsLeastCommon first second) → IfNone answer ((id : ℕ) → ¬ IsCommon first second id) → IsCommonMember before after first second answer
 shared_member before after first second None quorum_before quorum_after least none = record {
   quorums = tt;
   least = tt;

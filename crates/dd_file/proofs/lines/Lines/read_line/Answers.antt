@@ -1,12 +1,12 @@
 use Rattle.std.proofs.Common.{◌≡◌, ◌++◌, ◌+◌, ◌≤◌, length, vec_len, take, drop, true, false, [], sym, ap, ◌∙◌, inl, inr, arith, rules}
 use Rattle.std.proofs.lemmas.List.{length-drop}
 use Rattle.std.specs.Io.KnownBytes.{Consumes, IsAtEnd}
-use Rattle.ascii_text.specs.Lines.{first_len, is_whole}
+use Rattle.ascii_text.specs.Lines.{first_len, ends_in_newline}
 use Rattle.dd_file.specs.Position.{longest_input}
 use Rattle.dd_file.proofs.LineReading.PartsOfFullLine.{part-moved, part-filled, no-bytes, some-bytes, length-moved, left-falls}
 use Rattle.ascii_text.proofs.Offered.{unfinished-rest}
 use Rattle.dd_file.proofs.lines.Lines.read_line.Goals as goal
-use Rattle.dd_file.proofs.lines.Lines.read_line.Goals.{then-self-via-then-self, then-self-via-else-self+then-is_whole}
+use Rattle.dd_file.proofs.lines.Lines.read_line.Goals.{then-self-via-then-self, then-self-via-else-self+then-ends_in_newline}
 
 pub returns-then-len-self-clause-fault : goal.returns-then-len-self-clause-fault
 returns-then-len-self-clause-fault g c =
@@ -34,7 +34,7 @@ returns-then-self-clause-full_line g c =
       fits = omega (arith, c.move_line.new.line.ok.0);
       done = elim c.then-self.branch [
         | then-self-via-then-self w ↦ inr (w.if-self.true, rest ∙ ap (λ bytes. drop (first_len bytes) bytes) (loop.within.ended w.if-self.true))
-        | then-self-via-else-self+then-is_whole w ↦ inl (ap is_whole (sym w.as_slice.ensures.value) ∙ sym w.if-is_whole.ensures)
+        | then-self-via-else-self+then-ends_in_newline w ↦ inl (ap ends_in_newline (sym w.as_slice.ensures.value) ∙ sym w.if-ends_in_newline.ensures)
       ];
     }
 
@@ -44,8 +44,8 @@ loop-full_line-preserved g c =
     let buffered = c.loop-full_line.self-inside.buffer in
     let line : c.move_line.new.line.items ≡ c.loop-full_line.full_line.items ++ take (first_len buffered) buffered = search rules in
     let rest : c.move_line.new.self ≡ drop (first_len buffered) buffered = search rules in
-    let unfinished : is_whole c.move_line.new.line.items ≡ false = ap is_whole (sym c.as_slice.ensures.value) ∙ sym c.if-is_whole.ensures in
-    let none : c.move_line.new.self ≡ [] = rest ∙ unfinished-rest c.loop-full_line.full_line.items buffered (ap is_whole (sym line) ∙ unfinished) in
+    let unfinished : ends_in_newline c.move_line.new.line.items ≡ false = ap ends_in_newline (sym c.as_slice.ensures.value) ∙ sym c.if-ends_in_newline.ensures in
+    let none : c.move_line.new.self ≡ [] = rest ∙ unfinished-rest c.loop-full_line.full_line.items buffered (ap ends_in_newline (sym line) ∙ unfinished) in
     let moved = part-moved _ _ _ _ _ _ _ loop.part loop.unfinished line rest in
     let remaining = g.R.Source.remaining in
     let consumed : Consumes (remaining c.loop-full_line.reader) (remaining c.fill.new.reader) c.fill.new.self × (c.fill.new.self ≡ [] → IsAtEnd (remaining c.fill.new.reader)) = search rules in
@@ -68,8 +68,8 @@ loop-full_line-smaller g c =
     let buffered = inside.buffer in
     let line : c.move_line.new.line.items ≡ c.loop-full_line.full_line.items ++ take (first_len buffered) buffered = search rules in
     let rest : c.move_line.new.self ≡ drop (first_len buffered) buffered = search rules in
-    let unfinished : is_whole c.move_line.new.line.items ≡ false = ap is_whole (sym c.as_slice.ensures.value) ∙ sym c.if-is_whole.ensures in
-    let none : c.move_line.new.self ≡ [] = rest ∙ unfinished-rest c.loop-full_line.full_line.items buffered (ap is_whole (sym line) ∙ unfinished) in
+    let unfinished : ends_in_newline c.move_line.new.line.items ≡ false = ap ends_in_newline (sym c.as_slice.ensures.value) ∙ sym c.if-ends_in_newline.ensures in
+    let none : c.move_line.new.self ≡ [] = rest ∙ unfinished-rest c.loop-full_line.full_line.items buffered (ap ends_in_newline (sym line) ∙ unfinished) in
     let all = length-moved c.loop-full_line.full_line.items buffered c.move_line.new.line.items c.move_line.new.self line rest none in
     let len : vec_len c.move_line.new.line ≡ vec_len c.loop-full_line.full_line + length buffered = omega (arith, all, c.move_line.new.line.ok.0, c.loop-full_line.full_line.ok.0) in
     let some = λ (ended : c.is_empty-self-inside.result ≡ false). some-bytes c.fill.new.self (sym c.is_empty-self-inside.ensures ∙ ended) in

@@ -1,7 +1,7 @@
 use Rattle.std.proofs.Common.{◌≡◌, ◌+◌, ◌-◌, true, false, suc, cond, length, vec_len}
 use Rattle.std.specs.Prelude.{None}
 use Rattle.std.specs.Io.KnownBytes.{IsAtEnd}
-use Rattle.ascii_text.specs.Lines.{is_whole}
+use Rattle.ascii_text.specs.Lines.{ends_in_newline}
 use Rattle.dd_file.specs.Position.{longest_input}
 use Rattle.dd_file.specs.ReaderState.{IsWithin}
 use Rattle.dd_file.specs.FullLineRead.{PartRead}
@@ -16,7 +16,7 @@ invariant-loop-full_line g l =
     let now = l.self-inside in
     record {
       part : PartRead old.buffered now.buffer (remaining l.fn.reader) (remaining l.reader) l.full_line.items;
-      unfinished : is_whole l.full_line.items ≡ false;
+      unfinished : ends_in_newline l.full_line.items ≡ false;
       lines : now.lines ≡ old.position.lines;
       bytes : now.bytes ≡ old.position.bytes;
       faultless : now.fault ≡ None;

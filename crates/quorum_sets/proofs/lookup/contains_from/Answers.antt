@@ -1,5 +1,5 @@
 use Rattle.quorum_sets.proofs.KeptSets.Positions.{has-seen_between}
-use Rattle.quorum_sets.proofs.lookup.has_next.Goals as goal
+use Rattle.quorum_sets.proofs.lookup.contains_from.Goals as goal
 
 pub returns-then-is_above : goal.returns-then-is_above
 returns-then-is_above g c =
