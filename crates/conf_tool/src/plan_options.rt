@@ -13,7 +13,7 @@ pub enum PlanOutput {
     Steps,
     /// A script that restores the current configuration and takes the steps from there.
     Script,
-    /// A row for the current configuration and one for each step, with what the cluster endures there.
+    /// A row for the current configuration and one for each step, with how many failures it tolerates.
     Table,
     /// An object for each step, for programs that embed etcd's raft.
     Json,

@@ -1,4 +1,4 @@
--- The configurations along a path, and what the cluster endures at each of them (own).
+-- The configurations along a path, and how many failures the cluster tolerates at each of them (own).
 use Rattle.std.specs.Prelude.{ℕ, Bool, not, List, [], ◌∷◌, Option, refl}
 use Rattle.std.specs.Coded.{Coded, coded×, code_by}
 use Rattle.std.specs.List.{list_any}
@@ -46,7 +46,7 @@ stages_after before (step ∷ steps) = stage_after before step ∷ stages_after 
 abbrev pub stages : Configuration → List Step → List StageState
 stages now steps = first_stage now ∷ stages_after now steps
 
--- ---- what the cluster endures there
+-- ---- the failures that it tolerates
 -- how many ids may be down, whichever they are, while the others are still a quorum; every member counts
 abbrev pub stage_may_be_down : StageState → Option ℕ
 stage_may_be_down stage = tolerance.may_be_down (voters_of stage.config) no_ids

@@ -1,7 +1,7 @@
 //! The JSON lines of a path, for programs that embed etcd's raft.
 //!
 //! Each step is one object on one line, with its keys in ascending order. `conf_change` is what to propose to etcd. The
-//! other keys are the configuration after the step, what the cluster endures there, and which step of which path it is.
+//! other keys are the configuration after the step, how many failures it tolerates, and which step of which path it is.
 //! The step `simple v4` from `(1 2 3)` is this object, here with line breaks:
 //!
 //! ```text
@@ -41,7 +41,7 @@ struct Number {
 }
 
 /// Appends an object for each step of a path, each on its own line: what is proposed to etcd for it, the configuration
-/// after it, and what the cluster endures there; with `down` also whether it commits while these ids are down. A path
+/// after it, and how many failures that tolerates; with `down` also whether it commits while these ids are down. A path
 /// without a step is the one line `{"plan":1,"steps":0}`. `plan` is the number of the path, as the caller counts. On
 /// `NoMemory` the text is unchanged (own).
 pub fn add_json_lines<S: MemberSet>(

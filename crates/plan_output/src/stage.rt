@@ -1,4 +1,4 @@
-//! The configurations along a path, and what the cluster endures at each of them.
+//! The configurations along a path, and how many failures the cluster tolerates at each of them.
 //!
 //! A path of n steps has n + 1 stages. A step is committed by the configuration before it, so the cluster gets to the
 //! end of the path, and serves there, only if each stage commits:

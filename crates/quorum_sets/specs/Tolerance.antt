@@ -19,7 +19,7 @@ Tolerates voters uncounted k = (down : Ids) → size down ≤ k → IsTrue (comm
 -- the result is the greatest number of ids that may be down, or none if the counted voters are not a quorum even when
 -- all are up
 pub record IsMostDown (voters : Voters) (uncounted : Ids) (answer : Option ℕ) : Type 0 where
-  pub endured : IfSome answer (Tolerates voters uncounted)
+  pub tolerated : IfSome answer (Tolerates voters uncounted)
   pub greatest : IfSome answer (λ k. (other : ℕ) → Tolerates voters uncounted other → other ≤ k)
   pub none : IfNone answer (¬ Tolerates voters uncounted 0)
 

@@ -184,9 +184,9 @@ counted-from_lasting ids uncounted k lasts = elim (cases_Bool (nat_le (majority 
 ]
 
 pub counts-from_Tolerates : (voters : Voters) (uncounted : Ids) (k : ℕ) → Tolerates voters uncounted k → HaveMore voters uncounted k
-counts-from_Tolerates voters uncounted k endures = record {
-  incoming = counted-from_lasting voters.incoming uncounted k (λ down few. (stays_in voters _ (endures down few)).0);
-  outgoing = λ some_voter. counted-from_lasting voters.outgoing uncounted k (λ down few. (stays_in voters _ (endures down few)).1 some_voter);
+counts-from_Tolerates voters uncounted k tolerates = record {
+  incoming = counted-from_lasting voters.incoming uncounted k (λ down few. (stays_in voters _ (tolerates down few)).0);
+  outgoing = λ some_voter. counted-from_lasting voters.outgoing uncounted k (λ down few. (stays_in voters _ (tolerates down few)).1 some_voter);
 }
 
 -- ---- the answer by counting
@@ -202,32 +202,32 @@ surplus-is ids uncounted =
 
 most_of_one : (voters : Voters) (uncounted : Ids) (a : Option ℕ) → is_empty voters.outgoing ≡ true → IsSurplus voters.incoming uncounted a → IsMostDown voters uncounted a
 most_of_one voters uncounted None single a_is = record {
-  endured = tt;
+  tolerated = tt;
   greatest = tt;
-  none = λ endures. let more = (counts-from_Tolerates voters uncounted 0 endures).incoming in absurd (omega arith);
+  none = λ tolerates. let more = (counts-from_Tolerates voters uncounted 0 tolerates).incoming in absurd (omega arith);
 }
 most_of_one voters uncounted (Some k) single a_is = record {
-  endured = Tolerates-from_counts voters uncounted k (record { incoming = omega arith; outgoing = λ some_voter. absurd (both_ways _ some_voter single) });
-  greatest = λ other endures. let more = (counts-from_Tolerates voters uncounted other endures).incoming in omega arith;
+  tolerated = Tolerates-from_counts voters uncounted k (record { incoming = omega arith; outgoing = λ some_voter. absurd (both_ways _ some_voter single) });
+  greatest = λ other tolerates. let more = (counts-from_Tolerates voters uncounted other tolerates).incoming in omega arith;
   none = tt;
 }
 
 most_of_both : (voters : Voters) (uncounted : Ids) (a b : Option ℕ) → is_empty voters.outgoing ≡ false → IsSurplus voters.incoming uncounted a → IsSurplus voters.outgoing uncounted b
     → IsMostDown voters uncounted (least a b)
 most_of_both voters uncounted None b joint a_is b_is = record {
-  endured = tt;
+  tolerated = tt;
   greatest = tt;
-  none = λ endures. let more = (counts-from_Tolerates voters uncounted 0 endures).incoming in absurd (omega arith);
+  none = λ tolerates. let more = (counts-from_Tolerates voters uncounted 0 tolerates).incoming in absurd (omega arith);
 }
 most_of_both voters uncounted (Some a) None joint a_is b_is = record {
-  endured = tt;
+  tolerated = tt;
   greatest = tt;
-  none = λ endures. let more = (counts-from_Tolerates voters uncounted 0 endures).outgoing joint in absurd (omega arith);
+  none = λ tolerates. let more = (counts-from_Tolerates voters uncounted 0 tolerates).outgoing joint in absurd (omega arith);
 }
 most_of_both voters uncounted (Some a) (Some b) joint a_is b_is = record {
-  endured = Tolerates-from_counts voters uncounted (min a b) (record { incoming = omega arith; outgoing = λ some_voter. omega arith });
-  greatest = λ other endures.
-      let more = counts-from_Tolerates voters uncounted other endures in
+  tolerated = Tolerates-from_counts voters uncounted (min a b) (record { incoming = omega arith; outgoing = λ some_voter. omega arith });
+  greatest = λ other tolerates.
+      let more = counts-from_Tolerates voters uncounted other tolerates in
       let of_incoming = more.incoming in
       let of_outgoing = more.outgoing joint in
       omega arith;
@@ -244,16 +244,16 @@ IsMostDown-may_be_down voters uncounted =
 pub IsMostDown-from_counted : (voters : Voters) (uncounted : Ids) (answer : Option ℕ) → answer ≡ may_be_down voters uncounted → IsMostDown voters uncounted answer
 IsMostDown-from_counted voters uncounted answer is = let P : Option ℕ → Type 0 = IsMostDown voters uncounted in subst P (sym is) (IsMostDown-may_be_down voters uncounted)
 
-endures_none : (voters : Voters) (uncounted : Ids) (k : ℕ) → Tolerates voters uncounted k → Tolerates voters uncounted 0
-endures_none voters uncounted k endures = λ down few. endures down (omega arith)
+tolerates_none : (voters : Voters) (uncounted : Ids) (k : ℕ) → Tolerates voters uncounted k → Tolerates voters uncounted 0
+tolerates_none voters uncounted k tolerates = λ down few. tolerates down (omega arith)
 
 pub IsMostDown-alone : (voters : Voters) (uncounted : Ids) (a b : Option ℕ) → IsMostDown voters uncounted a → IsMostDown voters uncounted b → a ≡ b
 IsMostDown-alone voters uncounted None None a_is b_is = refl
-IsMostDown-alone voters uncounted None (Some b) a_is b_is = absurd (a_is.none (endures_none voters uncounted b b_is.endured))
-IsMostDown-alone voters uncounted (Some a) None a_is b_is = absurd (b_is.none (endures_none voters uncounted a a_is.endured))
+IsMostDown-alone voters uncounted None (Some b) a_is b_is = absurd (a_is.none (tolerates_none voters uncounted b b_is.tolerated))
+IsMostDown-alone voters uncounted (Some a) None a_is b_is = absurd (b_is.none (tolerates_none voters uncounted a a_is.tolerated))
 IsMostDown-alone voters uncounted (Some a) (Some b) a_is b_is =
-    let up = b_is.greatest a a_is.endured in
-    let down = a_is.greatest b b_is.endured in
+    let up = b_is.greatest a a_is.tolerated in
+    let down = a_is.greatest b b_is.tolerated in
     let same : a ≡ b = omega arith in
     ap Some same
 
@@ -288,7 +288,7 @@ may_be_down-no_voter voters uncounted no_voter =
 commits_with_answer : (voters : Voters) (away : Ids) (answer : Option ℕ) → IsMostDown voters away answer → commits_without voters away ≡ is_some answer
 commits_with_answer voters away (Some k) is =
     let none = ap length ascending-no_ids in
-    ap (commits_without voters) (has-same_ids away (union no_ids away) (λ q. sym (has-union no_ids away q ∙ ap (λ b. b || has away q) (has-no_ids q)))) ∙ is.endured no_ids (omega arith)
+    ap (commits_without voters) (has-same_ids away (union no_ids away) (λ q. sym (has-union no_ids away q ∙ ap (λ b. b || has away q) (has-no_ids q)))) ∙ is.tolerated no_ids (omega arith)
 commits_with_answer voters away None is = false_from_ne_true _ (λ commits.
     let stays = stays_in voters away commits in
     is.none (Tolerates-from_counts voters away 0 (record {
