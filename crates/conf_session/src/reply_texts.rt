@@ -32,14 +32,14 @@ fn end_line(text: Vec<u8>) -> Result<Vec<u8>, NoMemory>
     Ok(ended)
 }
 
-/// The line of `front` and then `back`, such as `bad argument: ` and a key.
-pub(crate) fn line_of(alloc: Global, front: &[u8], back: &[u8]) -> Result<Vec<u8>, NoMemory>
-    ensures { IfOk result (λ text. text.items ≡ line (front.now ++ back.now)) }
+/// The line of `prefix` and then `suffix`, such as `bad argument: ` and a key.
+pub(crate) fn line_of(alloc: Global, prefix: &[u8], suffix: &[u8]) -> Result<Vec<u8>, NoMemory>
+    ensures { IfOk result (λ text. text.items ≡ line (prefix.now ++ suffix.now)) }
 {
-    let room = front.len().saturating_add(back.len()).saturating_add(1);
+    let room = prefix.len().saturating_add(suffix.len()).saturating_add(1);
     let mut text = Vec::with_capacity(alloc, room)?;
-    text.extend_from_slice(front)?;
-    text.extend_from_slice(back)?;
+    text.extend_from_slice(prefix)?;
+    text.extend_from_slice(suffix)?;
     end_line(text)
 }
 

@@ -19,11 +19,11 @@ const OUT_OF_MEMORY: &str = "out of memory";
 #[derive(Clone, Copy, Debug, PartialEq, Eq, Error)]
 pub enum UndoFault {
     /// The configuration before those changes is not kept; this many are.
-    #[error("{front}{0}{back}", front = NO_PLAN, back = ARE_KEPT)]
+    #[error("{prefix}{0}{suffix}", prefix = NO_PLAN, suffix = ARE_KEPT)]
     NotKept(usize),
     /// The earlier configuration is empty, as that of a new session. No change leads back to it, since a change never
     /// removes the last voter.
-    #[error("{front}{why}", front = NO_PLAN, why = NO_VOTER)]
+    #[error("{prefix}{why}", prefix = NO_PLAN, why = NO_VOTER)]
     NoVoterTarget,
     /// Memory ran out.
     #[error("{}", OUT_OF_MEMORY)]

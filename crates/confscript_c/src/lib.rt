@@ -11,7 +11,7 @@
 //! ```
 //!
 //! If the buffer is too small, nothing is written and the number is the length of the text, so that the caller can call
-//! again with a larger buffer. If memory runs out, the status says so, and nothing is written either.
+//! again with a larger buffer. If memory runs out, that is the status, and nothing is written either.
 //!
 //! ```text
 //! confscript_plan         two lines, a strategy        the steps from the first to the second

@@ -4,7 +4,7 @@
 //!
 //! Each test outside of `ample` is run once for each of its allocations, with that one refused, and once with none
 //! refused (see `tests/refused`). So a call either returns the right result, or reports that memory ran out and leaves
-//! its arguments as its contract says, and then a second call returns the right result. The tests in `ample` are run
+//! its arguments as its contract states, and then a second call returns the right result. The tests in `ample` are run
 //! once: those of calls that do not allocate, and those that stop if memory runs out.
 #![tactic(auto)]
 

@@ -230,7 +230,7 @@ fn has_json_lines<S: MemberSet>(
     )
 }
 
-// Whether a path is printed as in its row, and stalls if its row says so.
+// Whether a path is printed as in its row, and stalls as in its row.
 fn is_printed<S: MemberSet>(
     alloc: Global,
     row: &Row,
