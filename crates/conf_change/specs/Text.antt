@@ -1,5 +1,5 @@
 -- The printed texts of configurations, progress and refusals, as etcd's packages `tracker` and `confchange` print them.
-use Rattle.std.specs.Prelude.{◌≡◌, ℕ, Bool, not, List, [], ◌++◌, map, length, take, codes, decimal, nat_lt, if◌then◌else◌}
+use Rattle.std.specs.Prelude.{ℕ, Bool, not, List, [], ◌++◌, map, codes, decimal, nat_lt, if◌then◌else◌}
 use Rattle.std.specs.List.{join_with_byte}
 pub use Rattle.ascii_text.specs.Append.{Extends}
 use Rattle.quorum_sets.specs.Ids.{Ids, ascending, is_empty}

@@ -1,5 +1,5 @@
 //! The members with their progress, in ascending order of the ids.
-ghost use Rattle.std.specs.Prelude.{◌≡◌, ℕ, true, length, ◌==◌, Some, None, is_some, map, option_map, unwrap_or, IsOk, OnOk, MatchResult, if◌then◌else◌};
+ghost use Rattle.std.specs.Prelude.{◌≡◌, ℕ, true, ◌==◌, Some, None, is_some, map, option_map, unwrap_or, IsOk, OnOk, MatchResult, if◌then◌else◌};
 ghost use Rattle.std.specs.Ordering.{nat_cmp};
 ghost use Rattle.std.specs.FinMap as finite;
 ghost use Rattle.smallvec.specs.SmallVec.{HasRoomFor};

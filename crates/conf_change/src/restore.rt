@@ -9,7 +9,7 @@
 //! ```
 //!
 //! A ConfState has no progress, so each member begins anew, at the last index.
-ghost use Rattle.std.specs.Prelude.{◌≡◌, ℕ, Some, None, Err, true, false, map, IfOk, MatchResult};
+ghost use Rattle.std.specs.Prelude.{◌≡◌, Some, None, Err, true, false, map, IfOk, MatchResult};
 ghost use Rattle.std.specs.FinMap as finite;
 ghost use Rattle.quorum_sets.specs.AscendingLists.{IsAscending};
 ghost use Rattle.conf_change.specs.Configuration.{Configuration, has_voter_or_is_empty, is_restorable};

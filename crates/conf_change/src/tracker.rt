@@ -5,7 +5,7 @@
 //!              (1 2)                1: match=5 next=6   2: match=4 next=6
 //! --r1 v1 l3-> (1 2) learners=(3)   1: match=0 next=9   2: match=4 next=6   3: match=0 next=9 learner
 //! ```
-ghost use Rattle.std.specs.Prelude.{◌≡◌, ℕ, ◌-◌, ◌^◌, min, true, false, not, [], ◌∷◌, ◌++◌, map, length, slice_get, IfOk, OnOk, OnErr, if◌then◌else◌, ◌==◌, Some, is_some};
+ghost use Rattle.std.specs.Prelude.{◌≡◌, ℕ, ◌-◌, ◌^◌, min, true, not, [], ◌∷◌, ◌++◌, map, length, slice_get, IfOk, OnOk, OnErr, if◌then◌else◌, ◌==◌, Some, is_some};
 ghost use Rattle.std.specs.Ordering.{nat_cmp};
 ghost use Rattle.std.specs.FinMap as finite;
 ghost use Rattle.quorum_sets.specs.Ids.{has, with_id, without_id, is_empty, difference_count};

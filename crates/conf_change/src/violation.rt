@@ -1,6 +1,6 @@
 //! What is wrong with a ConfState that describes no valid configuration, or with a configuration that is not valid. A
 //! user who wrote it by hand is shown the id to look at.
-ghost use Rattle.std.specs.Prelude.{◌≡◌, ◌↔◌, ℕ, Bool, None, true, find, IsTrue};
+ghost use Rattle.std.specs.Prelude.{◌≡◌, ◌↔◌, ℕ, Bool, None, find, IsTrue};
 ghost use Rattle.quorum_sets.specs.Counting.{Computes};
 ghost use Rattle.quorum_sets.specs.Ids.{ascending};
 ghost use Rattle.conf_change.specs.Configuration.{is_valid};

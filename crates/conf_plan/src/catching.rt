@@ -4,7 +4,6 @@ ghost use Rattle.std.specs.Prelude.{◌≡◌, ℕ, not, ◌&&◌, ◌||◌, IfO
 ghost use Rattle.quorum_sets.specs.Ids.{has};
 ghost use Rattle.conf_change.specs.Change.{is_removal, removes};
 ghost use Rattle.conf_change.specs.Configuration.{is_member};
-ghost use Rattle.conf_change.specs.Step.{changes_of};
 ghost use Rattle.conf_plan.specs.Alive.{catching_up};
 
 use crate::picked::picked;

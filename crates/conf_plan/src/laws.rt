@@ -12,7 +12,7 @@ ghost use Rattle.conf_change.specs.declared.change.Change.{Change};
 ghost use Rattle.conf_change.specs.declared.step.Step.{Step};
 ghost use Rattle.conf_change.specs.declared.transition.Transition.{Transition};
 ghost use Rattle.conf_plan.specs.declared.strategy.Strategy.{Strategy};
-ghost use Rattle.conf_plan.specs.declared.strategy.Strategy.TheVariants.{Shortest, LearnersFirst};
+ghost use Rattle.conf_plan.specs.declared.strategy.Strategy.TheVariants.{Shortest};
 ghost use Rattle.conf_plan.specs.declared.text.PlanTextFault.{PlanTextFault};
 ghost use Rattle.conf_plan.specs.Best.{times_named, HasSameRoles, IsBest};
 ghost use Rattle.conf_plan.specs.PathBy.{has_path, path_by, Serves};

@@ -6,7 +6,7 @@
 //! ```
 //!
 //! A voter joins before another retires, so at no point are fewer failures tolerated than at the weaker end.
-ghost use Rattle.std.specs.Prelude.{◌≡◌, [], ◌∷◌, ◌<◌, ◌^◌, OnOk};
+ghost use Rattle.std.specs.Prelude.{◌≡◌, [], ◌∷◌, ◌<◌, OnOk};
 ghost use Rattle.std.specs.List.{cons_option};
 ghost use Rattle.quorum_sets.specs.Ids.{ascending};
 ghost use Rattle.conf_plan.specs.OneAtATime as spec;

@@ -1,5 +1,5 @@
 //! The strategies by which a path is chosen: for few steps, or so that new voters can catch up before they vote.
-ghost use Rattle.std.specs.Prelude.{◌≡◌, ◌↔◌, true, false, Err, IfOk, OnOk};
+ghost use Rattle.std.specs.Prelude.{◌≡◌, ◌↔◌, true, false, Err, IfOk};
 ghost use Rattle.conf_change.specs.Configuration.{is_valid, has_voter};
 ghost use Rattle.conf_plan.specs.PathBy.{has_path, path_by, Serves};
 

@@ -1,6 +1,6 @@
 //! Laws of this crate's definitions, each the contract of a function that does nothing. A caller calls such a function
 //! to use its law in a proof.
-ghost use Rattle.std.specs.Prelude.{◌≡◌, ◌-◌, ◌≤◌, ℕ, List, Some, Ok, true, length, slice_get};
+ghost use Rattle.std.specs.Prelude.{◌≡◌, ◌-◌, ◌≤◌, ℕ, List, Some, Ok, true, slice_get};
 ghost use Rattle.dd_file.specs.DirectiveText.{DirectiveText};
 ghost use Rattle.dd_file.specs.DirectiveLine.{has_keys};
 ghost use Rattle.conf_change.specs.Configuration.{Configuration, has_voter};

@@ -3,7 +3,7 @@
 //! ```text
 //! Voters:[1 2] VotersOutgoing:[] Learners:[2] LearnersNext:[] AutoLeave:false    a learner is a voter
 //! ```
-ghost use Rattle.std.specs.Prelude.{◌≡◌, ◌⊎◌, Ok, IfOk, IfErr};
+ghost use Rattle.std.specs.Prelude.{◌≡◌, ◌⊎◌, Ok};
 ghost use Rattle.confscript_c.specs.Answer.{no_memory};
 ghost use Rattle.confscript_c.specs.Checked.{check_answer, saved_answer, broken_answer, status_of};
 ghost use Rattle.conf_change.specs.Configuration.{first_broken};

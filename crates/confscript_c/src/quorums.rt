@@ -8,8 +8,8 @@
 //! ```
 //!
 //! A voter that is listed twice counts once. An id with two values is refused, since only one of them could count.
-ghost use Rattle.std.specs.Prelude.{◌≡◌, ◌⊎◌, true, false, not, ◌&&◌, length, map, nat_eq, IfOk, IfErr};
-ghost use Rattle.std.specs.List.{zip, list_all};
+ghost use Rattle.std.specs.Prelude.{◌≡◌, ◌⊎◌, length, map, IfOk};
+ghost use Rattle.std.specs.List.{list_all};
 ghost use Rattle.std.specs.Ordering.{nat_cmp};
 ghost use Rattle.std.specs.FinMap as finite;
 ghost use Rattle.quorum_sets.specs.Committed.{joint_committed_index};

@@ -11,9 +11,9 @@
 //! If the rewritten script ends in two newlines, the last one is dropped. So a newline at the end of the text so far is
 //! pending: it is written only when more text follows, or at the end. A rewriter stores no text, only how many newlines
 //! the text so far ends in.
-ghost use Rattle.std.specs.Prelude.{◌≡◌, ℕ, List, [], ◌∷◌, ◌++◌, ◌==◌, Option, IsOk, IsErr, OnOk, OnErr, IfOk, true, false, map, if◌then◌else◌};
+ghost use Rattle.std.specs.Prelude.{◌≡◌, ℕ, List, [], ◌∷◌, ◌++◌, ◌==◌, Option, IsOk, IsErr, OnOk, OnErr, IfOk, true, false, if◌then◌else◌};
 ghost use Rattle.std.specs.Io.KnownBytes.{Appends};
-ghost use Rattle.ascii_text.specs.Lines.{newline, text_of, without_last};
+ghost use Rattle.ascii_text.specs.Lines.{newline};
 ghost use Rattle.dd_file.specs.Device.{AppendsPart};
 ghost use Rattle.dd_file.specs.RewriterState.{CanKeep, IsOutputNext, HasWritten, Continues, BreaksOff, WritesMore, WritesEnd};
 ghost use Rattle.dd_file.specs.Rewritten.{kept_text, output_text, opening, closing, has_blank_line, is_output, is_directive, newlines_at_end};

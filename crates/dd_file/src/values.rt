@@ -40,7 +40,7 @@ impl<'a> Model for Values<'a> {
 }
 
 impl<'a> Values<'a> {
-    ghost use Rattle.std.specs.Prelude.{◌≡◌, true, [], ◌∷◌, length, MatchOption};
+    ghost use Rattle.std.specs.Prelude.{◌≡◌, true, [], ◌∷◌, MatchOption};
     ghost use Rattle.dd_file.specs.ArgumentValues.{has_values, values_after};
 
     /// The values in the text after a key, which is empty, or `=` and then one plain value or a list in parentheses.

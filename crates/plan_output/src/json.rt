@@ -10,10 +10,9 @@
 //!  "conf_state":{"auto_leave":false,"learners":[],"learners_next":[],"voters":[1,2,3,4],"voters_outgoing":[]},
 //!  "may_be_down":1,"plan":1,"step":1,"steps":1,"until_then":0}
 //! ```
-ghost use Rattle.std.specs.Prelude.{◌≡◌, ◌++◌, true, false, Some, IfOk, OnOk, OnErr, flat_map, option_copied, option_map, codes, length};
+ghost use Rattle.std.specs.Prelude.{◌≡◌, ◌++◌, true, false, Some, IfOk, OnOk, OnErr, option_copied, option_map};
 ghost use Rattle.quorum_sets.specs.Ids.{ascending};
 ghost use Rattle.conf_change.specs.Configuration.{is_restorable};
-ghost use Rattle.serde_json.specs.Data.{object};
 ghost use Rattle.serde_json.specs.View.{view, members_view};
 ghost use Rattle.serde_json.specs.Written.{has_float};
 ghost use Rattle.raft_json.specs.IdsJson.{ids_json};

@@ -8,7 +8,7 @@
 //! index    9 4 7 4 6
 //! sorted   4 4 6 7 9    6 is committed, since 5, 3 and 1 have it
 //! ```
-ghost use Rattle.std.specs.Prelude.{◌≡◌, ◌+◌, ◌*◌, ◌<◌, ◌≤◌, length, nat_le, nat_lt, count_by, [], IfOk, IsOk, OnOk};
+ghost use Rattle.std.specs.Prelude.{◌≡◌, ◌*◌, ◌<◌, ◌≤◌, length, nat_le, nat_lt, count_by, [], IfOk, IsOk, OnOk};
 ghost use Rattle.quorum_sets.specs.Ids.{size};
 ghost use Rattle.quorum_sets.specs.Voters.{pair};
 ghost use Rattle.quorum_sets.specs.Committed.{acked_indexes, greatest_index, IsCommitted, IsJointCommitted, committed_index, joint_committed_index};

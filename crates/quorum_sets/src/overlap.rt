@@ -1,6 +1,6 @@
 //! The overlap of two quorums. A change of the voters is safe because the quorums before and after it overlap: 1 2 is a
 //! quorum of (1 2 3) and 2 3 4 is one of (1 2 3 4), and they share 2.
-ghost use Rattle.std.specs.Prelude.{◌≡◌, ℕ, IfSome, IfNone};
+ghost use Rattle.std.specs.Prelude.{ℕ, IfSome, IfNone};
 ghost use Rattle.quorum_sets.specs.Voters.{pair};
 ghost use Rattle.quorum_sets.specs.Overlap.{IsCommon, IsLeastCommon, IsCommonMember};
 

@@ -4,7 +4,7 @@
 //! enter-joint autoleave=true v4
 //! {"changes":[{"node_id":4,"type":"ConfChangeAddNode"}],"transition":"ConfChangeTransitionJointImplicit"}
 //! ```
-ghost use Rattle.std.specs.Prelude.{◌≡◌, IfOk, map};
+ghost use Rattle.std.specs.Prelude.{◌≡◌, IfOk};
 ghost use Rattle.serde_json.specs.View.{view};
 ghost use Rattle.raft_json.specs.ConfChangeJson as spec;
 ghost use Rattle.raft_json.specs.ConfChangeJson.{conf_change_json, change_json, changes_json};

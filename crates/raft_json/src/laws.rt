@@ -5,7 +5,6 @@ ghost use Rattle.conf_change.specs.ConfState.{ConfStateLists};
 ghost use Rattle.conf_change.specs.Configuration.{Configuration, has_voter, is_valid};
 ghost use Rattle.conf_change.specs.Outcome.{outcome};
 ghost use Rattle.conf_change.specs.declared.change.Change.{Change};
-ghost use Rattle.conf_change.specs.declared.step.Step.{Step};
 ghost use Rattle.conf_change.specs.declared.step.Step.TheVariants.{Simple, EnterJoint, LeaveJoint};
 ghost use Rattle.raft_json.specs.ConfStateJson.{conf_state_of_json, conf_state_json};
 ghost use Rattle.raft_json.specs.Proposal.{proposed_changes, proposed_step, final_outcome};

@@ -1,15 +1,15 @@
 -- What is wrong with a configuration or a saved form is there exactly if it is not valid.
 use Rattle.std.proofs.Common.{◌≡◌, ℕ, ◌+◌, ◌<◌, ◌≤◌, Bool, true, false, cond, not, ◌&&◌, ◌||◌, List, [], ◌∷◌, length, refl, sym, ap, ◌∙◌, eq-eqb, eqb-true, arith, slice_get, suc}
-use Rattle.std.specs.Prelude.{Option, Some, None, Result, Ok, Err, find, option_map, option_and_then, nat_eq}
+use Rattle.std.specs.Prelude.{Option, Some, None, Ok, find, option_map, option_and_then, nat_eq}
 use Rattle.std.specs.Option.{option_or}
 use Rattle.std.specs.List.{list_all}
 use Rattle.std.proofs.lemmas.Bool.{and_from, and_parts}
-use Rattle.quorum_sets.specs.Ids.{has, with_id, ascending, size, ids_of, is_empty}
+use Rattle.quorum_sets.specs.Ids.{has, ascending, size, ids_of}
 use Rattle.quorum_sets.proofs.Offered.{ascending-no_ids, size-with_id}
 use Rattle.conf_change.specs.Configuration.{Configuration, keeps, is_joint, is_valid, invariants, first_broken}
 use Rattle.conf_change.specs.ConfState.{ConfStateLists, names_once, names_each_once, named_by}
 use Rattle.conf_change.specs.Described.{described}
-use Rattle.conf_change.specs.Violation.{violation_by, violation_of, violation_in, first_repeat, repeat_in, unless_violated, valid_of, unless_bad, configuration_in}
+use Rattle.conf_change.specs.Violation.{violation_by, violation_of, first_repeat, repeat_in, unless_violated, valid_of, unless_bad, configuration_in}
 use Rattle.conf_change.specs.ConfStateLine.{conf_state_in}
 use Rattle.conf_change.specs.declared.config.Invariant.{Invariant}
 use Rattle.conf_change.specs.declared.config.Invariant.TheVariants.{ZeroId, NextNotOutgoing, NextAndIncoming, LearnerAndVoter, NotJointButNext, NotJointButAutoLeave}

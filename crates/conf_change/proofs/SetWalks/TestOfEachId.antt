@@ -1,11 +1,9 @@
 -- A test of the ids of a list, one more at a time.
-use Rattle.std.proofs.Common.{◌≡◌, ℕ, ◌+◌, ◌≤◌, Bool, true, false, ◌&&◌, List, [], ◌∷◌, ◌++◌, take, length, refl, sym, ap, subst, ◌∙◌, slice_get, take_all}
+use Rattle.std.proofs.Common.{◌≡◌, ℕ, ◌+◌, ◌≤◌, Bool, true, false, ◌&&◌, List, take, length, refl, sym, ap, subst, ◌∙◌, slice_get, take_all}
 use Rattle.std.specs.Prelude.{Some}
 use Rattle.std.specs.List.{list_all}
-use Rattle.std.proofs.lemmas.List.{append_assoc}
 use Rattle.std.proofs.lemmas.Option.{slice_get_within, get_or_from_slice_get}
 use Rattle.std.proofs.lemmas.List.Folds.{list_all_more, list_all_at}
-use Rattle.quorum_sets.proofs.Offered.{take-one_more}
 
 -- the item at k passes
 pub list_all-one_more : (test : ℕ → Bool) (xs : List ℕ) (k x : ℕ) (so_far : Bool) → slice_get xs k ≡ Some x → test x ≡ true → so_far ≡ list_all test (take k xs)

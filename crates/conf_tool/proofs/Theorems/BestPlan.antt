@@ -1,5 +1,5 @@
 -- That each plan which is printed is the best there is.
-use Rattle.std.proofs.Common.{◌≡◌, ℕ, true, [], ◌++◌, refl, ◌∙◌, ap}
+use Rattle.std.proofs.Common.{◌≡◌, ℕ, true, [], ◌++◌, ◌∙◌, ap}
 use Rattle.std.specs.Prelude.{None, Ok}
 use Rattle.std.proofs.lemmas.List.{append-nil}
 use Rattle.dd_file.specs.Grammar.{listing_of}

@@ -1,6 +1,5 @@
 -- That each path which is printed keeps what its strategy promises.
-use Rattle.std.proofs.Common.{◌≡◌, ℕ, true, List, refl, ◌∙◌, ap}
-use Rattle.ascii_text.specs.Lines.{newline}
+use Rattle.std.proofs.Common.{◌≡◌, ℕ, true, refl, ◌∙◌, ap}
 use Rattle.dd_file.specs.Grammar.{listing_of}
 use Rattle.conf_change.specs.Configuration.{Configuration, has_voter}
 use Rattle.conf_plan.specs.PathBy.{has_path, path_by, Serves}
@@ -12,7 +11,6 @@ use Rattle.conf_tool.specs.Pairs.{numbered, configuration_lines}
 use Rattle.conf_tool.specs.PlanAnswer.{text_as, path_text, path_status, plan_text_between, plan_status}
 use Rattle.conf_tool.specs.declared.plan_options.PlanOptions.{PlanOptions}
 use Rattle.conf_tool.specs.declared.plan_options.PlanOutput.TheVariants.{Steps}
-use Rattle.conf_tool.specs.declared.status.Status.{Status}
 use Rattle.conf_tool.proofs.Theorems.PairByPair.{Pair, AreValid, each-named, planned-text}
 
 -- where there is a path, its text is printed

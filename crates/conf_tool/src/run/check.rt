@@ -11,7 +11,7 @@
 //! ```
 //!
 //! A script with an error is reported up to the error, without the counts. The report is own.
-ghost use Rattle.std.specs.Prelude.{◌≡◌, ◌<◌, ◌+◌, ◌^◌, ◌++◌, ℕ, List, [], Option, OnOk, IfOk, IsOkUnless, if◌then◌else◌};
+ghost use Rattle.std.specs.Prelude.{◌≡◌, ◌<◌, ◌+◌, ◌^◌, ℕ, List, [], Option, OnOk, IfOk, IsOkUnless, if◌then◌else◌};
 ghost use Rattle.dd_file.specs.Rewritten.{entry, is_directive};
 ghost use Rattle.conf_tool.specs.Outputs.{checked_script};
 ghost use Rattle.conf_tool.specs.Reports.{actual_for, session_after, differs, report};

@@ -10,10 +10,9 @@
 //! ```
 //!
 //! A refused line changes nothing. The changes and the refusals are those of etcd; the mode is own.
-ghost use Rattle.std.specs.Prelude.{◌≡◌, ℕ, List, [], Option, IfOk, IsOkUnless};
+ghost use Rattle.std.specs.Prelude.{ℕ, List, [], Option};
 ghost use Rattle.conf_change.specs.Configuration.{empty_configuration};
 ghost use Rattle.conf_tool.specs.Outputs.{lines_output_from};
-ghost use Rattle.conf_tool.specs.declared.tool_fault.ToolFault.TheVariants.{NoMemory as OutOfMemory};
 
 use super::clean_unless::clean_unless;
 use super::part_by_part::PartByPart;

@@ -11,12 +11,12 @@
 //! Blank lines and comments are skipped, and still counted in the line numbers of errors. Between the replies to two
 //! pairs comes an empty line, but none in JSON. The first line with an error ends the run. The form of the input is
 //! own.
-ghost use Rattle.std.specs.Prelude.{◌≡◌, ℕ, ◌+◌, ◌<◌, ◌^◌, ◌||◌, List, [], ◌∷◌, ◌++◌, Option, Some, Ok, true, nat_lt, IfOk, IfErr, IfSome, OnOk, OnErr, IsOkUnless, if◌then◌else◌};
+ghost use Rattle.std.specs.Prelude.{◌≡◌, ℕ, ◌+◌, ◌<◌, ◌^◌, ◌||◌, List, [], Option, Some, Ok, true, nat_lt, IfOk, IfErr, OnOk, OnErr, IsOkUnless, if◌then◌else◌};
 ghost use Rattle.std.specs.Io.KnownBytes.{Appends};
 ghost use Rattle.dd_file.specs.Device.{AppendsPart};
 ghost use Rattle.conf_change.specs.Configuration.{is_valid};
 ghost use Rattle.conf_tool.specs.Outputs.{planned_script, pair_text, separator, worse_of};
-ghost use Rattle.conf_tool.specs.PlanAnswer.{plan_text_between, plan_status};
+ghost use Rattle.conf_tool.specs.PlanAnswer.{plan_status};
 ghost use Rattle.conf_tool.specs.Run.{IsAnswerFault, is_write_failure};
 ghost use Rattle.conf_tool.specs.declared.tool_fault.ToolFault.TheVariants.{NoMemory as OutOfMemory};
 

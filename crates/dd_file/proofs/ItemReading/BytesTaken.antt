@@ -6,7 +6,7 @@ use Rattle.std.proofs.lemmas.List.{length-append, length-drop}
 use Rattle.ascii_text.specs.WhiteSpace.{is_blank}
 use Rattle.ascii_text.specs.Lines.{first_len, full_lines, line_of, ends_in_newline}
 use Rattle.dd_file.specs.DirectiveLine.{CommandText, command_of}
-use Rattle.dd_file.specs.Script.{FirstItem, first_item, first_of, directive_lines_of, joined, is_continued, is_comment, is_separator, begins_with_dashes, before_pair, has_pair, directive, after_pair, in_double, in_single, body, at_command, at_directive}
+use Rattle.dd_file.specs.Script.{FirstItem, first_of, directive_lines_of, joined, is_continued, is_comment, is_separator, begins_with_dashes, before_pair, has_pair, directive, after_pair, in_double, in_single, body, at_command, at_directive}
 use Rattle.dd_file.specs.Parts.{up_to, suffix}
 use Rattle.dd_file.specs.Position.{Position}
 use Rattle.dd_file.specs.Grammar.{Next, Over, Parsed, Faulty, next_line, next_item, from_full_lines, from_first_item, with_count, at_end, is_too_long, full_lines_within}

@@ -4,7 +4,7 @@ use Rattle.std.specs.Prelude.{◌⊎◌, Option, Some, None, is_some, Result, Ok
 use Rattle.std.specs.List.{concat}
 use Rattle.ascii_text.specs.Lines.{full_lines, line_of}
 use Rattle.dd_file.specs.Position.{Position}
-use Rattle.dd_file.specs.Script.{FirstItem, first_item, first_of}
+use Rattle.dd_file.specs.Script.{FirstItem, first_of}
 use Rattle.dd_file.specs.Grammar.{Next, Over, Parsed, Faulty, next_item, next_line, from_first_item, with_count, is_too_long, full_lines_within}
 use Rattle.dd_file.specs.Draft.{DraftText, Fits, FitsIn, first_item_of, first_item_in, is_done, result_of_first, item_result}
 use Rattle.dd_file.specs.declared.item.Item.{Item}

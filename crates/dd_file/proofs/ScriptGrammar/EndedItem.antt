@@ -6,7 +6,7 @@ use Rattle.std.proofs.lemmas.List.{drop-append-le}
 use Rattle.ascii_text.specs.WhiteSpace.{is_blank}
 use Rattle.dd_file.specs.Parts.{up_to, suffix}
 use Rattle.dd_file.specs.DirectiveLine.{CommandText, command_of}
-use Rattle.dd_file.specs.Script.{FirstItem, first_item, first_of, directive_lines_of, joined, is_continued, is_comment, is_separator, is_dashes, begins_with_dashes, before_pair, has_pair, directive, after_pair, in_double, in_single, body, at_command, at_directive}
+use Rattle.dd_file.specs.Script.{FirstItem, first_of, directive_lines_of, joined, is_continued, is_comment, is_separator, is_dashes, begins_with_dashes, before_pair, has_pair, directive, after_pair, in_double, in_single, body, at_command, at_directive}
 
 -- an element passes in a longer list too
 any-step : (c r s : Bool) → (r ≡ true → s ≡ true) → (c || r) ≡ true → (c || s) ≡ true

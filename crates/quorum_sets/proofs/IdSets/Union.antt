@@ -3,14 +3,14 @@ use Rattle.std.proofs.Common.{◌≡◌, ℕ, Bool, true, false, ◌||◌, ◌==
 use Rattle.std.specs.Ordering.{nat_cmp}
 use Rattle.std.specs.Cmp.{nat_cmp_total, unsigned_tied}
 use Rattle.std.specs.List.{list_any, dedup, dedup_from, refill}
-use Rattle.std.specs.List.Sorted.{IsPermutation, IsSorted, IsStrictlySortedBy}
+use Rattle.std.specs.List.Sorted.{IsSorted, IsStrictlySortedBy}
 use Rattle.std.proofs.lemmas.Bool.{cond_both, eqb-true}
 use Rattle.std.proofs.lemmas.List.{append-nil, drop_all, take_all}
 use Rattle.std.proofs.lemmas.List.Folds.{list_any-append}
 use Rattle.std.proofs.lemmas.List.Kept.{IsStrictlySortedBy-dedup}
 use Rattle.quorum_sets.specs.Ids.{Ids, has, ascending, ids_of, union}
 use Rattle.quorum_sets.specs.AscendingLists.{IsAscending}
-use Rattle.quorum_sets.proofs.IdSets.Members.{has-ids_of, has-ascending, ascending-ids_of, ids_of-permuted, has-same_ids}
+use Rattle.quorum_sets.proofs.IdSets.Members.{has-ids_of, has-ascending, has-same_ids}
 use Rattle.quorum_sets.proofs.KeptSets.AscendingList.{sorted-ascends}
 
 pub has-union : (a b : Ids) (q : ℕ) → has (union a b) q ≡ (has a q || has b q)

@@ -1,4 +1,4 @@
-use Rattle.std.proofs.Common.{rules, ◌≡◌, ap, not, ◌||◌}
+use Rattle.std.proofs.Common.{rules, ap, not, ◌||◌}
 use Rattle.std.specs.Prelude.{option_map}
 use Rattle.quorum_sets.specs.Ids.{has}
 use Rattle.conf_change.specs.declared.violation.Violation.TheVariants.{NextNotOutgoing, NextAndIncoming, LearnerAndVoter}

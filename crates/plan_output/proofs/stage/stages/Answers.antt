@@ -3,7 +3,7 @@ use Rattle.quorum_sets.proofs.Offered.{slice_get-not_past, take-one_more}
 use Rattle.conf_change.specs.ChangerState.{ChangerState}
 use Rattle.conf_plan.specs.Planned.{configuration_after}
 use Rattle.plan_output.specs.Stages as spec
-use Rattle.plan_output.specs.Stages.{StageState, first_stage, configuration_after_step, stage_after}
+use Rattle.plan_output.specs.Stages.{first_stage, configuration_after_step, stage_after}
 use Rattle.plan_output.proofs.StagesOnTheWay.{configuration_after-push, stages_after-push}
 use Rattle.plan_output.proofs.stage.stages.Goals as goal
 use Rattle.plan_output.proofs.stage.stages.Goals.{in-Some+in_ok-next_stage+in_ok-push-2, in_default}
