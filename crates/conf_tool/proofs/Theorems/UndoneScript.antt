@@ -137,7 +137,7 @@ run-comes read session (step ∷ steps) target small run =
     let accepts : Accepts session.changer step next = record { configuration = run.1; whole = refl } in
     let answers = step-answer session step next (changes-of_input (changes_of step) (read step (All-head HasU64Ids step steps small))) made in
     let after = ap (λ (a : Answer). a.session) answers in
-    let rest = run-comes read (after_directive session (stepped next).effect) steps target (All-tail HasU64Ids step steps small) run.2 in
+    let rest = run-comes read (after_directive session (stepped next).update) steps target (All-tail HasU64Ids step steps small) run.2 in
     let Rest : SessionState → Type 0 = λ s. Comes s (map directive_for steps) steps target in
     let moved = subst Rest (sym after) rest in
     record { taken = ((next, accepts, answers), moved.taken); there = moved.there }
