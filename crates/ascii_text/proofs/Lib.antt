@@ -5,4 +5,5 @@ mod TokenLemmas
 mod LineEnds
 mod FullLines
 mod NumberLemmas
+mod SplitTexts
 mod Digits

@@ -1,6 +1,6 @@
-//! The first position of a byte in a text.
-ghost use Rattle.std.specs.Prelude.{◌≡◌, ◌==◌, ◌≤◌, length};
-ghost use Rattle.std.specs.List.{position_or_len};
+//! The first position of a byte in a text, and the text before and after it.
+ghost use Rattle.std.specs.Prelude.{◌≡◌, ◌==◌, ◌≤◌, ◌<◌, [], ◌∷◌, length, take, drop};
+ghost use Rattle.std.specs.List.{position_or_len, slice_split};
 
 use memchr::memchr;
 
@@ -27,4 +27,16 @@ pub fn far_position_of(text: &[u8], byte: u8) -> usize
         Some(position) => position,
         None => text.len(),
     }
+}
+
+/// The text before the first `byte`, and the text from that byte on, which is empty if there is none. `a,b` gives `a`
+/// and `,b` for `,`.
+pub fn split_at_first(text: &[u8], byte: u8) -> (&[u8], &[u8])
+    ensures before { result.0.now ≡ take (position_or_len (λ b. b == byte) text.now) text.now }
+    ensures from { result.1.now ≡ drop (position_or_len (λ b. b == byte) text.now) text.now }
+    ensures last { length result.1.now ≡ 0 → slice_split (λ b. b == byte) text.now ≡ result.0.now ∷ [] }
+    ensures more { 0 < length result.1.now → slice_split (λ b. b == byte) text.now ≡ result.0.now ∷ slice_split (λ b. b == byte) (drop 1 result.1.now) }
+    ensures within { length result.1.now ≤ length text.now }
+{
+    text.split_at(position_of(text, byte))
 }

@@ -17,7 +17,7 @@ use crate::append::append_numbers;
 use crate::saved_configuration::{ConfState, ConfStateFault};
 use ascii_text::append::{append, keep_whole};
 use ascii_text::number::read_number;
-use ascii_text::position::{far_position_of, position_of};
+use ascii_text::position::{far_position_of, split_at_first};
 use ascii_text::white_space::trimmed;
 use quorum_sets::NoMemory;
 use std::alloc::{AllocError, AllocFailed, Global};
@@ -145,7 +145,7 @@ fn read_numbers(alloc: Global, text: &[u8]) -> Result<Vec<u64>, ConfStateFault>
     let mut numbers = Vec::with_capacity(alloc, text.len().div_ceil(2).min(64))?;
     let mut rest = text;
     loop {
-        let (token, suffix) = first_token(rest);
+        let (token, suffix) = split_at_first(rest, b' ');
         let number = read_number(token).ok_or(ConfStateFault::BadConfState)?;
         numbers.push(number)?;
         let [_, next @ ..] = suffix else {
@@ -153,15 +153,6 @@ fn read_numbers(alloc: Global, text: &[u8]) -> Result<Vec<u64>, ConfStateFault>
         };
         rest = next;
     }
-}
-
-// The text before the first space, and the text from that space on.
-fn first_token(text: &[u8]) -> (&[u8], &[u8])
-    ensures last { length result.1.now ≡ 0 → slice_split is_space_byte text.now ≡ result.0.now ∷ [] }
-    ensures more { 0 < length result.1.now → slice_split is_space_byte text.now ≡ result.0.now ∷ slice_split is_space_byte (drop 1 result.1.now) }
-    ensures within { length result.1.now ≤ length text.now }
-{
-    text.split_at(position_of(text, b' '))
 }
 
 // Reads the last field, `] AutoLeave:` with its value.

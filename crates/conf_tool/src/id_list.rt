@@ -6,7 +6,7 @@ ghost use Rattle.dd_file.specs.DirectiveLine.{is_comma};
 ghost use Rattle.conf_tool.specs.IdList.{ids_listed};
 
 use ascii_text::number::read_number;
-use ascii_text::position::position_of;
+use ascii_text::position::split_at_first;
 use quorum_sets::NoMemory;
 use std::alloc::Global;
 
@@ -18,7 +18,7 @@ pub(crate) fn ids_listed(alloc: Global, text: &[u8]) -> Result<Option<Vec<u64>>,
     let mut ids = Vec::new(alloc);
     let mut rest = text;
     loop {
-        let (part, after) = first_part(rest);
+        let (part, after) = split_at_first(rest, b',');
         let Some(id) = read_id(part) else {
             return Ok(None);
         };
@@ -28,15 +28,6 @@ pub(crate) fn ids_listed(alloc: Global, text: &[u8]) -> Result<Option<Vec<u64>>,
         };
         rest = next;
     }
-}
-
-// The text before the first comma, and the text from that comma on.
-fn first_part(text: &[u8]) -> (&[u8], &[u8])
-    ensures last { length result.1.now ≡ 0 → slice_split is_comma text.now ≡ result.0.now ∷ [] }
-    ensures more { 0 < length result.1.now → slice_split is_comma text.now ≡ result.0.now ∷ slice_split is_comma (drop 1 result.1.now) }
-    ensures within { length result.1.now ≤ length text.now }
-{
-    text.split_at(position_of(text, b','))
 }
 
 // The id that a text denotes.

@@ -261,18 +261,6 @@ abbrev pub onto_numbers : List ℕ → Option (List ℕ) → Option (List ℕ)
 onto_numbers done (Some more) = Some (done ++ more)
 onto_numbers done None = None
 
--- ---- the first part
-pub slice_split-last : (text token suffix : List ℕ) (n : ℕ) → n ≡ position_or_len is_space_byte text → token ≡ take n text → suffix ≡ drop n text → length suffix ≡ 0 → slice_split is_space_byte text ≡ token ∷ []
-slice_split-last text token suffix n n_is part_is after_is none =
-    let past : length text ≤ n = omega (arith, ap length after_is, length-drop n text) in
-    slice_split_none is_space_byte text (λ k d h. fails_before_first is_space_byte text k d (omega arith)) ∙ rw (part_is, take_all n text past) refl
-
-pub slice_split-more : (text token suffix : List ℕ) (n : ℕ) → n ≡ position_or_len is_space_byte text → token ≡ take n text → suffix ≡ drop n text → 0 < length suffix → slice_split is_space_byte text ≡ token ∷ slice_split is_space_byte (drop 1 suffix)
-slice_split-more text token suffix n n_is part_is after_is some =
-    let within : n < length text = omega (arith, ap length after_is, length-drop n text) in
-    let next : drop 1 suffix ≡ drop (n + 1) text = ap (drop 1) after_is ∙ drop-drop 1 n text in
-    rw (part_is, next, n_is) (slice_split_first is_space_byte text 0 (omega arith))
-
 pub DenotesConfState-none : (text : List ℕ) (saved : ConfStateLists) → conf_state_in text ≡ None → DenotesConfState text saved → ⊥
 DenotesConfState-none text saved none h = let some = conf_state_in-ok text saved h in cc
 
