@@ -5,13 +5,12 @@
 //! ```
 //!
 //! Reading such a line is own; etcd only prints them.
-ghost use Rattle.std.specs.Prelude.{◌≡◌, ◌<◌, ◌≤◌, [], ◌∷◌, ◌++◌, Some, None, Err, length, drop, IfOk, OnOk, OnErr};
-ghost use Rattle.std.specs.List.{slice_split};
+ghost use Rattle.std.specs.Prelude.{◌≡◌, ◌<◌, ◌++◌, Some, None, Err, IfOk, OnOk, OnErr};
 ghost use Rattle.ascii_text.specs.Append.{Extends};
 ghost use Rattle.conf_change.specs.Text.{spaced_numbers};
 ghost use Rattle.conf_change.specs.ConfState.{ConfStateLists};
 ghost use Rattle.conf_change.specs.ConfStateLine as line;
-ghost use Rattle.conf_change.specs.ConfStateLine.{ParsesToNumbers, DenotesConfState, conf_state_text, conf_state_in, numbers_in, field_in, line_in, auto_leave_in, is_space_byte};
+ghost use Rattle.conf_change.specs.ConfStateLine.{ParsesToNumbers, DenotesConfState, conf_state_text, conf_state_in, numbers_in, field_in, line_in, auto_leave_in};
 
 use crate::append::append_numbers;
 use crate::saved_configuration::{ConfState, ConfStateFault};

@@ -1,8 +1,6 @@
 //! A list of ids with commas between them, as the value of an option.
-ghost use Rattle.std.specs.Prelude.{◌≡◌, ◌<◌, ◌≤◌, [], ◌∷◌, length, drop, option_map, IfOk};
-ghost use Rattle.std.specs.List.{slice_split};
+ghost use Rattle.std.specs.Prelude.{◌≡◌, ◌<◌, option_map, IfOk};
 ghost use Rattle.conf_session.specs.Parameter.{id_in};
-ghost use Rattle.dd_file.specs.DirectiveLine.{is_comma};
 ghost use Rattle.conf_tool.specs.IdList.{ids_listed};
 
 use ascii_text::number::read_number;

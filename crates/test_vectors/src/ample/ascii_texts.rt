@@ -1,7 +1,7 @@
 //! White space, tokens, lines and numbers in texts.
 use ascii_text::lines::{ends_in_newline, first_line_len, line_of, next_full_line, without_end};
 use ascii_text::number::read_number;
-use ascii_text::position::{far_position_of, position_of};
+use ascii_text::position::{far_position_of, position_of, split_at_first};
 use ascii_text::tokens::next_token;
 use ascii_text::white_space::{
     is_blank, is_space, trimmed, without_leading_space, without_trailing_space,
@@ -91,10 +91,12 @@ static POSITIONS: [(&[u8], u8, usize); 4] = [
 ];
 
 #[test]
-fn finds_the_position_of_a_byte(rt: HostRuntime) {
+fn finds_the_first_such_byte(rt: HostRuntime) {
     for (index, (text, byte, position)) in POSITIONS.iter().enumerate() {
         assert!(rt;
-            (position_of(*text, *byte) == *position) & (far_position_of(*text, *byte) == *position),
+            (position_of(*text, *byte) == *position)
+                & (far_position_of(*text, *byte) == *position)
+                & (split_at_first(*text, *byte) == (&text[..*position], &text[*position..])),
             "row {index}"
         );
     }
