@@ -1,9 +1,7 @@
 -- Arguments as they are stored, by their tokens, and the values that an iterator has left.
-use Rattle.std.specs.Prelude.{ℕ, Bool, true, ◌&&◌, ◌==◌, List, [], ◌∷◌, map, length, unwrap_or, is_some}
-use Rattle.std.specs.List.{list_any}
+use Rattle.std.specs.Prelude.{ℕ, Bool, true, List, [], ◌∷◌, map, unwrap_or, is_some}
 use Rattle.ascii_text.specs.WhiteSpace.{trimmed}
-use Rattle.dd_file.specs.Parts.{suffix}
-use Rattle.dd_file.specs.DirectiveLine.{ArgumentText, is_closing, split_at_commas, with_key, values_of, parsed_argument}
+use Rattle.dd_file.specs.DirectiveLine.{ArgumentText, split_at_commas, with_key, values_of, parsed_argument}
 use Rattle.dd_file.specs.declared.values.RestKind.{RestKind}
 use Rattle.dd_file.specs.declared.values.RestKind.TheVariants.{Nothing, Plain, Listed}
 
@@ -24,10 +22,6 @@ has_values (b ∷ text) = is_some (values_of text)
 abbrev pub values_after : List ℕ → List (List ℕ)
 values_after [] = []
 values_after (b ∷ text) = unwrap_or (values_of text) []
-
--- whether the first closing parenthesis is the last byte
-abbrev pub ends_at_closing : List ℕ → Bool
-ends_at_closing inside = list_any is_closing inside && (length (suffix is_closing inside) == 0)
 
 -- the values that are left, by the kind of the rest of the argument
 abbrev pub values_left : RestKind → List ℕ → List (List ℕ)

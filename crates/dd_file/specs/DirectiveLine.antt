@@ -63,9 +63,13 @@ is_key_byte b = is_ascii_alphanumeric b || list_any (λ c. b == c) (codes "-_/,.
 abbrev pub is_key : List ℕ → Bool
 is_key token = not (length token == 0) && list_all is_key_byte token
 
--- a plain value: no white space and no parenthesis; it may be empty
+-- whether a plain value, one that is not a list, may contain the byte: any but white space and parentheses
+abbrev pub is_plain_byte : ℕ → Bool
+is_plain_byte b = not (is_space b || (is_opening b || is_closing b))
+
+-- a plain value, which may be empty
 abbrev pub is_plain : List ℕ → Bool
-is_plain bytes = list_all (λ b. not (is_space b || (is_opening b || is_closing b))) bytes
+is_plain bytes = list_all is_plain_byte bytes
 
 -- the text split at each comma
 abbrev pub split_at_commas : List ℕ → List (List ℕ)
@@ -76,12 +80,16 @@ split_at_commas (b ∷ bs) = split_or_prepend (is_comma b) b (split_at_commas bs
 abbrev pub list_values : List ℕ → List (List ℕ)
 list_values text = if is_blank text then [] else map trimmed (split_at_commas text)
 
+-- whether the first closing parenthesis is the last byte
+abbrev pub ends_at_closing : List ℕ → Bool
+ends_at_closing inside = list_any is_closing inside && length (suffix is_closing inside) == 0
+
 -- The values that a text after = denotes: a list whose first closing parenthesis is the last byte of the text, or one
 -- plain value.
 abbrev pub values_of : List ℕ → Option (List (List ℕ))
 values_of [] = Some ([] ∷ [])
 values_of (b ∷ bs) =
-    if is_opening b then (if list_any is_closing bs && length (suffix is_closing bs) == 0 then Some (list_values (up_to is_closing bs)) else None)
+    if is_opening b then (if ends_at_closing bs then Some (list_values (up_to is_closing bs)) else None)
     else (if is_plain (b ∷ bs) then Some ((b ∷ bs) ∷ []) else None)
 
 -- the argument with this key and these values

@@ -1,11 +1,7 @@
 -- The first token of a text.
-use Rattle.std.specs.Prelude.{ℕ, Bool, true, false, not, ◌||◌, List, [], ◌∷◌, take}
+use Rattle.std.specs.Prelude.{ℕ, Bool, true, false, List, [], ◌∷◌, take}
 use Rattle.ascii_text.specs.WhiteSpace.{is_space}
-use Rattle.dd_file.specs.DirectiveLine.{is_opening, is_closing, token_len}
-
--- whether a plain value, one that is not a list, may contain the byte: any but white space and parentheses
-abbrev pub is_plain_byte : ℕ → Bool
-is_plain_byte b = not (is_space b || (is_opening b || is_closing b))
+use Rattle.dd_file.specs.DirectiveLine.{token_len}
 
 -- whether a token ends where this text begins: the text is empty or begins with white space
 abbrev pub ends_token : List ℕ → Bool

@@ -14,8 +14,8 @@
 ghost use Rattle.std.specs.Prelude.{◌≡◌, ◌+◌, ◌≤◌, ◌∷◌, true, false, length, drop, is_some, None, IfSome, MatchOption};
 ghost use Rattle.std.specs.List.{prefix_len};
 ghost use Rattle.dd_file.specs.ArgumentValues.{is_argument};
-ghost use Rattle.dd_file.specs.TokenParts.{is_plain_byte, ends_token, first_token};
-ghost use Rattle.dd_file.specs.DirectiveLine.{is_key_byte, token_len, values_of, parsed_argument};
+ghost use Rattle.dd_file.specs.TokenParts.{ends_token, first_token};
+ghost use Rattle.dd_file.specs.DirectiveLine.{is_key_byte, token_len, values_of, parsed_argument, is_plain_byte};
 
 use ascii_text::position::far_position_of;
 use ascii_text::white_space::is_space;

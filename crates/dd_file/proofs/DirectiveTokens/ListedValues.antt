@@ -3,9 +3,8 @@ use Rattle.std.proofs.Common.{◌≡◌, ℕ, ◌+◌, ◌-◌, suc, Bool, true,
 use Rattle.std.specs.Prelude.{◌==◌, Some, None, is_some, unwrap_or}
 use Rattle.std.specs.List.{list_any, position_or_len}
 use Rattle.std.proofs.lemmas.Bool.{true≢false}
-use Rattle.dd_file.specs.ArgumentValues.{ends_at_closing}
 use Rattle.dd_file.specs.Parts.{up_to, suffix}
-use Rattle.dd_file.specs.DirectiveLine.{is_comma, is_closing, split_or_prepend, split_at_commas, list_values, values_of}
+use Rattle.dd_file.specs.DirectiveLine.{is_comma, is_closing, split_or_prepend, split_at_commas, list_values, values_of, ends_at_closing}
 
 -- ---- the closing parenthesis
 -- before a text that closes nothing

@@ -8,10 +8,10 @@ use Rattle.std.proofs.lemmas.List.{drop-take, length-take, length-drop, get_or-d
 use Rattle.std.proofs.lemmas.List.Folds.{list_all_at}
 use Rattle.std.proofs.lemmas.List.Sums.{prefix_len-le-length, passes_at_first}
 use Rattle.ascii_text.specs.WhiteSpace.{is_space}
-use Rattle.dd_file.specs.ArgumentValues.{is_argument, ends_at_closing}
+use Rattle.dd_file.specs.ArgumentValues.{is_argument}
 use Rattle.dd_file.specs.Parts.{up_to}
-use Rattle.dd_file.specs.TokenParts.{is_plain_byte, ends_token, first_token}
-use Rattle.dd_file.specs.DirectiveLine.{is_key_byte, is_key, is_opening, is_closing, is_equals, inside_after, token_len, is_plain, list_values, with_key, values_of, parsed_argument}
+use Rattle.dd_file.specs.TokenParts.{ends_token, first_token}
+use Rattle.dd_file.specs.DirectiveLine.{is_key_byte, is_key, is_opening, is_closing, is_equals, inside_after, token_len, is_plain, list_values, with_key, values_of, parsed_argument, is_plain_byte, ends_at_closing}
 use Rattle.dd_file.proofs.DirectiveTokens.LoneKey.{key_len, is_key-none, is_key-alone, is_key-more, argument_of-alone, argument_of-values, argument_of-other}
 use Rattle.dd_file.proofs.DirectiveTokens.KeptArgument.{is_some-option_map}
 use Rattle.dd_file.proofs.DirectiveTokens.ListedValues.{ends_at_closing-position}
@@ -55,12 +55,12 @@ token_len-suffix p no_space no_opening (x ∷ xs) = at (p x) refl (token_len-suf
   at false is ih = omega arith
 
 -- the token after them
-pub record FirstItem (p : ℕ → Bool) (text : List ℕ) : Type 0 where
+pub record IsPrefix (p : ℕ → Bool) (text : List ℕ) : Type 0 where
   pub len : token_len false text ≡ prefix_len p text + token_len false (drop (prefix_len p text) text)
   pub first : prefix_len p (first_token text) ≡ prefix_len p text
   pub suffix : drop (prefix_len p text) (first_token text) ≡ first_token (drop (prefix_len p text) text)
 
-pub prefix : (p : ℕ → Bool) → ((b : ℕ) → p b ≡ true → is_space b ≡ false) → ((b : ℕ) → p b ≡ true → is_opening b ≡ false) → (text : List ℕ) → FirstItem p text
+pub prefix : (p : ℕ → Bool) → ((b : ℕ) → p b ≡ true → is_space b ≡ false) → ((b : ℕ) → p b ≡ true → is_opening b ≡ false) → (text : List ℕ) → IsPrefix p text
 prefix p no_space no_opening text =
     let n = prefix_len p text in
     let m = token_len false (drop n text) in
@@ -91,10 +91,10 @@ plain-no_opening b is = at (is_opening b) refl where
   at true e = let paren : b ≡ 40 = search rules in let no : is_plain_byte 40 ≡ true = ap is_plain_byte (sym paren) ∙ is in cc
   at false e = refl
 
-pub prefix-key : (text : List ℕ) → FirstItem is_key_byte text
+pub prefix-key : (text : List ℕ) → IsPrefix is_key_byte text
 prefix-key = prefix is_key_byte key-no_space key-no_opening
 
-pub prefix-plain : (text : List ℕ) → FirstItem is_plain_byte text
+pub prefix-plain : (text : List ℕ) → IsPrefix is_plain_byte text
 prefix-plain = prefix is_plain_byte plain-no_space plain-no_opening
 
 -- ---- where a token ends

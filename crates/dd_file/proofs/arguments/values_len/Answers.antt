@@ -1,8 +1,8 @@
 use Rattle.std.proofs.Common.{◌≡◌, drop, true, false, sym, ap, ◌∙◌, arith, rules}
 use Rattle.std.specs.Prelude.{is_some}
 use Rattle.std.specs.List.{prefix_len}
-use Rattle.dd_file.specs.TokenParts.{is_plain_byte, ends_token, first_token}
-use Rattle.dd_file.specs.DirectiveLine.{is_opening, values_of}
+use Rattle.dd_file.specs.TokenParts.{ends_token, first_token}
+use Rattle.dd_file.specs.DirectiveLine.{is_opening, values_of, is_plain_byte}
 use Rattle.dd_file.proofs.DirectiveTokens.FirstToken.{token_len-bound}
 use Rattle.dd_file.proofs.DirectiveTokens.TokenPrefix.{values-plain, values-not_plain}
 use Rattle.dd_file.proofs.arguments.values_len.Goals as goal
