@@ -11,9 +11,9 @@ has-put_in s t id e = ap (λ x. has x id) e ∙ has-with_id s id id ∙ ap (λ b
 pub has-taken_out : (s t : Ids) (id : ℕ) → t ≡ without_id s id → has t id ≡ false
 has-taken_out s t id e = ap (λ x. has x id) e ∙ has-without_id s id id ∙ ap (λ b. not b && has s id) (nat_eq_equiv.refl id)
 
-pub membership_is : (voters going learners : Ids) (id : ℕ) (incoming outgoing learner member : Bool)
+pub membership-of_member : (voters going learners : Ids) (id : ℕ) (incoming outgoing learner member : Bool)
     → has voters id ≡ incoming → has going id ≡ outgoing → has learners id ≡ learner → (incoming || outgoing || learner) ≡ member
     → ◌≡◌ {A = Membership} (record { member = member; learner = learner }) (record { member = has voters id || has going id || has learners id; learner = has learners id })
-membership_is voters going learners id incoming outgoing learner member i o l m =
+membership-of_member voters going learners id incoming outgoing learner member i o l m =
     ap (λ b. record { member = b; learner = learner }) (sym m)
     ∙ sym (λ k. record { member = i k || o k || l k; learner = l k })

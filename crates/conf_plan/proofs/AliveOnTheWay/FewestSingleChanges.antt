@@ -27,7 +27,7 @@ use Rattle.conf_plan.specs.declared.strategy.Strategy.TheVariants.{OneAtATime}
 use Rattle.conf_plan.proofs.AliveOnTheWay.Newcomers.{filter-within}
 use Rattle.conf_plan.proofs.FindingMoves.OfEachId.{has-union}
 use Rattle.conf_plan.proofs.FindingMoves.AscendingIds.{holds, holds-above}
-use Rattle.conf_plan.proofs.Runs.JointEnds.{not_both}
+use Rattle.conf_plan.proofs.Runs.JointEnds.{is_joint-not_both}
 
 -- ---- what an id costs
 -- how many changes an id needs, by whether it is wanted as a voter, is wanted as a learner, is a voter and is a learner
@@ -150,7 +150,7 @@ total-within target c (Simple (x ∷ []) ∷ steps) ids single run =
     omega arith
 total-within target c (Simple (x ∷ y ∷ changes) ∷ steps) ids single run = let one = run.1.1.one in absurd (omega arith)
 total-within target c (EnterJoint auto_leave changes ∷ steps) ids single run = absurd run.1.1.one
-total-within target c (LeaveJoint ∷ steps) ids single run = not_both c (LeaveTaken-from_outcome c run.0 run.1.0).joint single
+total-within target c (LeaveJoint ∷ steps) ids single run = is_joint-not_both c (LeaveTaken-from_outcome c run.0 run.1.0).joint single
 
 -- ---- the steps of the path
 length-in_turn : (c target : Configuration) (joins retires : List ℕ) → length (in_turn c target joins retires) ≡ sum_by (λ id. length (join_steps c id)) joins + length retires
@@ -251,7 +251,7 @@ from_single-least c target other single run =
 from_joint-least : (now target : Configuration) (other : List Step) → is_joint now ≡ true → (now ≡ target → ⊥) → IsRunWith ChangesOneLearnerFirst now other target
     → length (LeaveJoint ∷ one_at_a_time_from_single (after_leave now) target) ≤ length other
 from_joint-least now target [] joint differs run = absurd (differs run)
-from_joint-least now target (Simple changes ∷ other) joint differs run = not_both now joint (SimpleTaken-from_outcome now run.0 changes run.1.0).single
+from_joint-least now target (Simple changes ∷ other) joint differs run = is_joint-not_both now joint (SimpleTaken-from_outcome now run.0 changes run.1.0).single
 from_joint-least now target (EnterJoint auto_leave changes ∷ other) joint differs run = absurd run.1.1.one
 from_joint-least now target (LeaveJoint ∷ other) joint differs run =
     let P : Configuration → Type 0 = λ d. IsRunWith ChangesOneLearnerFirst d other target in

@@ -21,9 +21,9 @@ use Rattle.conf_plan.specs.Planned.{kind_by, single_with}
 use Rattle.conf_plan.specs.PathBy.{has_path, path_by}
 use Rattle.conf_plan.specs.Run.{IsValidWithVoter, Gives, IsRunWith}
 use Rattle.conf_plan.specs.declared.strategy.Strategy.TheVariants.{OneAtATime}
-use Rattle.conf_plan.proofs.AliveOnTheWay.OneChange.{one_change-joins, one_change-retires, has_some}
+use Rattle.conf_plan.proofs.AliveOnTheWay.OneChange.{one_change-joins, one_change-retires, is_empty-from_has}
 use Rattle.conf_plan.proofs.AliveOnTheWay.ReadyVoters.{MakesVotersOfReady-same}
-use Rattle.conf_plan.proofs.BestPlan.PreservedMembers.{keeps, is_member-single_with}
+use Rattle.conf_plan.proofs.BestPlan.PreservedMembers.{keeps_progress-of_member, is_member-single_with}
 use Rattle.conf_plan.proofs.FindingMoves.OfEachId.{has-union}
 use Rattle.conf_plan.proofs.FindingMoves.ResultingConfiguration.{IsSingle}
 use Rattle.conf_plan.proofs.FindingMoves.AscendingIds.{holds, holds-above}
@@ -74,7 +74,7 @@ back ids id new =
 
 size_some : (ids : Ids) (id : ℕ) → has ids id ≡ true → 1 ≤ size ids
 size_some ids id here =
-    let some : size ids ≡ 0 → ⊥ = λ none. both_ways (is_empty ids) (has_some ids id here) (eq-eqb (size ids) 0 none) in
+    let some : size ids ≡ 0 → ⊥ = λ none. both_ways (is_empty ids) (is_empty-from_has ids id here) (eq-eqb (size ids) 0 none) in
     omega (arith, some)
 
 pub size-joined : (ids : Ids) (id : ℕ) → has ids id ≡ false → size (with_id ids id) ≡ size ids + 1
@@ -120,7 +120,7 @@ learner_votes bound voters learners id other new learner enough =
             let learns : has learners q ≡ true = ap (has learners) same ∙ learner in
             record {
               learner = learns;
-              kept = keeps q before (one_change Voter id) after
+              kept = keeps_progress-of_member q before (one_change Voter id) after
                   (is_member-single_with voters learners q ∙ or_right (has voters q) (has learners q) learns)
                   (is_member-single_with (with_id voters id) (without_id learners id) q ∙ or_left (has (with_id voters id) q) _ votes)
                   (ap (λ b. b && not (has after.outgoing q)) (no_removal (id == q)));

@@ -27,8 +27,8 @@ one_token kind id q plain other =
     same false zero f = refl
 
 -- a set with an id is not empty
-pub has_some : (ids : Ids) (id : ℕ) → has ids id ≡ true → is_empty ids ≡ false
-has_some ids id here = false_from_ne_true _ (λ none. true≢false (sym here ∙ has-none_in_empty ids none id))
+pub is_empty-from_has : (ids : Ids) (id : ℕ) → has ids id ≡ true → is_empty ids ≡ false
+is_empty-from_has ids id here = false_from_ne_true _ (λ none. true≢false (sym here ∙ has-none_in_empty ids none id))
 
 joins : (b was : Bool) → is_incoming_after (cond b (Some Voter) None) was ≡ (b || was)
 joins true was = refl
@@ -63,7 +63,7 @@ one_change-joins voters learners id other =
     (λ q. has-next_after c changes q ∙ ap (λ o. is_next_after o (has no_ids q) (has no_ids q)) (token q)
     ∙ no_next Voter (λ was. refl) (q == id) (has no_ids q) (has no_ids q) (has-no_ids q) (has-no_ids q))
     refl)
-    (ap not (has_some (with_id voters id) id (has-with_id voters id id ∙ or_left (id == id) (has voters id) (eq-eqb id id refl))))
+    (ap not (is_empty-from_has (with_id voters id) id (has-with_id voters id id ∙ or_left (id == id) (has voters id) (eq-eqb id id refl))))
     (difference_count-with_id voters id)
 
 -- the kind of change by which an id stops voting, where it learns from then on or not, and the learners after it

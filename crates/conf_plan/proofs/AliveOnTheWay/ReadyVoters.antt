@@ -10,7 +10,7 @@ use Rattle.conf_change.proofs.Offered.{ValidByMember-from_is_valid}
 use Rattle.conf_plan.specs.Alive.{IsReadyLearner, MakesVotersOfReady, VotersLearnFirst}
 use Rattle.conf_plan.specs.Planned.{moves, single_with, single_steps, shared_members, entering_step, planned_from_single}
 use Rattle.conf_plan.specs.Run.{IsValidWithVoter, Gives}
-use Rattle.conf_plan.proofs.BestPlan.PreservedMembers.{keeps, is_member-single_with, moves-remove_no_wanted, entering_step-keeps}
+use Rattle.conf_plan.proofs.BestPlan.PreservedMembers.{keeps_progress-of_member, is_member-single_with, moves-remove_no_wanted, entering_step-keeps}
 use Rattle.conf_plan.proofs.FindingMoves.ResultingConfiguration.{IsSingle, AreWanted, moves-has_wanted}
 use Rattle.conf_plan.proofs.PlannedSteps.BetweenSingle.{entered_by, simple_moves-accepted, enter_moves-accepted, leave_moves-accepted, single_steps-is_chain}
 use Rattle.conf_plan.proofs.PlannedSteps.IntoJoint.{has-shared_members, outgoing-are_wanted, at_outgoing-is_single, entering-reaches}
@@ -33,7 +33,7 @@ ready : (c after : Configuration) (step : Step) (q : ℕ) → (has c.incoming q 
     → is_replaced step after q ≡ false → IsReadyLearner c step after q
 ready c after step q new member votes same = record {
   learner = learns c q new member;
-  kept = keeps q c step after member (or_left (has after.incoming q || has after.outgoing q) _ (or_left (has after.incoming q) _ votes)) same;
+  kept = keeps_progress-of_member q c step after member (or_left (has after.incoming q || has after.outgoing q) _ (or_left (has after.incoming q) _ votes)) same;
 }
 
 single_steps-make_ready : (c : Configuration) (voters learners : Ids) → IsSingle c → AreWanted voters learners → ((q : ℕ) → has voters q ≡ true → is_member c q ≡ true)

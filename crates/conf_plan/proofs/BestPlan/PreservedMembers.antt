@@ -27,13 +27,13 @@ use Rattle.conf_plan.proofs.Runs.Chains.{IsChain-append, IsRun-from_IsRunWith}
 use Rattle.conf_plan.proofs.PlannedSteps.Shapes.{planned_from_single-of_shapes, planned-of_shapes}
 use Rattle.conf_plan.proofs.PlannedSteps.BetweenSingle.{entered_by, simple_moves-accepted, enter_moves-accepted, leave_moves-accepted, single_steps-is_chain}
 
--- a step that keeps the progress of an id
+-- a step that keeps_progress-of_member the progress of an id
 abbrev Keeps : ℕ → Configuration → Step → Configuration → Type 0
 Keeps q before step after = keeps_progress before step after q ≡ true
 
-pub keeps : (q : ℕ) (before : Configuration) (step : Step) (after : Configuration) → is_member before q ≡ true → is_member after q ≡ true → is_replaced step after q ≡ false
+pub keeps_progress-of_member : (q : ℕ) (before : Configuration) (step : Step) (after : Configuration) → is_member before q ≡ true → is_member after q ≡ true → is_replaced step after q ≡ false
     → keeps_progress before step after q ≡ true
-keeps q before step after member stays same = and_from _ _ (and_from _ _ member stays) (not_from_false _ same)
+keeps_progress-of_member q before step after member stays same = and_from _ _ (and_from _ _ member stays) (not_from_false _ same)
 
 pub keeps_progress-member : (q : ℕ) (before : Configuration) (step : Step) (after : Configuration) → keeps_progress before step after q ≡ true → is_member after q ≡ true
 keeps_progress-member q before step after kept = (and_parts (is_member before q) (is_member after q) (and_parts _ (not (is_replaced step after q)) kept).0).1
@@ -96,9 +96,9 @@ single_steps-preserve c voters learners q single wanted member stays =
     let none : removes changes q ≡ false = moves-remove_no_wanted c voters learners q stays in (
       member,
       single_steps-is_chain (λ before step after. Gives before step after × Keeps q before step after) c voters learners
-          (λ few. (simple_moves-accepted c voters learners single wanted few, keeps q c (Simple changes) target member member_after (and_left _ _ none)))
-          (enter_moves-accepted c voters learners single wanted, keeps q c (EnterJoint false changes) between member member_between (and_left _ _ none))
-          (leave_moves-accepted c voters learners single wanted, keeps q between LeaveJoint target member_between member_after refl),
+          (λ few. (simple_moves-accepted c voters learners single wanted few, keeps_progress-of_member q c (Simple changes) target member member_after (and_left _ _ none)))
+          (enter_moves-accepted c voters learners single wanted, keeps_progress-of_member q c (EnterJoint false changes) between member member_between (and_left _ _ none))
+          (leave_moves-accepted c voters learners single wanted, keeps_progress-of_member q between LeaveJoint target member_between member_after refl),
     )
   where
     voter_or_learner : (v out m : Bool) → (v || m) ≡ true → (v || out || (m && not out)) ≡ true
@@ -107,9 +107,9 @@ single_steps-preserve c voters learners q single wanted member stays =
     voter_or_learner false false true stays = refl
     voter_or_learner false false false stays = stays
 
--- who goes out in the target keeps its progress, and the others are wanted
+-- who goes out in the target keeps_progress-of_member its progress, and the others are wanted
 pub entering_step-keeps : (c target : Configuration) (q : ℕ) → is_member c q ≡ true → is_member target q ≡ true → keeps_progress c (entering_step c target) target q ≡ true
-entering_step-keeps c target q member stays = keeps q c (entering_step c target) target member stays (same (has target.outgoing q) refl)
+entering_step-keeps c target q member stays = keeps_progress-of_member q c (entering_step c target) target member stays (same (has target.outgoing q) refl)
   where
     voter_or_learner : (v out l n : Bool) → out ≡ false → (v || out || l) ≡ true → (v || (l || n)) ≡ true
     voter_or_learner true out l n apart stays = refl
@@ -167,7 +167,7 @@ planned-preserves now target q now_valid_with_voter valid_with_voter member stay
       member,
       (
         after_leave now,
-        (outcome-leave_accepted now joint, keeps q now LeaveJoint (after_leave now) member outlasts refl),
+        (outcome-leave_accepted now joint, keeps_progress-of_member q now LeaveJoint (after_leave now) member outlasts refl),
         (planned_from_single-preserves (after_leave now) target q (after_leave-is_single now now_valid_with_voter joint) valid_with_voter outlasts stays).1,
       ),
     ))

@@ -13,8 +13,8 @@ use Rattle.conf_plan.specs.Run.{IsRun}
 pub is_joint-from_no_outgoing : (c : Configuration) → c.outgoing ≡ no_ids → is_joint c ≡ false
 is_joint-from_no_outgoing c none = ap (λ s. not (is_empty s)) none ∙ ap not is_empty-no_ids
 
-pub not_both : {P : Type 0} (c : Configuration) → is_joint c ≡ true → is_joint c ≡ false → P
-not_both c joint single = absurd (true≢false (sym joint ∙ single))
+pub is_joint-not_both : {P : Type 0} (c : Configuration) → is_joint c ≡ true → is_joint c ≡ false → P
+is_joint-not_both c joint single = absurd (true≢false (sym joint ∙ single))
 
 -- ---- the first step
 -- only leaving is accepted in a joint configuration
@@ -25,8 +25,8 @@ pub record LeavesFirst (now target : Configuration) (steps : List Step) : Type 0
 
 pub LeavesFirst-from_IsRun : (now target : Configuration) (steps : List Step) → is_joint now ≡ true → (now ≡ target → ⊥) → IsRun now steps target → LeavesFirst now target steps
 LeavesFirst-from_IsRun now target [] joint differs run = absurd (differs run)
-LeavesFirst-from_IsRun now target (Simple changes ∷ steps) joint differs run = not_both now joint (SimpleTaken-from_outcome now run.0 changes run.1).single
-LeavesFirst-from_IsRun now target (EnterJoint auto_leave changes ∷ steps) joint differs run = not_both now joint (EnterTaken-from_outcome now run.0 auto_leave changes run.1).single
+LeavesFirst-from_IsRun now target (Simple changes ∷ steps) joint differs run = is_joint-not_both now joint (SimpleTaken-from_outcome now run.0 changes run.1).single
+LeavesFirst-from_IsRun now target (EnterJoint auto_leave changes ∷ steps) joint differs run = is_joint-not_both now joint (EnterTaken-from_outcome now run.0 auto_leave changes run.1).single
 LeavesFirst-from_IsRun now target (LeaveJoint ∷ steps) joint differs run =
     let P : Configuration → Type 0 = λ d. IsRun d steps target in
     record { rest = steps; whole = refl; run = subst P (sym (LeaveTaken-from_outcome now run.0 run.1).made) run.2 }
@@ -61,11 +61,11 @@ pub record EntersLast (before target : Configuration) (steps : List Step) : Type
   pub voters : opened.middle.incoming ≡ target.outgoing
 
 pub EntersLast-from_IsRun : (before target : Configuration) (steps : List Step) → is_joint before ≡ false → is_joint target ≡ true → IsRun before steps target → EntersLast before target steps
-EntersLast-from_IsRun before target [] single joint run = not_both target joint (ap is_joint (sym run) ∙ single)
+EntersLast-from_IsRun before target [] single joint run = is_joint-not_both target joint (ap is_joint (sym run) ∙ single)
 EntersLast-from_IsRun before target (step ∷ steps) single joint run =
     let opened = last_step before target step steps run in
     elim (outcome-are_neighbours opened.middle target opened.last opened.reaches) [
-      | inl differ ↦ not_both target joint (is_joint-from_no_outgoing target differ.after_single)
+      | inl differ ↦ is_joint-not_both target joint (is_joint-from_no_outgoing target differ.after_single)
       | inr (inl goes) ↦ record { opened = opened; single = is_joint-from_no_outgoing opened.middle goes.before_single; voters = sym goes.outgoing }
-      | inr (inr leaves) ↦ not_both target joint (is_joint-from_no_outgoing target leaves.after_single)
+      | inr (inr leaves) ↦ is_joint-not_both target joint (is_joint-from_no_outgoing target leaves.after_single)
     ]

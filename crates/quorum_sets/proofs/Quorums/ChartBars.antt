@@ -9,7 +9,7 @@ use Rattle.std.proofs.lemmas.List.Folds.{fold-map, list_any_at, Any-from_list_an
 use Rattle.std.proofs.lemmas.List.Sums.{sum_by-cons}
 use Rattle.std.proofs.lemmas.List.Sorted.{Contains-permutation, list_any-IsPermutation, sum_by-IsPermutation}
 use Rattle.quorum_sets.specs.Committed.{Acks, acked_index}
-use Rattle.quorum_sets.proofs.Quorums.SortedRows.{Parts, not_before, row_order, rows-first, rows-partitioned}
+use Rattle.quorum_sets.proofs.Quorums.SortedRows.{Parts, Parts-not_before, rows-ordered, rows-first, rows-partitioned}
 use Rattle.quorum_sets.specs.Chart.{IsRanking, ranked, is_tied, bar_width}
 
 pub ranking-partitioned : (ids : List ℕ) (acks : Acks) (rows : List (ℕ × ℕ)) (index : ℕ) → IsRanking ids acks rows → IsPartitionedBy (λ r. nat_lt r.0 index) rows
@@ -72,8 +72,8 @@ width-first ids acks rows id position ranking among within parted leads =
     let here : get_or rows other.0 (ranked acks id) ≡ other.1 = get_or_default rows other.0 (ranked acks id) other.1 other.2 ∙ other.3 in
     let there : (get_or rows other.0 (ranked acks id)).0 ≡ index = ap (λ r. r.0) here ∙ index_is in
     let id_there : (get_or rows other.0 (ranked acks id)).1 ≡ other.1.1 = ap (λ r. r.1) here in
-    let after = not_before index rows position other.0 (ranked acks id) parted other.2 (omega arith) in
-    let order = row_order rows ranking.ascends position other.0 (ranked acks id) after other.2 in
+    let after = Parts-not_before index rows position other.0 (ranked acks id) parted other.2 (omega arith) in
+    let order = rows-ordered rows ranking.ascends position other.0 (ranked acks id) after other.2 in
     let low = order.1 (first.index_is ∙ sym there) in
     absurd (omega arith)) in
     sym (count_by-partition (λ r. nat_lt r.0 index) rows position within parted)

@@ -20,8 +20,8 @@ not_less i x j y h =
     let parts = not_less_by (nat_lt i j) (i == j) (nat_lt x y) (x == y) h in
     (ltb-false i j parts.0, λ same. ltb-false x y (parts.1 (eq-eqb i j (sym same))))
 
-pub row_order : (rows : List (ℕ × ℕ)) → IsSorted (λ x y. ordering_then (nat_cmp x.0 y.0) (nat_cmp x.1 y.1)) rows → (j k : ℕ) (d : ℕ × ℕ) → j ≤ k → k < length rows → ((get_or rows j d).0 ≤ (get_or rows k d).0) × ((get_or rows j d).0 ≡ (get_or rows k d).0 → (get_or rows j d).1 ≤ (get_or rows k d).1)
-row_order rows ascends j k d before within =
+pub rows-ordered : (rows : List (ℕ × ℕ)) → IsSorted (λ x y. ordering_then (nat_cmp x.0 y.0) (nat_cmp x.1 y.1)) rows → (j k : ℕ) (d : ℕ × ℕ) → j ≤ k → k < length rows → ((get_or rows j d).0 ≤ (get_or rows k d).0) × ((get_or rows j d).0 ≡ (get_or rows k d).0 → (get_or rows j d).1 ≤ (get_or rows k d).1)
+rows-ordered rows ascends j k d before within =
     let total = then_total (on_total (λ (r : ℕ × ℕ). r.0) nat_cmp_total) (on_total (λ (r : ℕ × ℕ). r.1) nat_cmp_total) in
     not_less _ _ _ _ (sorted_far _ (ranks_by total (λ r. r)) rows ascends j k d before within)
 
@@ -30,8 +30,8 @@ abbrev pub Parts : ℕ → List (ℕ × ℕ) → ℕ → Type 0
 Parts first rows position = IsPartitionPoint (λ r. nat_lt r.0 first ≡ true) (λ r. nat_lt r.0 first ≡ false) rows position
 
 -- what is not before the position has no smaller first number
-pub not_before : (first : ℕ) (rows : List (ℕ × ℕ)) (position j : ℕ) (d : ℕ × ℕ) → Parts first rows position → j < length rows → first ≤ (get_or rows j d).0 → position ≤ j
-not_before first rows position j d parted within enough = elim (cases_lt j position) [
+pub Parts-not_before : (first : ℕ) (rows : List (ℕ × ℕ)) (position j : ℕ) (d : ℕ × ℕ) → Parts first rows position → j < length rows → first ≤ (get_or rows j d).0 → position ≤ j
+Parts-not_before first rows position j d parted within enough = elim (cases_lt j position) [
   | inl before ↦ let less = ltb-true _ first (parted.0 j d (omega arith) before) in absurd (omega arith)
   | inr after ↦ after
 ]
@@ -44,12 +44,12 @@ rows-first rows first second position ascends parted there =
     let d : ℕ × ℕ = (first, second) in
     let first_there : (get_or rows there.0 d).0 ≡ first = ap (λ r. r.0) there.2 in
     let second_there : (get_or rows there.0 d).1 ≡ second = ap (λ r. r.1) there.2 in
-    let before = not_before first rows position there.0 d parted there.1 (omega arith) in
-    let order = row_order rows ascends position there.0 d before there.1 in
+    let before = Parts-not_before first rows position there.0 d parted there.1 (omega arith) in
+    let order = rows-ordered rows ascends position there.0 d before there.1 in
     let not_less = ltb-false _ first (parted.1 position d (omega arith) (omega arith)) in
     let same : (get_or rows position d).0 ≡ first = omega arith in
     (omega arith, same, (let low = order.1 (same ∙ sym first_there) in omega arith))
 
 -- sorted rows can be searched for a first number by halving
 pub rows-partitioned : (rows : List (ℕ × ℕ)) (first : ℕ) → IsSorted (λ x y. ordering_then (nat_cmp x.0 y.0) (nat_cmp x.1 y.1)) rows → IsPartitionedBy (λ r. nat_lt r.0 first) rows
-rows-partitioned rows first ascends = IsPartitionedBy-ltb (λ r. r.0) rows first (λ j k d before within. (row_order rows ascends j k d before within).0)
+rows-partitioned rows first ascends = IsPartitionedBy-ltb (λ r. r.0) rows first (λ j k d before within. (rows-ordered rows ascends j k d before within).0)

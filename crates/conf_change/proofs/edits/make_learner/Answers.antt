@@ -2,7 +2,7 @@ use Rattle.std.proofs.Common.{true, false, not, refl, sym, ap, ◌∙◌}
 use Rattle.quorum_sets.specs.Ids.{has, without_id}
 use Rattle.conf_change.specs.Change.{result_of}
 use Rattle.conf_change.specs.declared.change.Kind.TheVariants.{Learner}
-use Rattle.conf_change.proofs.ListsOfChanges.Memberships.{has-put_in, has-taken_out, membership_is}
+use Rattle.conf_change.proofs.ListsOfChanges.Memberships.{has-put_in, has-taken_out, membership-of_member}
 use Rattle.conf_change.proofs.ListsOfChanges.ResultOfEach.{only, result_of-change}
 use Rattle.conf_change.proofs.edits.make_learner.Goals as goal
 use Rattle.conf_change.proofs.edits.make_learner.Goals.{then-waits+in_ok-insert, else-waits+in_ok-insert-2}
@@ -34,12 +34,12 @@ returns-clause-membership g c =
     elim c.if-waits.branch [
       | then-waits+in_ok-insert w ↦
           ap (λ waits. record { member = true; learner = not waits }) w.if-waits.true
-          ∙ membership_is _ _ _ c.args.id false true false true (has-taken_out _ _ _ c.remove-2.ensures.after)
+          ∙ membership-of_member _ _ _ c.args.id false true false true (has-taken_out _ _ _ c.remove-2.ensures.after)
           (ap (λ i. has (S.ids i.outgoing) c.args.id) w.config-inside-is ∙ sym w.if-waits.ensures)
           (has-taken_out _ _ _ (ap (λ i. S.ids i.learners) w.config-inside-is ∙ w.remove.ensures.after)) refl
       | else-waits+in_ok-insert-2 w ↦
           ap (λ waits. record { member = true; learner = not waits }) w.if-waits.false
-          ∙ membership_is _ _ _ c.args.id false false true true (has-taken_out _ _ _ c.remove-2.ensures.after)
+          ∙ membership-of_member _ _ _ c.args.id false false true true (has-taken_out _ _ _ c.remove-2.ensures.after)
           (ap (λ i. has (S.ids i.outgoing) c.args.id) w.config-inside-is ∙ sym w.if-waits.ensures)
           (has-put_in _ _ _ (ap (λ i. S.ids i.learners) w.config-inside-is ∙ w.in_ok-insert-2.ensures.ok)) refl
     ]

@@ -1,7 +1,7 @@
 use Rattle.std.proofs.Common.{true, false, refl, ap, ◌∙◌}
 use Rattle.conf_change.specs.Change.{result_of}
 use Rattle.conf_change.specs.declared.change.Kind.TheVariants.{Voter}
-use Rattle.conf_change.proofs.ListsOfChanges.Memberships.{has-put_in, has-taken_out, membership_is}
+use Rattle.conf_change.proofs.ListsOfChanges.Memberships.{has-put_in, has-taken_out, membership-of_member}
 use Rattle.conf_change.proofs.ListsOfChanges.ResultOfEach.{only, result_of-change}
 use Rattle.conf_change.proofs.edits.make_voter.Goals as goal
 
@@ -12,4 +12,4 @@ returns-clause-ok g c =
 
 pub returns-clause-membership : goal.returns-clause-membership
 returns-clause-membership g c =
-    membership_is _ _ _ c.args.id true _ false true (has-put_in _ _ _ c.in_ok-insert.ensures.ok) refl (has-taken_out _ _ _ c.remove.ensures.after) refl
+    membership-of_member _ _ _ c.args.id true _ false true (has-put_in _ _ _ c.in_ok-insert.ensures.ok) refl (has-taken_out _ _ _ c.remove.ensures.after) refl

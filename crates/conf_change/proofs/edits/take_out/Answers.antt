@@ -2,7 +2,7 @@ use Rattle.std.proofs.Common.{false, refl, sym, ap, ◌∙◌}
 use Rattle.std.proofs.Math.Bool.{or-false}
 use Rattle.conf_change.specs.Change.{result_of}
 use Rattle.conf_change.specs.declared.change.Kind.TheVariants.{Remove}
-use Rattle.conf_change.proofs.ListsOfChanges.Memberships.{has-taken_out, membership_is}
+use Rattle.conf_change.proofs.ListsOfChanges.Memberships.{has-taken_out, membership-of_member}
 use Rattle.conf_change.proofs.ListsOfChanges.ResultOfEach.{only, result_of-change}
 use Rattle.conf_change.proofs.edits.take_out.Goals as goal
 
@@ -13,4 +13,4 @@ returns-clause-out g c =
 
 pub returns-clause-membership : goal.returns-clause-membership
 returns-clause-membership g c =
-    membership_is _ _ _ c.args.id false _ false _ (has-taken_out _ _ _ c.remove.ensures.after) (sym c.contains.ensures) (has-taken_out _ _ _ c.remove-2.ensures.after) (or-false c.contains.result)
+    membership-of_member _ _ _ c.args.id false _ false _ (has-taken_out _ _ _ c.remove.ensures.after) (sym c.contains.ensures) (has-taken_out _ _ _ c.remove-2.ensures.after) (or-false c.contains.result)
