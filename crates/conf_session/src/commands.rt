@@ -153,7 +153,7 @@ pub(crate) fn run_directive(
     )
 }
 
-// Reads the input and the arguments as the row asks for, and runs its command, or reports the first error.
+// Reads the input and the arguments that the row names, and runs its command, or reports the first error.
 fn run_row(
     alloc: Global,
     session: &State,

@@ -7,7 +7,7 @@ use quorum_sets::NoMemory;
 use std::alloc::Global;
 use std::marker::Model;
 
-/// A list of ids with sorted rows, for a binary search of an id.
+/// A list of ids, with sorted rows for binary search.
 #[derive(Drop)]
 pub(crate) struct IdIndex {
     ids: Vec<u64>,

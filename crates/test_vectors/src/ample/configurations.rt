@@ -93,7 +93,7 @@ static OTHERS: [(Sets, bool); 5] = [
     (ONE, false),
 ];
 
-// Whether a configuration equals one of these sets and this flag, compared in both directions; `None` if these disagree.
+// Whether a configuration equals the one with these sets and this flag; `None` if the two directions disagree.
 fn is_same(
     rt: &impl Runtime,
     config: &Config<TreeIds>,
