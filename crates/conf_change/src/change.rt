@@ -5,7 +5,7 @@ use quorum_sets::NoMemory;
 use std::marker::Model;
 
 /// What a change does to the id that it names (etcd's `raftpb.ConfChangeType`).
-#[derive(Clone, Copy, Debug, PartialEq, Eq)]
+#[derive(Clone, Copy, Debug, Default, PartialEq, Eq)]
 pub enum Kind {
     /// Makes it a voter, written `v`.
     Voter,
@@ -14,11 +14,12 @@ pub enum Kind {
     /// Removes it from the configuration, written `r`.
     Remove,
     /// Updates its address, written `u`; the configuration does not change.
+    #[default]
     Update,
 }
 
-/// One change of one id (etcd's `raftpb.ConfChangeSingle`). A change of the id 0 has no effect.
-#[derive(Clone, Copy, Debug, PartialEq, Eq)]
+/// One change of one id (etcd's `raftpb.ConfChangeSingle`). A change of the id 0 has no effect; the default is one.
+#[derive(Clone, Copy, Debug, Default, PartialEq, Eq)]
 pub struct Change {
     /// What becomes of the id.
     pub kind: Kind,

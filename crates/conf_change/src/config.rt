@@ -6,7 +6,7 @@
 //! ```
 ghost use Rattle.std.specs.Prelude.{◌≡◌, ◌↔◌, Some, true, false, not, ◌&&◌, IfOk, IfErr, OnOk, OnErr, IsOk, IsTrue, if◌then◌else◌};
 ghost use Rattle.quorum_sets.specs.Ids.{has};
-ghost use Rattle.conf_change.specs.Configuration.{empty_configuration, first_broken, is_valid, keeps, is_within, is_apart, is_same, is_same_set};
+ghost use Rattle.conf_change.specs.Configuration.{empty_configuration, is_joint, has_voter, first_broken, is_valid, keeps, is_within, is_apart, is_same, is_same_set};
 ghost use Rattle.conf_change.specs.Outcome.{after_leave};
 ghost use Rattle.conf_change.specs.declared.config.Invariant.{Invariant};
 
@@ -100,6 +100,20 @@ impl<S: MemberSet> Config<S> {
             learners_next: self.learners_next.try_clone()?,
             auto_leave: self.auto_leave,
         })
+    }
+
+    // Whether the configuration has outgoing voters.
+    pub(crate) fn is_joint(&self) -> bool
+        ensures { result ≡ is_joint self.now }
+    {
+        self.outgoing.len() != 0
+    }
+
+    // Whether the configuration has an incoming voter.
+    pub(crate) fn has_voter(&self) -> bool
+        ensures { result ≡ has_voter self.now }
+    {
+        self.incoming.len() != 0
     }
 
     // The configuration after leaving a joint one: the outgoing voters are removed, and the next learners become

@@ -7,8 +7,8 @@ ghost use Rattle.conf_change.specs.Violation.{first_repeat, repeat_in, valid_of,
 
 use crate::conf_state_line::read_conf_state;
 use crate::config::Config;
-use crate::restore::{RestoreFault, described};
-use crate::saved_configuration::{ConfState, ConfStateFault};
+use crate::restore::{RestoreFault, described_lists};
+use crate::saved_configuration::{ConfState, ConfStateFault, SavedLists};
 use crate::violation::{Violation, first_violation};
 use quorum_sets::{MemberSet, NoMemory, TreeIds};
 use std::alloc::Global;
@@ -67,9 +67,22 @@ pub fn valid_configuration<S: MemberSet>(
     ensures described { IfOk result (λ c. described state.now ≡ Some c) }
     ensures fault { IfErr result (λ fault. (fault ≡ ConfigurationFault.NoMemory) ⊎ (valid_of state.now ≡ Err fault)) }
 {
-    let config = match described(alloc, state) {
+    valid_lists(alloc, &state.lists())
+}
+
+/// As [`valid_configuration`], of lists that are borrowed.
+pub fn valid_lists<S: MemberSet>(
+    alloc: Global,
+    lists: &SavedLists<'_>,
+) -> Result<Config<S>, ConfigurationFault>
+    ensures configuration { IfOk result (λ c. valid_of lists.now ≡ Ok c) }
+    ensures valid { IfOk result (λ c. is_valid c ≡ true) }
+    ensures described { IfOk result (λ c. described lists.now ≡ Some c) }
+    ensures fault { IfErr result (λ fault. (fault ≡ ConfigurationFault.NoMemory) ⊎ (valid_of lists.now ≡ Err fault)) }
+{
+    let config = match described_lists(alloc, lists) {
         Ok(config) => config,
-        Err(RestoreFault::NotAConfiguration) => return Err(listed_twice(alloc, state)),
+        Err(RestoreFault::NotAConfiguration) => return Err(listed_twice(alloc, lists)),
         Err(RestoreFault::NoMemory) => return Err(ConfigurationFault::NoMemory),
     };
     match first_violation(&config) {
@@ -79,11 +92,11 @@ pub fn valid_configuration<S: MemberSet>(
 }
 
 // The error for a ConfState with a list that names an id twice.
-fn listed_twice(alloc: Global, state: &ConfState) -> ConfigurationFault
-    requires { described state.now ≡ None }
-    ensures { (result ≡ ConfigurationFault.NoMemory) ⊎ (valid_of state.now ≡ Err result) }
+fn listed_twice(alloc: Global, lists: &SavedLists<'_>) -> ConfigurationFault
+    requires { described lists.now ≡ None }
+    ensures { (result ≡ ConfigurationFault.NoMemory) ⊎ (valid_of lists.now ≡ Err result) }
 {
-    match repeat_in(alloc, state) {
+    match repeat_in(alloc, lists) {
         Ok(Some(id)) => ConfigurationFault::NotAConfiguration(Violation::ListedTwice(id)),
         Ok(None) => unreachable!(),
         Err(NoMemory) => ConfigurationFault::NoMemory,
@@ -91,13 +104,13 @@ fn listed_twice(alloc: Global, state: &ConfState) -> ConfigurationFault
 }
 
 // The first id that one of the four lists names twice.
-fn repeat_in(alloc: Global, state: &ConfState) -> Result<Option<u64>, NoMemory>
-    ensures { IfOk result (λ id. id ≡ repeat_in state.now) }
+fn repeat_in(alloc: Global, lists: &SavedLists<'_>) -> Result<Option<u64>, NoMemory>
+    ensures { IfOk result (λ id. id ≡ repeat_in lists.now) }
 {
-    let voters = first_repeat(alloc, &state.voters)?;
-    let voters_outgoing = first_repeat(alloc, &state.voters_outgoing)?;
-    let learners = first_repeat(alloc, &state.learners)?;
-    let learners_next = first_repeat(alloc, &state.learners_next)?;
+    let voters = first_repeat(alloc, lists.voters)?;
+    let voters_outgoing = first_repeat(alloc, lists.voters_outgoing)?;
+    let learners = first_repeat(alloc, lists.learners)?;
+    let learners_next = first_repeat(alloc, lists.learners_next)?;
     Ok(voters.or(voters_outgoing).or(learners).or(learners_next))
 }
 

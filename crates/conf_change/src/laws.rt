@@ -17,6 +17,7 @@ ghost use Rattle.conf_change.specs.Outcome.{outcome};
 ghost use Rattle.conf_change.specs.Changer.{ChangerState, Accepts, IsSound, begun_with, changer_after, moved_to, new_changer};
 ghost use Rattle.conf_change.specs.Configuration.{Configuration, has_voter, is_restorable, is_same};
 ghost use Rattle.conf_change.specs.ConfState.{ConfStateLists, Describes, is_same_conf_state, lists_of, restored};
+ghost use Rattle.conf_change.specs.Violation.{valid_of};
 ghost use Rattle.conf_change.specs.ConfStateLine.{DenotesConfState, conf_state_in};
 
 /// A text denotes at most one list of changes, which is the value of `changes_in`; if it denotes none, `changes_in`
@@ -31,6 +32,12 @@ pub fn one_list_per_text()
 pub fn one_conf_state_per_text()
     ensures some { (text : List ℕ) (saved : ConfStateLists) → (DenotesConfState text saved) ↔ (conf_state_in text ≡ Some saved) }
     ensures one { (text : List ℕ) (a b : ConfStateLists) → DenotesConfState text a → DenotesConfState text b → a ≡ b }
+{}
+
+/// A ConfState has a valid configuration exactly if it describes that configuration, and that is valid; and it has no
+/// other.
+pub fn valid_is_described()
+    ensures { (saved : ConfStateLists) (c : Configuration) → ((valid_of saved ≡ Ok c) ↔ (Describes saved c × (is_valid c ≡ true))) }
 {}
 
 /// A ConfState is restored to the configuration that it describes, if that one can be restored, and to no other.

@@ -45,6 +45,7 @@ pub mod changer;
 pub mod conf_state_line;
 pub mod config;
 pub mod configuration_line;
+pub mod configuration_step;
 mod edits;
 pub mod floor;
 pub mod laws;
@@ -68,13 +69,16 @@ pub use change_list::{TokenFault, read_change, read_changes, read_changes_into};
 pub use changer::Changer;
 pub use conf_state_line::{read_conf_state, write_conf_state};
 pub use config::{Config, Invariant, check};
-pub use configuration_line::{ConfigurationFault, read_configuration, valid_configuration};
+pub use configuration_line::{
+    ConfigurationFault, read_configuration, valid_configuration, valid_lists,
+};
+pub use configuration_step::next_config;
 pub use floor::Floor;
 pub use progress::Progress;
 pub use quorum_sets::union;
 pub use refused::Refused;
-pub use restore::{RestoreFault, described};
-pub use saved_configuration::{ConfState, ConfStateFault, conf_state};
+pub use restore::{RestoreFault, described, described_lists, has_voter_or_is_empty};
+pub use saved_configuration::{ConfState, ConfStateFault, SavedLists, conf_state};
 pub use step::{Step, StepKind};
 pub use text::{write_config, write_progress, write_refused, write_token_fault};
 pub use tracker::Tracker;

@@ -24,7 +24,7 @@ use crate::config::{Config, check};
 use crate::floor::Floor;
 use crate::member_walk::{least, step_over};
 use crate::progress::Progress;
-use crate::saved_configuration::ConfState;
+use crate::saved_configuration::{ConfState, SavedLists};
 use crate::tracker::Tracker;
 use quorum_sets::{MemberSet, NoMemory};
 use smallvec::SmallVec;
@@ -105,12 +105,25 @@ pub fn described<S: MemberSet>(alloc: Global, state: &ConfState) -> Result<Confi
     ensures value { IfOk result (λ config. described state.now ≡ Some config) }
     ensures fault { result ≡ Err RestoreFault.NotAConfiguration → described state.now ≡ None }
 {
+    described_lists(alloc, &state.lists())
+}
+
+/// As [`described`], of lists that are borrowed.
+pub fn described_lists<S: MemberSet>(
+    alloc: Global,
+    lists: &SavedLists<'_>,
+) -> Result<Config<S>, RestoreFault>
+    ensures described { IfOk result (λ config. Describes lists.now config) }
+    ensures refused { result ≡ Err RestoreFault.NotAConfiguration → (c : Configuration) → Describes lists.now c → ⊥ }
+    ensures value { IfOk result (λ config. described lists.now ≡ Some config) }
+    ensures fault { result ≡ Err RestoreFault.NotAConfiguration → described lists.now ≡ None }
+{
     Ok(Config {
-        incoming: set_from(alloc, &state.voters)?,
-        outgoing: set_from(alloc, &state.voters_outgoing)?,
-        learners: set_from(alloc, &state.learners)?,
-        learners_next: set_from(alloc, &state.learners_next)?,
-        auto_leave: state.auto_leave,
+        incoming: set_from(alloc, lists.voters)?,
+        outgoing: set_from(alloc, lists.voters_outgoing)?,
+        learners: set_from(alloc, lists.learners)?,
+        learners_next: set_from(alloc, lists.learners_next)?,
+        auto_leave: lists.auto_leave,
     })
 }
 
@@ -134,9 +147,9 @@ fn is_restorable<S: MemberSet>(config: &Config<S>) -> bool
     check(config).is_ok() && has_voter_or_is_empty(config)
 }
 
-// Whether the configuration has an incoming voter or is empty. Steps from the empty one never lead to a configuration
-// without a voter.
-fn has_voter_or_is_empty<S: MemberSet>(config: &Config<S>) -> bool
+/// Whether the configuration has an incoming voter or is empty. Steps from the empty one never lead to a configuration
+/// without a voter (own).
+pub fn has_voter_or_is_empty<S: MemberSet>(config: &Config<S>) -> bool
     ensures { result ≡ has_voter_or_is_empty config.now }
 {
     config.incoming.len() != 0

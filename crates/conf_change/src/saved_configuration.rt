@@ -54,6 +54,50 @@ impl PartialEq for ConfState {
     }
 }
 
+impl ConfState {
+    /// Its lists, borrowed.
+    pub fn lists(&self) -> SavedLists<'_>
+        ensures { result ≡ self.now }
+    {
+        SavedLists {
+            voters: self.voters.as_slice(),
+            voters_outgoing: self.voters_outgoing.as_slice(),
+            learners: self.learners.as_slice(),
+            learners_next: self.learners_next.as_slice(),
+            auto_leave: self.auto_leave,
+        }
+    }
+}
+
+/// A [`ConfState`] whose lists are borrowed, for a program that keeps them itself.
+#[derive(Drop)]
+pub struct SavedLists<'a> {
+    /// The voters, or in a joint configuration the incoming ones.
+    pub voters: &'a [u64],
+    /// The outgoing voters, none if the configuration is not joint.
+    pub voters_outgoing: &'a [u64],
+    /// The learners.
+    pub learners: &'a [u64],
+    /// The outgoing voters that become learners when the joint configuration is left.
+    pub learners_next: &'a [u64],
+    /// Whether the joint configuration is left automatically.
+    pub auto_leave: bool,
+}
+
+impl<'a> Model for SavedLists<'a> {
+    ghost use Rattle.conf_change.specs.ConfState.{ConfStateLists};
+
+    ghost Value = { ConfStateLists };
+
+    ghost view = { λ s. record {
+      voters = s.voters.now;
+      voters_outgoing = s.voters_outgoing.now;
+      learners = s.learners.now;
+      learners_next = s.learners_next.now;
+      auto_leave = s.auto_leave;
+    } };
+}
+
 /// Why a text is not a ConfState line.
 #[derive(Clone, Copy, Debug, PartialEq, Eq, Error)]
 pub enum ConfStateFault {

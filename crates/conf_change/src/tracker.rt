@@ -167,14 +167,14 @@ impl<S: MemberSet> Tracker<S> {
     pub(crate) fn is_joint(&self) -> bool
         ensures { result ≡ is_joint self.now.config }
     {
-        self.config.outgoing.len() != 0
+        self.config.is_joint()
     }
 
     // Whether the configuration has an incoming voter.
     pub(crate) fn has_voter(&self) -> bool
         ensures { result ≡ has_voter self.now.config }
     {
-        self.config.incoming.len() != 0
+        self.config.has_voter()
     }
 
     // Whether one change would leave an incoming voter. Since this is known beforehand, the change is made in place.

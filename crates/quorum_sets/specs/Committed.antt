@@ -1,9 +1,10 @@
 -- The committed index: how far a majority has acknowledged the log.
-use Rattle.std.specs.Prelude.{◌≡◌, ℕ, ◌-◌, ◌^◌, min, Bool, false, List, map, filter, fold, max, nat_le, nat_lt, unwrap_or, IsTrue, if◌then◌else◌}
+use Rattle.std.specs.Prelude.{◌≡◌, ℕ, ◌-◌, ◌^◌, min, Bool, false, List, length, map, filter, fold, max, nat_eq, nat_le, nat_lt, unwrap_or, IsTrue, if◌then◌else◌}
+use Rattle.std.specs.List.Sorted.{IsPermutation}
 use Rattle.std.specs.Ordering.{nat_cmp}
 use Rattle.std.specs.FinMap as finite
 use Rattle.quorum_sets.specs.Ids.{Ids, ascending, majority_passes, is_empty}
-use Rattle.quorum_sets.specs.Voters.{Voters}
+use Rattle.quorum_sets.specs.Voters.{Voters, most}
 
 -- the acknowledged indexes, by id
 abbrev pub Acks : Type 0
@@ -51,3 +52,17 @@ pub record IsJointCommitted (voters : Voters) (acks : Acks) (k : ℕ) : Type 0 w
 -- the smaller of the committed indexes of the two sets
 abbrev pub joint_committed_index : Voters → Acks → ℕ
 joint_committed_index voters acks = min (committed_index voters.incoming acks) (committed_index voters.outgoing acks)
+
+-- ---- for indexes without ids
+-- the list has the acknowledged index of each id of the set, in any order
+abbrev pub AreIndexesOf : List ℕ → Ids → Acks → Type 0
+AreIndexesOf indexes ids acks = IsPermutation indexes (acked_indexes ids acks)
+
+-- the committed index of voters, given the acknowledged index of each: the greatest one that more than half have reached
+abbrev pub committed_of : List ℕ → ℕ
+committed_of indexes =
+    if nat_eq (length indexes) 0 then greatest_index else fold max 0 (filter (λ k. most (nat_le k) indexes) indexes)
+
+-- the smaller of the committed indexes of two sets of voters
+abbrev pub joint_committed_of : List ℕ → List ℕ → ℕ
+joint_committed_of incoming outgoing = min (committed_of incoming) (committed_of outgoing)

@@ -1,6 +1,6 @@
 -- Pairs of voter sets, their quorums, and which pairs are neighbours: one safe change apart (Ongaro's dissertation, 4.1
 -- and 4.3).
-use Rattle.std.specs.Prelude.{◌≡◌, ℕ, ◌≤◌, ◌+◌, ◌/◌, Bool, ◌&&◌, ◌||◌, ◌⊎◌}
+use Rattle.std.specs.Prelude.{◌≡◌, ℕ, ◌≤◌, ◌+◌, ◌*◌, ◌/◌, Bool, ◌&&◌, ◌||◌, ◌⊎◌, List, length, nat_lt, count_by}
 use Rattle.quorum_sets.specs.Ids.{Ids, has, majority_passes, is_empty, no_ids, difference_count}
 
 -- the incoming and the outgoing voters; only a joint configuration has outgoing voters
@@ -15,6 +15,10 @@ pair incoming outgoing = record { incoming = incoming; outgoing = outgoing }
 -- the size of a majority of n voters: 2 of 3, 3 of 4, 3 of 5
 abbrev pub majority : ℕ → ℕ
 majority n = n / 2 + 1
+
+-- whether more than half of the items of a list pass a test, which is false for the empty list
+abbrev pub most : {X : Type 0} → (X → Bool) → List X → Bool
+most passes items = nat_lt (length items) (2 * count_by passes items)
 
 -- whether the ids are more than half of the incoming voters and, if there are outgoing voters, more than half of these
 abbrev pub is_quorum : Voters → Ids → Bool

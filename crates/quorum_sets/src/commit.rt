@@ -9,9 +9,10 @@
 //! sorted   4 4 6 7 9    6 is committed, since 5, 3 and 1 have it
 //! ```
 ghost use Rattle.std.specs.Prelude.{◌≡◌, ◌*◌, ◌<◌, ◌≤◌, length, nat_le, nat_lt, count_by, [], IfOk, IsOk, OnOk};
+ghost use Rattle.std.specs.List.Sorted.{IsPermutation};
 ghost use Rattle.quorum_sets.specs.Ids.{size};
 ghost use Rattle.quorum_sets.specs.Voters.{pair};
-ghost use Rattle.quorum_sets.specs.Committed.{acked_indexes, greatest_index, IsCommitted, IsJointCommitted, committed_index, joint_committed_index};
+ghost use Rattle.quorum_sets.specs.Committed.{acked_indexes, greatest_index, IsCommitted, IsJointCommitted, committed_index, joint_committed_index, committed_of, joint_committed_of};
 
 use crate::acknowledgement::AckSource;
 use crate::majority::quorum;
@@ -34,7 +35,7 @@ pub fn committed<S: MemberSet, A: AckSource>(
 {
     let mut indexes = SmallVec::new(alloc);
     gather(&mut indexes, set, acks)?;
-    Ok(majority_index(indexes.as_mut_slice()))
+    Ok(committed_of(indexes.as_mut_slice()))
 }
 
 /// The committed index of a joint configuration: the smaller of the indexes that its two sets have committed, since a
@@ -75,12 +76,16 @@ fn gather<S: MemberSet, A: AckSource>(
     Ok(())
 }
 
-// Sorts the n indexes and returns the one that a majority has reached, which is at position n - (n/2 + 1): n/2 + 1 of
-// them are at least as great.
-fn majority_index(indexes: &mut [u64]) -> u64
+/// The committed index of voters, from the index that each of them has acknowledged, 0 if it is unknown. Nothing is
+/// looked up and nothing allocated: the indexes are sorted in place. Of n voters the committed index is the one at
+/// position n - (n/2 + 1), since n/2 + 1 of them are at least as great (`MajorityConfig.CommittedIndex` of etcd's
+/// package `quorum`). It is the greatest `u64` if there are no voters.
+pub fn committed_of(indexes: &mut [u64]) -> u64
+    ensures index { result ≡ committed_of indexes.old }
     ensures of_none { length indexes.old ≡ 0 → result ≡ greatest_index }
     ensures reached { 0 < length indexes.old → length indexes.old < 2 * count_by (nat_le result) indexes.old }
     ensures not_passed { 0 < length indexes.old → 2 * count_by (nat_lt result) indexes.old ≤ length indexes.old }
+    ensures reordered { IsPermutation indexes.old indexes.new }
 {
     indexes.sort_unstable();
     let n = indexes.len();
@@ -89,4 +94,14 @@ fn majority_index(indexes: &mut [u64]) -> u64
     } else {
         indexes[n - quorum(n)]
     }
+}
+
+/// The committed index of a joint configuration, as [`committed_of`] takes that of each voter set
+/// (`JointConfig.CommittedIndex` of etcd's package `quorum`).
+pub fn joint_committed_of(incoming: &mut [u64], outgoing: &mut [u64]) -> u64
+    ensures index { result ≡ joint_committed_of incoming.old outgoing.old }
+    ensures incoming { IsPermutation incoming.old incoming.new }
+    ensures outgoing { IsPermutation outgoing.old outgoing.new }
+{
+    committed_of(incoming).min(committed_of(outgoing))
 }

@@ -1,12 +1,13 @@
 //! Laws of this crate's definitions: what is true of all sets, acknowledged indexes and votes. Each is the contract of
 //! a function that does nothing.
-ghost use Rattle.std.specs.Prelude.{◌≡◌, ℕ, true, false, not, ◌&&◌, ◌||◌, ◌==◌, Option, Some, None, is_some};
+ghost use Rattle.std.specs.Prelude.{◌≡◌, ℕ, Bool, List, true, false, not, ◌&&◌, ◌||◌, ◌==◌, Option, Some, None, is_some};
 ghost use Rattle.std.specs.Ordering.{nat_cmp};
 ghost use Rattle.std.specs.List.{list_any};
 ghost use Rattle.std.specs.List.Sorted.{IsStrictlySortedBy};
 ghost use Rattle.quorum_sets.specs.Ids.{Ids, no_ids, has, with_id, without_id, union, ascending, is_empty};
 ghost use Rattle.quorum_sets.specs.Voters.{Voters, AreNeighbours};
-ghost use Rattle.quorum_sets.specs.Committed.{Acks, IsCommitted, committed_index};
+ghost use Rattle.quorum_sets.specs.Committed.{Acks, AreIndexesOf, IsCommitted, committed_index, committed_of, joint_committed_index, joint_committed_of};
+ghost use Rattle.quorum_sets.specs.Votes.{Votes, AreVotesOf, vote_of, vote_result, joint_vote_of, joint_vote_result};
 ghost use Rattle.quorum_sets.specs.Overlap.{QuorumsMeet, CommittedMeetsWon};
 ghost use Rattle.quorum_sets.specs.Tolerance.{IsMostDown, commits_without, may_be_down, least_minority};
 
@@ -26,6 +27,17 @@ pub fn sets_by_member()
 pub fn committed_by_counting()
     ensures fits { (ids : Ids) (acks : Acks) → IsCommitted ids acks (committed_index ids acks) }
     ensures alone { (ids : Ids) (acks : Acks) (k : ℕ) → IsCommitted ids acks k → k ≡ committed_index ids acks }
+{}
+
+/// Committed indexes and votes do not depend on which voter has which value: a list that has the value of each voter, in
+/// any order, gives the committed index and the result of the vote of the set.
+pub fn values_in_any_order()
+    ensures committed { (indexes : List ℕ) (ids : Ids) (acks : Acks) → AreIndexesOf indexes ids acks → committed_of indexes ≡ committed_index ids acks }
+    ensures joint_committed { (incoming outgoing : List ℕ) (voters : Voters) (acks : Acks) → AreIndexesOf incoming voters.incoming acks → AreIndexesOf outgoing voters.outgoing acks
+        → joint_committed_of incoming outgoing ≡ joint_committed_index voters acks }
+    ensures vote { (list : List (Option Bool)) (ids : Ids) (votes : Votes) → AreVotesOf list ids votes → vote_of list ≡ vote_result ids votes }
+    ensures joint_vote { (incoming outgoing : List (Option Bool)) (voters : Voters) (votes : Votes) → AreVotesOf incoming voters.incoming votes → AreVotesOf outgoing voters.outgoing votes
+        → joint_vote_of incoming outgoing ≡ joint_vote_result voters votes }
 {}
 
 /// If two pairs of voter sets are neighbours, each quorum of one shares an id with each quorum of the other (Ongaro's

@@ -8,10 +8,10 @@
 //!             1 yes, 2 yes, 3 yes    won
 //!             1 no, 2 no             lost, since 3 and 4 are not a majority
 //! ```
-ghost use Rattle.std.specs.Prelude.{◌≡◌};
-ghost use Rattle.quorum_sets.specs.Ids.{count_of};
+ghost use Rattle.std.specs.Prelude.{◌≡◌, Bool, List, Option};
+ghost use Rattle.quorum_sets.specs.Ids.{count_of, size};
 ghost use Rattle.quorum_sets.specs.Voters.{pair};
-ghost use Rattle.quorum_sets.specs.Votes.{is_yes, may_be_yes, vote_result, joint_vote_result, both};
+ghost use Rattle.quorum_sets.specs.Votes.{is_yes, may_be_yes, vote_result, joint_vote_result, both, Counts, tally_result, vote_of, joint_vote_of};
 
 use crate::majority::quorum;
 use crate::member_set::MemberSet;
@@ -33,35 +33,47 @@ pub enum VoteResult {
 pub fn vote<S: MemberSet, V: VoteSource>(set: &S, votes: &V) -> VoteResult
     ensures { result ≡ vote_result (S.ids set.now) (V.votes votes.now) }
 {
-    let len = set.len();
-    if len == 0 {
-        return VoteResult::VoteWon;
-    }
-    let tally = count_votes(set, votes);
-    if tally.yes_votes >= quorum(len) {
-        VoteResult::VoteWon
-    } else if tally.possible_yes_votes >= quorum(len) {
-        VoteResult::VotePending
-    } else {
-        VoteResult::VoteLost
-    }
+    count_votes(set, votes).result()
 }
 
-// How many ids of a set voted yes, and how many voted yes or have not voted.
-#[derive(Clone, Copy)]
-struct Tally {
-    yes_votes: usize,
-    possible_yes_votes: usize,
+/// The votes of a set of voters, counted.
+#[derive(Clone, Copy, Debug)]
+pub struct Tally {
+    /// How many voters there are.
+    pub voters: usize,
+    /// How many of them voted yes.
+    pub yes_votes: usize,
+    /// How many voted yes or have not voted.
+    pub possible_yes_votes: usize,
+}
+
+impl Tally {
+    /// The result of the vote. It is won if there are no voters (`MajorityConfig.VoteResult` of etcd's package
+    /// `quorum`).
+    pub fn result(self) -> VoteResult
+        ensures counted { result ≡ tally_result self }
+        ensures listed { (list : List (Option Bool)) → Counts self list → result ≡ vote_of list }
+    {
+        if self.voters == 0 || self.yes_votes >= quorum(self.voters) {
+            VoteResult::VoteWon
+        } else if self.possible_yes_votes >= quorum(self.voters) {
+            VoteResult::VotePending
+        } else {
+            VoteResult::VoteLost
+        }
+    }
 }
 
 // Counts the votes of a set.
 fn count_votes<S: MemberSet, V: VoteSource>(set: &S, votes: &V) -> Tally
+    ensures voters { result.voters ≡ size (S.ids set.now) }
     ensures yes_votes { result.yes_votes ≡ count_of (is_yes (V.votes votes.now)) (S.ids set.now) }
     ensures possible_yes_votes { result.possible_yes_votes ≡ count_of (may_be_yes (V.votes votes.now)) (S.ids set.now) }
 {
+    let voters = set.len();
     let mut yes_votes = 0;
     let mut possible_yes_votes = 0;
-    for position in 0..set.len() {
+    for position in 0..voters {
         if let Some(id) = set.at(position) {
             let vote = votes.voted(id);
             yes_votes += usize::from(vote.unwrap_or(false));
@@ -69,6 +81,7 @@ fn count_votes<S: MemberSet, V: VoteSource>(set: &S, votes: &V) -> Tally
         }
     }
     Tally {
+        voters,
         yes_votes,
         possible_yes_votes,
     }
@@ -79,14 +92,16 @@ fn count_votes<S: MemberSet, V: VoteSource>(set: &S, votes: &V) -> Tally
 pub fn joint_vote<S: MemberSet, V: VoteSource>(incoming: &S, outgoing: &S, votes: &V) -> VoteResult
     ensures { result ≡ joint_vote_result (pair (S.ids incoming.now) (S.ids outgoing.now)) (V.votes votes.now) }
 {
-    both(vote(incoming, votes), vote(outgoing, votes))
+    joint_result(vote(incoming, votes), vote(outgoing, votes))
 }
 
-// The result of two votes that must both be won.
-fn both(first: VoteResult, second: VoteResult) -> VoteResult
-    ensures { result ≡ both first second }
+/// The result of a joint vote from those of its two sets: won if both sets win it, lost if one loses it, else pending
+/// (`JointConfig.VoteResult` of etcd's package `quorum`).
+pub fn joint_result(incoming: VoteResult, outgoing: VoteResult) -> VoteResult
+    ensures both { result ≡ both incoming outgoing }
+    ensures listed { (first second : List (Option Bool)) → incoming ≡ vote_of first → outgoing ≡ vote_of second → result ≡ joint_vote_of first second }
 {
-    match (first, second) {
+    match (incoming, outgoing) {
         (VoteResult::VoteWon, other) | (other, VoteResult::VoteWon) => other,
         (VoteResult::VoteLost, _) | (_, VoteResult::VoteLost) => VoteResult::VoteLost,
         (VoteResult::VotePending, VoteResult::VotePending) => VoteResult::VotePending,

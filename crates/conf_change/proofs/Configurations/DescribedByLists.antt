@@ -6,6 +6,7 @@ use Rattle.quorum_sets.specs.Ids.{Ids, ascending, size, ids_of}
 use Rattle.quorum_sets.proofs.Offered.{has-same_ids, has-ids_of, has-ascending}
 use Rattle.conf_change.specs.Configuration.{Configuration, is_restorable}
 use Rattle.conf_change.specs.ConfState.{ConfStateLists, Lists, Describes, lists_of, names_once, names_each_once, named_by, restored}
+use Rattle.conf_change.specs.Described.{described}
 
 -- ---- lists that name a set
 pub ids_of-ascending : (s : Ids) → ids_of (ascending s) ≡ s
@@ -45,7 +46,7 @@ pub Describes-same : (saved : ConfStateLists) (c d : Configuration) → Describe
 Describes-same saved c d is_c is_d = sym (named_by-from_Describes saved c is_c) ∙ named_by-from_Describes saved d is_d
 
 -- ---- the configuration to which a saved form is restored
-names_each_once-from_Describes : (saved : ConfStateLists) (c : Configuration) → Describes saved c → names_each_once saved ≡ true
+pub names_each_once-from_Describes : (saved : ConfStateLists) (c : Configuration) → Describes saved c → names_each_once saved ≡ true
 names_each_once-from_Describes saved c d =
     and_from _ (names_once saved.learners_next)
     (and_from _ (names_once saved.learners)
@@ -53,7 +54,7 @@ names_each_once-from_Describes saved c d =
     (names_once-from_Lists saved.voters c.incoming d.incoming) (names_once-from_Lists saved.voters_outgoing c.outgoing d.outgoing))
     (names_once-from_Lists saved.learners c.learners d.learners)) (names_once-from_Lists saved.learners_next c.learners_next d.learners_next)
 
-Describes-from_names_each_once : (saved : ConfStateLists) → names_each_once saved ≡ true → Describes saved (named_by saved)
+pub Describes-from_names_each_once : (saved : ConfStateLists) → names_each_once saved ≡ true → Describes saved (named_by saved)
 Describes-from_names_each_once saved e =
     let four = and_parts (names_once saved.voters && names_once saved.voters_outgoing && names_once saved.learners) (names_once saved.learners_next) e in
     let three = and_parts (names_once saved.voters && names_once saved.voters_outgoing) (names_once saved.learners) four.0 in
@@ -65,6 +66,9 @@ Describes-from_names_each_once saved e =
       learners_next = Lists-from_names_once saved.learners_next four.1;
       auto_leave = refl;
     }
+
+pub described-from_Describes : (saved : ConfStateLists) (c : Configuration) → Describes saved c → described saved ≡ Some c
+described-from_Describes saved c d = λ i. cond (names_each_once-from_Describes saved c d i) (Some (named_by-from_Describes saved c d i)) None
 
 pub restored-from_Describes : (saved : ConfStateLists) (c : Configuration) → Describes saved c → is_restorable c ≡ true → restored saved ≡ Some c
 restored-from_Describes saved c d ok =

@@ -1,5 +1,5 @@
 -- What is wrong with a configuration or a saved form is there exactly if it is not valid.
-use Rattle.std.proofs.Common.{◌≡◌, ℕ, ◌+◌, ◌<◌, ◌≤◌, Bool, true, false, cond, not, ◌&&◌, ◌||◌, List, [], ◌∷◌, length, refl, sym, ap, ◌∙◌, eq-eqb, eqb-true, arith, slice_get, suc}
+use Rattle.std.proofs.Common.{◌≡◌, ℕ, ◌+◌, ◌<◌, ◌≤◌, Bool, true, false, cond, not, ◌&&◌, ◌||◌, List, [], ◌∷◌, length, refl, sym, ap, subst, ◌∙◌, eq-eqb, eqb-true, arith, slice_get, suc}
 use Rattle.std.specs.Prelude.{Option, Some, None, Ok, find, option_map, option_and_then, nat_eq}
 use Rattle.std.specs.Option.{option_or}
 use Rattle.std.specs.List.{list_all}
@@ -7,7 +7,7 @@ use Rattle.std.proofs.lemmas.Bool.{and_from, and_parts}
 use Rattle.quorum_sets.specs.Ids.{has, ascending, size, ids_of}
 use Rattle.quorum_sets.proofs.Offered.{ascending-no_ids, size-with_id}
 use Rattle.conf_change.specs.Configuration.{Configuration, keeps, is_joint, is_valid, invariants, first_broken}
-use Rattle.conf_change.specs.ConfState.{ConfStateLists, names_once, names_each_once, named_by}
+use Rattle.conf_change.specs.ConfState.{ConfStateLists, Describes, names_once, names_each_once, named_by}
 use Rattle.conf_change.specs.Described.{described}
 use Rattle.conf_change.specs.Violation.{violation_by, violation_of, first_repeat, repeat_in, unless_violated, valid_of, unless_bad, configuration_in}
 use Rattle.conf_change.specs.ConfStateLine.{conf_state_in}
@@ -15,6 +15,7 @@ use Rattle.conf_change.specs.declared.config.Invariant.{Invariant}
 use Rattle.conf_change.specs.declared.config.Invariant.TheVariants.{ZeroId, NextNotOutgoing, NextAndIncoming, LearnerAndVoter, NotJointButNext, NotJointButAutoLeave}
 use Rattle.conf_change.specs.declared.violation.Violation.{Violation}
 use Rattle.conf_change.specs.declared.violation.Violation.TheVariants.{ListedTwice}
+use Rattle.conf_change.proofs.Configurations.DescribedByLists.{Describes-from_names_each_once, described-from_Describes}
 
 -- ---- a list without an id that passes a test
 none_fails : {X : Type 0} (test : X → Bool) (xs : List X) → find (λ x. not (test x)) xs ≡ None → list_all test xs ≡ true
@@ -83,6 +84,16 @@ not-true false e = refl
 -- the first broken one is
 pub violation_by-first : (c : Configuration) (invariant : Invariant) → first_broken c ≡ Some invariant → violation_by c invariant ≡ None → ⊥
 violation_by-first c invariant first = violation_by-broken c invariant (not-true (keeps c invariant) (found_passes (λ i. not (keeps c i)) invariants invariant first))
+
+-- a valid configuration has no violation
+none-from_is_valid : (c : Configuration) → is_valid c ≡ true → violation_of c ≡ None
+none-from_is_valid c valid = ap (option_and_then (violation_by c)) (all_pass invariants valid)
+  where
+    all_pass : (all : List Invariant) → list_all (keeps c) all ≡ true → find (λ i. not (keeps c i)) all ≡ None
+    all_pass [] e = refl
+    all_pass (i ∷ all) e =
+        let parts = and_parts (keeps c i) (list_all (keeps c) all) e in
+        ap (λ b. cond (not b) (Some i) (find (λ j. not (keeps c j)) all)) parts.0 ∙ all_pass all parts.1
 
 -- a configuration without a violation is valid
 pub is_valid-from_none : (c : Configuration) → violation_of c ≡ None → is_valid c ≡ true
@@ -161,16 +172,18 @@ IsNamed-from_described saved c e = by_once (names_each_once saved) refl e
               (none-from_names_once saved.learners three.1)) (none-from_names_once saved.learners_next four.1);
         }
 
--- one that is not described names an id twice
-pub repeat_in-there : (saved : ConfStateLists) → described saved ≡ None → repeat_in saved ≡ None → ⊥
-repeat_in-there saved none e =
+names_each_once-from_none : (saved : ConfStateLists) → repeat_in saved ≡ None → names_each_once saved ≡ true
+names_each_once-from_none saved e =
     let four = or_parts _ _ e in
     let three = or_parts _ _ four.0 in
     let two = or_parts _ _ three.0 in
-    let once : names_each_once saved ≡ true =
     and_from _ _ (and_from _ _ (and_from _ _ (names_once-from_none saved.voters two.0) (names_once-from_none saved.voters_outgoing two.1))
-    (names_once-from_none saved.learners three.1)) (names_once-from_none saved.learners_next four.1) in
-    let some : described saved ≡ Some (named_by saved) = ap (λ b. cond b (Some (named_by saved)) None) once in
+    (names_once-from_none saved.learners three.1)) (names_once-from_none saved.learners_next four.1)
+
+-- one that is not described names an id twice
+pub repeat_in-there : (saved : ConfStateLists) → described saved ≡ None → repeat_in saved ≡ None → ⊥
+repeat_in-there saved none e =
+    let some : described saved ≡ Some (named_by saved) = ap (λ b. cond b (Some (named_by saved)) None) (names_each_once-from_none saved e) in
     cc
 
 -- ---- the valid configuration of a form
@@ -180,17 +193,32 @@ valid_of-described saved c e =
     ap (λ o. unless_violated (named_by saved) (option_or (option_map ListedTwice o) (violation_of (named_by saved)))) is.once
     ∙ ap (λ d. unless_violated d (violation_of d)) is.named
 
+-- it is the one that the form describes, and is valid
+pub record IsValidOf (saved : ConfStateLists) (c : Configuration) : Type 0 where
+  pub describes : Describes saved c
+  pub valid : is_valid c ≡ true
+
+pub IsValidOf-from_valid_of : (saved : ConfStateLists) (c : Configuration) → valid_of saved ≡ Ok c → IsValidOf saved c
+IsValidOf-from_valid_of saved c e = by_repeat (repeat_in saved) refl e
+  where
+    by_violation : (d : Configuration) (o : Option Violation) → violation_of d ≡ o → unless_violated d o ≡ Ok c → Describes saved d → IsValidOf saved c
+    by_violation d None none e is =
+        let same : d ≡ c = cc in
+        subst (IsValidOf saved) same (record { describes = is; valid = is_valid-from_none d none })
+    by_violation d (Some violation) none e is = cc
+
+    by_repeat : (o : Option ℕ) → repeat_in saved ≡ o → unless_violated (named_by saved) (option_or (option_map ListedTwice o) (violation_of (named_by saved))) ≡ Ok c → IsValidOf saved c
+    by_repeat None none e =
+        by_violation (named_by saved) (violation_of (named_by saved)) refl e (Describes-from_names_each_once saved (names_each_once-from_none saved none))
+    by_repeat (Some id) none e = cc
+
+pub valid_of-from_Describes : (saved : ConfStateLists) (c : Configuration) → Describes saved c → is_valid c ≡ true → valid_of saved ≡ Ok c
+valid_of-from_Describes saved c is valid =
+    valid_of-described saved c (described-from_Describes saved c is) ∙ ap (unless_violated c) (none-from_is_valid c valid)
+
 -- what a saved form or a line names is valid
 pub is_valid-from_valid_of : (saved : ConfStateLists) (c : Configuration) → valid_of saved ≡ Ok c → is_valid c ≡ true
-is_valid-from_valid_of saved c e = by_repeat (repeat_in saved) e
-  where
-    by_violation : (d : Configuration) (o : Option Violation) → violation_of d ≡ o → unless_violated d o ≡ Ok c → is_valid c ≡ true
-    by_violation d None none e = let same : d ≡ c = cc in ap is_valid (sym same) ∙ is_valid-from_none d none
-    by_violation d (Some violation) none e = cc
-
-    by_repeat : (o : Option ℕ) → unless_violated (named_by saved) (option_or (option_map ListedTwice o) (violation_of (named_by saved))) ≡ Ok c → is_valid c ≡ true
-    by_repeat None e = by_violation (named_by saved) (violation_of (named_by saved)) refl e
-    by_repeat (Some id) e = cc
+is_valid-from_valid_of saved c e = (IsValidOf-from_valid_of saved c e).valid
 
 pub is_valid-from_configuration_in : (line : List ℕ) (c : Configuration) → configuration_in line ≡ Ok c → is_valid c ≡ true
 is_valid-from_configuration_in line c e = by_line (conf_state_in line) e

@@ -1,9 +1,9 @@
 -- What a list of changes makes of each id.
-use Rattle.std.proofs.Common.{◌≡◌, ℕ, Bool, true, false, cond, not, ◌&&◌, ◌||◌, ◌==◌, List, [], ◌∷◌, ◌++◌, map, reverse, refl, sym, ap, subst, ◌∙◌, T, ◌≢◌, eqb→eq}
+use Rattle.std.proofs.Common.{◌≡◌, ℕ, Bool, true, false, cond, not, ◌&&◌, ◌||◌, ◌==◌, List, [], ◌∷◌, ◌++◌, map, reverse, refl, sym, ap, subst, ◌∙◌, T, ◌≢◌, eqb→eq, ◌+◌, ◌<◌, length, take, get_or}
 use Rattle.std.specs.Prelude.{Option, Some, None, find, option_map, is_some}
 use Rattle.std.specs.Cmp.{nat_eq_equiv}
 use Rattle.std.proofs.lemmas.Bool.{false≢true}
-use Rattle.std.proofs.lemmas.List.{reverse-append}
+use Rattle.std.proofs.lemmas.List.{reverse-append, take_more}
 use Rattle.std.proofs.lemmas.List.Folds.{list_any-append}
 use Rattle.std.specs.List.{list_any}
 use Rattle.quorum_sets.specs.Ids.{Ids, has, ascending, ids_where, with_id, without_id}
@@ -290,3 +290,10 @@ result_of-push c xs x =
     ∙ next_absorbs x.kind ((x.id == q) && not (q == 0)) (has c.outgoing q) (has c.learners_next q) (last_effective xs q)
     ∙ sym (has-next_after c (xs ++ x ∷ []) q ∙ ap (λ o. is_next_after o (has c.outgoing q) (has c.learners_next q)) (last_effective-push xs x q)))
     refl
+
+-- one more change of a list
+pub result_of-one_more : (c now after : Configuration) (changes : List Change) (k : ℕ) (d : Change) → k < length changes → now ≡ result_of c (take k changes)
+    → after ≡ result_of now (get_or changes k d ∷ []) → after ≡ result_of c (take (k + 1) changes)
+result_of-one_more c now after changes k d within so_far is =
+    is ∙ ap (λ b. result_of b (get_or changes k d ∷ [])) so_far ∙ result_of-push c (take k changes) (get_or changes k d)
+    ∙ ap (result_of c) (sym (take_more changes k d within))

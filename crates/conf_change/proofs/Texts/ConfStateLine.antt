@@ -1,5 +1,5 @@
 -- The function that reads the line of a saved configuration, against the relation.
-use Rattle.std.proofs.Common.{◌≡◌, ◌≢◌, ℕ, ◌+◌, ◌<◌, ◌≤◌, ◌^◌, Bool, true, false, eqb, List, [], ◌∷◌, ◌++◌, length, take, drop, get_or, map, Option, Some, None, refl, sym, ap, ◌∙◌, subst, arith}
+use Rattle.std.proofs.Common.{◌≡◌, ◌≢◌, ℕ, ◌<◌, ◌≤◌, ◌^◌, Bool, true, false, eqb, List, [], ◌∷◌, ◌++◌, length, take, drop, get_or, map, Option, Some, None, refl, sym, ap, ◌∙◌, subst, arith}
 use Rattle.std.specs.Prelude.{codes, decimal, option_map, option_and_then, bytes_eq}
 use Rattle.std.specs.List.{All, AllZip, join_with_byte, slice_split, position_or_len}
 use Rattle.std.specs.Str.Parse.{AllDigits}
@@ -223,10 +223,10 @@ trimmed-from_first text more beginning first last =
 abbrev line_start : List ℕ → List ℕ → List ℕ → List ℕ → List ℕ
 line_start a b c d = codes "Voters:[" ++ a ++ codes "] VotersOutgoing:[" ++ b ++ codes "] Learners:[" ++ c ++ codes "] LearnersNext:[" ++ d ++ codes "] AutoLeave:"
 
-trimmed-line_text : (a b c d : List ℕ) (flag : Bool) → trimmed (bracketed_line a b c d flag) ≡ bracketed_line a b c d flag
-trimmed-line_text a b c d true =
+pub trimmed-bracketed_line : (a b c d : List ℕ) (flag : Bool) → trimmed (bracketed_line a b c d flag) ≡ bracketed_line a b c d flag
+trimmed-bracketed_line a b c d true =
     trimmed-from_first (bracketed_line a b c d true) _ (line_start a b c d ++ codes "tru") (line_text-parts a b c d true) (sym (append_assoc (line_start a b c d) (codes "tru") (101 ∷ [])))
-trimmed-line_text a b c d false =
+trimmed-bracketed_line a b c d false =
     trimmed-from_first (bracketed_line a b c d false) _ (line_start a b c d ++ codes "fals") (line_text-parts a b c d false) (sym (append_assoc (line_start a b c d) (codes "fals") (101 ∷ [])))
 
 pub DenotesConfState-printed : (saved : ConfStateLists) → ParsesToNumbers (spaced_numbers saved.voters) saved.voters → ParsesToNumbers (spaced_numbers saved.voters_outgoing) saved.voters_outgoing → ParsesToNumbers (spaced_numbers saved.learners) saved.learners → ParsesToNumbers (spaced_numbers saved.learners_next) saved.learners_next
@@ -236,7 +236,7 @@ DenotesConfState-printed saved voters voters_outgoing learners learners_next = r
   voters_outgoing = spaced_numbers saved.voters_outgoing;
   learners = spaced_numbers saved.learners;
   learners_next = spaced_numbers saved.learners_next;
-  line = trimmed-line_text (spaced_numbers saved.voters) (spaced_numbers saved.voters_outgoing) (spaced_numbers saved.learners) (spaced_numbers saved.learners_next) saved.auto_leave;
+  line = trimmed-bracketed_line (spaced_numbers saved.voters) (spaced_numbers saved.voters_outgoing) (spaced_numbers saved.learners) (spaced_numbers saved.learners_next) saved.auto_leave;
   parsed_voters = voters;
   parsed_voters_outgoing = voters_outgoing;
   parsed_learners = learners;

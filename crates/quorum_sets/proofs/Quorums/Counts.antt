@@ -1,9 +1,15 @@
 -- Counting the ids of a list, one more at a time.
 use mir.Val.{bool_byte}
-use Rattle.std.proofs.Common.{◌≡◌, ℕ, ◌+◌, ◌≤◌, Bool, true, false, cond, List, [], ◌∷◌, refl, arith, take, sym, ap, ◌∙◌, get_or, slice_get, length-take}
-use Rattle.std.specs.Prelude.{Some, count_by}
+use Rattle.std.proofs.Common.{◌≡◌, ℕ, ◌+◌, ◌*◌, ◌≤◌, Bool, true, false, cond, List, [], ◌∷◌, map, refl, arith, take, sym, ap, ◌∙◌, get_or, slice_get, length-take}
+use Rattle.std.specs.Prelude.{Some, nat_lt, count_by}
+use Rattle.std.specs.List.Sorted.{IsPermutation}
+use Rattle.std.proofs.lemmas.List.{length-map}
+use Rattle.std.proofs.lemmas.List.Folds.{fold-map}
 use Rattle.std.proofs.lemmas.Option.{slice_get_within, get_or_from_slice_get}
 use Rattle.std.proofs.lemmas.List.Sums.{count_by_more_yes, count_by_more_no, count_by-le-length, sum_by-cons}
+use Rattle.std.proofs.lemmas.List.Sorted.{length_permutation, sum_by-IsPermutation}
+use Rattle.quorum_sets.specs.Ids.{Ids, ascending, majority_passes}
+use Rattle.quorum_sets.specs.Voters.{most}
 
 at : (test : ℕ → Bool) (xs : List ℕ) (k x : ℕ) (b : Bool) → slice_get xs k ≡ Some x → test x ≡ b → test (get_or xs k 0) ≡ b
 at test xs k x b here is = ap test (get_or_from_slice_get xs k x 0 here) ∙ is
@@ -39,3 +45,16 @@ count_by-mono p q passes (x ∷ xs) =
     let rest = count_by-mono p q passes xs in
     let head = one_or_none (p x) (q x) (passes x) in
     rw (sum_by-cons (λ y. cond (p y) 1 0) x xs, sum_by-cons (λ y. cond (q y) 1 0) x xs) (omega arith)
+
+-- ---- more than half of a list
+-- the order of a list does not matter
+pub count_by-permuted : {X : Type 0} (p : X → Bool) (xs ys : List X) → IsPermutation xs ys → count_by p ys ≡ count_by p xs
+count_by-permuted p xs ys moved = sum_by-IsPermutation (λ x. cond (p x) 1 0) xs ys moved
+
+pub most-permuted : {X : Type 0} (p : X → Bool) (xs ys : List X) → IsPermutation xs ys → most p ys ≡ most p xs
+most-permuted p xs ys moved = λ i. nat_lt (length_permutation xs ys moved i) (2 * count_by-permuted p xs ys moved i)
+
+-- a count over ids is one over their values
+pub majority_passes-values : {X : Type 0} (p : X → Bool) (value : ℕ → X) (ids : Ids) → majority_passes (λ id. p (value id)) ids ≡ most p (map value (ascending ids))
+majority_passes-values p value ids =
+    λ i. nat_lt (sym (length-map (ascending ids) value) i) (2 * sym (fold-map (λ a x. a + cond (p x) 1 0) value 0 (ascending ids)) i)

@@ -7,7 +7,8 @@ use Rattle.std.proofs.lemmas.Bool.{le-leb, le-ltb}
 use Rattle.std.proofs.lemmas.Option.{slice_get_within, get_or_from_slice_get}
 use Rattle.std.proofs.lemmas.List.{map_more}
 use Rattle.std.proofs.lemmas.List.Sums.{count_by_more_yes, count_by_more_no, count_by-le-length, sum_by-take-le, sum_by-take-drop}
-use Rattle.std.proofs.lemmas.List.Sorted.{IsNonDecreasingBy-from_sort, sum_by-IsPermutation, length_permutation}
+use Rattle.std.proofs.lemmas.List.Sorted.{IsNonDecreasingBy-from_sort, length_permutation}
+use Rattle.quorum_sets.proofs.Quorums.Counts.{count_by-permuted}
 
 -- one more item of a list that is mapped
 pub map_more-item : (f : ℕ → ℕ) (xs : List ℕ) (k x y : ℕ) (so_far next : List ℕ) → slice_get xs k ≡ Some x → y ≡ f x → so_far ≡ map f (take k xs) → next ≡ so_far ++ y ∷ [] → next ≡ map f (take (k + 1) xs)
@@ -33,9 +34,6 @@ none_before p ys (suc i) within fails =
     let step = count_by_more_no p ys i 0 (omega arith) (fails i (omega arith)) in
     let e : suc i ≡ i + 1 = omega arith in
     rw e (step ∙ before)
-
-count_by-permuted : (p : ℕ → Bool) (xs ys : List ℕ) → IsPermutation xs ys → count_by p ys ≡ count_by p xs
-count_by-permuted p xs ys moved = sum_by-IsPermutation (λ x. cond (p x) 1 0) xs ys moved
 
 -- what is at position i of the sorted list is reached by all from there on, and passed by none up to there
 at_position : (xs ys : List ℕ) (i : ℕ) → IsPermutation xs ys → IsSorted nat_cmp ys → i < length ys → (length xs ≤ i + count_by (nat_le (get_or ys i 0)) xs) × (i + 1 + count_by (nat_lt (get_or ys i 0)) xs ≤ length xs)

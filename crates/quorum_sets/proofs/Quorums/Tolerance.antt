@@ -21,7 +21,7 @@ count_by-alike p q (x ∷ xs) alike =
     let head = alike x (or_left (x == x) _ (eq-eqb x x refl)) in
     rw (sum_by-cons (λ y. cond (p y) 1 0) x xs, sum_by-cons (λ y. cond (q y) 1 0) x xs) (λ i. cond (head i) 1 0 + rest i)
 
-count_by-none : (p : ℕ → Bool) (xs : List ℕ) → ((x : ℕ) → list_any (λ y. x == y) xs ≡ true → p x ≡ false) → count_by p xs ≡ 0
+pub count_by-none : (p : ℕ → Bool) (xs : List ℕ) → ((x : ℕ) → list_any (λ y. x == y) xs ≡ true → p x ≡ false) → count_by p xs ≡ 0
 count_by-none p [] none = refl
 count_by-none p (x ∷ xs) none =
     let rest = count_by-none p xs (λ y here. none y (or_right (y == x) _ here)) in
@@ -52,7 +52,7 @@ and_any false b e = refl
 abbrev stay : Ids → ℕ → Bool
 stay away id = not (has away id)
 
-commits_without-majority_passes : (voters : Voters) (away : Ids) → commits_without voters away ≡ (majority_passes (stay away) voters.incoming && (is_empty voters.outgoing || majority_passes (stay away) voters.outgoing))
+pub commits_without-majority_passes : (voters : Voters) (away : Ids) → commits_without voters away ≡ (majority_passes (stay away) voters.incoming && (is_empty voters.outgoing || majority_passes (stay away) voters.outgoing))
 commits_without-majority_passes voters away = λ i.
     majority_passes-alike (has (voters_without voters away)) (stay away) voters.incoming (λ q here. left q (or_left _ _ here)) i
     && (is_empty voters.outgoing || majority_passes-alike (has (voters_without voters away)) (stay away) voters.outgoing (λ q here. left q (or_right (has voters.incoming q) _ here)) i)

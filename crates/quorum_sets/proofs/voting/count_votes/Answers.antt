@@ -26,5 +26,5 @@ loop-position-preserved g c =
             vote_small = count_by-within (is_yes votes) ids (k + 1) _ vote;
             may_vote_small = count_by-within (may_be_yes votes) ids (k + 1) _ may_vote;
           })
-      | in_default w ↦ slice_get-not_past _ _ _ (sym w.in_default.is ∙ c.at.ensures) c.len-position-end.ensures c.loop-position-test.true
+      | in_default w ↦ slice_get-not_past _ _ _ (sym w.in_default.is ∙ c.at.ensures) c.len-voters.ensures c.loop-position-test.true
     ]

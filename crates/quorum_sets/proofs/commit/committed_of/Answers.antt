@@ -1,6 +1,7 @@
-use Rattle.std.proofs.Common.{arith}
+use Rattle.std.proofs.Common.{arith, ◌∙◌}
+use Rattle.quorum_sets.proofs.Quorums.CommittedIndex.{committed_of-alone}
 use Rattle.quorum_sets.proofs.Quorums.MajorityPosition.{majority-position}
-use Rattle.quorum_sets.proofs.commit.majority_index.Goals as goal
+use Rattle.quorum_sets.proofs.commit.committed_of.Goals as goal
 
 pub returns-else-n-eq0-clause-reached : goal.returns-else-n-eq0-clause-reached
 returns-else-n-eq0-clause-reached c some =
@@ -9,3 +10,7 @@ returns-else-n-eq0-clause-reached c some =
 pub returns-else-n-eq0-clause-not_passed : goal.returns-else-n-eq0-clause-not_passed
 returns-else-n-eq0-clause-not_passed c some =
     (majority-position _ _ _ c.sort_unstable.ensures.permutation c.sort_unstable.ensures.sorted (omega arith) (omega arith)).1
+
+pub returns-else-n-eq0-clause-index : goal.returns-else-n-eq0-clause-index
+returns-else-n-eq0-clause-index c =
+    committed_of-alone c.args.indexes.now _ (λ none. absurd (c.if-n-eq0.false (c.sort_unstable.ensures.len ∙ none))) (returns-else-n-eq0-clause-reached c) (returns-else-n-eq0-clause-not_passed c)
