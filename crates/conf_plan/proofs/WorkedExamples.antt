@@ -3,14 +3,17 @@ use Rattle.std.proofs.Common.{◌≡◌, ℕ, Bool, true, false, List, [], ◌�
 use Rattle.std.specs.Prelude.{filter}
 use Rattle.std.proofs.lemmas.Bool.{cond-true, cond-false}
 use Rattle.quorum_sets.specs.Ids.{Ids, ids_of, ids_where}
+use Rattle.quorum_sets.specs.Tolerance.{commits_without}
 use Rattle.quorum_sets.proofs.Offered.{written_out}
-use Rattle.conf_change.specs.Configuration.{Configuration, is_joint, members, is_same_set, is_same}
+use Rattle.conf_change.specs.Configuration.{Configuration, is_joint, members, is_same_set, is_same, voters_of}
 use Rattle.conf_change.specs.declared.change.Change.{Change}
 use Rattle.conf_change.specs.declared.change.Kind.{Kind}
 use Rattle.conf_change.specs.declared.change.Kind.TheVariants.{Voter, Learner, Remove, Update}
 use Rattle.conf_change.specs.Outcome.{after_leave}
 use Rattle.conf_change.specs.declared.step.Step.{Step}
 use Rattle.conf_change.specs.declared.step.Step.TheVariants.{Simple, EnterJoint, LeaveJoint}
+use Rattle.conf_plan.specs.OneAtATime.{one_change, steps_of, in_turn, order}
+use Rattle.conf_plan.specs.OneChangeEach.{one_change_each}
 use Rattle.conf_plan.specs.Best.{times_named, is_any_learner, outlasts_leave}
 use Rattle.conf_plan.specs.Planned.{is_shared, shared_members, single_with, single_steps, entering_step, planned_from_single, planned}
 use Rattle.conf_plan.specs.Run.{IsValidWithVoter}
@@ -162,3 +165,31 @@ back_by_one_voter =
 outlasts_row : (outlasts_leave (config (3 ∷ []) (4 ∷ []) (1 ∷ 2 ∷ []) []) (LeaveJoint ∷ into_row) 4 ≡ false)
     × (outlasts_leave (config (3 ∷ []) (4 ∷ []) (1 ∷ 2 ∷ []) []) (LeaveJoint ∷ into_row) 1 ≡ true) × (outlasts_leave three into_row 4 ≡ true)
 outlasts_row = (simp written_out refl, simp written_out refl, refl)
+
+-- ---- one member at a time
+-- two lists in turn, the longer one first or last
+turns : (in_turn (4 ∷ 5 ∷ []) (1 ∷ []) ≡ 4 ∷ 1 ∷ 5 ∷ []) × (in_turn (4 ∷ []) (1 ∷ 2 ∷ 3 ∷ []) ≡ 4 ∷ 1 ∷ 2 ∷ 3 ∷ [])
+turns = (refl, refl)
+
+-- from (1 2 3) to (3 4 5) while 1 is down, by the order of the ids and the steps of each
+abbrev voters_123 : Configuration
+voters_123 = config (1 ∷ 2 ∷ 3 ∷ []) [] [] []
+
+abbrev voters_345 : Configuration
+voters_345 = config (3 ∷ 4 ∷ 5 ∷ []) [] [] []
+
+order_while_1_is_down : order (ids_of (1 ∷ [])) voters_123 voters_345 ≡ 1 ∷ 4 ∷ 2 ∷ 5 ∷ []
+order_while_1_is_down = simp written_out refl
+
+-- 1 retires, and 4 is a learner first
+steps_of_two : (steps_of voters_123 voters_345 1 ≡ one_change Remove 1 ∷ []) × (steps_of voters_123 voters_345 4 ≡ one_change Learner 4 ∷ one_change Voter 4 ∷ [])
+steps_of_two = (simp written_out refl, simp written_out refl)
+
+-- both commit without 1, and the first does not without 1 and 2
+commits_row : (commits_without (voters_of voters_123) (ids_of (1 ∷ [])) ≡ true) × (commits_without (voters_of voters_123) (ids_of (1 ∷ 2 ∷ [])) ≡ false)
+commits_row = (simp written_out refl, simp written_out refl)
+
+-- ---- one change each
+each_row : one_change_each (Simple (change Learner 4 ∷ change Learner 5 ∷ []) ∷ EnterJoint false (change Remove 1 ∷ change Voter 4 ∷ []) ∷ LeaveJoint ∷ [])
+    ≡ Simple (change Learner 4 ∷ []) ∷ Simple (change Learner 5 ∷ []) ∷ EnterJoint false (change Remove 1 ∷ change Voter 4 ∷ []) ∷ LeaveJoint ∷ []
+each_row = refl

@@ -9,4 +9,5 @@ pub mod PlanCode
 pub mod Alive
 pub mod LearnersFirst
 pub mod OneAtATime
+pub mod OneChangeEach
 pub mod PathBy

@@ -1,18 +1,30 @@
 -- The path from a configuration that is not joint, on which one member changes at a time, as etcd's server changes its
--- members (section 4.1 of Ongaro's dissertation).
-use Rattle.std.specs.Prelude.{ℕ, false, not, ◌||◌, List, [], ◌∷◌, ◌++◌, filter, Option, None, option_map, filter_map, if◌then◌else◌}
-use Rattle.quorum_sets.specs.Ids.{has, ascending, union}
-use Rattle.conf_change.specs.Configuration.{Configuration}
+-- members (section 4.1 of Ongaro's dissertation). A server adds no member while a voter cannot be reached, so voters
+-- that are down leave first (own).
+use Rattle.std.specs.Prelude.{ℕ, not, ◌&&◌, ◌||◌, List, [], ◌∷◌, ◌++◌, filter, flat_map, option_map, if◌then◌else◌}
+use Rattle.std.specs.List.{cons_option}
+use Rattle.quorum_sets.specs.Ids.{Ids, no_ids, has, ascending, union}
+use Rattle.quorum_sets.specs.Tolerance.{commits_without}
+use Rattle.conf_change.specs.Configuration.{Configuration, voters_of}
 use Rattle.conf_change.specs.declared.change.Kind.{Kind}
-use Rattle.conf_change.specs.declared.change.Kind.TheVariants.{Voter, Learner, Remove}
+use Rattle.conf_change.specs.declared.change.Kind.TheVariants.{Learner}
 use Rattle.conf_change.specs.declared.step.Step.{Step}
 use Rattle.conf_change.specs.declared.step.Step.TheVariants.{Simple}
-use Rattle.conf_plan.specs.Planned.{kind_by}
+use Rattle.conf_plan.specs.Planned.{kind_of_move}
 
+-- ---- the steps of an id
 -- a simple step of one change, such as simple v4
 abbrev pub one_change : Kind → ℕ → Step
 one_change kind id = Simple (record { kind = kind; id = id } ∷ [])
 
+-- the steps by which an id gets its role in the target, none to two; one that becomes a voter and is not a member is a
+-- learner first
+abbrev pub steps_of : Configuration → Configuration → ℕ → List Step
+steps_of c target id =
+    (if has target.incoming id && not (has c.incoming id || has c.learners id) then one_change Learner id ∷ [] else [])
+    ++ cons_option (option_map (λ kind. one_change kind id) (kind_of_move c target.incoming target.learners id)) []
+
+-- ---- the order of the ids
 -- the ids that have to become incoming voters, ascending
 abbrev pub joining : Configuration → Configuration → List ℕ
 joining c target = filter (λ id. not (has c.incoming id)) (ascending target.incoming)
@@ -21,32 +33,38 @@ joining c target = filter (λ id. not (has c.incoming id)) (ascending target.inc
 abbrev pub retiring : Configuration → Configuration → List ℕ
 retiring c target = filter (λ id. not (has target.incoming id)) (ascending c.incoming)
 
--- the steps by which an id becomes a voter; if it is not a learner yet, it becomes one first
-abbrev pub join_steps : Configuration → ℕ → List Step
-join_steps c id = if has c.learners id then one_change Voter id ∷ [] else one_change Learner id ∷ one_change Voter id ∷ []
+-- the learners that are incoming voters neither before nor after, ascending
+abbrev pub other_learners : Configuration → Configuration → List ℕ
+other_learners c target =
+    filter (λ id. not (has c.incoming id || has target.incoming id)) (ascending (union c.learners target.learners))
 
--- the step by which a voter becomes a learner if it is one in the target, and is removed otherwise
-abbrev pub retire_step : Configuration → ℕ → Step
-retire_step target id = one_change (if has target.learners id then Learner else Remove) id
+-- the ids of two lists in turn; when one list ends, the rest of the other follows
+abbrev pub in_turn : List ℕ → List ℕ → List ℕ
+in_turn [] retires = retires
+in_turn (id ∷ joins) [] = id ∷ joins
+in_turn (id ∷ joins) (other ∷ retires) = id ∷ other ∷ in_turn joins retires
 
--- the steps by which ids join and retire in turn; when one list ends, the rest of the other follows
-abbrev pub in_turn : Configuration → Configuration → List ℕ → List ℕ → List Step
-in_turn c target [] [] = []
-in_turn c target (id ∷ joins) [] = join_steps c id ++ in_turn c target joins []
-in_turn c target [] (id ∷ retires) = retire_step target id ∷ in_turn c target [] retires
-in_turn c target (id ∷ joins) (other ∷ retires) = join_steps c id ++ retire_step target other ∷ in_turn c target joins retires
+-- those of a list that are down, and those that are up
+abbrev pub those_down : Ids → List ℕ → List ℕ
+those_down down ids = filter (has down) ids
 
--- the kind of change that an id needs, if any: to become a learner, or to be removed; none if it is a voter before or
--- after
-abbrev pub learner_change : Configuration → Configuration → ℕ → Option Kind
-learner_change c target id =
-    if has c.incoming id || has target.incoming id then None else kind_by false (has target.learners id) false (has c.learners id)
+abbrev pub those_up : Ids → List ℕ → List ℕ
+those_up down ids = filter (λ id. not (has down id)) ids
 
--- the steps of the ids that are voters neither before nor after, ascending
-abbrev pub learner_steps : Configuration → Configuration → List Step
-learner_steps c target = filter_map (λ id. option_map (λ kind. one_change kind id) (learner_change c target id)) (ascending (union c.learners target.learners))
+-- the order: voters that are down retire, the others join and retire in turn, those that are down join, and the other
+-- learners follow
+abbrev pub order : Ids → Configuration → Configuration → List ℕ
+order down c target =
+    those_down down (retiring c target)
+    ++ (in_turn (those_up down (joining c target)) (those_up down (retiring c target))
+    ++ (those_down down (joining c target) ++ other_learners c target))
 
--- the path: the voters change first, and then the learners that are voters neither before nor after; l4 v4 r1 l5 v5 r2
--- leads from (1 2 3) to (3 4 5)
-abbrev pub one_at_a_time_from_single : Configuration → Configuration → List Step
-one_at_a_time_from_single c target = in_turn c target (joining c target) (retiring c target) ++ learner_steps c target
+-- the ids that are down, if both configurations commit without them; none otherwise, since then no order helps
+abbrev pub down_in_order : Ids → Configuration → Configuration → Ids
+down_in_order down c target =
+    if commits_without (voters_of c) down && commits_without (voters_of target) down then down else no_ids
+
+-- ---- the path
+-- the steps of each id in this order: l4 v4 r1 l5 v5 r2 leads from (1 2 3) to (3 4 5), and r1 l4 v4 l5 v5 r2 if 1 is down
+abbrev pub one_at_a_time_from_single : Ids → Configuration → Configuration → List Step
+one_at_a_time_from_single down c target = flat_map (steps_of c target) (order (down_in_order down c target) c target)

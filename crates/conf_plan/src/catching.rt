@@ -4,10 +4,13 @@ ghost use Rattle.std.specs.Prelude.{◌≡◌, ℕ, not, ◌&&◌, ◌||◌, IfO
 ghost use Rattle.quorum_sets.specs.Ids.{has};
 ghost use Rattle.conf_change.specs.Change.{is_removal, removes};
 ghost use Rattle.conf_change.specs.Configuration.{is_member};
+ghost use Rattle.conf_change.specs.Step.{changes_of};
+ghost use Rattle.conf_change.specs.Transition.{step_of};
+ghost use Rattle.conf_change.specs.declared.step.Step.{Step};
 ghost use Rattle.conf_plan.specs.Alive.{catching_up};
 
 use crate::picked::picked;
-use conf_change::{Change, Config, Kind, Step, union};
+use conf_change::{Change, Config, Kind, Step, StepKind, union};
 use quorum_sets::{MemberSet, NoMemory};
 use std::alloc::Global;
 
@@ -22,10 +25,39 @@ pub fn catching_up<S: MemberSet>(
 ) -> Result<S, NoMemory>
     ensures { IfOk result (λ ids. S.ids ids ≡ catching_up before.now step.now after.now) }
 {
+    fresh_members(alloc, before, step.changes(), after)
+}
+
+/// As [`catching_up`], for the step of this kind with these changes; leaving a joint configuration ignores them.
+pub fn catching_up_by<S: MemberSet>(
+    alloc: Global,
+    before: &Config<S>,
+    kind: StepKind,
+    changes: &[Change],
+    after: &Config<S>,
+) -> Result<S, NoMemory>
+    ensures { IfOk result (λ ids. S.ids ids ≡ catching_up before.now (step_of kind changes.now) after.now) }
+{
+    let changes = match kind {
+        StepKind::Simple | StepKind::Enter(_) => changes,
+        StepKind::Leave => &[],
+    };
+    fresh_members(alloc, before, changes, after)
+}
+
+// The members after a step with these changes that do not keep their progress in it.
+fn fresh_members<S: MemberSet>(
+    alloc: Global,
+    before: &Config<S>,
+    changes: &[Change],
+    after: &Config<S>,
+) -> Result<S, NoMemory>
+    ensures { IfOk result (λ ids. (step : Step) → changes_of step ≡ changes.now → S.ids ids ≡ catching_up before.now step after.now) }
+{
     let voters = union(&after.incoming, &after.outgoing)?;
     let members = union(&voters, &after.learners)?;
     let mut removed = S::empty(alloc);
-    add_removed(&mut removed, step.changes())?;
+    add_removed(&mut removed, changes)?;
     picked(alloc, &members, |id| has_lost(before, after, &removed, id))
 }
 

@@ -2,6 +2,7 @@
 //! accepted one after another. Each law is the contract of a function that does nothing.
 ghost use Rattle.std.specs.Prelude.{◌≡◌, ◌≤◌, ◌↔◌, ◌⊎◌, ℕ, true, List, length, map, Ok, Err, Some};
 ghost use Rattle.std.specs.List.{join_with_byte};
+ghost use Rattle.quorum_sets.specs.Ids.{Ids};
 ghost use Rattle.conf_change.specs.Configuration.{Configuration};
 ghost use Rattle.conf_change.specs.Changer.{ChangerState, IsSound, Accepts};
 ghost use Rattle.conf_change.specs.ChangeList.{Denotes};
@@ -15,6 +16,7 @@ ghost use Rattle.conf_plan.specs.declared.strategy.Strategy.{Strategy};
 ghost use Rattle.conf_plan.specs.declared.strategy.Strategy.TheVariants.{Shortest};
 ghost use Rattle.conf_plan.specs.declared.text.PlanTextFault.{PlanTextFault};
 ghost use Rattle.conf_plan.specs.Best.{times_named, HasSameRoles, IsBest};
+ghost use Rattle.conf_plan.specs.OneChangeEach.{one_change_each};
 ghost use Rattle.conf_plan.specs.PathBy.{has_path, path_by, Serves};
 ghost use Rattle.conf_plan.specs.Planned.{planned};
 ghost use Rattle.conf_plan.specs.PlanSteps.{HasU64Ids, IsPlan};
@@ -45,14 +47,23 @@ pub fn planned_is_best()
     ensures { (now target : Configuration) → IsValidWithVoter now → IsValidWithVoter target → IsBest now (planned now target) target }
 {}
 
-/// Each strategy keeps its promises. On every path, no configuration tolerates fewer failures than the weaker end. The
-/// shortest path is the plan. The path with learners first is at most one step longer, and each new voter was a learner
-/// with progress. On these two, a quorum of both ends is a quorum of each configuration on the way. The path that
-/// changes one member at a time has the fewest steps of its kind, its new voters were learners with progress too, and
-/// it does not enter a joint configuration.
+/// Each strategy keeps its promises, whichever ids are down. On every path, no configuration tolerates fewer failures
+/// besides these than the weaker end. The shortest path is the plan. The path with learners first is at most one step
+/// longer. On these two, a quorum of both ends is a quorum of each configuration on the way. The path that changes one
+/// member at a time has the fewest steps of its kind, and does not enter a joint configuration. On the last two, each
+/// new voter was a learner with progress, no id that has to catch up is a voter, and the progress that any run to the
+/// target preserves is preserved.
 pub fn paths_serve()
-    ensures shortest { (now target : Configuration) → path_by Shortest now target ≡ planned now target }
-    ensures serves { (strategy : Strategy) (now target : Configuration) → IsValidWithVoter now → IsValidWithVoter target → has_path strategy now target ≡ true → Serves strategy now (path_by strategy now target) target }
+    ensures shortest { (down : Ids) (now target : Configuration) → path_by Shortest down now target ≡ planned now target }
+    ensures serves { (strategy : Strategy) (down : Ids) (now target : Configuration) → IsValidWithVoter now → IsValidWithVoter target
+        → has_path strategy now target ≡ true → Serves strategy down now (path_by strategy down now target) target }
+{}
+
+/// Each path leads to the target, too, if each change of its simple steps is a step of its own, as it is proposed to
+/// etcd's raft.
+pub fn one_change_each_leads()
+    ensures { (strategy : Strategy) (down : Ids) (now target : Configuration) → IsValidWithVoter now → IsValidWithVoter target
+        → has_path strategy now target ≡ true → IsRun now (one_change_each (path_by strategy down now target)) target }
 {}
 
 /// If a step keeps a member's progress, a changer that takes the step keeps the member's match and next.

@@ -23,6 +23,10 @@
 //! one at a time    simple l4, simple v4, simple r1, simple l5, simple v5, simple r2
 //! ```
 //!
+//! A path is made for some ids that are down. If one member changes at a time, voters that are down retire first and
+//! join last, since etcd's server adds no member while a voter cannot be reached. [`Path::one_change_each`] gives a path
+//! with simple steps of one change each, as it is proposed to etcd's raft.
+//!
 //! [`apply_plan`] applies a plan to a changer. [`print_plan`] and [`print_path`] write one step per line, and
 //! [`read_plan`] reads a plan back:
 //!
@@ -39,6 +43,7 @@ pub mod laws;
 mod learners_first;
 mod moves;
 mod one_at_a_time;
+mod one_change_each;
 pub mod path;
 mod picked;
 pub mod planner;
@@ -49,7 +54,7 @@ pub mod strategy;
 pub mod text;
 
 pub use apply::{StepRefused, apply_plan};
-pub use catching::catching_up;
+pub use catching::{catching_up, catching_up_by};
 pub use path::Path;
 pub use planner::{PlanFault, plan};
 pub use step_list::Plan;

@@ -5,39 +5,89 @@
 //! simple l5, simple v5, simple r2     5 joins, and 2 retires
 //! ```
 //!
-//! A voter joins before another retires, so at no point are fewer failures tolerated than at the weaker end.
-ghost use Rattle.std.specs.Prelude.{◌≡◌, [], ◌∷◌, ◌<◌, OnOk};
+//! A voter joins before another retires, so at no point are fewer failures tolerated than at the weaker end. Voters that
+//! are down retire first, since etcd's server adds no member while they cannot be reached, and join last:
+//!
+//! ```text
+//! simple r1                           1, which is down, retires
+//! simple l4, simple v4, simple r2     4 joins, and 2 retires
+//! simple l5, simple v5                5 joins
+//! ```
+ghost use Rattle.std.specs.Prelude.{◌≡◌, [], ◌∷◌, ◌&&◌, flat_map, OnOk};
 ghost use Rattle.std.specs.List.{cons_option};
 ghost use Rattle.quorum_sets.specs.Ids.{ascending};
-ghost use Rattle.conf_plan.specs.OneAtATime as spec;
-ghost use Rattle.conf_plan.specs.OneAtATime.{one_change, join_steps, retire_step, in_turn, learner_steps, one_at_a_time_from_single};
+ghost use Rattle.quorum_sets.specs.Tolerance.{commits_without};
+ghost use Rattle.conf_change.specs.Configuration.{voters_of};
+ghost use Rattle.conf_plan.specs.OneAtATime.{steps_of, in_turn, order, one_at_a_time_from_single};
 ghost use Rattle.conf_plan.specs.Planned.{single_with};
 ghost use Rattle.conf_plan.specs.Walking.{IsAdded};
 
 use crate::moves::kind_of_move;
+use crate::one_change_each::add_change;
 use crate::picked::picked;
 use crate::single::Single;
-use conf_change::{Change, Changes, Config, Kind, Step, union};
-use quorum_sets::{MemberSet, NoMemory};
+use conf_change::{Config, Kind, Step, union};
+use quorum_sets::{MemberSet, NoMemory, commits_without};
 use std::alloc::Global;
 
-// Appends the steps from a configuration that is not joint to the target. The voters change first, and then the
-// learners that are voters neither before nor after.
+// Appends the steps from a configuration that is not joint to the target, in the order for the ids that are down, if
+// both configurations commit without them.
 pub(crate) fn add_one_at_a_time<S: MemberSet>(
     alloc: Global,
     steps: &mut Vec<Step>,
     start: &Single<S>,
     target: &Config<S>,
+    down: &S,
 ) -> Result<(), NoMemory>
-    ensures { OnOk result (IsAdded steps.old.items (one_at_a_time_from_single (single_with (S.ids start.now.incoming.now) (S.ids start.now.learners.now)) target.now) steps.new.items) }
+    ensures { OnOk result (IsAdded steps.old.items (one_at_a_time_from_single (S.ids down.now) (single_with (S.ids start.now.incoming.now) (S.ids start.now.learners.now)) target.now) steps.new.items) }
+{
+    if both_commit(alloc, start, target, down) {
+        add_in_order(alloc, steps, start, target, down)
+    } else {
+        let none = S::empty(alloc);
+        add_in_order(alloc, steps, start, target, &none)
+    }
+}
+
+// Whether a configuration that is not joint and the target both commit while these ids are down.
+fn both_commit<S: MemberSet>(alloc: Global, start: &Single<S>, target: &Config<S>, down: &S) -> bool
+    ensures { result ≡ (commits_without (voters_of (single_with (S.ids start.now.incoming.now) (S.ids start.now.learners.now))) (S.ids down.now) && commits_without (voters_of target.now) (S.ids down.now)) }
+{
+    let none = S::empty(alloc);
+    commits_without((start.incoming, &none), down)
+        && commits_without((&target.incoming, &target.outgoing), down)
+}
+
+// Appends the steps of each id in the order for these ids that are down. The voters change first, and then the learners
+// that are voters neither before nor after.
+fn add_in_order<S: MemberSet>(
+    alloc: Global,
+    steps: &mut Vec<Step>,
+    start: &Single<S>,
+    target: &Config<S>,
+    down: &S,
+) -> Result<(), NoMemory>
+    ensures { OnOk result (IsAdded steps.old.items (flat_map (steps_of (single_with (S.ids start.now.incoming.now) (S.ids start.now.learners.now)) target.now) (order (S.ids down.now) (single_with (S.ids start.now.incoming.now) (S.ids start.now.learners.now)) target.now)) steps.new.items) }
 {
     let joining = picked(alloc, &target.incoming, |id| !start.incoming.contains(id))?;
     let retiring = picked(alloc, start.incoming, |id| !target.incoming.contains(id))?;
-    add_turns(alloc, steps, start, target, &joining, &retiring)?;
-    add_learner_steps(alloc, steps, start, target)
+    let joining_up = picked(alloc, &joining, |id| !down.contains(id))?;
+    let joining_down = picked(alloc, &joining, |id| down.contains(id))?;
+    let retiring_up = picked(alloc, &retiring, |id| !down.contains(id))?;
+    let retiring_down = picked(alloc, &retiring, |id| down.contains(id))?;
+    let learners = union(start.learners, &target.learners)?;
+    let other_learners = picked(
+        alloc,
+        &learners,
+        |id| !(start.incoming.contains(id) || target.incoming.contains(id)),
+    )?;
+    add_steps_of_all(alloc, steps, start, target, &retiring_down)?;
+    add_turns(alloc, steps, start, target, &joining_up, &retiring_up)?;
+    add_steps_of_all(alloc, steps, start, target, &joining_down)?;
+    add_steps_of_all(alloc, steps, start, target, &other_learners)
 }
 
-// Appends the steps by which ids join and retire in turn; when one list ends, the rest of the other follows.
+// Appends the steps of ids that join and retire in turn; when one list ends, the rest of the other follows.
 fn add_turns<S: MemberSet>(
     alloc: Global,
     steps: &mut Vec<Step>,
@@ -46,115 +96,66 @@ fn add_turns<S: MemberSet>(
     joining: &S,
     retiring: &S,
 ) -> Result<(), NoMemory>
-    ensures { OnOk result (IsAdded steps.old.items (in_turn (single_with (S.ids start.now.incoming.now) (S.ids start.now.learners.now)) target.now (ascending (S.ids joining.now)) (ascending (S.ids retiring.now))) steps.new.items) }
+    ensures { OnOk result (IsAdded steps.old.items (flat_map (steps_of (single_with (S.ids start.now.incoming.now) (S.ids start.now.learners.now)) target.now) (in_turn (ascending (S.ids joining.now)) (ascending (S.ids retiring.now)))) steps.new.items) }
 {
     for index in 0..joining.len().max(retiring.len()) {
-        add_turn(
-            alloc,
-            steps,
-            start,
-            target,
-            joining.at(index),
-            retiring.at(index),
-        )?;
+        add_steps_if_any(alloc, steps, start, target, joining.at(index))?;
+        add_steps_if_any(alloc, steps, start, target, retiring.at(index))?;
     }
     Ok(())
 }
 
-// Appends the steps of one turn: the next id joins, if there is one, and the next one retires, if there is one.
-fn add_turn<S: MemberSet>(
+// Appends the steps of these ids, ascending.
+fn add_steps_of_all<S: MemberSet>(
     alloc: Global,
     steps: &mut Vec<Step>,
     start: &Single<S>,
     target: &Config<S>,
-    joining: Option<u64>,
-    retiring: Option<u64>,
+    ids: &S,
 ) -> Result<(), NoMemory>
-    ensures { OnOk result (IsAdded steps.old.items (in_turn (single_with (S.ids start.now.incoming.now) (S.ids start.now.learners.now)) target.now (cons_option joining []) (cons_option retiring [])) steps.new.items) }
+    ensures { OnOk result (IsAdded steps.old.items (flat_map (steps_of (single_with (S.ids start.now.incoming.now) (S.ids start.now.learners.now)) target.now) (ascending (S.ids ids.now))) steps.new.items) }
 {
-    if let Some(id) = joining {
-        add_join_steps(alloc, steps, start, id)?;
-    }
-    if let Some(id) = retiring {
-        add_retire_step(alloc, steps, target, id)?;
+    for index in 0..ids.len() {
+        add_steps_if_any(alloc, steps, start, target, ids.at(index))?;
     }
     Ok(())
 }
 
-// Appends the steps by which an id becomes a voter. If it is not a learner yet, it becomes one first, so that it can
-// catch up.
-fn add_join_steps<S: MemberSet>(
+// Appends the steps of an id, if there is one.
+fn add_steps_if_any<S: MemberSet>(
     alloc: Global,
     steps: &mut Vec<Step>,
     start: &Single<S>,
+    target: &Config<S>,
+    id: Option<u64>,
+) -> Result<(), NoMemory>
+    ensures { OnOk result (IsAdded steps.old.items (flat_map (steps_of (single_with (S.ids start.now.incoming.now) (S.ids start.now.learners.now)) target.now) (cons_option id [])) steps.new.items) }
+{
+    match id {
+        Some(id) => add_steps_of(alloc, steps, start, target, id),
+        None => Ok(()),
+    }
+}
+
+// Appends the steps by which an id gets its role in the target. If it becomes a voter and is not a member, it is a
+// learner first, so that it can catch up.
+fn add_steps_of<S: MemberSet>(
+    alloc: Global,
+    steps: &mut Vec<Step>,
+    start: &Single<S>,
+    target: &Config<S>,
     id: u64,
 ) -> Result<(), NoMemory>
-    ensures { OnOk result (IsAdded steps.old.items (join_steps (single_with (S.ids start.now.incoming.now) (S.ids start.now.learners.now)) id) steps.new.items) }
+    ensures { OnOk result (IsAdded steps.old.items (steps_of (single_with (S.ids start.now.incoming.now) (S.ids start.now.learners.now)) target.now id) steps.new.items) }
 {
-    if !start.learners.contains(id) {
+    let votes = start.incoming.contains(id);
+    let learns = start.learners.contains(id);
+    let will_vote = target.incoming.contains(id);
+    if will_vote && !votes && !learns {
         add_change(alloc, steps, Kind::Learner, id)?;
     }
-    add_change(alloc, steps, Kind::Voter, id)
-}
-
-// Appends the step by which a voter becomes a learner if it is one in the target, and is removed otherwise.
-fn add_retire_step<S: MemberSet>(
-    alloc: Global,
-    steps: &mut Vec<Step>,
-    target: &Config<S>,
-    id: u64,
-) -> Result<(), NoMemory>
-    ensures { OnOk result (IsAdded steps.old.items (retire_step target.now id ∷ []) steps.new.items) }
-{
-    if target.learners.contains(id) {
-        add_change(alloc, steps, Kind::Learner, id)
-    } else {
-        add_change(alloc, steps, Kind::Remove, id)
+    match kind_of_move(will_vote, target.learners.contains(id), votes, learns) {
+        Some(kind) => add_change(alloc, steps, kind, id),
+        None => Ok(()),
     }
-}
-
-// Appends the steps that add and remove the other learners, in ascending order: those that are voters neither before
-// nor after.
-fn add_learner_steps<S: MemberSet>(
-    alloc: Global,
-    steps: &mut Vec<Step>,
-    start: &Single<S>,
-    target: &Config<S>,
-) -> Result<(), NoMemory>
-    ensures { OnOk result (IsAdded steps.old.items (learner_steps (single_with (S.ids start.now.incoming.now) (S.ids start.now.learners.now)) target.now) steps.new.items) }
-{
-    let all = union(start.learners, &target.learners)?;
-    for index in 0..all.len() {
-        if let Some(id) = all.at(index) {
-            if let Some(kind) = learner_change(start, target, id) {
-                add_change(alloc, steps, kind, id)?;
-            }
-        }
-    }
-    Ok(())
-}
-
-// The kind of change that an id needs, if any; none if it is a voter before or after.
-fn learner_change<S: MemberSet>(start: &Single<S>, target: &Config<S>, id: u64) -> Option<Kind>
-    ensures { result ≡ spec.learner_change (single_with (S.ids start.now.incoming.now) (S.ids start.now.learners.now)) target.now id }
-{
-    if start.incoming.contains(id) || target.incoming.contains(id) {
-        return None;
-    }
-    kind_of_move(
-        false,
-        target.learners.contains(id),
-        false,
-        start.learners.contains(id),
-    )
-}
-
-// Appends a simple step of one change.
-fn add_change(alloc: Global, steps: &mut Vec<Step>, kind: Kind, id: u64) -> Result<(), NoMemory>
-    ensures { OnOk result (IsAdded steps.old.items (one_change kind id ∷ []) steps.new.items) }
-{
-    let mut changes = Vec::new(alloc);
-    changes.push(Change { kind, id })?;
-    steps.push(Step::Simple(Changes::from(changes)))?;
-    Ok(())
 }

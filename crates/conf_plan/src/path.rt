@@ -1,9 +1,13 @@
 //! Paths: lists of steps of any length.
-ghost use Rattle.std.specs.Prelude.{◌≡◌, length, option_copied, slice_get};
+ghost use Rattle.std.specs.Prelude.{◌≡◌, length, option_copied, slice_get, IfOk};
 ghost use Rattle.std.specs.List.{All};
+ghost use Rattle.conf_plan.specs.OneChangeEach as each;
 ghost use Rattle.conf_plan.specs.PlanSteps.{HasU64Ids};
 
+use crate::one_change_each::add_one_change_each;
 use conf_change::Step;
+use quorum_sets::NoMemory;
+use std::alloc::Global;
 use std::marker::Model;
 
 /// Steps that follow one another, as [`plan_by`](crate::plan_by) makes them. Unlike a [`Plan`](crate::Plan), a path may
@@ -56,5 +60,15 @@ impl Path {
         ensures { option_copied result ≡ slice_get self.now index }
     {
         self.steps.get(index)
+    }
+    /// The steps of this path, each simple one as steps of one change: `simple l4 l5` becomes `simple l4` and
+    /// `simple l5`. etcd's raft takes a proposal of several changes with the transition Auto through a joint
+    /// configuration, so a simple step is proposed change by change (own).
+    pub fn one_change_each(&self, alloc: Global) -> Result<Path, NoMemory>
+        ensures { IfOk result (λ path. path ≡ each.one_change_each self.now) }
+    {
+        let mut steps = Vec::new(alloc);
+        add_one_change_each(alloc, &mut steps, self.as_slice())?;
+        Ok(Path::of_steps(steps))
     }
 }

@@ -78,11 +78,12 @@ pub fn plan<S: MemberSet>(
         return Err(PlanFault::NoVoterTarget);
     }
     let mut steps = Vec::new(alloc);
-    add_path(alloc, Strategy::Shortest, &mut steps, now, target)?;
+    let none = S::empty(alloc);
+    add_path(alloc, Strategy::Shortest, &mut steps, now, target, &none)?;
     Ok(Plan::of_steps(steps))
 }
 
-// Appends the path from one configuration to another by a strategy. Every path out of a joint configuration begins with
+// Appends the path from one configuration to another by a strategy, while these ids are down. Every path out of a joint configuration begins with
 // leaving it.
 pub(crate) fn add_path<S: MemberSet>(
     alloc: Global,
@@ -90,10 +91,11 @@ pub(crate) fn add_path<S: MemberSet>(
     steps: &mut Vec<Step>,
     now: &Config<S>,
     target: &Config<S>,
+    down: &S,
 ) -> Result<(), NoMemory>
     requires now { IsValidWithVoter now.now }
     requires target { IsValidWithVoter target.now }
-    ensures { OnOk result (IsAdded steps.old.items (path_by strategy now.now target.now) steps.new.items) }
+    ensures { OnOk result (IsAdded steps.old.items (path_by strategy (S.ids down.now) now.now target.now) steps.new.items) }
 {
     if now.same(target) {
         return Ok(());
@@ -103,7 +105,7 @@ pub(crate) fn add_path<S: MemberSet>(
             incoming: &now.incoming,
             learners: &now.learners,
         };
-        return add_from_single_by(alloc, strategy, steps, &start, target);
+        return add_from_single_by(alloc, strategy, steps, &start, target, down);
     }
     steps.push(Step::LeaveJoint)?;
     let learners = union(&now.learners, &now.learners_next)?;
@@ -111,7 +113,7 @@ pub(crate) fn add_path<S: MemberSet>(
         incoming: &now.incoming,
         learners: &learners,
     };
-    add_from_single_by(alloc, strategy, steps, &start, target)
+    add_from_single_by(alloc, strategy, steps, &start, target, down)
 }
 
 // Appends the path from a configuration that is not joint to the target by a strategy.
@@ -121,15 +123,16 @@ fn add_from_single_by<S: MemberSet>(
     steps: &mut Vec<Step>,
     start: &Single<S>,
     target: &Config<S>,
+    down: &S,
 ) -> Result<(), NoMemory>
     requires start { IsValidWithVoter (single_with (S.ids start.now.incoming.now) (S.ids start.now.learners.now)) }
     requires target { IsValidWithVoter target.now }
-    ensures { OnOk result (IsAdded steps.old.items (from_single_by strategy (single_with (S.ids start.now.incoming.now) (S.ids start.now.learners.now)) target.now) steps.new.items) }
+    ensures { OnOk result (IsAdded steps.old.items (from_single_by strategy (S.ids down.now) (single_with (S.ids start.now.incoming.now) (S.ids start.now.learners.now)) target.now) steps.new.items) }
 {
     match strategy {
         Strategy::Shortest => add_from_single(alloc, steps, start, target),
         Strategy::LearnersFirst => add_learners_first(alloc, steps, start, target),
-        Strategy::OneAtATime => add_one_at_a_time(alloc, steps, start, target),
+        Strategy::OneAtATime => add_one_at_a_time(alloc, steps, start, target, down),
     }
 }
 

@@ -50,17 +50,19 @@ impl From<NoMemory> for NoPath {
 
 /// The path from one configuration to another by a strategy, which keeps the strategy's promises (`Serves`). Refused,
 /// before anything is allocated, if a configuration has no voter, and by [`Strategy::OneAtATime`] also if the target is
-/// joint and is not the current configuration (own).
+/// joint and is not the current configuration (own). [`Strategy::OneAtATime`] looks at the ids that are down: if both
+/// configurations commit without them, voters that are down retire first and join last.
 pub fn plan_by<S: MemberSet>(
     alloc: Global,
     strategy: Strategy,
     now: &Config<S>,
     target: &Config<S>,
+    down: &S,
 ) -> Result<Path, NoPath>
     requires valid_now { is_valid now.now ≡ true }
     requires valid_target { is_valid target.now ≡ true }
-    ensures path { IfOk result (λ path. path ≡ path_by strategy now.now target.now) }
-    ensures serves { IfOk result (λ path. Serves strategy now.now path target.now) }
+    ensures path { IfOk result (λ path. path ≡ path_by strategy (S.ids down.now) now.now target.now) }
+    ensures serves { IfOk result (λ path. Serves strategy (S.ids down.now) now.now path target.now) }
     ensures no_voter_now { (result ≡ Err NoPath.NoVoterNow) ↔ (has_voter now.now ≡ false) }
     ensures no_voter_target { (result ≡ Err NoPath.NoVoterTarget) ↔ ((has_voter now.now ≡ true) × (has_voter target.now ≡ false)) }
     ensures joint_target { (result ≡ Err NoPath.JointTarget) ↔ ((has_voter now.now ≡ true) × (has_voter target.now ≡ true) × (has_path strategy now.now target.now ≡ false)) }
@@ -75,7 +77,7 @@ pub fn plan_by<S: MemberSet>(
         return Err(NoPath::JointTarget);
     }
     let mut steps = Vec::new(alloc);
-    add_path(alloc, strategy, &mut steps, now, target)?;
+    add_path(alloc, strategy, &mut steps, now, target, down)?;
     Ok(Path::of_steps(steps))
 }
 

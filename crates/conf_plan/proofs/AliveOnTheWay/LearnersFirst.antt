@@ -1,33 +1,39 @@
 -- The path on which new voters are learners first: what holds of it, part by part, and how long it is.
-use Rattle.std.proofs.Common.{◌≡◌, ◌+◌, ◌≤◌, true, false, cond, inl, inr, List, [], ◌∷◌, ◌++◌, length, refl, sym, ap, subst, ◌∙◌, arith}
+use Rattle.std.proofs.Common.{◌≡◌, ℕ, ◌+◌, ◌≤◌, Bool, true, false, cond, ◌||◌, ◌==◌, inl, inr, List, [], ◌∷◌, ◌++◌, length, map, refl, sym, ap, subst, ◌∙◌, arith}
 use Rattle.std.specs.Prelude.{nat_le}
-use Rattle.std.proofs.lemmas.Bool.{cases_Bool, cond_both, cond-true, cond-false, both_ways, eqb-true, le-leb, not-false}
+use Rattle.std.proofs.lemmas.Bool.{true≢false, and_left, and_right, or_from, or_left, cases_Bool, cond_both, cond-true, cond-false, both_ways, eqb-true, le-leb, not-false}
 use Rattle.std.proofs.lemmas.List.{length-append}
-use Rattle.quorum_sets.specs.Ids.{Ids, is_empty, difference_count, union}
-use Rattle.conf_change.specs.Configuration.{Configuration, is_joint, is_same}
+use Rattle.quorum_sets.specs.Ids.{Ids, no_ids, has, ascending, is_empty, difference_count, union}
+use Rattle.conf_change.specs.Change.{removes}
+use Rattle.conf_change.specs.Configuration.{Configuration, is_member, is_joint, is_same}
 use Rattle.conf_change.specs.Outcome.{after_leave}
+use Rattle.conf_change.specs.Progress.{keeps_progress}
+use Rattle.conf_change.specs.declared.change.Kind.TheVariants.{Learner}
 use Rattle.conf_change.specs.declared.step.Step.{Step}
 use Rattle.conf_change.specs.declared.step.Step.TheVariants.{Simple, LeaveJoint}
 use Rattle.conf_change.proofs.Offered.{outcome-leave_accepted, is_same-equal, is_same_set-refl, is_empty-no_ids}
-use Rattle.conf_plan.specs.Alive.{HasQuorumsOf, KeepsQuorums, MakesVotersOfReady, VotersLearnFirst, LearnersFirstServes}
+use Rattle.conf_plan.specs.Alive.{HasQuorumsOf, KeepsQuorums, MakesVotersOfReady, NoVoterCatchesUp, LearnersFirstServes}
 use Rattle.conf_plan.specs.LearnersFirst.{newcomers, learner_changes, with_learners, learners_first_from_single}
 use Rattle.conf_plan.specs.PathBy.{path_by}
 use Rattle.conf_plan.specs.Planned.{single_with, single_steps, shared_members, entering_step, planned_from_single, planned}
 use Rattle.conf_plan.specs.Run.{IsValidWithVoter, IsRunWith}
 use Rattle.conf_plan.specs.declared.strategy.Strategy.TheVariants.{LearnersFirst}
 use Rattle.conf_plan.proofs.FindingMoves.ResultingConfiguration.{IsSingle}
+use Rattle.conf_plan.proofs.BestPlan.PreservedMembers.{Keeps, keeps_progress-of_member, planned_from_single-preserves}
+use Rattle.conf_plan.proofs.FindingMoves.OfEachId.{has-union}
 use Rattle.conf_plan.proofs.BestPlan.FewestSteps.{planned-shortest}
 use Rattle.conf_plan.proofs.BestPlan.Theorem.{run-overlaps}
 use Rattle.conf_plan.proofs.PlannedSteps.RunToTarget.{after_leave-is_single, planned-at_most_four}
 use Rattle.conf_plan.proofs.PlannedSteps.Shapes.{planned_from_single-of_shapes}
 use Rattle.conf_plan.proofs.Runs.Chains.{IsRun-from_IsRunWith}
 use Rattle.conf_plan.proofs.AliveOnTheWay.Newcomers.{HasNoNewcomer, HasNoNewcomer-empty, HasNoNewcomer-with_newcomers, moves-learner_changes, newcomers-learn, newcomers-own, newcomers-strangers, with_newcomers-is_single}
+use Rattle.conf_plan.proofs.AliveOnTheWay.Preserving.{PreservesAll-path_by}
 use Rattle.conf_plan.proofs.AliveOnTheWay.Quorums.{AreCovered, AreCovered-now, HasQuorumsOf-covered, planned_from_single-keeps_quorums}
-use Rattle.conf_plan.proofs.AliveOnTheWay.ReadyVoters.{MakesVotersOfReady-same, planned_from_single-makes_ready}
-use Rattle.conf_plan.proofs.AliveOnTheWay.Tolerance.{KeepsTolerance-from_quorums}
+use Rattle.conf_plan.proofs.AliveOnTheWay.ReadyVoters.{KeepsVoters, KeepsVoters-leaving, MakesVotersOfReady-from_kept, NoVoterCatchesUp-from_kept, planned_from_single-keeps_voters}
+use Rattle.conf_plan.proofs.AliveOnTheWay.Tolerance.{IsRunWith-weaker, KeepsTolerance-from_quorums}
 
 abbrev learners_first : Configuration → Configuration → List Step
-learners_first = path_by LearnersFirst
+learners_first = path_by LearnersFirst no_ids
 
 -- ---- its shapes
 -- from a configuration that is not joint, the plan has no first step to leave it
@@ -73,11 +79,11 @@ learners_first-of_shapes now target P nothing leaves apart =
 
 -- ---- what holds at each step
 -- what holds when the configuration is left, when newcomers become learners, and along the plan from a configuration that knows all voters of the target
-record HoldsByParts (Holds : Configuration → Step → Configuration → Type 0) (now target : Configuration) : Type 0 where
-  leaving : Holds now LeaveJoint (after_leave now)
-  learning : (c : Configuration) → c.incoming ≡ now.incoming → IsSingle c
+pub record HoldsByParts (Holds : Configuration → Step → Configuration → Type 0) (now target : Configuration) : Type 0 where
+  pub leaving : Holds now LeaveJoint (after_leave now)
+  pub learning : (c : Configuration) → c.incoming ≡ now.incoming → IsSingle c
       → Holds c (Simple (learner_changes (newcomers c target))) (with_learners c (newcomers c target))
-  planning : (c : Configuration) → c.incoming ≡ now.incoming → IsSingle c → HasNoNewcomer c target → IsRunWith Holds c (planned_from_single c target) target
+  pub planning : (c : Configuration) → c.incoming ≡ now.incoming → IsSingle c → HasNoNewcomer c target → IsRunWith Holds c (planned_from_single c target) target
 
 from_single-holds : (Holds : Configuration → Step → Configuration → Type 0) (now target c : Configuration) → HoldsByParts Holds now target → IsValidWithVoter target
     → c.incoming ≡ now.incoming → IsSingle c → IsRunWith Holds c (learners_first_from_single c target) target
@@ -91,7 +97,7 @@ from_single-holds Holds now target c parts valid_with_voter same single =
       parts.planning learning same (with_newcomers-is_single c target single valid_with_voter) (HasNoNewcomer-with_newcomers c target),
     ))
 
-learners_first-holds : (Holds : Configuration → Step → Configuration → Type 0) (now target : Configuration) → HoldsByParts Holds now target → IsValidWithVoter now → IsValidWithVoter target
+pub learners_first-holds : (Holds : Configuration → Step → Configuration → Type 0) (now target : Configuration) → HoldsByParts Holds now target → IsValidWithVoter now → IsValidWithVoter target
     → IsRunWith Holds now (learners_first now target) target
 learners_first-holds Holds now target parts now_valid_with_voter valid_with_voter =
     learners_first-of_shapes now target (λ steps. IsRunWith Holds now steps target)
@@ -120,15 +126,47 @@ learners_first-keeps_quorums : (now target : Configuration) → IsValidWithVoter
 learners_first-keeps_quorums now target now_valid_with_voter valid_with_voter =
     learners_first-holds (λ before step after. HasQuorumsOf now target after) now target (quorums_by_parts now target valid_with_voter) now_valid_with_voter valid_with_voter
 
-ready_by_parts : (now target : Configuration) → IsValidWithVoter target → HoldsByParts MakesVotersOfReady now target
-ready_by_parts now target valid_with_voter = record {
-  leaving = MakesVotersOfReady-same now (after_leave now) LeaveJoint refl;
-  learning = λ c same single. MakesVotersOfReady-same c (with_learners c (newcomers c target)) (Simple (learner_changes (newcomers c target))) refl;
-  planning = λ c same single known. planned_from_single-makes_ready c target single valid_with_voter known;
+-- a member before newcomers learn stays one, and keeps its progress
+learning-stays : (c target : Configuration) (q : ℕ) → is_member c q ≡ true → is_member (with_learners c (newcomers c target)) q ≡ true
+learning-stays c target q member =
+    ap (λ b. has c.incoming q || has c.outgoing q || b) (has-union c.learners (newcomers c target) q) ∙ more (has c.incoming q || has c.outgoing q) (has c.learners q) _ member
+  where
+    more : (a b n : Bool) → (a || b) ≡ true → (a || (b || n)) ≡ true
+    more true b n some = refl
+    more false true n some = refl
+    more false false n some = absurd (true≢false (sym some))
+
+learning-keeps : (c target : Configuration) (q : ℕ) → is_member c q ≡ true → keeps_progress c (Simple (learner_changes (newcomers c target))) (with_learners c (newcomers c target)) q ≡ true
+learning-keeps c target q member =
+    let new = newcomers c target in
+    keeps_progress-of_member q c (Simple (learner_changes new)) (with_learners c new) member (learning-stays c target q member)
+    (and_left _ _ (no_removal (ascending new)))
+  where
+    no_removal : (ids : List ℕ) → removes (map (λ id. record { kind = Learner; id = id }) ids) q ≡ false
+    no_removal [] = refl
+    no_removal (x ∷ ids) = or_from _ _ (and_right (x == q) _ refl) (no_removal ids)
+
+kept_by_parts : (now target : Configuration) → IsValidWithVoter target → HoldsByParts KeepsVoters now target
+kept_by_parts now target valid_with_voter = record {
+  leaving = KeepsVoters-leaving now;
+  learning = λ c same single q votes. learning-keeps c target q (or_left (has c.incoming q || has c.outgoing q) _ votes);
+  planning = λ c same single known. planned_from_single-keeps_voters c target single valid_with_voter known;
 }
 
-learners_first-makes_ready : (now target : Configuration) → IsValidWithVoter now → IsValidWithVoter target → VotersLearnFirst now (learners_first now target) target
-learners_first-makes_ready now target now_valid_with_voter valid_with_voter = learners_first-holds MakesVotersOfReady now target (ready_by_parts now target valid_with_voter) now_valid_with_voter valid_with_voter
+learners_first-keeps_voters : (now target : Configuration) → IsValidWithVoter now → IsValidWithVoter target → IsRunWith KeepsVoters now (learners_first now target) target
+learners_first-keeps_voters now target now_valid_with_voter valid_with_voter = learners_first-holds KeepsVoters now target (kept_by_parts now target valid_with_voter) now_valid_with_voter valid_with_voter
+
+-- ---- whose progress is preserved
+from_single-keeps : (c target : Configuration) (q : ℕ) → IsSingle c → IsValidWithVoter target → is_member c q ≡ true → is_member target q ≡ true → IsRunWith (Keeps q) c (learners_first_from_single c target) target
+from_single-keeps c target q single valid_with_voter member stays =
+    let learning = with_learners c (newcomers c target) in
+    from_single-of_shapes c target (λ steps. IsRunWith (Keeps q) c steps target) single valid_with_voter
+    (λ no_voter. (planned_from_single-preserves c target q single valid_with_voter member stays).1)
+    (λ some_voter. (
+      learning,
+      (newcomers-learn c target single valid_with_voter, learning-keeps c target q member),
+      (planned_from_single-preserves learning target q (with_newcomers-is_single c target single valid_with_voter) valid_with_voter (learning-stays c target q member) stays).1,
+    ))
 
 -- ---- how long it is
 single_steps-length : (c : Configuration) (voters learners : Ids) → length (single_steps c voters learners) ≡ cond (nat_le (difference_count c.incoming voters) 1) 1 2
@@ -197,12 +235,15 @@ learners_first-serves now target now_valid_with_voter valid_with_voter =
     let quorums = learners_first-keeps_quorums now target now_valid_with_voter valid_with_voter in
     let run = IsRun-from_IsRunWith (λ before step after. HasQuorumsOf now target after) now target (learners_first now target) quorums in
     let longer = learners_first-no_longer now target now_valid_with_voter valid_with_voter in
+    let kept = learners_first-keeps_voters now target now_valid_with_voter valid_with_voter in
     record {
       run = run;
       one_more = λ other is. let least = planned-shortest now target other now_valid_with_voter valid_with_voter is in omega arith;
       at_most_five = let four = planned-at_most_four now target in omega arith;
       quorums = quorums;
-      tolerance = KeepsTolerance-from_quorums now target (learners_first now target) quorums;
-      voters = learners_first-makes_ready now target now_valid_with_voter valid_with_voter;
+      tolerance = λ down. KeepsTolerance-from_quorums down now target (learners_first now target) quorums;
+      voters = IsRunWith-weaker KeepsVoters MakesVotersOfReady MakesVotersOfReady-from_kept now target (learners_first now target) kept;
+      caught_up = IsRunWith-weaker KeepsVoters NoVoterCatchesUp NoVoterCatchesUp-from_kept now target (learners_first now target) kept;
+      preserving = PreservesAll-path_by LearnersFirst no_ids now target now_valid_with_voter (λ differs c single q. from_single-keeps c target q single valid_with_voter);
       overlap = run-overlaps now target (learners_first now target) run;
     }

@@ -1,548 +1,245 @@
--- What holds at each step of the path on which one member changes at a time.
-use Rattle.std.proofs.Common.{◌≡◌, ℕ, ◌+◌, ◌-◌, ◌≤◌, Bool, true, false, cond, not, ◌&&◌, ◌||◌, ◌==◌, inl, inr, List, [], ◌∷◌, ◌++◌, length, refl, sym, ap, subst, ◌∙◌, arith, eqb-true, eq-eqb}
-use Rattle.std.specs.Prelude.{None, min, filter, filter_map, option_map}
-use Rattle.std.specs.List.{cons_option, AllByRecursion}
-use Rattle.std.specs.List.Sorted.{IsStrictlySortedBy}
-use Rattle.std.specs.Ordering.{nat_cmp}
-use Rattle.std.specs.declared.cmp.Ordering.TheVariants.{Less}
-use Rattle.std.proofs.lemmas.Bool.{true≢false, both_ways, cond_both, false_from_ne_true, ne_eqb, not-true, or_from, or_left, or_right, or_parts, or_cases}
-use Rattle.std.proofs.lemmas.List.Kept.{IsStrictlySortedBy-filter}
-use Rattle.quorum_sets.specs.Ids.{Ids, no_ids, has, with_id, without_id, ascending, size, is_empty, union}
-use Rattle.quorum_sets.proofs.Offered.{ascending-is_sorted, has-ascending, has-ids_of, has-ids_where, has-same_ids, has-with_id, has-without_id, size-without_id}
-use Rattle.conf_change.specs.Configuration.{Configuration, ValidByMember, is_joint, is_same}
-use Rattle.conf_change.specs.Outcome.{after_leave}
-use Rattle.conf_change.specs.declared.change.Kind.TheVariants.{Voter, Learner, Remove}
+-- The path on which one member changes at a time leads to the target, and what holds at each of its steps.
+use Rattle.std.proofs.Common.{◌≡◌, ℕ, Bool, true, false, cond, not, ◌&&◌, ◌||◌, ◌==◌, List, [], ◌∷◌, ◌++◌, refl, sym, ap, subst, ◌∙◌, eqb-true, eq-eqb}
+use Rattle.std.specs.Prelude.{flat_map, option_map}
+use Rattle.std.specs.Cmp.{nat_eq_equiv}
+use Rattle.std.specs.List.{cons_option}
+use Rattle.std.proofs.lemmas.Bool.{true≢false, both_ways, false_from_ne_true, and_left, and_right, or_from, or_left, or_right, or_parts}
+use Rattle.std.proofs.lemmas.List.Concat.{flat_map-cons}
+use Rattle.quorum_sets.specs.Ids.{Ids, no_ids, has, with_id, is_empty}
+use Rattle.quorum_sets.proofs.Offered.{has-same_ids, has-with_id}
+use Rattle.conf_change.specs.Change.{is_removal}
+use Rattle.conf_change.specs.Configuration.{Configuration, ValidByMember, is_member}
+use Rattle.conf_change.specs.Progress.{keeps_progress}
+use Rattle.conf_change.specs.declared.change.Kind.TheVariants.{Learner}
 use Rattle.conf_change.specs.declared.step.Step.{Step}
-use Rattle.conf_change.specs.declared.step.Step.TheVariants.{LeaveJoint}
-use Rattle.conf_change.proofs.Offered.{ValidByMember-from_is_valid, is_same-equal, outcome-leave_accepted}
-use Rattle.conf_plan.specs.Alive.{IsOneChange, MakesVotersOfReady}
-use Rattle.conf_plan.specs.OneAtATime.{one_change, joining, retiring, join_steps, retire_step, in_turn, learner_change, learner_steps, one_at_a_time_from_single}
+use Rattle.conf_plan.specs.Alive.{ChangesOneLearnerFirst}
+use Rattle.conf_plan.specs.OneAtATime.{one_change, steps_of}
 use Rattle.conf_plan.specs.Planned.{kind_by, single_with}
-use Rattle.conf_plan.specs.PathBy.{has_path, path_by}
-use Rattle.conf_plan.specs.Run.{IsValidWithVoter, Gives, IsRunWith}
-use Rattle.conf_plan.specs.declared.strategy.Strategy.TheVariants.{OneAtATime}
-use Rattle.conf_plan.proofs.AliveOnTheWay.OneChange.{one_change-joins, one_change-retires, is_empty-from_has}
-use Rattle.conf_plan.proofs.AliveOnTheWay.ReadyVoters.{MakesVotersOfReady-same}
-use Rattle.conf_plan.proofs.BestPlan.PreservedMembers.{keeps_progress-of_member, is_member-single_with}
-use Rattle.conf_plan.proofs.FindingMoves.OfEachId.{has-union}
-use Rattle.conf_plan.proofs.FindingMoves.ResultingConfiguration.{IsSingle}
-use Rattle.conf_plan.proofs.FindingMoves.AscendingIds.{holds, holds-above}
-use Rattle.conf_plan.proofs.PlannedSteps.RunToTarget.{single_with-own, after_leave-is_single}
+use Rattle.conf_plan.specs.Run.{Gives, IsRunWith}
+use Rattle.conf_plan.proofs.AliveOnTheWay.OneChange.{kind_for, one_change-leads}
+use Rattle.conf_plan.proofs.AliveOnTheWay.OrderOfIds.{AreOnce, AreOnce-first, AreOnce-rest, mixed, between, has-mixed, has-mixed_done, has-mixed_first}
+use Rattle.conf_plan.proofs.BestPlan.PreservedMembers.{is_member-single_with, keeps_progress-of_member}
+use Rattle.conf_plan.proofs.FindingMoves.AscendingIds.{holds}
 use Rattle.conf_plan.proofs.Runs.Chains.{IsChain-append}
 
--- ---- lists of ids
--- no id is there twice
-abbrev pub AreOnce : List ℕ → Type 0
-AreOnce [] = Unit {0}
-AreOnce (id ∷ ids) = (holds id ids ≡ false) × AreOnce ids
-
-below_rest : (x : ℕ) (ids : List ℕ) → AllByRecursion (λ y. nat_cmp x y ≡ Less) ids → holds x ids ≡ false
-below_rest x ids above = false_from_ne_true _ (λ here. let below = holds-above x x ids above here in absurd (omega (arith, below)))
-
-AreOnce-sorted : (ids : List ℕ) → IsStrictlySortedBy nat_cmp ids → AreOnce ids
-unfolding IsStrictlySortedBy
-AreOnce-sorted [] up = tt
-AreOnce-sorted (id ∷ ids) up = (below_rest id ids up.0, AreOnce-sorted ids up.1)
-
-pub AreOnce-where : (test : ℕ → Bool) (ids : Ids) → AreOnce (filter test (ascending ids))
-AreOnce-where test ids = AreOnce-sorted _ (IsStrictlySortedBy-filter nat_cmp test (ascending ids) (ascending-is_sorted ids))
-
-pub holds-where : (test : ℕ → Bool) (ids : Ids) (q : ℕ) → holds q (filter test (ascending ids)) ≡ (test q && has ids q)
-holds-where test ids q =
-    sym (has-ids_of (filter test (ascending ids)) q) ∙ has-ids_where test (ascending ids) q ∙ ap (λ b. test q && b) (sym (has-ascending ids q))
-
--- ---- one id more or less
-without_other : (ids : Ids) (id : ℕ) → has ids id ≡ false → without_id ids id ≡ ids
-without_other ids id new =
-    has-same_ids (without_id ids id) ids (λ q. has-without_id ids id q ∙ left (q == id) (has ids q) (λ same. ap (has ids) (eqb-true q id same) ∙ new))
-  where
-    left : (same was : Bool) → (same ≡ true → was ≡ false) → (not same && was) ≡ was
-    left true was none = sym (none refl)
-    left false was none = refl
-
-has_own : (ids : Ids) (id : ℕ) → has (with_id ids id) id ≡ true
-has_own ids id = has-with_id ids id id ∙ or_left (id == id) (has ids id) (eq-eqb id id refl)
-
-back : (ids : Ids) (id : ℕ) → has ids id ≡ false → without_id (with_id ids id) id ≡ ids
-back ids id new =
-    has-same_ids (without_id (with_id ids id) id) ids (λ q.
-    has-without_id (with_id ids id) id q ∙ ap (λ b. not (q == id) && b) (has-with_id ids id q) ∙ left (q == id) (has ids q) (λ same. ap (has ids) (eqb-true q id same) ∙ new))
-  where
-    left : (same was : Bool) → (same ≡ true → was ≡ false) → (not same && (same || was)) ≡ was
-    left true was none = sym (none refl)
-    left false was none = refl
-
-size_some : (ids : Ids) (id : ℕ) → has ids id ≡ true → 1 ≤ size ids
-size_some ids id here =
-    let some : size ids ≡ 0 → ⊥ = λ none. both_ways (is_empty ids) (is_empty-from_has ids id here) (eq-eqb (size ids) 0 none) in
-    omega (arith, some)
-
-pub size-joined : (ids : Ids) (id : ℕ) → has ids id ≡ false → size (with_id ids id) ≡ size ids + 1
-size-joined ids id new =
-    let more = with_id ids id in
-    let less : size ids ≡ cond (has more id) (size more - 1) (size more) = ap size (sym (back ids id new)) ∙ size-without_id more id in
-    let one_less : size ids ≡ size more - 1 = less ∙ ap (λ b. cond b (size more - 1) (size more)) (has_own ids id) in
-    let some = size_some more id (has_own ids id) in
-    omega (arith, one_less, some)
-
-pub size-retired : (ids : Ids) (id : ℕ) → has ids id ≡ true → size (without_id ids id) ≡ size ids - 1
-size-retired ids id here = size-without_id ids id ∙ ap (λ b. cond b (size ids - 1) (size ids)) here
-
-not_zero : (ids : Ids) (id : ℕ) → has ids 0 ≡ false → has ids id ≡ true → (id == 0) ≡ false
-not_zero ids id none here = false_from_ne_true _ (λ zero. both_ways (has ids 0) none (ap (has ids) (sym (eqb-true id 0 zero)) ∙ here))
-
 -- ---- a step
--- It has one change, makes voters of learners alone that keep their progress, and leads to a configuration that is not joint, with this many voters at least.
-pub record IsTurn (bound : ℕ) (before : Configuration) (step : Step) (after : Configuration) : Type 0 where
-  pub one : IsOneChange step
-  pub ready : MakesVotersOfReady before step after
+-- It changes one member, makes voters of learners alone, resets no member's progress, and leads to a configuration that is not joint, of whose voters something holds; the members of both ends are members.
+pub record IsTurn (Enough : Ids → Type 0) (c target : Configuration) (before : Configuration) (step : Step) (after : Configuration) : Type 0 where
+  pub learner_first : ChangesOneLearnerFirst before step after
+  pub kept : (q : ℕ) → is_member before q ≡ true → is_member after q ≡ true → keeps_progress before step after q ≡ true
+  pub stays : (q : ℕ) → is_member c q ≡ true → is_member target q ≡ true → is_member after q ≡ true
   pub single : after.outgoing ≡ no_ids
-  pub enough : bound ≤ size after.incoming
+  pub enough : Enough after.incoming
 
-not_empty : (bound : ℕ) (ids : Ids) → 1 ≤ bound → bound ≤ size ids → is_empty ids ≡ false
-not_empty bound ids one enough = ne_eqb (size ids) 0 (λ none. omega (arith, one, enough, none))
+-- something that holds of no empty set
+abbrev pub NeedsSome : (Ids → Type 0) → Type 0
+NeedsSome Enough = (ids : Ids) → Enough ids → is_empty ids ≡ false
 
--- a learner becomes a voter
-learner_votes : (bound : ℕ) (voters learners : Ids) (id : ℕ) → (id == 0) ≡ false → has voters id ≡ false → has learners id ≡ true → bound ≤ size voters
-    → Gives (single_with voters learners) (one_change Voter id) (single_with (with_id voters id) (without_id learners id))
-    × IsTurn bound (single_with voters learners) (one_change Voter id) (single_with (with_id voters id) (without_id learners id))
-learner_votes bound voters learners id other new learner enough =
-    let before = single_with voters learners in
-    let after = single_with (with_id voters id) (without_id learners id) in (
-      one_change-joins voters learners id other,
-      record {
-        one = refl;
-        ready = λ q votes none.
-            let same : q ≡ id = eqb-true q id (elim (or_cases (q == id) (has voters q) (sym (has-with_id voters id q) ∙ votes)) [
-              | inl same ↦ same
-              | inr voted ↦ absurd (both_ways (has voters q) (or_parts _ _ none).0 voted)
-            ]) in
-            let learns : has learners q ≡ true = ap (has learners) same ∙ learner in
-            record {
-              learner = learns;
-              kept = keeps_progress-of_member q before (one_change Voter id) after
-                  (is_member-single_with voters learners q ∙ or_right (has voters q) (has learners q) learns)
-                  (is_member-single_with (with_id voters id) (without_id learners id) q ∙ or_left (has (with_id voters id) q) _ votes)
-                  (ap (λ b. b && not (has after.outgoing q)) (no_removal (id == q)));
-            };
-        single = refl;
-        enough = let more = size-joined voters id new in omega (arith, more, enough);
-      },
-    )
+-- an id gets these roles, and the others keep theirs; a new voter was a learner
+turn : (Enough : Ids → Type 0) (c target : Configuration) (voters learners voters_after learners_after : Ids) (votes learns : Bool) (id : ℕ) → NeedsSome Enough → (id == 0) ≡ false
+    → (votes ≡ true → learns ≡ false) → (votes ≡ true → has learners id ≡ true)
+    → ((q : ℕ) → has voters_after q ≡ cond (q == id) votes (has voters q)) → ((q : ℕ) → has learners_after q ≡ cond (q == id) learns (has learners q))
+    → ((q : ℕ) → is_member c q ≡ true → is_member target q ≡ true → is_member (single_with voters_after learners_after) q ≡ true) → Enough voters_after
+    → Gives (single_with voters learners) (one_change (kind_for votes learns) id) (single_with voters_after learners_after)
+    × IsTurn Enough c target (single_with voters learners) (one_change (kind_for votes learns) id) (single_with voters_after learners_after)
+turn Enough c target voters learners voters_after learners_after votes learns id needs other apart learned votes_at learns_at stays enough = (
+  one_change-leads voters learners voters_after learners_after votes learns id other apart (needs voters_after enough) votes_at learns_at,
+  record {
+    learner_first = record {
+      one = refl;
+      learners = λ q is_voter new. new_voter q (q == id) refl (sym (votes_at q) ∙ is_voter) (or_parts (has voters q) (has no_ids q) new).0;
+    };
+    kept = λ q was is. keeps_progress-of_member q before step after was is (and_left _ _ (or_from _ _ (no_removal votes learns votes_at learns_at q is) refl));
+    stays = stays;
+    single = refl;
+    enough = enough;
+  },
+)
   where
-    no_removal : (b : Bool) → ((b && false) || false) ≡ false
-    no_removal true = refl
-    no_removal false = refl
+    before : Configuration
+    before = single_with voters learners
 
--- an id that does not vote becomes a learner, or is removed
-stranger_becomes : (bound : ℕ) (learns : Bool) (voters learners : Ids) (id : ℕ) → (id == 0) ≡ false → has voters id ≡ false → 1 ≤ bound → bound ≤ size voters
-    → Gives (single_with voters learners) (one_change (cond learns Learner Remove) id) (single_with voters (cond learns (with_id learners id) (without_id learners id)))
-    × IsTurn bound (single_with voters learners) (one_change (cond learns Learner Remove) id) (single_with voters (cond learns (with_id learners id) (without_id learners id)))
-stranger_becomes bound learns voters learners id other new one enough =
-    let same = without_other voters id new in
-    let step = one_change (cond learns Learner Remove) id in
-    let others = cond learns (with_id learners id) (without_id learners id) in
-    let P : Ids → Type 0 = λ s. Gives (single_with voters learners) step (single_with s others) in (
-      subst P same (one_change-retires learns voters learners id other (ap is_empty same ∙ not_empty bound voters one enough)),
-      record { one = refl; ready = MakesVotersOfReady-same (single_with voters learners) (single_with voters others) step refl; single = refl; enough = enough },
-    )
+    step : Step
+    step = one_change (kind_for votes learns) id
 
--- the voters that are left were voters
-MakesVotersOfReady-fewer : (voters learners others : Ids) (id : ℕ) (step : Step) → MakesVotersOfReady (single_with voters learners) step (single_with (without_id voters id) others)
-MakesVotersOfReady-fewer voters learners others id step q votes none =
-    absurd (both_ways (has voters q) (or_parts _ _ none).0 (and_right_true (not (q == id)) (has voters q) (sym (has-without_id voters id q) ∙ votes)))
+    after : Configuration
+    after = single_with voters_after learners_after
+
+    -- a member after it was not removed
+    no_removal : (votes learns : Bool) → ((q : ℕ) → has voters_after q ≡ cond (q == id) votes (has voters q)) → ((q : ℕ) → has learners_after q ≡ cond (q == id) learns (has learners q))
+        → (q : ℕ) → is_member after q ≡ true → ((id == q) && is_removal (kind_for votes learns)) ≡ false
+    no_removal true learns votes_at learns_at q is = and_right (id == q) _ refl
+    no_removal false true votes_at learns_at q is = and_right (id == q) _ refl
+    no_removal false false votes_at learns_at q is =
+        and_left (id == q) _ (false_from_ne_true (id == q) (λ same. both_ways (is_member after q)
+        (is_member-single_with voters_after learners_after q
+        ∙ (λ i. (votes_at q ∙ ap (λ b. cond b false (has voters q)) (here q same)) i || (learns_at q ∙ ap (λ b. cond b false (has learners q)) (here q same)) i)) is))
+      where
+        here : (q : ℕ) → (id == q) ≡ true → (q == id) ≡ true
+        here q same = nat_eq_equiv.symm q id ∙ same
+
+    new_voter : (q : ℕ) (same : Bool) → (q == id) ≡ same → cond same votes (has voters q) ≡ true → has voters q ≡ false → has learners q ≡ true
+    new_voter q true is votes_now new = ap (has learners) (eqb-true q id is) ∙ learned votes_now
+    new_voter q false is votes_now new = absurd (both_ways (has voters q) new votes_now)
+
+-- ---- the steps of one id
+-- an id that has a role is not 0
+not_zero : (a b : Ids) (id : ℕ) → has a 0 ≡ false → has b 0 ≡ false → (has a id || has b id) ≡ true → (id == 0) ≡ false
+not_zero a b id none_a none_b some =
+    false_from_ne_true (id == 0) (λ zero. both_ways _ (or_from (has a 0) (has b 0) none_a none_b) (ap (λ x. has a x || has b x) (sym (eqb-true id 0 zero)) ∙ some))
+
+-- a member of both ends is a member on the way
+stays_between : (c target : Configuration) (left : List ℕ) → c.outgoing ≡ no_ids → target.outgoing ≡ no_ids
+    → (q : ℕ) → is_member c q ≡ true → is_member target q ≡ true → is_member (between c target left) q ≡ true
+stays_between c target left single_c single q was becomes =
+    is_member-single_with (mixed c.incoming target.incoming left) (mixed c.learners target.learners left) q
+    ∙ (λ i. has-mixed c.incoming target.incoming left q i || has-mixed c.learners target.learners left q i)
+    ∙ either (holds q left) (has c.incoming q) (has target.incoming q) (has c.learners q) (has target.learners q) (roles c single_c was) (roles target single becomes)
   where
-    and_right_true : (a b : Bool) → (a && b) ≡ true → b ≡ true
-    and_right_true true b e = e
-    and_right_true false b e = absurd (true≢false (sym e))
+    roles : (d : Configuration) → d.outgoing ≡ no_ids → is_member d q ≡ true → (has d.incoming q || has d.learners q) ≡ true
+    roles d none member = sym (is_member-single_with d.incoming d.learners q) ∙ (λ i. has d.incoming q || has (sym none i) q || has d.learners q) ∙ member
 
--- ---- who still has to join or to retire
-abbrev pub waits : List ℕ → List ℕ → ℕ → Bool
-waits joins retires q = holds q joins || holds q retires
+    either : (waits a b l m : Bool) → (a || l) ≡ true → (b || m) ≡ true → (cond waits a b || cond waits l m) ≡ true
+    either true a b l m was becomes = was
+    either false a b l m was becomes = becomes
 
--- the id is an incoming voter of neither
-abbrev pub votes_nowhere : Configuration → Configuration → ℕ → Bool
-votes_nowhere c target q = not (has c.incoming q || has target.incoming q)
+-- the steps that an id needs by its roles: in the target (voter, learner) and now
+abbrev pub steps_by : Bool → Bool → Bool → Bool → ℕ → List Step
+steps_by will_vote will_learn votes learns id =
+    cond (will_vote && not (votes || learns)) (one_change Learner id ∷ []) []
+    ++ cons_option (option_map (λ kind. one_change kind id) (kind_by will_vote will_learn votes learns)) []
 
--- whether an id learns once the voters are those of the target
-abbrev pub learned : Configuration → Configuration → ℕ → Bool
-learned c target q = cond (votes_nowhere c target q) (has c.learners q) (has target.learners q)
-
--- The ids that still have to join or to retire are as in the current configuration, and the others vote as in the target. Those that vote at neither end learn as in the current configuration.
-pub record IsAtTurn (c target : Configuration) (joins retires : List ℕ) (voters learners : Ids) : Type 0 where
-  pub joins_once : AreOnce joins
-  pub retires_once : AreOnce retires
-  pub joining : (q : ℕ) → holds q joins ≡ true → (has c.incoming q ≡ false) × (has target.incoming q ≡ true)
-  pub retiring : (q : ℕ) → holds q retires ≡ true → (has c.incoming q ≡ true) × (has target.incoming q ≡ false)
-  pub voters_at : (q : ℕ) → has voters q ≡ cond (waits joins retires q) (has c.incoming q) (has target.incoming q)
-  pub learners_at : (q : ℕ) → has learners q ≡ cond (waits joins retires q || votes_nowhere c target q) (has c.learners q) (has target.learners q)
-
--- An id that is done is as it becomes, and one that waits is as it was. One more is done: it is added, it is taken away, or nothing changes.
-one_comes : (same waited left was becomes now : Bool) → (same ≡ true → left ≡ false) → (same ≡ false → waited ≡ left) → (same ≡ true → becomes ≡ true)
-    → now ≡ cond waited was becomes → (same || now) ≡ cond left was becomes
-one_comes true waited left was becomes now done alike wanted e = sym (λ i. cond (done refl i) was (wanted refl i))
-one_comes false waited left was becomes now done alike wanted e = e ∙ ap (λ b. cond b was becomes) (alike refl)
-
-one_goes : (same waited left was becomes now : Bool) → (same ≡ true → left ≡ false) → (same ≡ false → waited ≡ left) → (same ≡ true → becomes ≡ false)
-    → now ≡ cond waited was becomes → (not same && now) ≡ cond left was becomes
-one_goes true waited left was becomes now done alike wanted e = sym (λ i. cond (done refl i) was (wanted refl i))
-one_goes false waited left was becomes now done alike wanted e = e ∙ ap (λ b. cond b was becomes) (alike refl)
-
-one_stays : (same waited left was becomes now : Bool) → (same ≡ true → left ≡ false) → (same ≡ false → waited ≡ left) → (same ≡ true → was ≡ becomes)
-    → now ≡ cond waited was becomes → now ≡ cond left was becomes
-one_stays true waited left was becomes now done alike wanted e = e ∙ same_either waited was becomes (wanted refl) ∙ sym (λ i. cond (done refl i) was becomes)
+pub steps_of-lead : (Enough : Ids → Type 0) (c target : Configuration) (id : ℕ) (left : List ℕ) → NeedsSome Enough → ValidByMember c → ValidByMember target → c.outgoing ≡ no_ids → target.outgoing ≡ no_ids
+    → holds id left ≡ false → Enough (mixed c.incoming target.incoming (id ∷ left)) → Enough (mixed c.incoming target.incoming left)
+    → IsRunWith (IsTurn Enough c target) (between c target (id ∷ left)) (steps_of c target id) (between c target left)
+steps_of-lead Enough c target id left needs valid_c valid single_c single once enough enough_after =
+    by (has target.incoming id) (has target.learners id) (has c.incoming id) (has c.learners id) refl refl refl refl
   where
-    same_either : (b was becomes : Bool) → was ≡ becomes → cond b was becomes ≡ becomes
-    same_either true was becomes e = e
-    same_either false was becomes e = refl
-one_stays false waited left was becomes now done alike wanted e = e ∙ ap (λ b. cond b was becomes) (alike refl)
+    voters : Ids
+    voters = mixed c.incoming target.incoming (id ∷ left)
 
--- ---- one joins
-holds_head : (id : ℕ) (ids : List ℕ) (q : ℕ) → (q == id) ≡ true → holds q (id ∷ ids) ≡ true
-holds_head id ids q same = or_left (q == id) (holds q ids) same
+    learners : Ids
+    learners = mixed c.learners target.learners (id ∷ left)
 
-holds_tail : (id : ℕ) (ids : List ℕ) (q : ℕ) → holds q ids ≡ true → holds q (id ∷ ids) ≡ true
-holds_tail id ids q later = or_right (q == id) (holds q ids) later
+    voters_after : Ids
+    voters_after = mixed c.incoming target.incoming left
 
-not_again : (id : ℕ) (ids : List ℕ) (q : ℕ) → holds id ids ≡ false → (q == id) ≡ true → holds q ids ≡ false
-not_again id ids q once same = ap (λ x. holds x ids) (eqb-true q id same) ∙ once
+    learners_after : Ids
+    learners_after = mixed c.learners target.learners left
 
-pub IsAtTurn-joined : (c target : Configuration) (id : ℕ) (joins retires : List ℕ) (voters learners : Ids) → ValidByMember target
-    → IsAtTurn c target (id ∷ joins) retires voters learners → IsAtTurn c target joins retires (with_id voters id) (without_id learners id)
-IsAtTurn-joined c target id joins retires voters learners valid at = record {
-  joins_once = at.joins_once.1;
-  retires_once = at.retires_once;
-  joining = λ q later. at.joining q (holds_tail id joins q later);
-  retiring = at.retiring;
-  voters_at = λ q.
-      has-with_id voters id q
-      ∙ one_comes (q == id) (waits (id ∷ joins) retires q) (waits joins retires q) (has c.incoming q) (has target.incoming q) (has voters q)
-      (done q) (λ apart i. (apart i || holds q joins) || holds q retires) (λ same. (new q same).1) (at.voters_at q);
-  learners_at = λ q.
-      has-without_id learners id q
-      ∙ one_goes (q == id) (waits (id ∷ joins) retires q || votes_nowhere c target q) (waits joins retires q || votes_nowhere c target q) (has c.learners q) (has target.learners q) (has learners q)
-      (λ same. or_from _ _ (done q same) (ap not (or_right (has c.incoming q) (has target.incoming q) (new q same).1)))
-      (λ apart i. ((apart i || holds q joins) || holds q retires) || votes_nowhere c target q)
-      (λ same. false_from_ne_true _ (λ learns. both_ways _ (valid.learner_incoming q learns) (new q same).1)) (at.learners_at q);
-}
-  where
-    new : (q : ℕ) → (q == id) ≡ true → (has c.incoming q ≡ false) × (has target.incoming q ≡ true)
-    new q same = at.joining q (holds_head id joins q same)
+    votes_at : (b : Bool) → has target.incoming id ≡ b → (q : ℕ) → has voters_after q ≡ cond (q == id) b (has voters q)
+    votes_at b is q = has-mixed_done c.incoming target.incoming id left once q ∙ ap (λ x. cond (q == id) x (has voters q)) is
 
-    done : (q : ℕ) → (q == id) ≡ true → waits joins retires q ≡ false
-    done q same = or_from _ _ (not_again id joins q at.joins_once.0 same) (false_from_ne_true _ (λ retires. both_ways _ (new q same).0 (at.retiring q retires).0))
+    learns_at : (b : Bool) → has target.learners id ≡ b → (q : ℕ) → has learners_after q ≡ cond (q == id) b (has learners q)
+    learns_at b is q = has-mixed_done c.learners target.learners id left once q ∙ ap (λ x. cond (q == id) x (has learners q)) is
 
--- ---- one retires
--- the learners after an id has retired
-abbrev retired_to : Configuration → Ids → ℕ → Ids
-retired_to target learners id = cond (has target.learners id) (with_id learners id) (without_id learners id)
+    votes_now : (b : Bool) → has c.incoming id ≡ b → has voters id ≡ b
+    votes_now b is = has-mixed_first c.incoming target.incoming id left ∙ is
 
-pub IsAtTurn-retired : (c target : Configuration) (id : ℕ) (joins retires : List ℕ) (voters learners : Ids)
-    → IsAtTurn c target joins (id ∷ retires) voters learners → IsAtTurn c target joins retires (without_id voters id) (retired_to target learners id)
-IsAtTurn-retired c target id joins retires voters learners at = record {
-  joins_once = at.joins_once;
-  retires_once = at.retires_once.1;
-  joining = at.joining;
-  retiring = λ q later. at.retiring q (holds_tail id retires q later);
-  voters_at = λ q.
-      has-without_id voters id q
-      ∙ one_goes (q == id) (waits joins (id ∷ retires) q) (waits joins retires q) (has c.incoming q) (has target.incoming q) (has voters q)
-      (done q) (λ apart i. holds q joins || (apart i || holds q retires)) (λ same. (old q same).1) (at.voters_at q);
-  learners_at = λ q.
-      cond_both (has target.learners id) (with_id learners id) (without_id learners id)
-      (λ s. has s q ≡ cond (waits joins retires q || votes_nowhere c target q) (has c.learners q) (has target.learners q))
-      (λ learns.
-      has-with_id learners id q
-      ∙ one_comes (q == id) (waits joins (id ∷ retires) q || votes_nowhere c target q) (waits joins retires q || votes_nowhere c target q) (has c.learners q) (has target.learners q) (has learners q)
-      (λ same. or_from _ _ (done q same) (voted q same)) (λ apart i. (holds q joins || (apart i || holds q retires)) || votes_nowhere c target q)
-      (λ same. ap (has target.learners) (eqb-true q id same) ∙ learns) (at.learners_at q))
-      (λ goes.
-      has-without_id learners id q
-      ∙ one_goes (q == id) (waits joins (id ∷ retires) q || votes_nowhere c target q) (waits joins retires q || votes_nowhere c target q) (has c.learners q) (has target.learners q) (has learners q)
-      (λ same. or_from _ _ (done q same) (voted q same)) (λ apart i. (holds q joins || (apart i || holds q retires)) || votes_nowhere c target q)
-      (λ same. ap (has target.learners) (eqb-true q id same) ∙ goes) (at.learners_at q));
-}
-  where
-    old : (q : ℕ) → (q == id) ≡ true → (has c.incoming q ≡ true) × (has target.incoming q ≡ false)
-    old q same = at.retiring q (holds_head id retires q same)
+    learns_now : (b : Bool) → has c.learners id ≡ b → has learners id ≡ b
+    learns_now b is = has-mixed_first c.learners target.learners id left ∙ is
 
-    done : (q : ℕ) → (q == id) ≡ true → waits joins retires q ≡ false
-    done q same = or_from _ _ (false_from_ne_true _ (λ joins. both_ways _ (at.joining q joins).0 (old q same).0)) (not_again id retires q at.retires_once.0 same)
+    -- where an id is as it becomes, nothing changes
+    unaltered : (ids : Ids) (b : Bool) → has ids id ≡ b → (q : ℕ) → cond (q == id) b (has ids q) ≡ has ids q
+    unaltered ids b is q = own (q == id) refl
+      where
+        own : (same : Bool) → (q == id) ≡ same → cond same b (has ids q) ≡ has ids q
+        own true here = sym is ∙ ap (has ids) (sym (eqb-true q id here))
+        own false here = refl
 
-    voted : (q : ℕ) → (q == id) ≡ true → not (has c.incoming q || has target.incoming q) ≡ false
-    voted q same = ap not (or_left (has c.incoming q) (has target.incoming q) (old q same).0)
+    nothing : (wv wl : Bool) → has target.incoming id ≡ wv → has target.learners id ≡ wl → has c.incoming id ≡ wv → has c.learners id ≡ wl → between c target (id ∷ left) ≡ between c target left
+    nothing wv wl is_wv is_wl is_v is_l = λ i.
+        single_with (has-same_ids voters voters_after (λ q. sym (votes_at wv is_wv q ∙ unaltered voters wv (votes_now wv is_v) q)) i)
+        (has-same_ids learners learners_after (λ q. sym (learns_at wl is_wl q ∙ unaltered learners wl (learns_now wl is_l) q)) i)
 
--- ---- the first turn
-first_votes : (was becomes : Bool) → was ≡ cond ((not was && becomes) || (not becomes && was)) was becomes
-first_votes true true = refl
-first_votes true false = refl
-first_votes false true = refl
-first_votes false false = refl
+    -- a voter is not a learner too
+    voter_alone : (d : Configuration) → ValidByMember d → has d.incoming id ≡ true → has d.learners id ≡ false
+    voter_alone d valid_d voter = false_from_ne_true (has d.learners id) (λ learner. both_ways (has d.incoming id) (valid_d.learner_incoming id learner) voter)
 
-first_learns : (was becomes learned learns : Bool) → (learned ≡ true → was ≡ false) → (learns ≡ true → becomes ≡ false)
-    → learned ≡ cond (((not was && becomes) || (not becomes && was)) || not (was || becomes)) learned learns
-first_learns true true learned learns before after = false_from_ne_true learned (λ e. true≢false (before e)) ∙ sym (false_from_ne_true learns (λ e. true≢false (after e)))
-first_learns true false learned learns before after = refl
-first_learns false true learned learns before after = refl
-first_learns false false learned learns before after = refl
-
-not_and : (a b : Bool) → (not a && b) ≡ true → (a ≡ false) × (b ≡ true)
-not_and true b e = absurd (true≢false (sym e))
-not_and false b e = (refl, e)
-
-pub IsAtTurn-first : (c target : Configuration) → ValidByMember c → ValidByMember target → IsAtTurn c target (joining c target) (retiring c target) c.incoming c.learners
-IsAtTurn-first c target valid_c valid = record {
-  joins_once = AreOnce-where (λ id. not (has c.incoming id)) target.incoming;
-  retires_once = AreOnce-where (λ id. not (has target.incoming id)) c.incoming;
-  joining = λ q here. not_and (has c.incoming q) (has target.incoming q) (sym (joins q) ∙ here);
-  retiring = λ q here. let parts = not_and (has target.incoming q) (has c.incoming q) (sym (goes q) ∙ here) in (parts.1, parts.0);
-  voters_at = λ q.
-      first_votes (has c.incoming q) (has target.incoming q) ∙ (λ i. cond (sym (joins q) i || sym (goes q) i) (has c.incoming q) (has target.incoming q));
-  learners_at = λ q.
-      first_learns (has c.incoming q) (has target.incoming q) (has c.learners q) (has target.learners q) (valid_c.learner_incoming q) (valid.learner_incoming q)
-      ∙ (λ i. cond ((sym (joins q) i || sym (goes q) i) || votes_nowhere c target q) (has c.learners q) (has target.learners q));
-}
-  where
-    joins : (q : ℕ) → holds q (joining c target) ≡ (not (has c.incoming q) && has target.incoming q)
-    joins q = holds-where (λ id. not (has c.incoming id)) target.incoming q
-
-    goes : (q : ℕ) → holds q (retiring c target) ≡ (not (has target.incoming q) && has c.incoming q)
-    goes q = holds-where (λ id. not (has target.incoming id)) c.incoming q
-
--- ---- how many vote
--- an id that comes next to join does not vote, and one that comes next to retire does
-first_joins : (c target : Configuration) (id : ℕ) (joins retires : List ℕ) (voters learners : Ids) → IsAtTurn c target (id ∷ joins) retires voters learners
-    → (has voters id ≡ false) × (has learners id ≡ has c.learners id)
-first_joins c target id joins retires voters learners at =
-    let here : holds id (id ∷ joins) ≡ true = holds_head id joins id (eq-eqb id id refl) in
-    let waiting : waits (id ∷ joins) retires id ≡ true = or_left (holds id (id ∷ joins)) (holds id retires) here in (
-      at.voters_at id ∙ ap (λ b. cond b (has c.incoming id) (has target.incoming id)) waiting ∙ (at.joining id here).0,
-      at.learners_at id ∙ ap (λ b. cond (b || votes_nowhere c target id) (has c.learners id) (has target.learners id)) waiting,
+    -- one change, to what the id becomes
+    changed : (wv wl : Bool) → has target.incoming id ≡ wv → has target.learners id ≡ wl → (id == 0) ≡ false → (wv ≡ true → has c.learners id ≡ true)
+        → IsRunWith (IsTurn Enough c target) (between c target (id ∷ left)) (one_change (kind_for wv wl) id ∷ []) (between c target left)
+    changed wv wl is_wv is_wl other learned = (
+      between c target left,
+      turn Enough c target voters learners voters_after learners_after wv wl id needs other
+          (λ votes. sym is_wl ∙ voter_alone target valid (is_wv ∙ votes)) (λ votes. learns_now true (learned votes))
+          (votes_at wv is_wv) (learns_at wl is_wl) (stays_between c target left single_c single) enough_after,
+      refl,
     )
 
-first_retires : (c target : Configuration) (id : ℕ) (joins retires : List ℕ) (voters learners : Ids) → IsAtTurn c target joins (id ∷ retires) voters learners → has voters id ≡ true
-first_retires c target id joins retires voters learners at =
-    let here : holds id (id ∷ retires) ≡ true = holds_head id retires id (eq-eqb id id refl) in
-    let waiting : waits joins (id ∷ retires) id ≡ true = or_right (holds id joins) (holds id (id ∷ retires)) here in
-    at.voters_at id ∙ ap (λ b. cond b (has c.incoming id) (has target.incoming id)) waiting ∙ (at.retiring id here).0
+    of_target : (has target.incoming id || has target.learners id) ≡ true → (id == 0) ≡ false
+    of_target some = not_zero target.incoming target.learners id valid.zero_incoming valid.zero_learners some
 
--- the voters and those that still join are as many as the target's voters and those that still retire
-pub IsAtTurn-sizes : (c target : Configuration) (joins retires : List ℕ) (voters learners : Ids) → ValidByMember target → IsAtTurn c target joins retires voters learners
-    → size voters + length joins ≡ size target.incoming + length retires
-IsAtTurn-sizes c target [] [] voters learners valid at =
-    let same : voters ≡ target.incoming = has-same_ids voters target.incoming at.voters_at in
-    let sizes = ap size same in
-    omega (arith, sizes)
-IsAtTurn-sizes c target [] (id ∷ retires) voters learners valid at =
-    let rest = IsAtTurn-sizes c target [] retires (without_id voters id) (retired_to target learners id) valid (IsAtTurn-retired c target id [] retires voters learners at) in
-    let here = first_retires c target id [] retires voters learners at in
-    let fewer = size-retired voters id here in
-    let some = size_some voters id here in
-    omega (arith, rest, fewer, some)
-IsAtTurn-sizes c target (id ∷ joins) retires voters learners valid at =
-    let rest = IsAtTurn-sizes c target joins retires (with_id voters id) (without_id learners id) valid (IsAtTurn-joined c target id joins retires voters learners valid at) in
-    let more = size-joined voters id (first_joins c target id joins retires voters learners at).0 in
-    omega (arith, rest, more)
+    of_now : (has c.incoming id || has c.learners id) ≡ true → (id == 0) ≡ false
+    of_now some = not_zero c.incoming c.learners id valid_c.zero_incoming valid_c.zero_learners some
 
--- ---- the steps of one turn
--- the voter that joins
-join_steps-are_turns : (bound : ℕ) (c target : Configuration) (id : ℕ) (joins retires : List ℕ) (voters learners : Ids) → ValidByMember target → IsAtTurn c target (id ∷ joins) retires voters learners
-    → 1 ≤ bound → bound ≤ size voters
-    → IsRunWith (IsTurn bound) (single_with voters learners) (join_steps c id) (single_with (with_id voters id) (without_id learners id))
-join_steps-are_turns bound c target id joins retires voters learners valid at one enough =
-    let after = single_with (with_id voters id) (without_id learners id) in
-    let is = first_joins c target id joins retires voters learners at in
-    let other : (id == 0) ≡ false = not_zero target.incoming id valid.zero_incoming (at.joining id (holds_head id joins id (eq-eqb id id refl))).1 in
-    cond_both (has c.learners id) _ _ (λ steps. IsRunWith (IsTurn bound) (single_with voters learners) steps after)
-    (λ learner. (after, learner_votes bound voters learners id other is.0 (is.1 ∙ learner) enough, refl))
-    (λ stranger. (
-      single_with voters (with_id learners id),
-      stranger_becomes bound true voters learners id other is.0 one enough,
+    -- a newcomer is a learner first
+    learning : Ids
+    learning = with_id learners id
+
+    learning_at : (q : ℕ) → has learning q ≡ cond (q == id) true (has learners q)
+    learning_at q = has-with_id learners id q ∙ or_cond (q == id) (has learners q)
+      where
+        or_cond : (a b : Bool) → (a || b) ≡ cond a true b
+        or_cond true b = refl
+        or_cond false b = refl
+
+    stays_learning : (q : ℕ) → is_member c q ≡ true → is_member target q ≡ true → is_member (single_with voters learning) q ≡ true
+    stays_learning q was becomes =
+        is_member-single_with voters learning q ∙ (λ i. has voters q || learning_at q i)
+        ∙ more (q == id) (has voters q) (has learners q) (sym (is_member-single_with voters learners q) ∙ stays_between c target (id ∷ left) single_c single q was becomes)
+      where
+        more : (same a b : Bool) → (a || b) ≡ true → (a || cond same true b) ≡ true
+        more true true b some = refl
+        more true false b some = refl
+        more false a b some = some
+
+    by : (will_vote will_learn votes learns : Bool) → has target.incoming id ≡ will_vote → has target.learners id ≡ will_learn → has c.incoming id ≡ votes → has c.learners id ≡ learns
+        → IsRunWith (IsTurn Enough c target) (between c target (id ∷ left)) (steps_by will_vote will_learn votes learns id) (between c target left)
+    by true wl true l is_wv is_wl is_v is_l = nothing true false is_wv (voter_alone target valid is_wv) is_v (voter_alone c valid_c is_v)
+    by true wl false true is_wv is_wl is_v is_l = changed true false is_wv (voter_alone target valid is_wv) (of_target (or_left _ _ is_wv)) (λ votes. is_l)
+    by true wl false false is_wv is_wl is_v is_l = (
+      single_with voters learning,
+      turn Enough c target voters learners voters learning false true id needs (of_target (or_left _ _ is_wv)) (λ votes. absurd (true≢false (sym votes))) (λ votes. absurd (true≢false (sym votes)))
+          (λ q. sym (unaltered voters false (votes_now false is_v) q)) learning_at stays_learning enough,
       (
-        single_with (with_id voters id) (without_id (with_id learners id) id),
-        learner_votes bound voters (with_id learners id) id other is.0 (has_own learners id) enough,
-        ap (single_with (with_id voters id)) (back learners id (is.1 ∙ stranger) ∙ sym (without_other learners id (is.1 ∙ stranger))),
+        between c target left,
+        turn Enough c target voters learning voters_after learners_after true false id needs (of_target (or_left _ _ is_wv)) (λ votes. refl) (λ votes. learning_at id ∙ ap (λ b. cond b true (has learners id)) (eq-eqb id id refl))
+            (votes_at true is_wv) (λ q. learns_at false (voter_alone target valid is_wv) q ∙ same_others (q == id) (has learners q) ∙ ap (cond (q == id) false) (sym (learning_at q)))
+            (stays_between c target left single_c single) enough_after,
+        refl,
       ),
-    ))
-
--- the voter that retires, where enough others vote
-retire_step-is_turn : (bound : ℕ) (c target : Configuration) (id : ℕ) (joins retires : List ℕ) (voters learners : Ids) → ValidByMember c → IsAtTurn c target joins (id ∷ retires) voters learners
-    → 1 ≤ bound → bound + 1 ≤ size voters
-    → Gives (single_with voters learners) (retire_step target id) (single_with (without_id voters id) (retired_to target learners id))
-    × IsTurn bound (single_with voters learners) (retire_step target id) (single_with (without_id voters id) (retired_to target learners id))
-retire_step-is_turn bound c target id joins retires voters learners valid at one enough =
-    let here = first_retires c target id joins retires voters learners at in
-    let other : (id == 0) ≡ false = not_zero c.incoming id valid.zero_incoming (at.retiring id (holds_head id retires id (eq-eqb id id refl))).0 in
-    let fewer = size-retired voters id here in
-    let left : bound ≤ size (without_id voters id) = omega (arith, fewer, enough) in
-    let learns = has target.learners id in (
-      one_change-retires learns voters learners id other (not_empty bound (without_id voters id) one left),
-      record { one = refl; ready = MakesVotersOfReady-fewer voters learners (retired_to target learners id) id (retire_step target id); single = refl; enough = left },
     )
+      where
+        same_others : (here was : Bool) → cond here false was ≡ cond here false (cond here true was)
+        same_others true was = refl
+        same_others false was = refl
+    by false true true true is_wv is_wl is_v is_l = absurd (both_ways _ (valid_c.learner_incoming id is_l) is_v)
+    by false true false true is_wv is_wl is_v is_l = nothing false true is_wv is_wl is_v is_l
+    by false true v false is_wv is_wl is_v is_l = changed false true is_wv is_wl (of_target (or_right _ _ is_wl)) (λ votes. absurd (true≢false (sym votes)))
+    by false false true l is_wv is_wl is_v is_l = changed false false is_wv is_wl (of_now (or_left _ _ is_v)) (λ votes. absurd (true≢false (sym votes)))
+    by false false false true is_wv is_wl is_v is_l = changed false false is_wv is_wl (of_now (or_right _ _ is_l)) (λ votes. absurd (true≢false (sym votes)))
+    by false false false false is_wv is_wl is_v is_l = nothing false false is_wv is_wl is_v is_l
 
--- ---- all turns
--- a run to the target's voters, where those that vote at neither end learn as in the current configuration
-record ReachesVoters (bound : ℕ) (c target : Configuration) (start : Configuration) (steps : List Step) : Type 0 where
-  learners : Ids
-  run : IsRunWith (IsTurn bound) start steps (single_with target.incoming learners)
-  learners_at : (q : ℕ) → has learners q ≡ learned c target q
+-- ---- the steps of all ids
+-- something holds of each part of a list from an id on
+abbrev pub EachRest : (List ℕ → Type 0) → List ℕ → Type 0
+EachRest Holds [] = Holds []
+EachRest Holds (id ∷ left) = Holds (id ∷ left) × EachRest Holds left
 
--- from here on, with one more step or more steps before
-ReachesVoters-after : (bound : ℕ) (c target start next : Configuration) (first rest : List Step) → IsRunWith (IsTurn bound) start first next → ReachesVoters bound c target next rest
-    → ReachesVoters bound c target start (first ++ rest)
-ReachesVoters-after bound c target start next first rest run then = record {
-  learners = then.learners;
-  run = IsChain-append (λ before step after. Gives before step after × IsTurn bound before step after) start next (single_with target.incoming then.learners) first rest run then.run;
-  learners_at = then.learners_at;
-}
+EachRest-whole : (Holds : List ℕ → Type 0) (left : List ℕ) → EachRest Holds left → Holds left
+EachRest-whole Holds [] each = each
+EachRest-whole Holds (id ∷ left) each = each.0
 
-ReachesVoters-step : (bound : ℕ) (c target start next : Configuration) (step : Step) (rest : List Step) → Gives start step next × IsTurn bound start step next → ReachesVoters bound c target next rest
-    → ReachesVoters bound c target start (step ∷ rest)
-ReachesVoters-step bound c target start next step rest turn then = record {
-  learners = then.learners;
-  run = (next, turn, then.run);
-  learners_at = then.learners_at;
-}
-
-in_turn-reaches_voters : (bound : ℕ) (c target : Configuration) (joins retires : List ℕ) (voters learners : Ids) → ValidByMember c → ValidByMember target → 1 ≤ bound → bound ≤ size target.incoming
-    → bound ≤ size voters → IsAtTurn c target joins retires voters learners → ReachesVoters bound c target (single_with voters learners) (in_turn c target joins retires)
-in_turn-reaches_voters bound c target [] [] voters learners valid_c valid one most enough at = record {
-  learners = learners;
-  run = ap (λ s. single_with s learners) (has-same_ids voters target.incoming at.voters_at);
-  learners_at = at.learners_at;
-}
-in_turn-reaches_voters bound c target (id ∷ joins) [] voters learners valid_c valid one most enough at =
-    let next = IsAtTurn-joined c target id joins [] voters learners valid at in
-    let more = size-joined voters id (first_joins c target id joins [] voters learners at).0 in
-    ReachesVoters-after bound c target (single_with voters learners) (single_with (with_id voters id) (without_id learners id)) (join_steps c id) (in_turn c target joins [])
-    (join_steps-are_turns bound c target id joins [] voters learners valid at one enough)
-    (in_turn-reaches_voters bound c target joins [] (with_id voters id) (without_id learners id) valid_c valid one most (omega (arith, more, enough)) next)
-in_turn-reaches_voters bound c target [] (id ∷ retires) voters learners valid_c valid one most enough at =
-    let next = IsAtTurn-retired c target id [] retires voters learners at in
-    let sizes = IsAtTurn-sizes c target [] (id ∷ retires) voters learners valid at in
-    let fewer = size-retired voters id (first_retires c target id [] retires voters learners at) in
-    ReachesVoters-step bound c target (single_with voters learners) (single_with (without_id voters id) (retired_to target learners id)) (retire_step target id) (in_turn c target [] retires)
-    (retire_step-is_turn bound c target id [] retires voters learners valid_c at one (omega (arith, sizes, most)))
-    (in_turn-reaches_voters bound c target [] retires (without_id voters id) (retired_to target learners id) valid_c valid one most (omega (arith, sizes, most, fewer)) next)
-in_turn-reaches_voters bound c target (id ∷ joins) (other ∷ retires) voters learners valid_c valid one most enough at =
-    let between = IsAtTurn-joined c target id joins (other ∷ retires) voters learners valid at in
-    let next = IsAtTurn-retired c target other joins retires (with_id voters id) (without_id learners id) between in
-    let more = size-joined voters id (first_joins c target id joins (other ∷ retires) voters learners at).0 in
-    let fewer = size-retired (with_id voters id) other (first_retires c target other joins retires (with_id voters id) (without_id learners id) between) in
-    let joined = single_with (with_id voters id) (without_id learners id) in
-    let retired = single_with (without_id (with_id voters id) other) (retired_to target (without_id learners id) other) in
-    ReachesVoters-after bound c target (single_with voters learners) joined (join_steps c id) (retire_step target other ∷ in_turn c target joins retires)
-    (join_steps-are_turns bound c target id joins (other ∷ retires) voters learners valid at one enough)
-    (ReachesVoters-step bound c target joined retired (retire_step target other) (in_turn c target joins retires)
-    (retire_step-is_turn bound c target other joins retires (with_id voters id) (without_id learners id) valid_c between one (omega (arith, more, enough)))
-    (in_turn-reaches_voters bound c target joins retires (without_id (with_id voters id) other) (retired_to target (without_id learners id) other) valid_c valid one most (omega (arith, more, fewer, enough)) next))
-
--- ---- the other learners
--- these ids learn as before, and the others as in the target
-abbrev LearnersAt : Configuration → Configuration → List ℕ → Ids → Type 0
-LearnersAt c target ids learners =
-    (q : ℕ) → has learners q ≡ cond (holds q ids) (learned c target q) (has target.learners q)
-
--- one id, and then the others
-learner_step-then : (bound : ℕ) (c target : Configuration) (id : ℕ) (ids : List ℕ) (learners : Ids) (rest : List Step) → ValidByMember c → ValidByMember target → 1 ≤ bound → bound ≤ size target.incoming
-    → holds id ids ≡ false → LearnersAt c target (id ∷ ids) learners
-    → ((others : Ids) → LearnersAt c target ids others → IsRunWith (IsTurn bound) (single_with target.incoming others) rest target)
-    → IsRunWith (IsTurn bound) (single_with target.incoming learners) (cons_option (option_map (λ kind. one_change kind id) (learner_change c target id)) rest) target
-learner_step-then bound c target id ids learners rest valid_c valid one most once at then =
-    by (has c.incoming id || has target.incoming id) (has target.learners id) (has c.learners id) refl refl refl
-  where
-    alike : (v tl cl : Bool) → (has c.incoming id || has target.incoming id) ≡ v → has target.learners id ≡ tl → has c.learners id ≡ cl → cond (not v) cl tl ≡ tl → LearnersAt c target ids learners
-    alike v tl cl voter target_is was_is same_as q =
-        one_stays (q == id) (holds q (id ∷ ids)) (holds q ids) (learned c target q) (has target.learners q) (has learners q)
-        (not_again id ids q once) (λ apart i. apart i || holds q ids)
-        (λ same.
-        ap (learned c target) (eqb-true q id same)
-        ∙ (λ i. cond (not (voter i)) (was_is i) (target_is i)) ∙ same_as ∙ sym target_is ∙ ap (has target.learners) (sym (eqb-true q id same)))
-        (at q)
-
-    by : (v tl cl : Bool) → (has c.incoming id || has target.incoming id) ≡ v → has target.learners id ≡ tl → has c.learners id ≡ cl
-        → IsRunWith (IsTurn bound) (single_with target.incoming learners) (cons_option (option_map (λ kind. one_change kind id) (cond v None (kind_by false tl false cl))) rest) target
-    by true tl cl voter target_is was_is = then learners (alike true tl cl voter target_is was_is refl)
-    by false true true voter target_is was_is = then learners (alike false true true voter target_is was_is refl)
-    by false false false voter target_is was_is = then learners (alike false false false voter target_is was_is refl)
-    by false true false voter target_is was_is = (
-      single_with target.incoming (with_id learners id),
-      stranger_becomes bound true target.incoming learners id (not_zero target.learners id valid.zero_learners target_is) (or_parts _ _ voter).1 one most,
-      then (with_id learners id) (λ q.
-          has-with_id learners id q
-          ∙ one_comes (q == id) (holds q (id ∷ ids)) (holds q ids) (learned c target q) (has target.learners q) (has learners q)
-          (not_again id ids q once) (λ apart i. apart i || holds q ids) (λ same. ap (has target.learners) (eqb-true q id same) ∙ target_is) (at q)),
-    )
-    by false false true voter target_is was_is = (
-      single_with target.incoming (without_id learners id),
-      stranger_becomes bound false target.incoming learners id (not_zero c.learners id valid_c.zero_learners was_is) (or_parts _ _ voter).1 one most,
-      then (without_id learners id) (λ q.
-          has-without_id learners id q
-          ∙ one_goes (q == id) (holds q (id ∷ ids)) (holds q ids) (learned c target q) (has target.learners q) (has learners q)
-          (not_again id ids q once) (λ apart i. apart i || holds q ids) (λ same. ap (has target.learners) (eqb-true q id same) ∙ target_is) (at q)),
-    )
-
-learner_steps-are_turns : (bound : ℕ) (c target : Configuration) (ids : List ℕ) (learners : Ids) → IsSingle target → ValidByMember c → 1 ≤ bound → bound ≤ size target.incoming → AreOnce ids → LearnersAt c target ids learners
-    → IsRunWith (IsTurn bound) (single_with target.incoming learners) (filter_map (λ id. option_map (λ kind. one_change kind id) (learner_change c target id)) ids) target
-learner_steps-are_turns bound c target [] learners single valid_c one most once at =
-    ap (single_with target.incoming) (has-same_ids learners target.learners at) ∙ single_with-own target single
-learner_steps-are_turns bound c target (id ∷ ids) learners single valid_c one most once at =
-    learner_step-then bound c target id ids learners (filter_map (λ id. option_map (λ kind. one_change kind id) (learner_change c target id)) ids)
-    valid_c (ValidByMember-from_is_valid target single.valid_with_voter.valid) one most once.0 at
-    (λ others at_others. learner_steps-are_turns bound c target ids others single valid_c one most once.1 at_others)
-
--- ---- the whole path
--- an id that learns at neither end learns nowhere
-at_first : (c target : Configuration) (learners : Ids) → ((q : ℕ) → has learners q ≡ learned c target q)
-    → LearnersAt c target (ascending (union c.learners target.learners)) learners
-at_first c target learners at q =
-    at q ∙ either (has c.incoming q || has target.incoming q) (has c.learners q) (has target.learners q)
-    ∙ ap (λ b. cond b (learned c target q) (has target.learners q))
-    (sym (sym (has-ascending (union c.learners target.learners) q) ∙ has-union c.learners target.learners q))
-  where
-    either : (votes learned learns : Bool) → cond (not votes) learned learns ≡ cond (learned || learns) (cond (not votes) learned learns) learns
-    either true true learns = refl
-    either true false true = refl
-    either true false false = refl
-    either false true learns = refl
-    either false false true = refl
-    either false false false = refl
-
-pub from_single-has_turns : (c target : Configuration) → IsSingle c → IsSingle target
-    → IsRunWith (IsTurn (min (size c.incoming) (size target.incoming))) c (one_at_a_time_from_single c target) target
-from_single-has_turns c target single_c single =
-    let bound = min (size c.incoming) (size target.incoming) in
-    let valid_c = ValidByMember-from_is_valid c single_c.valid_with_voter.valid in
-    let valid = ValidByMember-from_is_valid target single.valid_with_voter.valid in
-    let some_c = voter-size c single_c in
-    let some = voter-size target single in
-    let reached = in_turn-reaches_voters bound c target (joining c target) (retiring c target) c.incoming c.learners valid_c valid
-    (omega (arith, some_c, some)) (omega arith) (omega arith) (IsAtTurn-first c target valid_c valid) in
-    let Start : Configuration → Type 0 = λ d. IsRunWith (IsTurn bound) d (one_at_a_time_from_single c target) target in
-    subst Start (single_with-own c single_c)
-    (IsChain-append (λ before step after. Gives before step after × IsTurn bound before step after) (single_with c.incoming c.learners) (single_with target.incoming reached.learners) target
-    (in_turn c target (joining c target) (retiring c target)) (learner_steps c target) reached.run
-    (learner_steps-are_turns bound c target (ascending (union c.learners target.learners)) reached.learners single valid_c (omega (arith, some_c, some)) (omega arith)
-    (AreOnce-sorted _ (ascending-is_sorted (union c.learners target.learners))) (at_first c target reached.learners reached.learners_at)))
-  where
-    voter-size : (d : Configuration) → IsSingle d → 1 ≤ size d.incoming
-    voter-size d is =
-        let some : size d.incoming ≡ 0 → ⊥ = λ none. both_ways (is_empty d.incoming) (not-true (is_empty d.incoming) is.valid_with_voter.voter) (eq-eqb (size d.incoming) 0 none) in
-        omega (arith, some)
-
-pub one_at_a_time-has_turns : (now target : Configuration) → IsValidWithVoter now → IsValidWithVoter target → has_path OneAtATime now target ≡ true
-    → IsRunWith (IsTurn (min (size now.incoming) (size target.incoming))) now (path_by OneAtATime now target) target
-one_at_a_time-has_turns now target now_valid_with_voter valid_with_voter way =
-    let bound = min (size now.incoming) (size target.incoming) in
-    cond_both (is_same now target) _ _ (λ steps. IsRunWith (IsTurn bound) now steps target) (is_same-equal now target) (λ differs.
-    let single : IsSingle target = record {
-      valid_with_voter = valid_with_voter;
-      single = not-true (is_joint target) (ap (λ same. same || not (is_joint target)) (sym differs) ∙ way);
-    } in
-    cond_both (is_joint now) _ _ (λ steps. IsRunWith (IsTurn bound) now steps target)
-    (λ joint. (
-      after_leave now,
-      (outcome-leave_accepted now joint, record { one = tt; ready = MakesVotersOfReady-same now (after_leave now) LeaveJoint refl; single = refl; enough = omega arith }),
-      from_single-has_turns (after_leave now) target (after_leave-is_single now now_valid_with_voter joint) single,
-    ))
-    (λ apart. from_single-has_turns now target (record { valid_with_voter = now_valid_with_voter; single = apart }) single))
+pub steps_of-lead_on : (Enough : Ids → Type 0) (c target : Configuration) (left : List ℕ) → NeedsSome Enough → ValidByMember c → ValidByMember target → c.outgoing ≡ no_ids → target.outgoing ≡ no_ids
+    → AreOnce left → EachRest (λ left. Enough (mixed c.incoming target.incoming left)) left
+    → IsRunWith (IsTurn Enough c target) (between c target left) (flat_map (steps_of c target) left) (between c target [])
+steps_of-lead_on Enough c target [] needs valid_c valid single_c single once each = refl
+steps_of-lead_on Enough c target (id ∷ left) needs valid_c valid single_c single once each =
+    let Leads : Configuration → Step → Configuration → Type 0 = λ before step after. Gives before step after × IsTurn Enough c target before step after in
+    let Reaches : List Step → Type 0 = λ steps. IsRunWith (IsTurn Enough c target) (between c target (id ∷ left)) steps (between c target []) in
+    subst Reaches (sym (flat_map-cons (steps_of c target) id left))
+    (IsChain-append Leads (between c target (id ∷ left)) (between c target left) (between c target []) (steps_of c target id) (flat_map (steps_of c target) left)
+    (steps_of-lead Enough c target id left needs valid_c valid single_c single (AreOnce-first id left once) each.0
+    (EachRest-whole (λ rest. Enough (mixed c.incoming target.incoming rest)) left each.1))
+    (steps_of-lead_on Enough c target left needs valid_c valid single_c single (AreOnce-rest id left once) each.1))

@@ -1,7 +1,7 @@
--- Where each quorum of both ends is one on the way, what both ends tolerate is tolerated there.
+-- Where each quorum of both ends is one on the way, what both ends tolerate is tolerated there, whichever ids are down.
 use Rattle.std.proofs.Common.{◌≡◌, ℕ, Bool, true, false, not, ◌&&◌, ◌||◌, List, [], ◌∷◌, refl, sym, ◌∙◌}
 use Rattle.std.proofs.lemmas.Bool.{or_left, or_right}
-use Rattle.quorum_sets.specs.Ids.{Ids, no_ids, has, union, ascending, ids_where}
+use Rattle.quorum_sets.specs.Ids.{Ids, has, union, ascending, ids_where}
 use Rattle.quorum_sets.specs.Voters.{is_quorum}
 use Rattle.quorum_sets.specs.Tolerance.{commits_without}
 use Rattle.quorum_sets.proofs.Offered.{has-ascending, has-ids_where, is_quorum-without}
@@ -32,9 +32,9 @@ staying-commits : (c : Configuration) (all away : Ids) → ((q : ℕ) → (has c
 staying-commits c all away among = is_quorum-without (voters_of c) away (staying all away) (λ q here. has-staying all away q (among q here))
 
 -- ---- a configuration on the way
-pub IsAsTolerant-from_quorums : (now target c : Configuration) → HasQuorumsOf now target c → IsAsTolerant now target c
-IsAsTolerant-from_quorums now target c quorums k by_now by_target down few =
-    let away = union down no_ids in
+pub IsAsTolerant-from_quorums : (uncounted : Ids) (now target c : Configuration) → HasQuorumsOf now target c → IsAsTolerant uncounted now target c
+IsAsTolerant-from_quorums uncounted now target c quorums k by_now by_target down few =
+    let away = union down uncounted in
     let others = union (voter_ids now) (voter_ids target) in
     let all = union (voter_ids c) others in
     let in_now : (q : ℕ) → (has now.incoming q || has now.outgoing q) ≡ true → has all q ≡ true =
@@ -56,7 +56,7 @@ IsRunWith-weaker P Q weaker before after [] run = run
 IsRunWith-weaker P Q weaker before after (step ∷ steps) run =
     (run.0, (run.1.0, weaker before run.0 step run.1.1), IsRunWith-weaker P Q weaker run.0 after steps run.2)
 
-pub KeepsTolerance-from_quorums : (now target : Configuration) (steps : List Step) → KeepsQuorums now steps target → KeepsTolerance now steps target
-KeepsTolerance-from_quorums now target steps keeps =
-    IsRunWith-weaker (λ before step after. HasQuorumsOf now target after) (λ before step after. IsAsTolerant now target after)
-    (λ before after step quorums. IsAsTolerant-from_quorums now target after quorums) now target steps keeps
+pub KeepsTolerance-from_quorums : (down : Ids) (now target : Configuration) (steps : List Step) → KeepsQuorums now steps target → KeepsTolerance down now steps target
+KeepsTolerance-from_quorums down now target steps keeps =
+    IsRunWith-weaker (λ before step after. HasQuorumsOf now target after) (λ before step after. IsAsTolerant down now target after)
+    (λ before after step quorums. IsAsTolerant-from_quorums down now target after quorums) now target steps keeps

@@ -40,7 +40,7 @@ named_by_both : (q : ℕ) (xs ys : List Step) → times_named q (xs ++ ys) ≡ t
 named_by_both q xs ys = sum_by-append (λ s. count_by (names q) (changes_of s)) xs ys
 
 -- once, where there is something to change
-abbrev once : Option Kind → ℕ
+abbrev pub once : Option Kind → ℕ
 once None = 0
 once (Some _) = 1
 
@@ -82,7 +82,7 @@ in_either : (b : Bool) (n m : ℕ) → n ≤ cond b m 0 → n ≤ m
 in_either true n m le = le
 in_either false n m le = omega arith
 
-moves-name_once : (c : Configuration) (voters learners : Ids) (q : ℕ)
+pub moves-name_once : (c : Configuration) (voters learners : Ids) (q : ℕ)
     → count_by (names q) (moves c voters learners) ≤ once (kind_by (has voters q) (has learners q) (has c.incoming q) (has c.learners q))
 moves-name_once c voters learners q =
     in_either _ _ _ (each_named_once (kind_of_move c voters learners) _ q (ascending-is_sorted (union (union voters learners) (union c.incoming c.learners))))

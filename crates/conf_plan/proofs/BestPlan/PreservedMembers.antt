@@ -28,7 +28,7 @@ use Rattle.conf_plan.proofs.PlannedSteps.Shapes.{planned_from_single-of_shapes, 
 use Rattle.conf_plan.proofs.PlannedSteps.BetweenSingle.{entered_by, simple_moves-accepted, enter_moves-accepted, leave_moves-accepted, single_steps-is_chain}
 
 -- a step that keeps_progress-of_member the progress of an id
-abbrev Keeps : ℕ → Configuration → Step → Configuration → Type 0
+abbrev pub Keeps : ℕ → Configuration → Step → Configuration → Type 0
 Keeps q before step after = keeps_progress before step after q ≡ true
 
 pub keeps_progress-of_member : (q : ℕ) (before : Configuration) (step : Step) (after : Configuration) → is_member before q ≡ true → is_member after q ≡ true → is_replaced step after q ≡ false
@@ -39,12 +39,12 @@ pub keeps_progress-member : (q : ℕ) (before : Configuration) (step : Step) (af
 keeps_progress-member q before step after kept = (and_parts (is_member before q) (is_member after q) (and_parts _ (not (is_replaced step after q)) kept).0).1
 
 -- ---- what any run states of an id that it preserves_all
-preserves-target : (before after : Configuration) (steps : List Step) (q : ℕ) → Preserves before steps after q → is_member after q ≡ true
+pub preserves-target : (before after : Configuration) (steps : List Step) (q : ℕ) → Preserves before steps after q → is_member after q ≡ true
 preserves-target before after [] q preserves_all = ap (λ c. is_member c q) (sym preserves_all.1) ∙ preserves_all.0
 preserves-target before after (step ∷ steps) q preserves_all =
     preserves-target preserves_all.1.0 after steps q (keeps_progress-member q before step preserves_all.1.0 preserves_all.1.1.1, preserves_all.1.2)
 
-preserves-outlasts : (before after : Configuration) (steps : List Step) (q : ℕ) → Preserves before steps after q → outlasts_leave before steps q ≡ true
+pub preserves-outlasts : (before after : Configuration) (steps : List Step) (q : ℕ) → Preserves before steps after q → outlasts_leave before steps q ≡ true
 preserves-outlasts before after [] q preserves_all = refl
 preserves-outlasts before after (Simple changes ∷ steps) q preserves_all = refl
 preserves-outlasts before after (EnterJoint auto_leave changes ∷ steps) q preserves_all = refl
@@ -125,7 +125,7 @@ entering_step-keeps c target q member stays = keeps_progress-of_member q c (ente
         ∙ voter_or_learner (has target.incoming q) (has target.outgoing q) (has target.learners q) (has target.learners_next q) apart stays))
 
 -- whoever is a member of both stays while the target's outgoing voters are made the incoming ones
-shared_or_out : (c target : Configuration) (q : ℕ) → is_member c q ≡ true → is_member target q ≡ true
+pub shared_or_out : (c target : Configuration) (q : ℕ) → is_member c q ≡ true → is_member target q ≡ true
     → (has target.outgoing q || has (shared_members c target) q) ≡ true
 shared_or_out c target q member stays =
     ap (λ b. has target.outgoing q || b) (has-shared_members c target q) ∙ either (has target.outgoing q) (is_member target q) (is_member c q) stays member
@@ -134,7 +134,7 @@ shared_or_out c target q member stays =
     either true is was stays member = refl
     either false is was stays member = rw (stays, member) refl
 
-planned_from_single-preserves : (c target : Configuration) (q : ℕ) → IsSingle c → IsValidWithVoter target → is_member c q ≡ true → is_member target q ≡ true
+pub planned_from_single-preserves : (c target : Configuration) (q : ℕ) → IsSingle c → IsValidWithVoter target → is_member c q ≡ true → is_member target q ≡ true
     → Preserves c (planned_from_single c target) target q
 planned_from_single-preserves c target q single valid_with_voter member stays =
     let at_outgoing = single_with target.outgoing (shared_members c target) in

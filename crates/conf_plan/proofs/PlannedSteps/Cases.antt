@@ -103,15 +103,15 @@ from_single-single voters learners target single others =
 
 -- ---- the plan
 
-pub path_by-single : (strategy : Strategy) (now target : Configuration) → IsSingle now → is_same now target ≡ false
-    → path_by strategy now target ≡ from_single_by strategy (single_with now.incoming now.learners) target
-path_by-single strategy now target single other =
+pub path_by-single : (strategy : Strategy) (down : Ids) (now target : Configuration) → IsSingle now → is_same now target ≡ false
+    → path_by strategy down now target ≡ from_single_by strategy down (single_with now.incoming now.learners) target
+path_by-single strategy down now target single other =
     cond-false (is_same now target) _ _ other ∙ cond-false (is_joint now) _ _ single.single
-    ∙ ap (λ c. from_single_by strategy c target) (sym (single_with-own now single))
+    ∙ ap (λ c. from_single_by strategy down c target) (sym (single_with-own now single))
 
-pub path_by-leaving : (strategy : Strategy) (now target : Configuration) → is_joint now ≡ true → is_same now target ≡ false
-    → path_by strategy now target ≡ LeaveJoint ∷ from_single_by strategy (single_with now.incoming (union now.learners now.learners_next)) target
-path_by-leaving strategy now target joint other = cond-false (is_same now target) _ _ other ∙ cond-true (is_joint now) _ _ joint
+pub path_by-leaving : (strategy : Strategy) (down : Ids) (now target : Configuration) → is_joint now ≡ true → is_same now target ≡ false
+    → path_by strategy down now target ≡ LeaveJoint ∷ from_single_by strategy down (single_with now.incoming (union now.learners now.learners_next)) target
+path_by-leaving strategy down now target joint other = cond-false (is_same now target) _ _ other ∙ cond-true (is_joint now) _ _ joint
 
 pub left-is_valid : (now : Configuration) → IsValidWithVoter now → is_joint now ≡ true → IsValidWithVoter (single_with now.incoming (union now.learners now.learners_next))
 left-is_valid now valid_with_voter joint = (after_leave-is_single now valid_with_voter joint).valid_with_voter

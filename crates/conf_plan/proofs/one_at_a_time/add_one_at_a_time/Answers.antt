@@ -1,28 +1,22 @@
-use Rattle.std.proofs.Common.{rules, ◌≡◌, not, List, ap, subst, ◌∙◌}
-use Rattle.std.specs.Prelude.{filter}
-use Rattle.quorum_sets.specs.Ids.{has, ascending}
-use Rattle.conf_change.specs.Configuration.{Configuration}
-use Rattle.conf_change.specs.declared.step.Step.{Step}
-use Rattle.conf_plan.specs.OneAtATime as spec
-use Rattle.conf_plan.specs.OneAtATime.{in_turn}
+use Rattle.std.proofs.Common.{sym, subst, ◌∙◌}
+use Rattle.std.specs.Prelude.{flat_map, OnOk}
+use Rattle.std.proofs.lemmas.Bool.{cond-true, cond-false}
+use Rattle.quorum_sets.specs.Ids.{Ids, no_ids}
+use Rattle.conf_plan.specs.OneAtATime.{steps_of, order}
 use Rattle.conf_plan.specs.Planned.{single_with}
 use Rattle.conf_plan.specs.Walking.{IsAdded}
-use Rattle.conf_plan.proofs.AliveOnTheWay.InTurn.{ascending-where}
-use Rattle.conf_plan.proofs.PlannedSteps.Cases.{OnOk-weaker, added-more}
 use Rattle.conf_plan.proofs.one_at_a_time.add_one_at_a_time.Goals as goal
 
-pub returns : goal.returns
-returns g c =
+pub returns-then-both_commit : goal.returns-then-both_commit
+returns-then-both_commit g c =
+    let start = single_with (g.S.MemberSet.ids c.args.start.now.incoming.now) (g.S.MemberSet.ids c.args.start.now.learners.now) in
     let target = c.args.target.now in
-    let incoming = g.S.MemberSet.ids c.args.start.now.incoming.now in
-    let learners = g.S.MemberSet.ids c.args.start.now.learners.now in
-    let to = g.S.MemberSet.ids c.target.inside.incoming in
-    let start = single_with incoming learners in
-    let joins : ascending (g.S.MemberSet.ids c.in_ok-joining.joining) ≡ spec.joining start target =
-    ap ascending (c.in_ok-joining.ensures (λ id. not (has incoming id)) (λ id answer given. search rules)) ∙ ascending-where (λ id. not (has incoming id)) to
-    ∙ ap (λ (d : Configuration). filter (λ id. not (has incoming id)) (ascending d.incoming)) c.target.view_is in
-    let goes : ascending (g.S.MemberSet.ids c.in_ok-retiring.retiring) ≡ spec.retiring start target =
-    ap ascending (c.in_ok-retiring.ensures (λ id. not (has to id)) (λ id answer given. search rules)) ∙ ascending-where (λ id. not (has to id)) incoming
-    ∙ ap (λ (d : Configuration). filter (λ id. not (has d.incoming id)) (ascending incoming)) c.target.view_is in
-    let P : List Step → Type 0 = λ more. IsAdded c.args.steps.now.items more c.add_turns.new.steps.items in
-    OnOk-weaker c.add_learner_steps.result (λ added. added-more _ _ _ _ _ (subst P (λ i. in_turn start target (joins i) (goes i)) c.in_ok-add_turns.ensures) added) c.add_learner_steps.ensures
+    let Added : Ids → Type 0 = λ down. OnOk c.add_in_order.result (IsAdded c.args.steps.now.items (flat_map (steps_of start target) (order down start target)) c.add_in_order.new.steps.items) in
+    subst Added (sym (cond-true _ (g.S.MemberSet.ids c.args.down.now) no_ids (sym c.both_commit.ensures ∙ c.if-both_commit.true))) c.add_in_order.ensures
+
+pub returns-else-both_commit : goal.returns-else-both_commit
+returns-else-both_commit g c =
+    let start = single_with (g.S.MemberSet.ids c.args.start.now.incoming.now) (g.S.MemberSet.ids c.args.start.now.learners.now) in
+    let target = c.args.target.now in
+    let Added : Ids → Type 0 = λ down. OnOk c.add_in_order-else-both_commit.result (IsAdded c.args.steps.now.items (flat_map (steps_of start target) (order down start target)) c.add_in_order-else-both_commit.new.steps.items) in
+    subst Added (c.empty-none.ensures ∙ sym (cond-false _ (g.S.MemberSet.ids c.args.down.now) no_ids (sym c.both_commit.ensures ∙ c.if-both_commit.false))) c.add_in_order-else-both_commit.ensures

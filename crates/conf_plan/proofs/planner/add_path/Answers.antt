@@ -24,8 +24,8 @@ returns-then-len-eq0 g c =
     let single = is_joint-not_from_count now c.len.result (c.len.ensures ∙ ap (λ d. size d.outgoing) c.now.view_is) c.if-len-eq0.true in
     let P : List Step → Type 0 = λ more. OnOk c.add_from_single_by.result (IsAdded c.args.steps.now.items more c.add_from_single_by.new.steps.items) in
     subst P
-    (ap (λ d. from_single_by c.args.strategy (single_with d.incoming d.learners) target) c.now.view_is
-    ∙ sym (path_by-single c.args.strategy now target (record { valid_with_voter = c.requires.now; single = single }) (sym c.same.ensures.same ∙ c.if-same.false)))
+    (ap (λ d. from_single_by c.args.strategy (g.S.MemberSet.ids c.args.down.now) (single_with d.incoming d.learners) target) c.now.view_is
+    ∙ sym (path_by-single c.args.strategy (g.S.MemberSet.ids c.args.down.now) now target (record { valid_with_voter = c.requires.now; single = single }) (sym c.same.ensures.same ∙ c.if-same.false)))
     c.add_from_single_by.ensures
 
 pub add_from_single_by-requires-2-clause-start : goal.add_from_single_by-requires-2-clause-start
@@ -41,11 +41,11 @@ returns g c =
     let target = c.args.target.now in
     let joint = is_joint-from_count now c.len.result (c.len.ensures ∙ ap (λ d. size d.outgoing) c.now.view_is) c.if-len-eq0.false in
     let rest =
-    ap (λ s. from_single_by c.args.strategy (single_with (g.S.MemberSet.ids c.now.inside.incoming) s) target) c.in_ok-learners.ensures
-    ∙ ap (λ d. from_single_by c.args.strategy (single_with d.incoming (union d.learners d.learners_next)) target) c.now.view_is in
+    ap (λ s. from_single_by c.args.strategy (g.S.MemberSet.ids c.args.down.now) (single_with (g.S.MemberSet.ids c.now.inside.incoming) s) target) c.in_ok-learners.ensures
+    ∙ ap (λ d. from_single_by c.args.strategy (g.S.MemberSet.ids c.args.down.now) (single_with d.incoming (union d.learners d.learners_next)) target) c.now.view_is in
     let P : List Step → Type 0 = λ more. IsAdded c.args.steps.now.items more c.add_from_single_by-2.new.steps.items in
     OnOk-weaker c.add_from_single_by-2.result
     (λ added.
-    subst P (ap (λ steps. LeaveJoint ∷ steps) rest ∙ sym (path_by-leaving c.args.strategy now target joint (sym c.same.ensures.same ∙ c.if-same.false)))
+    subst P (ap (λ steps. LeaveJoint ∷ steps) rest ∙ sym (path_by-leaving c.args.strategy (g.S.MemberSet.ids c.args.down.now) now target joint (sym c.same.ensures.same ∙ c.if-same.false)))
     (added-more _ (LeaveJoint ∷ []) _ _ _ (added-leave _ _ c.in_ok-push.ensures.items) added))
     c.add_from_single_by-2.ensures

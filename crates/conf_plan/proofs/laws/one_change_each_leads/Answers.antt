@@ -1,0 +1,5 @@
+use Rattle.conf_plan.proofs.AliveOnTheWay.OneChangeEach.{one_change_each-leads}
+use Rattle.conf_plan.proofs.laws.one_change_each_leads.Goals as goal
+
+pub returns : goal.returns
+returns c = one_change_each-leads

@@ -1,0 +1,12 @@
+use Rattle.std.proofs.Common.{subst}
+use Rattle.conf_change.specs.declared.step.Step.{Step}
+use Rattle.conf_plan.specs.OneChangeEach.{each_change}
+use Rattle.conf_plan.specs.Walking.{IsAdded}
+use Rattle.conf_plan.proofs.AliveOnTheWay.InTurn.{AreAddedSoFar-item}
+use Rattle.conf_plan.proofs.one_change_each.add_one_change_each.Goals as goal
+
+pub loop-step-preserved : goal.loop-step-preserved
+loop-step-preserved c =
+    let Added : Step → Type 0 = λ step. IsAdded c.loop-step.steps.items (each_change step) c.add_each_change.new.steps.items in
+    AreAddedSoFar-item c.args.steps.now.items c.loop-step.steps.items c.add_each_change.new.steps.items each_change c.args.of.now
+    c.loop-step.step-index _ c.loop-step-test.true c.loop-step.invariant (subst Added (c.step-item.is) c.in_ok-add_each_change.ensures)
