@@ -3,3 +3,7 @@ mod JoinedTexts
 mod GridLines
 mod TableRows
 mod JsonLines
+mod AutoLeave
+mod SingleChanges
+mod LinesLead
+mod WorkedExamples

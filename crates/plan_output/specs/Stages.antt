@@ -1,11 +1,11 @@
 -- The configurations along a path, and how many failures the cluster tolerates at each of them (own).
-use Rattle.std.specs.Prelude.{ℕ, Bool, not, List, [], ◌∷◌, Option, refl}
+use Rattle.std.specs.Prelude.{ℕ, Bool, List, [], ◌∷◌, Option, refl}
 use Rattle.std.specs.Coded.{Coded, coded×, code_by}
 use Rattle.std.specs.List.{list_any}
+use Rattle.std.specs.Option.{is_none}
 use Rattle.std.specs.Result.{result_unwrap_or}
 use Rattle.quorum_sets.specs.Ids.{Ids, no_ids, union}
 use Rattle.quorum_sets.specs.Tolerance as tolerance
-use Rattle.quorum_sets.specs.Tolerance.{commits_without}
 use Rattle.conf_change.specs.Configuration.{Configuration, voters_of}
 use Rattle.conf_change.specs.ConfigurationCode.{configuration_code, ids_code}
 use Rattle.conf_change.specs.Outcome.{outcome}
@@ -56,13 +56,13 @@ stage_may_be_down stage = tolerance.may_be_down (voters_of stage.config) no_ids
 abbrev pub until_then : StageState → Option ℕ
 until_then stage = tolerance.may_be_down (voters_of stage.config) stage.catching_up
 
--- whether the voters that are neither down nor have to catch up are a quorum
-abbrev pub commits : StageState → Ids → Bool
-commits stage down = commits_without (voters_of stage.config) (union down stage.catching_up)
+-- how many ids may be down besides these, while the members that have to catch up do not count either
+abbrev pub may_be_down_besides : StageState → Ids → Option ℕ
+may_be_down_besides stage down = tolerance.may_be_down (voters_of stage.config) (union down stage.catching_up)
 
--- whether some stage does not commit with these ids down
+-- whether some stage stalls with these ids down: the voters that count are not a quorum even with all others up
 abbrev pub some_stalls : List StageState → Ids → Bool
-some_stalls all down = list_any (λ stage. not (commits stage down)) all
+some_stalls all down = list_any (λ stage. is_none (may_be_down_besides stage down)) all
 
 -- Whether a path stalls with these ids down: the configuration with which it begins does, or one after a step. A step
 -- is committed by the configuration before it, so the cluster gets to the end, and serves there, only if none stalls.

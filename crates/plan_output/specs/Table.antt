@@ -1,5 +1,5 @@
 -- The table of a path: a row for the configuration with which it begins, and one for each step.
-use Rattle.std.specs.Prelude.{ℕ, ◌+◌, ◌-◌, Bool, true, false, not, ◌&&◌, List, [], ◌∷◌, ◌++◌, map, length, replicate, codes, decimal, flat_map, nat_lt, Option, Some, None, if◌then◌else◌}
+use Rattle.std.specs.Prelude.{ℕ, ◌+◌, ◌-◌, not, ◌&&◌, List, [], ◌∷◌, ◌++◌, map, length, replicate, codes, decimal, flat_map, nat_lt, Option, Some, None, if◌then◌else◌}
 use Rattle.std.specs.List.{join_with_byte}
 use Rattle.quorum_sets.specs.Ids.{Ids, has, ascending, size, ids_of, is_empty}
 use Rattle.quorum_sets.specs.Voters.{majority}
@@ -8,7 +8,7 @@ use Rattle.conf_change.specs.Text.{spaced_numbers, text_if}
 use Rattle.conf_change.specs.declared.step.Step.{Step}
 use Rattle.conf_plan.specs.PlanText.{line_text}
 use Rattle.plan_output.specs.Grid.{grid_text}
-use Rattle.plan_output.specs.Stages.{StageState, stages, stage_may_be_down, until_then, commits}
+use Rattle.plan_output.specs.Stages.{StageState, stages, stage_may_be_down, until_then, may_be_down_besides}
 
 -- ---- the cells of a row
 -- The mark of an id: `V` for a voter, of both sets in a joint configuration; `+` for an incoming voter alone; `-` for
@@ -48,36 +48,31 @@ down_text None = codes "stalls"
 abbrev pub until_text : StageState → List ℕ
 until_text stage = text_if (not (is_empty stage.catching_up)) (down_text (until_then stage))
 
--- whether a configuration commits: commits or stalls
-abbrev pub commits_text : Bool → List ℕ
-commits_text true = codes "commits"
-commits_text false = codes "stalls"
-
--- the last cell, if ids are given that are down
-abbrev pub commits_cells : Option Ids → StageState → List (List ℕ)
-commits_cells None stage = []
-commits_cells (Some down) stage = commits_text (commits stage down) ∷ []
+-- the last cell, if ids are given that are down: how many may be down besides these
+abbrev pub besides_cells : Option Ids → StageState → List (List ℕ)
+besides_cells None stage = []
+besides_cells (Some down) stage = down_text (may_be_down_besides stage down) ∷ []
 
 -- the row of a stage, which begins with its name
 abbrev pub row : List ℕ → Option Ids → List ℕ → StageState → List (List ℕ)
 row ids down name stage =
     name ∷ marks_text ids stage.config ∷ majority_text stage.config ∷ down_text (stage_may_be_down stage) ∷ spaced_numbers (ascending stage.catching_up)
-    ∷ until_text stage ∷ commits_cells down stage
+    ∷ until_text stage ∷ besides_cells down stage
 
 -- ---- the rows
--- the heading of the column for these ids that are down
-abbrev pub down_heading : Ids → List ℕ
-down_heading down = codes "with " ++ spaced_numbers (ascending down) ++ codes " down"
+-- the heading of the column for these ids that are down: besides 4 5
+abbrev pub besides_heading : Ids → List ℕ
+besides_heading down = codes "besides " ++ spaced_numbers (ascending down)
 
 -- the last heading, if ids are given that are down
-abbrev pub down_headings : Option Ids → List (List ℕ)
-down_headings None = []
-down_headings (Some down) = down_heading down ∷ []
+abbrev pub besides_headings : Option Ids → List (List ℕ)
+besides_headings None = []
+besides_headings (Some down) = besides_heading down ∷ []
 
 -- the headings of the columns
 abbrev pub headings : List ℕ → Option Ids → List (List ℕ)
 headings ids down =
-    codes "step" ∷ spaced_numbers ids ∷ codes "majority" ∷ codes "may be down" ∷ codes "catch up" ∷ codes "until then" ∷ down_headings down
+    codes "step" ∷ spaced_numbers ids ∷ codes "majority" ∷ codes "may be down" ∷ codes "catch up" ∷ codes "until then" ∷ besides_headings down
 
 -- the name of a step: its number, counted from 1, and its line
 abbrev pub step_name : ℕ → Step → List ℕ
@@ -108,6 +103,6 @@ stage_rows all steps down =
     let ids = ascending (ids_on_the_way all) in
     headings ids down ∷ rows_of ids down (stage_names steps) all
 
--- the table of a path; if ids are given that are down, its last column shows whether each stage commits
+-- the table of a path; if ids are given that are down, its last column shows how many may be down besides these
 abbrev pub table_text : Configuration → List Step → Option Ids → List ℕ
 table_text now steps down = grid_text (stage_rows (stages now steps) steps down)

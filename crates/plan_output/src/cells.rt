@@ -36,8 +36,8 @@ pub(crate) fn step_name(alloc: Global, number: usize, step: &Step) -> Result<Vec
     Ok(name)
 }
 
-// Ids, ascending, with one space between.
-pub(crate) fn ids_text<S: MemberSet>(alloc: Global, ids: &S) -> Result<Vec<u8>, NoMemory>
+/// Ids, ascending, with one space between, as in `4 5`.
+pub fn ids_text<S: MemberSet>(alloc: Global, ids: &S) -> Result<Vec<u8>, NoMemory>
     ensures { IfOk result (λ text. text.items ≡ spaced_numbers (ascending (S.ids ids.now))) }
 {
     let mut text = Vec::new(alloc);
@@ -166,21 +166,12 @@ pub(crate) fn until_text<S: MemberSet>(alloc: Global, stage: &Stage<S>) -> Resul
     down_text(alloc, stage.until_then())
 }
 
-// Whether the stage commits: `commits` or `stalls`.
-pub(crate) fn commits_text(alloc: Global, commits: bool) -> Result<Vec<u8>, NoMemory>
-    ensures { IfOk result (λ text. text.items ≡ spec.commits_text commits) }
-{
-    let text: &[u8] = if commits { b"commits" } else { b"stalls" };
-    Ok(Vec::from_slice(alloc, text)?)
-}
-
-// The heading of the last column: `with 4 6 down`.
-pub(crate) fn down_heading<S: MemberSet>(alloc: Global, down: &S) -> Result<Vec<u8>, NoMemory>
-    ensures { IfOk result (λ text. text.items ≡ spec.down_heading (S.ids down.now)) }
+// The heading of the last column: `besides 4 6`.
+pub(crate) fn besides_heading<S: MemberSet>(alloc: Global, down: &S) -> Result<Vec<u8>, NoMemory>
+    ensures { IfOk result (λ text. text.items ≡ spec.besides_heading (S.ids down.now)) }
 {
     let ids = ids_text(alloc, down)?;
-    let mut text = Vec::from_slice(alloc, b"with ")?;
+    let mut text = Vec::from_slice(alloc, b"besides ")?;
     append(&mut text, ids.as_slice())?;
-    append(&mut text, b" down")?;
     Ok(text)
 }

@@ -1,8 +1,8 @@
 //! The JSON lines of a path, for programs that embed etcd's raft.
 //!
-//! Each step is one object on one line, with its keys in ascending order. `conf_change` is what to propose to etcd. The
-//! other keys are the configuration after the step, how many failures it tolerates, and which step of which path it is.
-//! The step `simple v4` from `(1 2 3)` is this object, here with line breaks:
+//! Each line is one object, with its keys in ascending order. `conf_change` is what to propose to etcd. The other keys
+//! are the configuration after the step, how many failures it tolerates, and which step of which path it is. The step
+//! `simple v4` from `(1 2 3)` is this object, here with line breaks:
 //!
 //! ```text
 //! {"catch_up":[4],
@@ -10,16 +10,21 @@
 //!  "conf_state":{"auto_leave":false,"learners":[],"learners_next":[],"voters":[1,2,3,4],"voters_outgoing":[]},
 //!  "may_be_down":1,"plan":1,"step":1,"steps":1,"until_then":0}
 //! ```
-ghost use Rattle.std.specs.Prelude.{◌≡◌, ◌++◌, true, false, Some, IfOk, OnOk, OnErr, option_copied, option_map};
+//!
+//! A simple step of several changes is as many lines of one change each, in the order of its list. As one proposal,
+//! etcd's raft would make them through a joint configuration that it leaves by itself, in which etcd 3.4.23 panics if
+//! entries are applied meanwhile.
+ghost use Rattle.std.specs.Prelude.{◌≡◌, ◌++◌, true, false, None, Some, IfOk, OnOk, OnErr, flat_map, option_copied, option_map};
 ghost use Rattle.quorum_sets.specs.Ids.{ascending};
 ghost use Rattle.conf_change.specs.Configuration.{is_restorable};
 ghost use Rattle.serde_json.specs.View.{view, members_view};
 ghost use Rattle.serde_json.specs.Written.{has_float};
 ghost use Rattle.raft_json.specs.IdsJson.{ids_json};
 ghost use Rattle.plan_output.specs.Json as spec;
-ghost use Rattle.plan_output.specs.Json.{json_text, value_line, no_plan_json, no_steps_json, step_json};
+ghost use Rattle.plan_output.specs.Stages as stage_spec;
+ghost use Rattle.plan_output.specs.Json.{each_json, json_text, value_line, no_plan_json, no_steps_json, step_json};
 
-use crate::stage::{Stage, stages};
+use crate::stage::{Stage, stages, stalls};
 use ascii_text::append::append;
 use conf_change::{Config, Step, conf_state};
 use conf_plan::Path;
@@ -28,7 +33,7 @@ use raft_json::{conf_change_value, conf_state_value};
 use serde_json::{Map, Value, put};
 use std::alloc::Global;
 
-/// The step, and the path, that an object describes.
+/// The step that an object describes, and the path.
 #[derive(Clone, Copy)]
 struct Number {
     // The number of the path, as the caller counts.
@@ -37,12 +42,16 @@ struct Number {
     steps: usize,
     // The number of the step, counted from 1.
     step: usize,
+    // Whether the path stalls, if ids are given that are down.
+    stalls: Option<bool>,
 }
 
-/// Appends an object for each step of a path, each on its own line: what is proposed to etcd for it, the configuration
-/// after it, and how many failures that tolerates; with `down` also whether it commits while these ids are down. A path
-/// without a step is the one line `{"plan":1,"steps":0}`. `plan` is the number of the path, as the caller counts. On
-/// `NoMemory` the text is unchanged (own).
+/// Appends an object for each step of a path, each on its own line, where a simple step of several changes is as many
+/// steps of one change each: what is proposed to etcd for it, the configuration after it, and how many failures that
+/// tolerates. With `down` it also has how many ids may be down besides these, while the members that have to catch up
+/// do not count either, and whether the path stalls. A path without a step is one line, `{"plan":1,"steps":0}`, or with
+/// `down` `{"plan":1,"stalls":false,"steps":0}`. `plan` is the number of the path, as the caller counts. On `NoMemory`
+/// the text is unchanged (own).
 pub fn add_json_lines<S: MemberSet>(
     alloc: Global,
     text: &mut Vec<u8>,
@@ -55,7 +64,9 @@ pub fn add_json_lines<S: MemberSet>(
     ensures ok { OnOk result (text.new.items ≡ text.old.items ++ json_text plan now.now path.now (option_map S.ids (option_copied down.entry))) }
     ensures err { OnErr result (text.new.items ≡ text.old.items) }
 {
-    let lines = lines_of(alloc, plan, now, path, down)?;
+    let stalls = stalls_if_down(alloc, now, path, down)?;
+    let each = path.one_change_each(alloc)?;
+    let lines = lines_of(alloc, plan, now, &each, down, stalls)?;
     append(text, lines.as_slice())
 }
 
@@ -88,20 +99,21 @@ fn add_line(alloc: Global, text: &mut Vec<u8>, value: &Value) -> Result<(), NoMe
     append(text, line.as_slice())
 }
 
-// The lines of a path. They are built apart from the text, so that all of them are appended or none.
+// The lines of these steps. They are built apart from the text, so that all of them are appended or none.
 fn lines_of<S: MemberSet>(
     alloc: Global,
     plan: u64,
     now: &Config<S>,
     path: &Path,
     down: Option<&S>,
+    stalls: Option<bool>,
 ) -> Result<Vec<u8>, NoMemory>
     requires { is_restorable now.now ≡ true }
-    ensures { IfOk result (λ lines. lines.items ≡ json_text plan now.now path.now (option_map S.ids (option_copied down.entry))) }
+    ensures { IfOk result (λ lines. lines.items ≡ flat_map value_line (each_json (option_map S.ids (option_copied down.entry)) stalls plan now.now path.now)) }
 {
     let mut lines = Vec::new(alloc);
     if path.len() == 0 {
-        add_line(alloc, &mut lines, &no_steps_value(alloc, plan)?)?;
+        add_line(alloc, &mut lines, &no_steps_value(alloc, plan, stalls)?)?;
         return Ok(lines);
     }
     let stages = stages(alloc, now, path)?;
@@ -111,12 +123,29 @@ fn lines_of<S: MemberSet>(
                 plan,
                 steps: path.len(),
                 step: index + 1,
+                stalls,
             };
             let (before, after) = (&stages[index], &stages[index + 1]);
             add_step(alloc, &mut lines, number, before, step, after, down)?;
         }
     }
     Ok(lines)
+}
+
+// Whether the path stalls, if ids are given that are down.
+fn stalls_if_down<S: MemberSet>(
+    alloc: Global,
+    now: &Config<S>,
+    path: &Path,
+    down: Option<&S>,
+) -> Result<Option<bool>, NoMemory>
+    requires { is_restorable now.now ≡ true }
+    ensures { IfOk result (λ answer. answer ≡ option_map (stage_spec.stalls now.now path.now) (option_map S.ids (option_copied down.entry))) }
+{
+    match down {
+        Some(down) => Ok(Some(stalls(alloc, now, path, down)?)),
+        None => Ok(None),
+    }
 }
 
 // Appends the line of one step.
@@ -130,18 +159,21 @@ fn add_step<S: MemberSet>(
     down: Option<&S>,
 ) -> Result<(), NoMemory>
     ensures { OnOk result (lines.new.items ≡ lines.old.items ++ value_line
-        (step_json (option_map S.ids (option_copied down.entry)) number.plan number.steps number.step before.now step.now after.now)) }
+        (step_json (option_map S.ids (option_copied down.entry)) number.stalls number.plan number.steps number.step before.now step.now after.now)) }
 {
     let value = step_value(alloc, number, before, step, after, down)?;
     add_line(alloc, lines, &value)
 }
 
 // The object of a path without a step.
-fn no_steps_value(alloc: Global, plan: u64) -> Result<Value, NoMemory>
-    ensures { IfOk result (λ v. view v ≡ no_steps_json plan) }
+fn no_steps_value(alloc: Global, plan: u64, stalls: Option<bool>) -> Result<Value, NoMemory>
+    ensures { IfOk result (λ v. view v ≡ no_steps_json stalls plan) }
 {
     let mut members = Map::new(alloc);
     put(&mut members, alloc, "plan", Value::from(plan))?;
+    if let Some(stalls) = stalls {
+        put(&mut members, alloc, "stalls", Value::Bool(stalls))?;
+    }
     put(&mut members, alloc, "steps", Value::from(0u64))?;
     Ok(Value::Object(members))
 }
@@ -156,15 +188,18 @@ fn step_value<S: MemberSet>(
     down: Option<&S>,
 ) -> Result<Value, NoMemory>
     ensures { IfOk result (λ v. view v
-        ≡ step_json (option_map S.ids (option_copied down.entry)) number.plan number.steps number.step before.now step.now after.now) }
+        ≡ step_json (option_map S.ids (option_copied down.entry)) number.stalls number.plan number.steps number.step before.now step.now after.now) }
 {
     let mut members = step_keys(alloc, number, before, step, after)?;
+    if let Some(stalls) = number.stalls {
+        put(&mut members, alloc, "stalls", Value::Bool(stalls))?;
+    }
     if let Some(down) = down {
         put(
             &mut members,
             alloc,
-            "commits",
-            Value::Bool(after.commits(down)?),
+            "may_be_down_besides",
+            count_value(after.may_be_down_besides(down)?),
         )?;
     }
     let catch_up = ids_value(alloc, after.catching_up())?;
@@ -181,7 +216,7 @@ fn step_keys<S: MemberSet>(
     after: &Stage<S>,
 ) -> Result<Map<String, Value>, NoMemory>
     ensures { IfOk result (λ members. members_view members.entries
-        ≡ spec.step_keys number.plan number.steps number.step before.now step.now after.now) }
+        ≡ spec.step_keys None None number.plan number.steps number.step before.now step.now after.now) }
 {
     let conf_change = conf_change_value(alloc, before.config(), step)?;
     let state = conf_state(alloc, after.config())?;

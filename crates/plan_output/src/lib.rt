@@ -3,8 +3,7 @@
 //! A path from one configuration to another is safe if each of its steps is accepted, but the cluster that takes it has
 //! to go on serving. A new member begins with an empty log and has to catch up. Until then it is no help to a quorum,
 //! as if it were down. So an operator asks three things of each configuration on the way, a [`Stage`]: how many members
-//! may be down there, how many until the new ones have caught up, and whether it commits while certain members are
-//! down.
+//! may be down there, how many until the new ones have caught up, and how many besides certain members that are down.
 //!
 //! Here 1 and 2 are replaced by 4 and 5 in one change:
 //!
@@ -19,17 +18,21 @@
 //! alone is not a majority of 3, 4 and 5. The remedy is a path on which 4 and 5 are learners first (section 4.2.1 of
 //! Ongaro's dissertation).
 //!
-//! [`stages`] returns the configurations on the way, and [`stalls`] whether one of them does not commit.
+//! [`stages`] returns the configurations on the way, and [`stalls`] whether nothing commits in one of them.
 //! [`add_table`] appends the table. [`add_json_lines`] appends an object for each step, with the change to propose to
-//! etcd's raft for it. The table, the marks and the keys of the objects are own.
+//! etcd's raft for it, where a simple step of several changes is as many steps of one. Carried out one after another,
+//! they lead to the target ([`laws::json_lines_lead_to_the_target`]). The table, the marks and the keys of the objects
+//! are own.
 #![tactic(auto)]
 
 mod cells;
 mod grid;
 mod json;
+pub mod laws;
 mod stage;
 mod table;
 
+pub use cells::ids_text;
 pub use json::{add_json_lines, add_no_plan_line};
 pub use stage::{Stage, stages, stalls};
 pub use table::add_table;

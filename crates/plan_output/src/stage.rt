@@ -8,14 +8,14 @@
 //! may be down 1                          may be down 1                       may be down 1
 //!                                        4 and 5 catch up: stalls until then
 //! ```
-ghost use Rattle.std.specs.Prelude.{◌≡◌, true, IfOk, OnOk};
-ghost use Rattle.quorum_sets.specs.Ids.{no_ids};
+ghost use Rattle.std.specs.Prelude.{◌≡◌, IfOk};
+ghost use Rattle.quorum_sets.specs.Ids.{no_ids, union};
 ghost use Rattle.quorum_sets.specs.Tolerance.{IsMostDown};
-ghost use Rattle.conf_change.specs.Configuration.{voters_of, is_restorable};
+ghost use Rattle.conf_change.specs.Configuration.{voters_of};
 ghost use Rattle.plan_output.specs.Stages as spec;
 ghost use Rattle.plan_output.specs.Stages.{StageState, first_stage, configuration_after_step, stage_after};
 
-use conf_change::{Changer, Config, Refused, Step, conf_state};
+use conf_change::{Config, Refused, Step, next_config};
 use conf_plan::{Path, catching_up};
 use quorum_sets::{MemberSet, NoMemory, union};
 use std::alloc::Global;
@@ -85,14 +85,16 @@ impl<S: MemberSet> Stage<S> {
         quorum_sets::may_be_down((&config.incoming, &config.outgoing), &self.catching_up)
     }
 
-    /// Whether the configuration commits while these ids are down and the members that have to catch up do not count.
-    /// An id that is not a member changes nothing (own).
-    pub fn commits(&self, down: &S) -> Result<bool, NoMemory>
-        ensures { IfOk result (λ commits. commits ≡ spec.commits self.now (S.ids down.now)) }
+    /// How many ids may be down besides these, while the members that have to catch up do not count either. `None` if
+    /// the others are not a quorum even if all of them are up: the stage stalls. With 3 down that is 0 of `(1 2 3)`,
+    /// and `None` of `(1 3)`. An id that is not a member changes nothing (own).
+    pub fn may_be_down_besides(&self, down: &S) -> Result<Option<usize>, NoMemory>
+        ensures most { IfOk result (λ most. IsMostDown (voters_of self.now.config) (union (S.ids down.now) self.now.catching_up) most) }
+        ensures counted { IfOk result (λ most. most ≡ spec.may_be_down_besides self.now (S.ids down.now)) }
     {
         let away = union(down, &self.catching_up)?;
         let config = &self.config;
-        Ok(quorum_sets::commits_without((&config.incoming, &config.outgoing), &away))
+        Ok(quorum_sets::may_be_down((&config.incoming, &config.outgoing), &away))
     }
 }
 
@@ -102,63 +104,57 @@ pub fn stages<S: MemberSet>(
     now: &Config<S>,
     path: &Path,
 ) -> Result<Vec<Stage<S>>, NoMemory>
-    requires { is_restorable now.now ≡ true }
     ensures { IfOk result (λ stages. stages.items ≡ spec.stages now.now path.now) }
 {
-    let mut changer = changer_of(alloc, now)?;
+    let mut before = now.try_clone()?;
     let mut stages = Vec::new(alloc);
     stages.push(Stage::first(alloc, now)?)?;
     for index in 0..path.len() {
         if let Some(step) = path.step(index) {
-            stages.push(next_stage(alloc, &mut changer, step)?)?;
+            let stage = next_stage(alloc, &before, step)?;
+            before = stage.config().try_clone()?;
+            stages.push(stage)?;
         }
     }
     Ok(stages)
 }
 
-// A changer with this configuration and fresh progress. The progress in a live cluster does not matter: which members
-// have to catch up depends on the configurations and the step alone.
-fn changer_of<S: MemberSet>(alloc: Global, now: &Config<S>) -> Result<Changer<S>, NoMemory>
-    requires { is_restorable now.now ≡ true }
-    ensures { IfOk result (λ changer. changer.tracker.config ≡ now.now) }
-{
-    let state = conf_state(alloc, now)?;
-    match Changer::restore(alloc, &state, 0) {
-        Ok(changer) => Ok(changer),
-        Err(_) => Err(NoMemory),
-    }
-}
-
-// Takes a step, and returns the stage that it leads to. A step that is refused changes nothing.
+// The stage that a step leads to. A step that is refused changes nothing.
 fn next_stage<S: MemberSet>(
     alloc: Global,
-    changer: &mut Changer<S>,
+    before: &Config<S>,
     step: &Step,
 ) -> Result<Stage<S>, NoMemory>
-    ensures stage { IfOk result (λ stage. stage ≡ stage_after changer.old.tracker.config step.now) }
-    ensures moved { OnOk result (changer.new.tracker.config ≡ configuration_after_step changer.old.tracker.config step.now) }
+    ensures { IfOk result (λ stage. stage ≡ stage_after before.now step.now) }
 {
-    let before = changer.tracker().config().try_clone()?;
-    if changer.step(step) == Err(Refused::NoMemory) {
-        return Err(NoMemory);
-    }
-    let config = changer.tracker().config().try_clone()?;
-    let catching_up = catching_up(alloc, &before, step, &config)?;
+    let config = after_step(before, step)?;
+    let catching_up = catching_up(alloc, before, step, &config)?;
     Ok(Stage {
         config,
         catching_up,
     })
 }
 
-/// Whether a path stalls with these ids down: the configuration with which it begins, or one after a step, does not
-/// commit. With 2 down, `(1 2 3)` commits and `(1 2)` stalls (own).
+// The configuration after a step.
+fn after_step<S: MemberSet>(before: &Config<S>, step: &Step) -> Result<Config<S>, NoMemory>
+    ensures { IfOk result (λ config. config ≡ configuration_after_step before.now step.now) }
+{
+    match next_config(before, step.kind(), step.changes()) {
+        Ok(after) => Ok(after),
+        Err(Refused::NoMemory) => Err(NoMemory),
+        Err(_) => before.try_clone(),
+    }
+}
+
+/// Whether a path stalls with these ids down: in the configuration with which it begins, or in one after a step, no
+/// number of ids may be down besides these, while the members that have to catch up do not count either. With 2 down,
+/// `(1 2 3)` commits and `(1 2)` stalls (own).
 pub fn stalls<S: MemberSet>(
     alloc: Global,
     now: &Config<S>,
     path: &Path,
     down: &S,
 ) -> Result<bool, NoMemory>
-    requires { is_restorable now.now ≡ true }
     ensures { IfOk result (λ answer. answer ≡ spec.stalls now.now path.now (S.ids down.now)) }
 {
     some_stalls(stages(alloc, now, path)?.as_slice(), down)
@@ -169,7 +165,7 @@ fn some_stalls<S: MemberSet>(stages: &[Stage<S>], down: &S) -> Result<bool, NoMe
     ensures { IfOk result (λ answer. answer ≡ spec.some_stalls stages.now (S.ids down.now)) }
 {
     for stage in stages {
-        if !stage.commits(down)? {
+        if stage.may_be_down_besides(down)?.is_none() {
             return Ok(true);
         }
     }

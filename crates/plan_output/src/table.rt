@@ -3,8 +3,8 @@
 //! The last column is there only if ids are given that are down, here 2:
 //!
 //! ```text
-//! step         1 2 3 4  majority  may be down  catch up  until then  with 2 down
-//! now          V V V .  2 of 3    1                                  commits
+//! step         1 2 3 4  majority  may be down  catch up  until then  besides 2
+//! now          V V V .  2 of 3    1                                  0
 //! 1 simple v4  V V V V  3 of 4    1            4         0           stalls
 //! ```
 ghost use Rattle.std.specs.Prelude.{◌≡◌, ℕ, ◌+◌, ◌≤◌, true, [], ◌++◌, length, option_copied, option_map, slice_index_or, IfOk, OnOk, OnErr};
@@ -14,8 +14,7 @@ ghost use Rattle.plan_output.specs.Table as spec;
 ghost use Rattle.plan_output.specs.Table.{stage_names, table_text};
 
 use crate::cells::{
-    commits_text, down_heading, down_text, ids_text, majority_text, marks_text, step_name,
-    until_text,
+    besides_heading, down_text, ids_text, majority_text, marks_text, step_name, until_text,
 };
 use crate::grid::{Row, add_grid};
 use crate::stage::{Stage, stages};
@@ -26,8 +25,9 @@ use std::alloc::Global;
 
 /// Appends the table of a path: a row for the configuration with which it begins, and one for each step with the
 /// configuration after it. A row shows who votes and learns there, the majority, how many may be down, who has to catch
-/// up, and how many may be down until then. With `down`, the last column shows whether the configuration commits while
-/// these ids are down. Each line ends with a newline. On `NoMemory` the text is unchanged (own).
+/// up, and how many may be down until then. With `down`, the last column shows how many may be down besides these,
+/// while the members that have to catch up do not count either. Each line ends with a newline. On `NoMemory` the text
+/// is unchanged (own).
 pub fn add_table<S: MemberSet>(
     alloc: Global,
     text: &mut Vec<u8>,
@@ -96,7 +96,7 @@ fn headings<S: MemberSet>(alloc: Global, ids: &S, down: Option<&S>) -> Result<Ro
     row.add(Vec::from_slice(alloc, b"catch up")?)?;
     row.add(Vec::from_slice(alloc, b"until then")?)?;
     if let Some(down) = down {
-        row.add(down_heading(alloc, down)?)?;
+        row.add(besides_heading(alloc, down)?)?;
     }
     Ok(row)
 }
@@ -132,7 +132,7 @@ fn row<S: MemberSet>(
     row.add(ids_text(alloc, stage.catching_up())?)?;
     row.add(until_text(alloc, stage)?)?;
     if let Some(down) = down {
-        row.add(commits_text(alloc, stage.commits(down)?)?)?;
+        row.add(down_text(alloc, stage.may_be_down_besides(down)?)?)?;
     }
     Ok(row)
 }

@@ -1,6 +1,8 @@
 pub mod Offered
+mod Changes
 mod Ids
 mod Keys
 mod NoFloats
 mod Proposals
 mod SavedConfigurations
+mod WorkedExamples

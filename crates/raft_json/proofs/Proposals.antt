@@ -1,21 +1,23 @@
 -- Where etcd ends with what is proposed for a step.
 use Rattle.std.proofs.Common.{◌≡◌, ℕ, ◌<◌, Bool, true, false, not, ◌||◌, List, [], ◌∷◌, length, Option, Some, None, refl, sym, ap, ◌∙◌, arith}
 use Rattle.std.specs.Prelude.{Ok, Err, slice_get, nat_lt, if◌then◌else◌}
+use Rattle.std.specs.Result.{result_ok}
 use Rattle.std.proofs.lemmas.Bool.{true≢false, not-true, eqb-false, false_from_ne_true}
 use Rattle.quorum_sets.specs.Ids.{has, ascending, difference_count}
 use Rattle.quorum_sets.proofs.Offered.{has-no_ids}
 use Rattle.conf_change.specs.Configuration.{Configuration, is_valid, is_joint, has_voter}
 use Rattle.conf_change.specs.Change.{result_of, last_effective, is_learner_after, is_next_after}
-use Rattle.conf_change.specs.Outcome.{outcome, with_outgoing, after_leave, leave_outcome}
+use Rattle.conf_change.specs.Outcome.{Outcome, outcome, with_outgoing, after_leave, leave_outcome}
 use Rattle.conf_change.specs.Transition.{step_for}
 use Rattle.conf_change.specs.declared.change.Change.{Change}
 use Rattle.conf_change.specs.declared.change.Kind.{Kind}
 use Rattle.conf_change.specs.declared.change.Kind.TheVariants.{Voter, Learner, Remove, Update}
 use Rattle.conf_change.specs.declared.refused.Refused.TheVariants.{AlreadyJoint, ZeroVoterJoint, SimpleInJoint, RemovedAllVoters, MoreThanOneVoter}
 use Rattle.conf_change.specs.declared.transition.Transition.TheVariants.{Auto}
-use Rattle.conf_change.specs.declared.step.Step.TheVariants.{Simple, EnterJoint}
-use Rattle.conf_change.proofs.Offered.{ValidByMember-from_is_valid, configuration-by_members, has-learners_after, has-next_after, has-after_leave, result_of-none, result_of-update, SimpleTaken-from_outcome, EnterTaken-from_outcome, outcome-enter_accepted, outcome-leave_accepted, outgoing-none}
-use Rattle.raft_json.specs.Proposal.{update_of, or_update, proposed_step, after_auto_leave, final_outcome}
+use Rattle.conf_change.specs.declared.step.Step.{Step}
+use Rattle.conf_change.specs.declared.step.Step.TheVariants.{Simple, EnterJoint, LeaveJoint}
+use Rattle.conf_change.proofs.Offered.{ValidByMember-from_is_valid, configuration-by_members, has-learners_after, has-next_after, has-after_leave, result_of-none, result_of-update, SimpleTaken-from_outcome, EnterTaken-from_outcome, LeaveTaken-from_outcome, outcome-enter_accepted, outcome-leave_accepted, outgoing-none}
+use Rattle.raft_json.specs.Proposal.{update_of, or_update, proposed_changes, proposed_step, proposal_of, after_auto_leave, final_outcome, is_let_through, carried_out}
 
 -- ---- a list without a change, and the update that is named for it
 result_of-update_of : (c : Configuration) (o : Option ℕ) → result_of c (update_of o) ≡ result_of c []
@@ -136,3 +138,27 @@ simple-named before after (change ∷ changes) e = omega arith
 pub enter-named : (before after : Configuration) (auto_leave : Bool) (changes : List Change) → outcome before (EnterJoint auto_leave changes) ≡ Ok after
     → 0 < length (or_update before changes)
 enter-named before after auto_leave changes e = or_update-named before changes (EnterTaken-from_outcome before after auto_leave changes e).voter_before
+
+-- ---- the leader lets it through
+let_through-some : (before : Configuration) (changes : List Change) → 0 < length changes → is_joint before ≡ false → is_let_through before changes ≡ true
+let_through-some before [] some single = absurd (omega arith)
+let_through-some before (change ∷ changes) some single = ap not single
+
+carried_out-let_through : (before : Configuration) (step : Step) → is_let_through before (proposed_changes before step) ≡ true
+    → carried_out before (proposal_of before step) ≡ result_ok (final_outcome before (proposed_step before step))
+carried_out-let_through before step through = rw through refl
+
+pub carried_out-step : (before after : Configuration) (step : Step) → is_valid before ≡ true → has_voter before ≡ true → outcome before step ≡ Ok after
+    → carried_out before (proposal_of before step) ≡ result_ok (after_auto_leave (Ok after))
+carried_out-step before after (Simple changes) valid voter e =
+    let taken = SimpleTaken-from_outcome before after changes e in
+    let flag = (ValidByMember-from_is_valid before valid).auto_leave taken.single in
+    carried_out-let_through before (Simple changes) (let_through-some before (or_update before changes) (or_update-named before changes voter) taken.single)
+    ∙ ap result_ok (simple-proposed before after changes valid voter e)
+    ∙ ap result_ok (sym (after_auto_leave-flag after (sym (ap (λ (c : Configuration). c.auto_leave) taken.made) ∙ flag)))
+carried_out-step before after (EnterJoint auto_leave changes) valid voter e =
+    let taken = EnterTaken-from_outcome before after auto_leave changes e in
+    carried_out-let_through before (EnterJoint auto_leave changes) (let_through-some before (or_update before changes) (or_update-named before changes voter) taken.single)
+    ∙ ap (λ (o : Outcome). result_ok (after_auto_leave o)) (enter-proposed before auto_leave changes ∙ e)
+carried_out-step before after LeaveJoint valid voter e =
+    carried_out-let_through before LeaveJoint (LeaveTaken-from_outcome before after e).joint ∙ ap (λ (o : Outcome). result_ok (after_auto_leave o)) e

@@ -1,4 +1,5 @@
 pub mod IdsJson
 pub mod ConfStateJson
 pub mod ConfChangeJson
+pub mod ConfChangeRead
 pub mod Proposal

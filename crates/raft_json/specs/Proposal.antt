@@ -1,7 +1,8 @@
 -- What to propose to etcd for a step, and where it leads etcd (etcd's `raftpb.ConfChangeV2`).
-use Rattle.std.specs.Prelude.{ℕ, true, false, List, [], ◌∷◌, Option, Some, None, Ok, Err, slice_get, if◌then◌else◌}
+use Rattle.std.specs.Prelude.{ℕ, Bool, true, false, not, List, [], ◌∷◌, Option, Some, None, Ok, Err, slice_get, if◌then◌else◌}
+use Rattle.std.specs.Result.{result_ok}
 use Rattle.quorum_sets.specs.Ids.{ascending}
-use Rattle.conf_change.specs.Configuration.{Configuration}
+use Rattle.conf_change.specs.Configuration.{Configuration, is_joint}
 use Rattle.conf_change.specs.Outcome.{Outcome, outcome, leave_outcome}
 use Rattle.conf_change.specs.Transition.{step_for}
 use Rattle.conf_change.specs.declared.change.Change.{Change}
@@ -47,3 +48,19 @@ after_auto_leave (Err why) = Err why
 -- the outcome of a step that etcd takes, after any auto-leave
 abbrev pub final_outcome : Configuration → Step → Outcome
 final_outcome c step = after_auto_leave (outcome c step)
+
+-- whether etcd's leader lets a proposal through (`stepLeader` of its package `raft`): without changes only in a joint
+-- configuration, and with changes only in one that is not joint
+abbrev pub is_let_through : Configuration → List Change → Bool
+is_let_through c [] = is_joint c
+is_let_through c (change ∷ changes) = not (is_joint c)
+
+-- the configuration in which etcd's raft ends with a proposal, after any auto-leave, if its leader lets it through and
+-- the step that it takes is accepted
+abbrev pub carried_out : Configuration → Transition × List Change → Option Configuration
+carried_out c proposal =
+    if is_let_through c proposal.1 then result_ok (final_outcome c (step_for proposal.0 proposal.1)) else None
+
+-- the proposal for a step
+abbrev pub proposal_of : Configuration → Step → Transition × List Change
+proposal_of c step = (transition_of step, proposed_changes c step)

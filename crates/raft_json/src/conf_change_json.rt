@@ -16,8 +16,8 @@ use quorum_sets::{MemberSet, NoMemory};
 use serde_json::{Map, Value, put};
 use std::alloc::Global;
 
-/// The `raftpb.ConfChangeV2` to propose for a step from a configuration, so that etcd's raft ends in the same
-/// configuration as the step (the module `laws` states for which steps). The transition is Auto for a simple step and
+/// The `raftpb.ConfChangeV2` to propose for a step from a configuration. By it etcd's raft ends in the configuration
+/// after the step, or with auto-leave in the one that leaving that gives (the module `laws`). The transition is Auto for a simple step and
 /// for leaving a joint configuration; for entering one it is JointImplicit with auto-leave, and JointExplicit without.
 /// If a simple or an entering step has no change, an update of the least incoming voter is proposed, since etcd's
 /// leader takes an empty list for leaving.

@@ -16,8 +16,9 @@
 //! leave-joint  {"changes":[],"transition":"ConfChangeTransitionAuto"}
 //! ```
 //!
-//! With the transition Auto, etcd makes several changes through a joint configuration, which it leaves automatically. A
-//! simple step of several changes ends in the same configuration ([`laws::etcd_ends_where_the_step_does`]):
+//! With the transition Auto, etcd makes several changes through a joint configuration, which it leaves automatically. As
+//! one proposal, a simple step of several changes ends in the same configuration
+//! ([`laws::etcd_ends_where_the_step_does`]):
 //!
 //! ```text
 //! (1 2 3)  --l4 l5-->  (1 2 3)&&(1 2 3) learners=(4 5) autoleave  --auto-leave-->  (1 2 3) learners=(4 5)

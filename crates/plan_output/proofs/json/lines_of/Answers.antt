@@ -21,6 +21,7 @@ pub loop-index-preserved : goal.loop-index-preserved
 loop-index-preserved g c =
     let down = option_map g.S.MemberSet.ids (option_copied c.args.down) in
     let plan = c.args.plan in
+    let flag = c.args.stalls in
     let i = c.loop-index.index in
     let all = c.in_ok-stages.stages.items in
     let path = c.args.path.now in
@@ -31,17 +32,17 @@ loop-index-preserved g c =
           let after = w.index-in-Some.result.now in
           let step = w.in-Some.step.now in
           let within : i + 1 < length all = omega (arith, stages, c.len-index-end.ensures) in
-          let rest = lines down plan (length path) (i + 1 + 1) (drop (i + 1) all) (drop (i + 1) path) in
-          let longer : c.match-step.lines.items ≡ c.loop-index.lines.items ++ value_line (step_json down plan w.len-in-Some.result (i + 1) before step after) =
+          let rest = lines down flag plan (length path) (i + 1 + 1) (drop (i + 1) all) (drop (i + 1) path) in
+          let longer : c.match-step.lines.items ≡ c.loop-index.lines.items ++ value_line (step_json down flag plan w.len-in-Some.result (i + 1) before step after) =
           ap (λ v. v.items) w.lines-is ∙ w.in_ok-add_step.ensures in
-          ap (λ text. text ++ rest) (longer ∙ ap (λ n. c.loop-index.lines.items ++ value_line (step_json down plan n (i + 1) before step after)) w.len-in-Some.ensures)
-          ∙ append_assoc c.loop-index.lines.items (value_line (step_json down plan (length path) (i + 1) before step after)) rest
-          ∙ ap (λ text. c.loop-index.lines.items ++ text) (sym (lines-next down plan (length path) i all path before step after within w.index.ensures w.index-in-Some.ensures (sym w.in-Some.ensures)))
+          ap (λ text. text ++ rest) (longer ∙ ap (λ n. c.loop-index.lines.items ++ value_line (step_json down flag plan n (i + 1) before step after)) w.len-in-Some.ensures)
+          ∙ append_assoc c.loop-index.lines.items (value_line (step_json down flag plan (length path) (i + 1) before step after)) rest
+          ∙ ap (λ text. c.loop-index.lines.items ++ text) (sym (lines-next down flag plan (length path) i all path before step after within w.index.ensures w.index-in-Some.ensures (sym w.in-Some.ensures)))
           ∙ c.loop-index.invariant
       | in_default w ↦ slice_get-not_past path i c.len-index-end.result w.in_default.ensures c.len-index-end.ensures c.loop-index-test.true
     ]
 
 pub returns : goal.returns
 returns g c =
-    lines-whole (option_map g.S.MemberSet.ids (option_copied c.args.down)) c.args.plan c.args.now.now c.args.path.now c.loop-index.index c.in_ok-stages.stages.items
+    lines-whole (option_map g.S.MemberSet.ids (option_copied c.args.down)) c.args.stalls c.args.plan c.args.now.now c.args.path.now c.loop-index.index c.in_ok-stages.stages.items
     c.loop-index.lines.items (omega (arith, c.len-index-end.ensures)) (omega (arith, c.len.ensures)) c.in_ok-stages.ensures c.loop-index.invariant

@@ -5,6 +5,6 @@ use Rattle.plan_output.proofs.stage.stages.Given as goal
 
 abbrev pub invariant-loop-index : goal.invariant-loop-index
 invariant-loop-index g l = record {
-  config : l.changer.tracker.config ≡ configuration_after l.now (take l.index l.path);
+  config : l.before ≡ configuration_after l.now (take l.index l.path);
   stages : l.stages.items ≡ spec.stages l.now (take l.index l.path);
 }

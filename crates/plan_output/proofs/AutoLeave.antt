@@ -1,0 +1,113 @@
+-- Paths in which a joint configuration that is left automatically comes last.
+use Rattle.std.proofs.Common.{◌≡◌, Bool, true, false, not, ◌&&◌, ◌||◌, List, [], ◌∷◌, ◌++◌, map, refl}
+use Rattle.std.specs.Prelude.{nat_le, if◌then◌else◌}
+use Rattle.std.proofs.lemmas.Bool.{and_parts}
+use Rattle.quorum_sets.specs.Ids.{difference_count, is_empty}
+use Rattle.conf_change.specs.Configuration.{Configuration, is_joint, is_same, is_same_set}
+use Rattle.conf_change.specs.Outcome.{after_leave}
+use Rattle.conf_change.specs.declared.change.Change.{Change}
+use Rattle.conf_change.specs.declared.step.Step.{Step}
+use Rattle.conf_change.specs.declared.step.Step.TheVariants.{Simple, EnterJoint, LeaveJoint}
+use Rattle.conf_plan.specs.Alive.{ChangesOneLearnerFirst}
+use Rattle.conf_plan.specs.LearnersFirst.{learner_changes, learners_first_from_single, newcomers, with_learners}
+use Rattle.conf_plan.specs.OneChangeEach.{one_change_each}
+use Rattle.conf_plan.specs.Planned.{configuration_after, entering_step, inserted_steps, joint_steps, moves, planned, planned_from_single, shared_members, single_steps}
+use Rattle.conf_plan.specs.Run.{IsRunWith}
+
+-- whether a step leads to a joint configuration that is left automatically
+abbrev pub leaves_by_itself : Step → Bool
+leaves_by_itself (EnterJoint auto_leave changes) = auto_leave
+leaves_by_itself (Simple changes) = false
+leaves_by_itself LeaveJoint = false
+
+abbrev pub is_last : List Step → Bool
+is_last [] = true
+is_last (step ∷ steps) = false
+
+-- whether no step but the last leads to such a configuration
+abbrev pub stays_till_last : List Step → Bool
+stays_till_last [] = true
+stays_till_last (step ∷ steps) = (not (leaves_by_itself step) || is_last steps) && stays_till_last steps
+
+-- ---- a step and those after it
+no_leaving : (leaves : Bool) → (not leaves || false) ≡ true → leaves ≡ false
+no_leaving true e = cc
+no_leaving false e = refl
+
+pub stays_till_last-first : (step other : Step) (steps : List Step) → stays_till_last (step ∷ other ∷ steps) ≡ true → leaves_by_itself step ≡ false
+stays_till_last-first step other steps e =
+    no_leaving (leaves_by_itself step) (and_parts (not (leaves_by_itself step) || false) (stays_till_last (other ∷ steps)) e).0
+
+pub stays_till_last-rest : (step : Step) (steps : List Step) → stays_till_last (step ∷ steps) ≡ true → stays_till_last steps ≡ true
+stays_till_last-rest step steps e = (and_parts (not (leaves_by_itself step) || is_last steps) (stays_till_last steps) e).1
+
+-- ---- steps of one change each
+of_singles : (changes : List Change) (steps : List Step) → stays_till_last steps ≡ true → stays_till_last (map (λ change. Simple (change ∷ [])) changes ++ steps) ≡ true
+of_singles [] steps e = e
+of_singles (change ∷ changes) steps e = of_singles changes steps e
+
+of_leaving : (changes : List Change) (steps : List Step) → stays_till_last (EnterJoint true changes ∷ steps) ≡ true
+    → stays_till_last (EnterJoint true changes ∷ one_change_each steps) ≡ true
+of_leaving changes [] e = refl
+of_leaving changes (step ∷ steps) e = cc
+
+pub stays_till_last-one_change_each : (steps : List Step) → stays_till_last steps ≡ true → stays_till_last (one_change_each steps) ≡ true
+stays_till_last-one_change_each [] e = refl
+stays_till_last-one_change_each (Simple changes ∷ steps) e = of_singles changes (one_change_each steps) (stays_till_last-one_change_each steps e)
+stays_till_last-one_change_each (EnterJoint true changes ∷ steps) e = of_leaving changes steps e
+stays_till_last-one_change_each (EnterJoint false changes ∷ steps) e = stays_till_last-one_change_each steps e
+stays_till_last-one_change_each (LeaveJoint ∷ steps) e = stays_till_last-one_change_each steps e
+
+-- ---- plans
+of_either : (b : Bool) (xs ys : List Step) → stays_till_last xs ≡ true → stays_till_last ys ≡ true → stays_till_last (if b then xs else ys) ≡ true
+of_either true xs ys here there = here
+of_either false xs ys here there = there
+
+of_either_then : (b : Bool) (xs ys zs : List Step) → stays_till_last (xs ++ zs) ≡ true → stays_till_last (ys ++ zs) ≡ true → stays_till_last ((if b then xs else ys) ++ zs) ≡ true
+of_either_then true xs ys zs here there = here
+of_either_then false xs ys zs here there = there
+
+of_one : (step : Step) → stays_till_last (step ∷ []) ≡ true
+of_one (Simple changes) = refl
+of_one (EnterJoint true changes) = refl
+of_one (EnterJoint false changes) = refl
+of_one LeaveJoint = refl
+
+-- a path that leaves a joint configuration first
+pub stays_till_last-left_first : (same joint : Bool) (left single : List Step) → stays_till_last left ≡ true → stays_till_last single ≡ true
+    → stays_till_last (if same then [] else (if joint then LeaveJoint ∷ left else single)) ≡ true
+stays_till_last-left_first same joint left single of_left of_single =
+    of_either same [] (if joint then LeaveJoint ∷ left else single) refl (of_either joint (LeaveJoint ∷ left) single of_left of_single)
+
+of_joint : (c target : Configuration) → stays_till_last (joint_steps c target) ≡ true
+of_joint c target =
+    let entering = entering_step (configuration_after c (inserted_steps c target)) target in
+    let changes = moves c target.outgoing (shared_members c target) in
+    of_either_then (is_same_set c.incoming target.outgoing) [] (single_steps c target.outgoing (shared_members c target)) (entering ∷ []) (of_one entering)
+    (of_either_then (nat_le (difference_count c.incoming target.outgoing) 1) (Simple changes ∷ []) (EnterJoint false changes ∷ LeaveJoint ∷ []) (entering ∷ [])
+    (of_one entering) (of_one entering))
+
+pub stays_till_last-planned_from_single : (c target : Configuration) → stays_till_last (planned_from_single c target) ≡ true
+stays_till_last-planned_from_single c target =
+    let changes = moves c target.incoming target.learners in
+    of_either (is_same c target) [] (if is_joint target then joint_steps c target else single_steps c target.incoming target.learners) refl
+    (of_either (is_joint target) (joint_steps c target) (single_steps c target.incoming target.learners) (of_joint c target)
+    (of_either (nat_le (difference_count c.incoming target.incoming) 1) (Simple changes ∷ []) (EnterJoint false changes ∷ LeaveJoint ∷ []) refl refl))
+
+stays_till_last-planned : (c target : Configuration) → stays_till_last (planned c target) ≡ true
+stays_till_last-planned c target =
+    stays_till_last-left_first (is_same c target) (is_joint c) (planned_from_single (after_leave c) target) (planned_from_single c target)
+    (stays_till_last-planned_from_single (after_leave c) target) (stays_till_last-planned_from_single c target)
+
+pub stays_till_last-learners_first : (c target : Configuration) → stays_till_last (learners_first_from_single c target) ≡ true
+stays_till_last-learners_first c target =
+    let grown = with_learners c (newcomers c target) in
+    of_either (is_empty (newcomers c target)) (planned c target) (Simple (learner_changes (newcomers c target)) ∷ planned grown target)
+    (stays_till_last-planned c target) (stays_till_last-planned grown target)
+
+-- a path of one change a step
+pub stays_till_last-from_one_change : (steps : List Step) (now target : Configuration) → IsRunWith ChangesOneLearnerFirst now steps target → stays_till_last steps ≡ true
+stays_till_last-from_one_change [] now target run = refl
+stays_till_last-from_one_change (Simple changes ∷ steps) now target run = stays_till_last-from_one_change steps run.0 target run.2
+stays_till_last-from_one_change (EnterJoint auto_leave changes ∷ steps) now target run = absurd run.1.1.one
+stays_till_last-from_one_change (LeaveJoint ∷ steps) now target run = stays_till_last-from_one_change steps run.0 target run.2
